@@ -1,0 +1,154 @@
+-- An integer, and a message's head, that are taken in steps.
+use Rattle.std.proofs.Common.{◌≡◌, ℕ, zero, suc, ◌-◌, ◌%◌, ◌≤◌, ◌<◌, ◌^◌, max, List, [], ◌∷◌, ◌++◌, Some, None, length, get_or, length-append, refl, sym, ap, subst, ◌∙◌, arith, FitsSigned}
+use Rattle.std.specs.Int.{Width, w8, w16, w32, w64, to_le_bytes, cast_signed, cast_unsigned}
+use Rattle.std.specs.Prelude.{ℤ, pos}
+use Rattle.std.proofs.KnownBytes.{Consumes-trans}
+use Rattle.std.proofs.Math.Facts.{sfits_to_z, Fits-of_lt}
+use Rattle.std.proofs.lemmas.Int.{of_z-to_z}
+use Rattle.std.proofs.lemmas.Nat.{le_bytes_2, le_bytes_4, le_bytes_8}
+use mir.Val.{bits, Fits}
+use Rattle.byteorder.specs.Endian.{little_number}
+use Rattle.bser_base.specs.Grammar.{SpellsInteger, IntSize, tag_of, width_of, int_bytes}
+use Rattle.bser_base.specs.Source.{State, Took, Expects, bytes_in_sight, sight_after, with_limit}
+use Rattle.bser_base.specs.Tagged.{TookNumber, TookInt, TookLength, TookHead}
+
+-- ---- a number's bytes
+
+-- bytes that make a number, the lowest first, are that number's bytes
+pub record AreOf (w : Width) (n : ℕ) (bs : List ℕ) : Type 0 where
+  pub fits : n < 2 ^ bits w
+  pub bytes : to_le_bytes w n ≡ bs
+
+written_1 : (bs : List ℕ) → length bs ≡ 1 → get_or bs 0 0 ∷ [] ≡ bs
+written_1 [] l = absurd (omega arith)
+written_1 (a ∷ []) l = refl
+written_1 (a ∷ b ∷ bs) l = absurd (omega arith)
+
+pub bytes_of_8 : (bs : List ℕ) (n : ℕ) → length bs ≡ 1 → n ≡ get_or bs 0 0 → n < 256 → AreOf w8 n bs
+bytes_of_8 bs n l is small = record { fits = small; bytes = ap (λ x. x ∷ []) (let e : n % 256 ≡ n = omega arith in e ∙ is) ∙ written_1 bs l }
+
+pub bytes_of_16 : (bs : List ℕ) (n : ℕ) → length bs ≡ 2 → ((i : ℕ) → get_or bs i 0 < 256) → n ≡ little_number 2 bs → AreOf w16 n bs
+bytes_of_16 bs n l small is = record { fits = omega (arith, is, small 0, small 1); bytes = le_bytes_2 bs n l small (omega (arith, is)) }
+
+pub bytes_of_32 : (bs : List ℕ) (n : ℕ) → length bs ≡ 4 → ((i : ℕ) → get_or bs i 0 < 256) → n ≡ little_number 4 bs → AreOf w32 n bs
+bytes_of_32 bs n l small is = record { fits = omega (arith, is, small 0, small 1, small 2, small 3); bytes = le_bytes_4 bs n l small (omega (arith, is)) }
+
+pub bytes_of_64 : (bs : List ℕ) (n : ℕ) → length bs ≡ 8 → ((i : ℕ) → get_or bs i 0 < 256) → n ≡ little_number 8 bs → AreOf w64 n bs
+bytes_of_64 bs n l small is = record { fits = omega (arith, is, small 0, small 1, small 2, small 3, small 4, small 5, small 6, small 7); bytes = le_bytes_8 bs n l small (omega (arith, is)) }
+
+-- ---- one step after another
+
+-- a look, and then bytes that begin with what was seen
+pub took_after_look : (old mid new : State) (b : ℕ) (bytes : List ℕ) → Took old mid [] (Some b) → Took mid new (b ∷ bytes) None → Took old new (b ∷ bytes) None
+took_after_look old mid new b bytes look took = record {
+  bytes = Consumes-trans old.left mid.left new.left [] (b ∷ bytes) look.bytes took.bytes;
+  count = omega (arith, look.count, took.count);
+  sight = took.sight;
+  lends = took.lends ∙ look.lends;
+  working = look.working;
+  failed = took.failed;
+  failures = took.failures ∙ look.failures;
+  through = took.through ∙ look.through;
+  limit = took.limit ∙ look.limit;
+  held = took.held;
+}
+
+-- one call after another
+pub took_both : (a b c : State) (xs ys : List ℕ) → Took a b xs None → Took b c ys None → Took a c (xs ++ ys) None
+took_both a b c xs ys first second = record {
+  bytes = Consumes-trans a.left b.left c.left xs ys first.bytes second.bytes;
+  count = omega (arith, length-append xs ys, first.count, second.count);
+  sight = second.sight;
+  lends = second.lends ∙ first.lends;
+  working = first.working;
+  failed = second.failed;
+  failures = second.failures ∙ first.failures;
+  through = second.through ∙ first.through;
+  limit = second.limit ∙ first.limit;
+  held = second.held;
+}
+
+-- ---- integers
+
+sight_none : (n : ℕ) → sight_after n None ≡ None
+sight_none zero = refl
+sight_none (suc n) = refl
+
+-- the byte in sight, and then a number's bytes
+pub took_bits : (w : Width) (a b c : State) (n k : ℕ) (bs : List ℕ) → AreOf w n bs → Took a b (bytes_in_sight a.sight) None → Took b c bs (sight_after k b.sight)
+    → Took a c (bytes_in_sight a.sight ++ to_le_bytes w n) None
+took_bits w a b c n k bs are first second =
+    let none : sight_after k b.sight ≡ None = ap (sight_after k) first.sight ∙ sight_none k in
+    let then_ : Took b c (to_le_bytes w n) None = rw (are.bytes, sym none) second in
+    took_both a b c (bytes_in_sight a.sight) (to_le_bytes w n) first then_
+
+pub took_number : (w : Width) (a b c : State) (n k : ℕ) (v : ℤ) (bs : List ℕ) → v ≡ cast_signed w n → AreOf w n bs → Took a b (bytes_in_sight a.sight) None → Took b c bs (sight_after k b.sight)
+    → TookNumber w a c v
+took_number w a b c n k v bs is are first second =
+    let fits : Fits w n = Fits-of_lt are.fits in
+    let back : cast_unsigned w v ≡ n = ap (cast_unsigned w) is ∙ of_z-to_z w n are.fits in
+    record {
+      fits = subst (FitsSigned w) (sym is) (sfits_to_z fits);
+      took = subst (λ m. Took a c (bytes_in_sight a.sight ++ to_le_bytes w m) None) (sym back) (took_bits w a b c n k bs are first second);
+    }
+
+pub took_int : (s : IntSize) (old mid new : State) (v out : ℤ) → out ≡ v → Took old mid [] (Some (tag_of s)) → TookNumber (width_of s) mid new v → TookInt old new out
+took_int s old mid new v out same look number =
+    let seen : bytes_in_sight mid.sight ++ to_le_bytes (width_of s) (cast_unsigned (width_of s) v) ≡ int_bytes s v = ap (λ o. bytes_in_sight o ++ to_le_bytes (width_of s) (cast_unsigned (width_of s) v)) look.sight in
+    subst (TookInt old new) (sym same) (record {
+      text = int_bytes s v;
+      spelled = record { size = s; fits = number.fits; spelled = refl };
+      took = took_after_look old mid new (tag_of s) _ look (subst (λ l. Took mid new l None) seen number.took);
+    })
+
+-- ---- a message's head
+
+-- a source of which only the limit was changed afterwards
+pub relimited : (a b c : State) (text : List ℕ) → c ≡ with_limit c.limit b → Took a b text None → Took a (with_limit a.limit c) text None
+relimited a b c text same took =
+    let k : with_limit a.limit c ≡ with_limit a.limit b = ap (with_limit a.limit) same in
+    let relimit_held : length b.held ≤ max (a.limit - b.count) 0 = omega (arith, took.limit, took.held) in
+    subst (λ s. Took a s text None) (sym k) (record {
+      bytes = took.bytes;
+      count = took.count;
+      sight = took.sight;
+      lends = took.lends;
+      working = took.working;
+      failed = took.failed;
+      failures = took.failures;
+      through = took.through;
+      limit = refl;
+      held = relimit_held;
+    })
+
+pub took_head : (a b c d e : State) (n size : ℕ) (k out : ℤ) → out ≡ k → n < 2 ^ 32 → Took a b (0x00 ∷ 0x02 ∷ []) None → Took b c (to_le_bytes w32 n) None → (len : TookLength c d k) → size ≡ len.size
+    → Expects d e size → TookHead a e n out
+took_head a b c d e n size k out same small magic four len is expects =
+    let number = len.number in
+    let rest = to_le_bytes w32 n ++ number.text in
+    let took = took_both a b d (0x00 ∷ 0x02 ∷ []) rest magic (took_both b c d (to_le_bytes w32 n) number.text four number.took) in
+    let count : e.count ≡ d.count = ap (λ s. s.count) expects.same in
+    record {
+      text = (0x00 ∷ 0x02 ∷ []) ++ rest;
+      size = size;
+      value = same ∙ len.value ∙ ap pos (sym is);
+      head = (
+        small,
+        record {
+          front = 0x00 ∷ 0x02 ∷ [];
+          rest = rest;
+          whole = refl;
+          first = refl;
+          second = record {
+            front = to_le_bytes w32 n;
+            rest = number.text;
+            whole = refl;
+            first = refl;
+            second = subst (λ z. SpellsInteger z number.text) (len.value ∙ ap pos (sym is)) number.spelled;
+          };
+        },
+      );
+      took = relimited a d e _ expects.same took;
+      kept = omega (arith, took.limit, expects.kept);
+      limit = omega (arith, count, took.limit, expects.most);
+    }

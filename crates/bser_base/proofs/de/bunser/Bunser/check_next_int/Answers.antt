@@ -1,0 +1,45 @@
+-- The tag that was seen says how long the number is.
+use Rattle.std.proofs.lemmas.Result.{err_from_is_err_and}
+use Rattle.bser_base.specs.Grammar.{int8, int16, int32, int64}
+use Rattle.bser_base.proofs.Heads.{named, short_number}
+use Rattle.bser_base.proofs.de.bunser.Bunser.check_next_int.Goals as goal
+
+pub returns-in_err-next_i8-in-3-clause-tag : goal.returns-in_err-next_i8-in-3-clause-tag
+returns-in_err-next_i8-in-3-clause-tag g c =
+    let p = err_from_is_err_and c.from_residual-in_err-next_i8-in-3.result c.from_residual-in_err-next_i8-in-3.ensures.1 in
+    rw (p.1, p.2) (named int8 _ _ _ _ c.in-3.is c.in_ok-tag.ensures.ok c.in_ok-tag.ensures.byte)
+
+pub returns-in_err-next_i8-in-3-clause-err : goal.returns-in_err-next_i8-in-3-clause-err
+returns-in_err-next_i8-in-3-clause-err g c =
+    let p = err_from_is_err_and c.from_residual-in_err-next_i8-in-3.result c.from_residual-in_err-next_i8-in-3.ensures.1 in
+    rw (p.1, p.2) (short_number int8 _ _ _ _ _ c.in-3.is c.in_ok-tag.ensures.ok c.in_ok-tag.ensures.byte c.in_err-next_i8-in-3.ensures.err)
+
+pub returns-in_err-next_i16-in-4-clause-tag : goal.returns-in_err-next_i16-in-4-clause-tag
+returns-in_err-next_i16-in-4-clause-tag g c =
+    let p = err_from_is_err_and c.from_residual-in_err-next_i16-in-4.result c.from_residual-in_err-next_i16-in-4.ensures.1 in
+    rw (p.1, p.2) (named int16 _ _ _ _ c.in-4.is c.in_ok-tag.ensures.ok c.in_ok-tag.ensures.byte)
+
+pub returns-in_err-next_i16-in-4-clause-err : goal.returns-in_err-next_i16-in-4-clause-err
+returns-in_err-next_i16-in-4-clause-err g c =
+    let p = err_from_is_err_and c.from_residual-in_err-next_i16-in-4.result c.from_residual-in_err-next_i16-in-4.ensures.1 in
+    rw (p.1, p.2) (short_number int16 _ _ _ _ _ c.in-4.is c.in_ok-tag.ensures.ok c.in_ok-tag.ensures.byte c.in_err-next_i16-in-4.ensures.err)
+
+pub returns-in_err-next_i32-in-5-clause-tag : goal.returns-in_err-next_i32-in-5-clause-tag
+returns-in_err-next_i32-in-5-clause-tag g c =
+    let p = err_from_is_err_and c.from_residual-in_err-next_i32-in-5.result c.from_residual-in_err-next_i32-in-5.ensures.1 in
+    rw (p.1, p.2) (named int32 _ _ _ _ c.in-5.is c.in_ok-tag.ensures.ok c.in_ok-tag.ensures.byte)
+
+pub returns-in_err-next_i32-in-5-clause-err : goal.returns-in_err-next_i32-in-5-clause-err
+returns-in_err-next_i32-in-5-clause-err g c =
+    let p = err_from_is_err_and c.from_residual-in_err-next_i32-in-5.result c.from_residual-in_err-next_i32-in-5.ensures.1 in
+    rw (p.1, p.2) (short_number int32 _ _ _ _ _ c.in-5.is c.in_ok-tag.ensures.ok c.in_ok-tag.ensures.byte c.in_err-next_i32-in-5.ensures.err)
+
+pub returns-in_err-next_i64-in-6-clause-tag : goal.returns-in_err-next_i64-in-6-clause-tag
+returns-in_err-next_i64-in-6-clause-tag g c =
+    let p = err_from_is_err_and c.from_residual-in_err-next_i64-in-6.result c.from_residual-in_err-next_i64-in-6.ensures.1 in
+    rw (p.1, p.2) (named int64 _ _ _ _ c.in-6.is c.in_ok-tag.ensures.ok c.in_ok-tag.ensures.byte)
+
+pub returns-in_err-next_i64-in-6-clause-err : goal.returns-in_err-next_i64-in-6-clause-err
+returns-in_err-next_i64-in-6-clause-err g c =
+    let p = err_from_is_err_and c.from_residual-in_err-next_i64-in-6.result c.from_residual-in_err-next_i64-in-6.ensures.1 in
+    rw (p.1, p.2) (short_number int64 _ _ _ _ _ c.in-6.is c.in_ok-tag.ensures.ok c.in_ok-tag.ensures.byte c.in_err-next_i64-in-6.ensures.err)

@@ -1,0 +1,10 @@
+//! Reading.
+mod block;
+pub mod bunser;
+mod fill;
+mod held;
+mod io_read;
+mod lending;
+pub mod read;
+#[cfg(test)]
+mod tests;
