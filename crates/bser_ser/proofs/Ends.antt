@@ -1,0 +1,121 @@
+-- What was written, part by part.
+use Rattle.std.proofs.Common.{◌≡◌, ℕ, ◌≤◌, List, [], ◌∷◌, ◌++◌, Option, Some, None, append_assoc, append-nil, arith, sym, ◌∙◌, ap, refl, subst}
+use Rattle.bser_base.specs.Device.{Blamed}
+use Rattle.bser_ser.specs.Sent.{Sent, Excuses}
+use Rattle.bser_ser.specs.declared.serializer.Serializer.{Serializer}
+use Rattle.bser_base.specs.declared.errors.Error.{Error}
+use Rattle.bser_base.specs.declared.errors.Error.TheVariants.{OutOfMemory, Io}
+use Rattle.bser_ser.proofs.Sends.{Sent-both}
+use Rattle.bser_ser.specs.Ends.{Ends, Stops, Tried}
+
+-- one text and then the other, where both are there
+abbrev pub then : Option (List ℕ) → Option (List ℕ) → Option (List ℕ)
+then None m = None
+then (Some xs) None = None
+then (Some xs) (Some ys) = Some (xs ++ ys)
+
+abbrev pub joined : {A : Type 0} → (A → Option (List ℕ)) → List A → Option (List ℕ)
+joined g [] = Some []
+joined g (x ∷ xs) = then (g x) (joined g xs)
+
+pub then-assoc : (a b c : Option (List ℕ)) → then (then a b) c ≡ then a (then b c)
+then-assoc None b c = refl
+then-assoc (Some xs) None c = refl
+then-assoc (Some xs) (Some ys) None = refl
+then-assoc (Some xs) (Some ys) (Some zs) = ap Some (append_assoc xs ys zs)
+
+pub then-nil : (m : Option (List ℕ)) → then m (Some []) ≡ m
+then-nil None = refl
+then-nil (Some xs) = ap Some (append-nil xs)
+
+pub nil-then : (m : Option (List ℕ)) → then (Some []) m ≡ m
+nil-then None = refl
+nil-then (Some xs) = refl
+
+pub joined-append : {A : Type 0} (g : A → Option (List ℕ)) (xs ys : List A) → joined g (xs ++ ys) ≡ then (joined g xs) (joined g ys)
+joined-append g [] ys = sym (nil-then (joined g ys))
+joined-append g (x ∷ xs) ys = ap (then (g x)) (joined-append g xs ys) ∙ sym (then-assoc (g x) (joined g xs) (joined g ys))
+
+blamed_later : (a b c : ℕ) → a ≤ b → b ≤ c → Blamed b c → Blamed a c
+blamed_later a b c h l k = grind arith
+
+excused_later : {S : Type 0} (failures : S → ℕ) (a b c : Serializer S) (e : Error) → failures a.writer ≤ failures b.writer → failures b.writer ≤ failures c.writer → Excuses failures b c e → Excuses failures a c e
+excused_later failures a b c OutOfMemory h l k = k
+excused_later failures a b c (Io e) h l k = blamed_later _ _ _ h l k
+excused_later failures a b c _ h l k = absurd k
+
+module _ {S : Type 0} (took : S → S → List ℕ → Type 0) (failures : S → ℕ) where
+  -- nothing was written
+  pub Stops-none : (m : Option (List ℕ)) (a b : Serializer S) (e : Error) → Sent took failures a b [] → Excuses failures a b e → Stops took failures m a b e
+  Stops-none None a b e s x = record { front = []; sent = s }
+  Stops-none (Some bs) a b e s x = record { front = []; rest = bs; is = refl; sent = s; excuse = x }
+
+  pub Stops-first : (m n : Option (List ℕ)) (a b : Serializer S) (e : Error) → Stops took failures m a b e → Stops took failures (then m n) a b e
+  Stops-first None n a b e s = s
+  Stops-first (Some xs) None a b e s = record { front = s.front; sent = s.sent }
+  Stops-first (Some xs) (Some ys) a b e s = record { front = s.front; rest = s.rest ++ ys; is = ap (λ zs. zs ++ ys) s.is ∙ append_assoc s.front s.rest ys; sent = s.sent; excuse = s.excuse }
+
+module _ {S : Type 0} (took : S → S → List ℕ → Type 0) (failures : S → ℕ) (both : (a b c : S) (xs ys : List ℕ) → took a b xs → took b c ys → took a c (xs ++ ys)) where
+  pub Ends-both : (m n : Option (List ℕ)) (a b c : Serializer S) → Ends took failures m a b → Ends took failures n b c → Ends took failures (then m n) a c
+  Ends-both None n a b c s t = absurd s
+  Ends-both (Some xs) None a b c s t = absurd t
+  Ends-both (Some xs) (Some ys) a b c s t = Sent-both both a b c xs ys s t
+
+  pub Stops-second : (m n : Option (List ℕ)) (a b c : Serializer S) (e : Error) → Ends took failures m a b → Stops took failures n b c e → Stops took failures (then m n) a c e
+  Stops-second None n a b c e s t = absurd s
+  Stops-second (Some xs) None a b c e s t = record { front = xs ++ t.front; sent = Sent-both both a b c xs t.front s t.sent }
+  Stops-second (Some xs) (Some ys) a b c e s t = record {
+    front = xs ++ t.front;
+    rest = t.rest;
+    is = ap (λ zs. xs ++ zs) t.is ∙ sym (append_assoc xs t.front t.rest);
+    sent = Sent-both both a b c xs t.front s t.sent;
+    excuse = excused_later failures a b c e s.rose t.sent.rose t.excuse;
+  }
+
+-- of all, those before rest are written, after a head
+pub record UpTo {S A : Type 0} (took : S → S → List ℕ → Type 0) (failures : S → ℕ) (h : List ℕ) (g : A → Option (List ℕ)) (all rest : List A) (old new : Serializer S) : Type 0 where
+  pub done : List A
+  pub split : all ≡ done ++ rest
+  pub ended : Ends took failures (then (Some h) (joined g done)) old new
+
+module _ {S A : Type 0} (took : S → S → List ℕ → Type 0) (failures : S → ℕ) (h : List ℕ) (g : A → Option (List ℕ)) where
+  pub UpTo-start : (all rest : List A) (a b : Serializer S) → rest ≡ all → Sent took failures a b h → UpTo took failures h g all rest a b
+  UpTo-start all rest a b is s = record { done = []; split = sym is; ended = rw append-nil s }
+
+  pub UpTo-all : (all rest : List A) (a b : Serializer S) → UpTo took failures h g all rest a b → rest ≡ [] → Ends took failures (then (Some h) (joined g all)) a b
+  UpTo-all all rest a b u none = subst (λ (xs : List A). Ends took failures (then (Some h) (joined g xs)) a b) (sym (u.split ∙ ap (λ ys. u.done ++ ys) none ∙ append-nil u.done)) u.ended
+
+module _ {S A : Type 0} (took : S → S → List ℕ → Type 0) (failures : S → ℕ) (both : (a b c : S) (xs ys : List ℕ) → took a b xs → took b c ys → took a c (xs ++ ys)) (h : List ℕ) (g : A → Option (List ℕ)) where
+  pub UpTo-more : (all rest left : List A) (x : A) (a b c : Serializer S) → UpTo took failures h g all rest a b → rest ≡ x ∷ left → Ends took failures (g x) b c → UpTo took failures h g all left a c
+  UpTo-more all rest left x a b c u step t = record {
+    done = u.done ++ x ∷ [];
+    split = u.split ∙ ap (λ ys. u.done ++ ys) step ∙ sym (append_assoc u.done (x ∷ []) left);
+    ended = subst (λ (m : Option (List ℕ)). Ends took failures m a c)
+        (then-assoc (Some h) (joined g u.done) (g x) ∙ ap (then (Some h)) (ap (then (joined g u.done)) (sym (then-nil (g x))) ∙ sym (joined-append g u.done (x ∷ []))))
+        (Ends-both took failures both _ (g x) a b c u.ended t);
+  }
+
+  pub UpTo-stops : (all rest left : List A) (x : A) (a b c : Serializer S) (e : Error) → UpTo took failures h g all rest a b → rest ≡ x ∷ left → Stops took failures (g x) b c e → Stops took failures (then (Some h) (joined g all)) a c e
+  UpTo-stops all rest left x a b c e u step t =
+      let whole : joined g all ≡ then (joined g u.done) (then (g x) (joined g left)) = ap (joined g) (u.split ∙ ap (λ ys. u.done ++ ys) step) ∙ joined-append g u.done (x ∷ left) in
+      subst (λ (m : Option (List ℕ)). Stops took failures m a c e)
+      (then-assoc (then (Some h) (joined g u.done)) (g x) (joined g left) ∙ (then-assoc (Some h) (joined g u.done) (then (g x) (joined g left)) ∙ ap (then (Some h)) (sym whole)))
+      (Stops-first took failures _ (joined g left) a c e (Stops-second took failures both _ (g x) a b c e u.ended t))
+
+module _ {S : Type 0} (took : S → S → List ℕ → Type 0) (failures : S → ℕ) (both : (a b c : S) (xs ys : List ℕ) → took a b xs → took b c ys → took a c (xs ++ ys)) (m : Option (List ℕ)) where
+  -- nothing more was put
+  pub Ends-flushed : (a b c : Serializer S) → Ends took failures m a b → Sent took failures b c [] → Ends took failures m a c
+  Ends-flushed a b c s t = subst (λ (n : Option (List ℕ)). Ends took failures n a c) (then-nil m) (Ends-both took failures both m (Some []) a b c s t)
+
+  pub Stops-flushed : (a b c : Serializer S) (e : Error) → Ends took failures m a b → Sent took failures b c [] → Excuses failures b c e → Stops took failures m a c e
+  Stops-flushed a b c e s t x = subst (λ (n : Option (List ℕ)). Stops took failures n a c e) (then-nil m)
+      (Stops-second took failures both m (Some []) a b c e s (Stops-none took failures (Some []) b c e t x))
+
+module _ {S : Type 0} (took : S → S → List ℕ → Type 0) (failures : S → ℕ) where
+  pub Tried-ended : (m : Option (List ℕ)) (a b : Serializer S) → Ends took failures m a b → Tried took failures a b
+  Tried-ended None a b s = absurd s
+  Tried-ended (Some bs) a b s = record { front = bs; sent = s }
+
+  pub Tried-stopped : (m : Option (List ℕ)) (a b : Serializer S) (e : Error) → Stops took failures m a b e → Tried took failures a b
+  Tried-stopped None a b e s = s
+  Tried-stopped (Some bs) a b e s = record { front = s.front; sent = s.sent }

@@ -1,0 +1,131 @@
+-- The text of a value with parts, by the texts of its parts.
+use Rattle.std.proofs.Common.{◌≡◌, ℕ, suc, ◌<◌, ◌≤◌, ◌^◌, List, [], ◌∷◌, ◌++◌, length, Option, Some, None, option_map, ◌⊎◌, inl, inr, arith, sym, ap, refl, subst}
+use Rattle.bser_base.specs.Tree.{Tree, Items, Entries, array, object, items, entries}
+use Rattle.bser_base.specs.Canonical.{canonical_body, canonical_items, canonical_entries, canonical_key}
+use Rattle.bser_base.specs.Pieces.{array_head, object_head}
+use Rattle.bser_base.specs.Written.{item_before, entry_before, written_items, written_entries, array_tree, object_tree, slice_tree, part_tree, tuple_tree}
+use Rattle.bser_base.specs.declared.errors.Error.{Error}
+use Rattle.bser_base.specs.declared.errors.Collection.TheVariants.{Sequence}
+use Rattle.bser_ser.specs.Sent.{Sent, Excuses, IsMiscounted}
+use Rattle.bser_ser.specs.Ends.{Ends, Stops, text_of}
+use Rattle.bser_ser.specs.declared.serializer.Serializer.{Serializer}
+use Rattle.bser_ser.proofs.Ends.{then, joined, Stops-none, UpTo, UpTo-start, UpTo-more, UpTo-all, UpTo-stops}
+
+-- a count, and what is written after it
+abbrev pub items_pair : Items → ℕ × List ℕ
+items_pair ts = (length (items ts), canonical_items ts)
+
+abbrev pub entries_pair : Entries → ℕ × List ℕ
+entries_pair es = (length (entries es), canonical_entries es)
+
+abbrev pub with : ℕ → List ℕ → ℕ × List ℕ
+with n bs = (n, bs)
+
+one_item : (o : Option Tree) (ts : Option Items) (n : ℕ) (m : Option (List ℕ)) → option_map items_pair ts ≡ option_map (with n) m
+    → option_map items_pair (item_before o ts) ≡ option_map (with (suc n)) (then (text_of o) m)
+one_item None ts n m e = refl
+one_item (Some t) None n None e = refl
+one_item (Some t) None n (Some bs) e = cc
+one_item (Some t) (Some ts) n None e = cc
+one_item (Some t) (Some ts) n (Some bs) e = ap (option_map (λ (p : ℕ × List ℕ). (suc p.0, canonical_body t ++ p.1))) e
+
+one_entry : (k : List ℕ) (o : Option Tree) (es : Option Entries) (n : ℕ) (m : Option (List ℕ)) → option_map entries_pair es ≡ option_map (with n) m
+    → option_map entries_pair (entry_before k o es) ≡ option_map (with (suc n)) (then (then (Some (canonical_key k)) (text_of o)) m)
+one_entry k None es n m e = refl
+one_entry k (Some t) None n None e = refl
+one_entry k (Some t) None n (Some bs) e = cc
+one_entry k (Some t) (Some es) n None e = cc
+one_entry k (Some t) (Some es) n (Some bs) e = ap (option_map (λ (p : ℕ × List ℕ). (suc p.0, (canonical_key k ++ canonical_body t) ++ p.1))) e
+
+abbrev pub item_text : {A : Type 0} → (A → Option Tree) → A → Option (List ℕ)
+item_text f x = text_of (f x)
+
+abbrev pub entry_text : {K V : Type 0} → (K → List ℕ) → (V → Option Tree) → K × V → Option (List ℕ)
+entry_text k f e = then (Some (canonical_key (k e.0))) (text_of (f e.1))
+
+items_joined : {A : Type 0} (f : A → Option Tree) (xs : List A) → option_map items_pair (written_items f xs) ≡ option_map (with (length xs)) (joined (item_text f) xs)
+items_joined f [] = refl
+items_joined f (x ∷ xs) = one_item (f x) (written_items f xs) (length xs) (joined (item_text f) xs) (items_joined f xs)
+
+entries_joined : {K V : Type 0} (k : K → List ℕ) (f : V → Option Tree) (es : List (K × V)) → option_map entries_pair (written_entries k f es) ≡ option_map (with (length es)) (joined (entry_text k f) es)
+entries_joined k f [] = refl
+entries_joined k f (e ∷ es) = one_entry (k e.0) (f e.1) (written_entries k f es) (length es) (joined (entry_text k f) es) (entries_joined k f es)
+
+as_array : (ts : Option Items) (n : ℕ) (m : Option (List ℕ)) → option_map items_pair ts ≡ option_map (with n) m → text_of (option_map array ts) ≡ then (Some (array_head n)) m
+as_array None n None e = refl
+as_array None n (Some bs) e = cc
+as_array (Some ts) n None e = cc
+as_array (Some ts) n (Some bs) e = ap (option_map (λ (p : ℕ × List ℕ). array_head p.0 ++ p.1)) e
+
+as_object : (es : Option Entries) (n : ℕ) (m : Option (List ℕ)) → option_map entries_pair es ≡ option_map (with n) m → text_of (option_map object es) ≡ then (Some (object_head n)) m
+as_object None n None e = refl
+as_object None n (Some bs) e = cc
+as_object (Some es) n None e = cc
+as_object (Some es) n (Some bs) e = ap (option_map (λ (p : ℕ × List ℕ). object_head p.0 ++ p.1)) e
+
+pub array_text : {A : Type 0} (f : A → Option Tree) (xs : List A) → text_of (array_tree f xs) ≡ then (Some (array_head (length xs))) (joined (item_text f) xs)
+array_text f xs = as_array (written_items f xs) (length xs) (joined (item_text f) xs) (items_joined f xs)
+
+pub object_text : {K V : Type 0} (k : K → List ℕ) (f : V → Option Tree) (es : List (K × V)) → text_of (object_tree k f es) ≡ then (Some (object_head (length es))) (joined (entry_text k f) es)
+object_text k f es = as_object (written_entries k f es) (length es) (joined (entry_text k f) es) (entries_joined k f es)
+
+module _ {S A : Type 0} (took : S → S → List ℕ → Type 0) (failures : S → ℕ) (f : A → Option Tree) (xs : List A) where
+  pub Ends-array : (rest : List A) (a b : Serializer S) → UpTo took failures (array_head (length xs)) (item_text f) xs rest a b → rest ≡ [] → Ends took failures (text_of (array_tree f xs)) a b
+  Ends-array rest a b u none = subst (λ (m : Option (List ℕ)). Ends took failures m a b) (sym (array_text f xs)) (UpTo-all took failures (array_head (length xs)) (item_text f) xs rest a b u none)
+
+  pub Stops-array : ((a b c : S) (xs ys : List ℕ) → took a b xs → took b c ys → took a c (xs ++ ys)) → (rest left : List A) (x : A) (a b c : Serializer S) (e : Error)
+      → UpTo took failures (array_head (length xs)) (item_text f) xs rest a b → rest ≡ x ∷ left → Stops took failures (text_of (f x)) b c e → Stops took failures (text_of (array_tree f xs)) a c e
+  Stops-array both rest left x a b c e u step t =
+      subst (λ (m : Option (List ℕ)). Stops took failures m a c e) (sym (array_text f xs)) (UpTo-stops took failures both (array_head (length xs)) (item_text f) xs rest left x a b c e u step t)
+
+module _ {S K V : Type 0} (took : S → S → List ℕ → Type 0) (failures : S → ℕ) (k : K → List ℕ) (f : V → Option Tree) (es : List (K × V)) where
+  pub Ends-object : (rest : List (K × V)) (a b : Serializer S) → UpTo took failures (object_head (length es)) (entry_text k f) es rest a b → rest ≡ [] → Ends took failures (text_of (object_tree k f es)) a b
+  Ends-object rest a b u none = subst (λ (m : Option (List ℕ)). Ends took failures m a b) (sym (object_text k f es)) (UpTo-all took failures (object_head (length es)) (entry_text k f) es rest a b u none)
+
+  pub Stops-object : ((a b c : S) (xs ys : List ℕ) → took a b xs → took b c ys → took a c (xs ++ ys)) → (rest left : List (K × V)) (x : K × V) (a b c : Serializer S) (e : Error)
+      → UpTo took failures (object_head (length es)) (entry_text k f) es rest a b → rest ≡ x ∷ left → Stops took failures (entry_text k f x) b c e → Stops took failures (text_of (object_tree k f es)) a c e
+  Stops-object both rest left x a b c e u step t =
+      subst (λ (m : Option (List ℕ)). Stops took failures m a c e) (sym (object_text k f es)) (UpTo-stops took failures both (object_head (length es)) (entry_text k f) es rest left x a b c e u step t)
+
+module _ {S : Type 0} (took : S → S → List ℕ → Type 0) (failures : S → ℕ) where
+  -- the head was refused, though the count was not too great
+  pub Stops-head : (n : ℕ) (m : Option (List ℕ)) (a b : Serializer S) (e : Error) → n < 2 ^ 63 → Sent took failures a b [] → Excuses failures a b e ⊎ IsMiscounted Sequence (Some n) e → Stops took failures m a b e
+  Stops-head n m a b e h s (inl x) = Stops-none took failures m a b e s x
+  Stops-head n m a b e h s (inr x) = absurd (omega (arith, x.1))
+
+-- a tuple, part by part
+module _ {S : Type 0} (took : S → S → List ℕ → Type 0) (failures : S → ℕ) (both : (a b c : S) (xs ys : List ℕ) → took a b xs → took b c ys → took a c (xs ++ ys)) (parts : List (Option Tree)) where
+  -- the parts before rest are written, after the head
+  abbrev pub Parts : List (Option Tree) → Serializer S → Serializer S → Type 0
+  Parts rest a b = UpTo took failures (array_head (length parts)) (item_text part_tree) parts rest a b
+
+  pub parts_start : (a b : Serializer S) → Sent took failures a b (array_head (length parts)) → Parts parts a b
+  parts_start a b s = UpTo-start took failures (array_head (length parts)) (item_text part_tree) parts parts a b refl s
+
+  pub parts_more : {m : Option Tree} {rest : List (Option Tree)} {a b : Serializer S} (c : Serializer S) → Parts (m ∷ rest) a b → Ends took failures (text_of m) b c → Parts rest a c
+  parts_more {m = m} {rest = rest} {a = a} {b = b} c u t = UpTo-more took failures both (array_head (length parts)) (item_text part_tree) parts (m ∷ rest) rest m a b c u refl t
+
+  pub parts_all : (a b : Serializer S) → Parts [] a b → Ends took failures (text_of (tuple_tree parts)) a b
+  parts_all a b u = Ends-array took failures part_tree parts [] a b u refl
+
+  pub parts_stop : {m : Option Tree} {rest : List (Option Tree)} {a b : Serializer S} (c : Serializer S) (e : Error) → Parts (m ∷ rest) a b → Stops took failures (text_of m) b c e → Stops took failures (text_of (tuple_tree parts)) a c e
+  parts_stop {m = m} {rest = rest} {a = a} {b = b} c e u t = Stops-array took failures part_tree parts both (m ∷ rest) rest m a b c e u refl t
+
+slice_within : {A : Type 0} (f : A → Option Tree) (xs : List A) → length xs < 2 ^ 63 → slice_tree f xs ≡ array_tree f xs
+slice_within f xs h = grind (arith, h)
+
+slice_past : {A : Type 0} (f : A → Option Tree) (xs : List A) → 2 ^ 63 ≤ length xs → slice_tree f xs ≡ None
+slice_past f xs h = grind (arith, h)
+
+module _ {S A : Type 0} (took : S → S → List ℕ → Type 0) (failures : S → ℕ) (f : A → Option Tree) (xs : List A) where
+  pub Ends-slice : (a b : Serializer S) → length xs < 2 ^ 63 → Ends took failures (text_of (array_tree f xs)) a b → Ends took failures (text_of (slice_tree f xs)) a b
+  Ends-slice a b h s = subst (λ (m : Option Tree). Ends took failures (text_of m) a b) (sym (slice_within f xs h)) s
+
+  pub Stops-slice : (a b : Serializer S) (e : Error) → length xs < 2 ^ 63 → Stops took failures (text_of (array_tree f xs)) a b e → Stops took failures (text_of (slice_tree f xs)) a b e
+  Stops-slice a b e h s = subst (λ (m : Option Tree). Stops took failures (text_of m) a b e) (sym (slice_within f xs h)) s
+
+  pub Stops-slice-head : (n : ℕ) (a b : Serializer S) (e : Error) → n ≡ length xs → Sent took failures a b [] → Excuses failures a b e ⊎ IsMiscounted Sequence (Some n) e → Stops took failures (text_of (slice_tree f xs)) a b e
+  Stops-slice-head n a b e len s (inl x) = Stops-none took failures _ a b e s x
+  Stops-slice-head n a b e len s (inr x) =
+      let past : 2 ^ 63 ≤ length xs = omega (arith, x.1) in
+      subst (λ (m : Option Tree). Stops took failures (text_of m) a b e) (sym (slice_past f xs past)) (record { front = []; sent = s })

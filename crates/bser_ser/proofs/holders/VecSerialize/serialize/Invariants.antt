@@ -1,0 +1,8 @@
+use Rattle.std.proofs.Common.{length, drop}
+use Rattle.bser_base.specs.Pieces.{array_head}
+use Rattle.bser_ser.proofs.Ends.{UpTo}
+use Rattle.bser_ser.proofs.Texts.{item_text}
+use Rattle.bser_ser.proofs.holders.VecSerialize.serialize.Given as goal
+
+abbrev pub invariant-loop-item : goal.invariant-loop-item
+invariant-loop-item g l = UpTo g.W.Sink.took g.W.Sink.failures (array_head (length l.self.items)) (item_text g.T.Serialize.meaning) l.self.items (drop l.item-index l.item-items) l.fn.out l.out

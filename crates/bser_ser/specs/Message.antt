@@ -1,0 +1,51 @@
+-- What the writing of a whole message leaves.
+use Rattle.std.specs.Prelude.{◌≡◌, ℕ, ℤ, pos, ◌<◌, ◌^◌, List, ◌++◌, length, Option, Some, None, ⊤, ◌⊎◌}
+use Rattle.bser_base.specs.Device.{Blamed}
+use Rattle.bser_base.specs.Tree.{Tree}
+use Rattle.bser_base.specs.Canonical.{canonical_body, canonical_message}
+use Rattle.bser_base.specs.declared.errors.Error.{Error}
+use Rattle.bser_base.specs.declared.errors.Error.TheVariants.{OutOfMemory, Io}
+use Rattle.bser_ser.specs.Sent.{IsTooMany}
+
+-- the canonical message of a value, where it has a tree
+abbrev pub message_of : Option Tree → Option (List ℕ)
+message_of None = None
+message_of (Some t) = Some (canonical_message t)
+
+-- there is a tree, and its canonical body has this length, which an i64 holds
+abbrev pub IsLength : Option Tree → ℤ → Type 0
+IsLength None n = ⊥
+IsLength (Some t) n = (n ≡ pos (length (canonical_body t))) × (length (canonical_body t) < 2 ^ 63)
+
+-- why a value has no length: no tree, a body too long for an i64, or want of memory
+abbrev pub IsUnmeasured : Option Tree → Error → Type 0
+IsUnmeasured None e = ⊤
+IsUnmeasured (Some t) e = (e ≡ OutOfMemory) ⊎ IsTooMany (length (canonical_body t)) e
+
+-- there is a tree, its body is not too long, and the writer took its canonical message and nothing else
+abbrev pub Wrote : {S : Type 0} → (S → S → List ℕ → Type 0) → Option Tree → S → S → Type 0
+Wrote took None old new = ⊥
+Wrote took (Some t) old new = took old new (canonical_message t) × (length (canonical_body t) < 2 ^ 63)
+
+-- want of memory, or a fault that the writer counted between the two counts
+abbrev pub IsFault : ℕ → ℕ → Error → Type 0
+IsFault before after OutOfMemory = ⊤
+IsFault before after (Io e) = Blamed before after
+IsFault before after _ = ⊥
+
+-- the writer took a beginning of the message, and there is a fault
+pub record Partly {S : Type 0} (took : S → S → List ℕ → Type 0) (failures : S → ℕ) (message : List ℕ) (old new : S) (e : Error) : Type 0 where
+  pub front : List ℕ
+  pub rest : List ℕ
+  pub is : message ≡ front ++ rest
+  pub took_it : took old new front
+  pub fault : IsFault (failures old) (failures new) e
+
+-- the writing of a message broke off
+abbrev pub Broke : {S : Type 0} → (S → S → List ℕ → Type 0) → (S → ℕ) → Option Tree → S → S → Error → Type 0
+Broke took failures None old new e = ⊥
+Broke took failures (Some t) old new e = Partly took failures (canonical_message t) old new e
+
+-- a refusal: of the measuring, with the writer as it was, or a message that broke off
+abbrev pub Missed : {S : Type 0} → (S → S → List ℕ → Type 0) → (S → ℕ) → Option Tree → S → S → Error → Type 0
+Missed took failures m old new e = (IsUnmeasured m e × (new ≡ old)) ⊎ Broke took failures m old new e

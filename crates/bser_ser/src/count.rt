@@ -1,0 +1,57 @@
+//! A writer that counts.
+ghost use Rattle.std.specs.Prelude.{◌≡◌, length};
+ghost use Rattle.bser_base.specs.Device.{counts_to};
+ghost use Rattle.bser_base.specs.Sinks.{counts_to-none, counts_to-both};
+ghost use Rattle.bser_ser.specs.Sent.{count_of};
+
+use bser_base::device::Sink;
+use std::io;
+use std::io::Write;
+
+/// Takes all bytes, keeps none, and counts them.
+#[derive(Drop)]
+pub struct CountWrite {
+    count: usize,
+}
+
+impl CountWrite {
+    /// Has counted nothing.
+    pub fn new() -> Self
+        ensures { count_of result ≡ 0 }
+    {
+        CountWrite { count: 0 }
+    }
+
+    /// The number of bytes taken, `usize::MAX` at most.
+    pub fn count(&self) -> usize
+        ensures { result ≡ count_of self.now }
+    {
+        self.count
+    }
+}
+
+impl Write for CountWrite {
+    fn write(&mut self, bytes: &[u8]) -> io::Result<usize> {
+        self.count = self.count.saturating_add(bytes.len());
+        Ok(bytes.len())
+    }
+
+    fn flush(&mut self) -> io::Result<()> {
+        Ok(())
+    }
+}
+
+impl Sink for CountWrite {
+    ghost took = { λ a b xs. count_of b ≡ counts_to (count_of a) (length xs) };
+
+    ghost failures = { λ _. 0 };
+
+    fn push(&mut self, bytes: &[u8]) -> io::Result<usize> {
+        self.count = self.count.saturating_add(bytes.len());
+        Ok(bytes.len())
+    }
+
+    ghost took_nothing = { λ c. counts_to-none (count_of c) };
+
+    ghost took_both = { λ a b c xs ys. counts_to-both (count_of a) (count_of b) (count_of c) xs ys };
+}

@@ -1,0 +1,47 @@
+//! Writing values as messages of BSER, version 2.
+//!
+//! The calls of [`message`] write one message for a value of a type that is [`Serialize`]. A
+//! [`Serializer`] puts the parts of a value one after another, without a message's front.
+#![tactic(auto)]
+
+ghost use Rattle.std.specs.Prelude.{Option, OnOk, IfErr};
+ghost use Rattle.bser_base.specs.Tree.{Tree};
+ghost use Rattle.bser_ser.specs.Ends.{Ends, Stops, text_of};
+
+mod count;
+mod holders;
+mod integer;
+mod maps;
+pub mod message;
+mod pending;
+mod puts;
+mod scalars;
+mod serializer;
+#[cfg(test)]
+mod tests;
+mod tuples;
+
+pub use crate::count::CountWrite;
+pub use crate::serializer::Serializer;
+use bser_base::device::Sink;
+use bser_base::errors::Result;
+use std::alloc::Global;
+
+/// A value that can be written.
+///
+/// The crate takes serde's trait, and a type there says only how it is written. Here it also says
+/// as which tree, or that it has none.
+pub trait Serialize {
+    // the value's tree, where it has one
+    ghost meaning: { Self → Option Tree };
+
+    /// Puts the canonical text of the value's tree.
+    ///
+    /// A value without a tree is refused, as an integer above `i64::MAX` with
+    /// [`SerU64TooBig`](bser_base::errors::Error::SerU64TooBig). Besides, the faults of the puts
+    /// are handed on: `Io` for the writer's, and `OutOfMemory`. After a refusal the parts before it
+    /// have been put.
+    fn serialize<W: Sink>(&self, alloc: Global, out: &mut Serializer<W>) -> Result<()>
+        ensures ok { OnOk result (Ends W.took W.failures (text_of (meaning self.now)) out.old out.new) }
+        ensures err { IfErr result (Stops W.took W.failures (text_of (meaning self.now)) out.old out.new) };
+}

@@ -1,0 +1,37 @@
+//! Maps, whose entries stand in rising byte order of their keys.
+ghost use Rattle.std.specs.Prelude.{string_bytes};
+ghost use Rattle.bser_base.specs.Written.{object_tree, same_bytes};
+
+use crate::Serialize;
+use crate::serializer::Serializer;
+use bser_base::bytestring::ByteString;
+use bser_base::device::Sink;
+use bser_base::errors::Result;
+use std::alloc::Global;
+use std::collections::BTreeMap;
+
+impl<V: Serialize> Serialize for BTreeMap<String, V> {
+    ghost meaning = { λ m. object_tree string_bytes V.meaning m.entries };
+
+    fn serialize<W: Sink>(&self, alloc: Global, out: &mut Serializer<W>) -> Result<()> {
+        out.put_map(Some(self.len()))?;
+        for (key, value) in self {
+            out.put_key(key.as_bytes())?;
+            value.serialize(alloc, out)?;
+        }
+        Ok(())
+    }
+}
+
+impl<V: Serialize> Serialize for BTreeMap<ByteString, V> {
+    ghost meaning = { λ m. object_tree same_bytes V.meaning m.entries };
+
+    fn serialize<W: Sink>(&self, alloc: Global, out: &mut Serializer<W>) -> Result<()> {
+        out.put_map(Some(self.len()))?;
+        for (key, value) in self {
+            out.put_key(key.as_bytes())?;
+            value.serialize(alloc, out)?;
+        }
+        Ok(())
+    }
+}

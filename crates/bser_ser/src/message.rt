@@ -1,0 +1,102 @@
+//! Whole messages.
+ghost use Rattle.std.specs.Prelude.{OnOk, IfOk, IfErr};
+ghost use Rattle.bser_ser.specs.Ends.{Ends, Stops, Tried};
+ghost use Rattle.bser_ser.specs.Message.{message_of, IsLength, IsUnmeasured, Wrote, Missed};
+ghost use Rattle.bser_ser.specs.Sent.{IsFlushed};
+
+use crate::Serialize;
+use crate::count::CountWrite;
+use crate::serializer::Serializer;
+use bser_base::device::Sink;
+use bser_base::errors::{Complaint, Error, Result};
+use std::alloc::Global;
+
+/// Writes one message with the value as its body, to a writer that is lent.
+///
+/// The value is gone through twice: once to measure its body, and once to write it; the body
+/// isn't kept. Where measuring refuses, the writer has taken nothing: the value has no tree, as a
+/// `u64` above `i64::MAX` (`SerU64TooBig`), its body is longer than `i64::MAX` bytes (`SerCustom`
+/// `CountTooGreat`), or memory is refused (`OutOfMemory`). Writing itself refuses with the writer's
+/// fault (`Io`) or for memory; the writer has then taken a beginning of the message.
+pub fn serialize_to<W: Sink, T: Serialize>(alloc: Global, writer: &mut W, value: &T) -> Result<()>
+    ensures ok { OnOk result (Wrote W.took (T.meaning value.now) writer.old writer.new) }
+    ensures err { IfErr result (Missed W.took W.failures (T.meaning value.now) writer.old writer.new) }
+{
+    let len = measure(alloc, value)?;
+    let mut out = Serializer::new(alloc, writer);
+    let sent = send_message(alloc, &mut out, len, value);
+    let _ = out.into_writer();
+    sent
+}
+
+/// Writes one message with the value as its body, and hands the writer back either way.
+///
+/// Refusals are those of [`serialize_to`], which is the call for a writer that is lent: a proof
+/// cannot follow a `&mut` through this one. The crate drops the writer on a refusal.
+pub fn serialize<W: Sink, T: Serialize>(
+    alloc: Global,
+    writer: W,
+    value: &T,
+) -> std::result::Result<W, (W, Error)>
+    ensures ok { IfOk result (λ w. Wrote W.took (T.meaning value.now) writer w) }
+    ensures err { IfErr result (λ r. Missed W.took W.failures (T.meaning value.now) writer r.0 r.1) }
+{
+    let len = match measure(alloc, value) {
+        Ok(len) => len,
+        Err(error) => return Err((writer, error)),
+    };
+    let mut out = Serializer::new(alloc, writer);
+    match send_message(alloc, &mut out, len, value) {
+        Ok(()) => Ok(out.into_writer()),
+        Err(error) => Err((out.into_writer(), error)),
+    }
+}
+
+// The length of the value's body.
+fn measure<T: Serialize>(alloc: Global, value: &T) -> Result<i64>
+    ensures ok { IfOk result (IsLength (T.meaning value.now)) }
+    ensures err { IfErr result (IsUnmeasured (T.meaning value.now)) }
+{
+    let mut out = Serializer::new(alloc, CountWrite::new());
+    value.serialize(alloc, &mut out)?;
+    match out.try_finish() {
+        Ok(counter) => match i64::try_from(counter.count()) {
+            Ok(len) => Ok(len),
+            Err(_) => Err(Error::ser_custom(Complaint::CountTooGreat)),
+        },
+        Err((_, fault)) => Err(Error::Io(fault)),
+    }
+}
+
+// Puts the front and the body, and sends all.
+fn send_message<W: Sink, T: Serialize>(
+    alloc: Global,
+    out: &mut Serializer<W>,
+    len: i64,
+    value: &T,
+) -> Result<()>
+    requires { IsLength (T.meaning value.now) len }
+    ensures ok { OnOk result (Ends W.took W.failures (message_of (T.meaning value.now)) out.old out.new) }
+    ensures all { OnOk result (IsFlushed out.new) }
+    ensures err { IfErr result (Stops W.took W.failures (message_of (T.meaning value.now)) out.old out.new) }
+    ensures tied { Tried W.took W.failures out.old out.new }
+{
+    put_message(alloc, out, len, value)?;
+    out.flush()?;
+    Ok(())
+}
+
+// Puts the front and the body.
+fn put_message<W: Sink, T: Serialize>(
+    alloc: Global,
+    out: &mut Serializer<W>,
+    len: i64,
+    value: &T,
+) -> Result<()>
+    requires { IsLength (T.meaning value.now) len }
+    ensures ok { OnOk result (Ends W.took W.failures (message_of (T.meaning value.now)) out.old out.new) }
+    ensures err { IfErr result (Stops W.took W.failures (message_of (T.meaning value.now)) out.old out.new) }
+{
+    out.put_front(len)?;
+    value.serialize(alloc, out)
+}

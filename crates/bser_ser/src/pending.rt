@@ -1,0 +1,117 @@
+//! The bytes that a writer has still to take.
+ghost use Rattle.std.specs.Prelude.{◌≡◌, ◌≤◌, List, ℕ, [], ◌∷◌, ◌++◌, length, drop, OnOk, OnErr};
+ghost use Rattle.bser_base.specs.Canonical.{least_integer, least_count};
+ghost use Rattle.bser_base.specs.Device.{Blamed};
+ghost use Rattle.bser_base.specs.Pieces.{newtype_variant_head};
+
+use crate::integer::{LONGEST, spell};
+use bser_base::device::Sink;
+use bser_base::header::{BSER_INT8, BSER_OBJECT, BSER_UTF8STRING};
+use std::alloc::AllocError;
+use std::io;
+use std::io::ErrorKind;
+use std::result::Result;
+
+/// Appends an integer in its least size, or nothing.
+pub fn append_integer(pending: &mut Vec<u8>, v: i64) -> Result<(), AllocError>
+    ensures ok { OnOk result (pending.new.items ≡ pending.old.items ++ least_integer v) }
+    ensures err { OnErr result (pending.new.items ≡ pending.old.items) }
+{
+    let mut integer = [0; LONGEST];
+    let len = spell(&mut integer, v);
+    pending.extend_from_slice(&integer[..len])
+}
+
+/// Appends a tag and a count, or nothing.
+pub fn append_head(pending: &mut Vec<u8>, tag: u8, count: i64) -> Result<(), AllocError>
+    ensures ok { OnOk result (pending.new.items ≡ pending.old.items ++ tag ∷ least_integer count) }
+    ensures err { OnErr result (pending.new.items ≡ pending.old.items) }
+{
+    let mut head = [tag; LONGEST + 1];
+    let len = spell(&mut head[1..], count);
+    pending.extend_from_slice(&head[..len + 1])
+}
+
+/// Appends a tag, the length of `bytes` and the bytes, or nothing.
+pub fn append_string(pending: &mut Vec<u8>, tag: u8, bytes: &[u8]) -> Result<(), AllocError>
+    ensures ok { OnOk result (pending.new.items ≡ pending.old.items ++ tag ∷ (least_count (length bytes.now) ++ bytes.now)) }
+    ensures err { OnErr result (pending.new.items ≡ pending.old.items) }
+{
+    let before = pending.len();
+    append_head(pending, tag, bytes.len() as i64)?;
+    if pending.extend_from_slice(bytes).is_err() {
+        pending.truncate(before);
+        return Err(AllocError);
+    }
+    Ok(())
+}
+
+/// Appends an object's head for one entry, and the entry's key, or nothing.
+pub fn append_variant(pending: &mut Vec<u8>, name: &str) -> Result<(), AllocError>
+    ensures ok { OnOk result (pending.new.items ≡ pending.old.items ++ newtype_variant_head name.now) }
+    ensures err { OnErr result (pending.new.items ≡ pending.old.items) }
+{
+    let before = pending.len();
+    pending.extend_from_slice(&[BSER_OBJECT, BSER_INT8, 1])?;
+    if append_string(pending, BSER_UTF8STRING, name.as_bytes()).is_err() {
+        pending.truncate(before);
+        return Err(AllocError);
+    }
+    Ok(())
+}
+
+/// Appends a variant's head, and its payload's tag and count, or nothing.
+pub fn append_variant_of(
+    pending: &mut Vec<u8>,
+    name: &str,
+    tag: u8,
+    count: i64,
+) -> Result<(), AllocError>
+    ensures ok { OnOk result (pending.new.items ≡ pending.old.items ++ (newtype_variant_head name.now ++ tag ∷ least_integer count)) }
+    ensures err { OnErr result (pending.new.items ≡ pending.old.items) }
+{
+    let before = pending.len();
+    append_variant(pending, name)?;
+    if append_head(pending, tag, count).is_err() {
+        pending.truncate(before);
+        return Err(AllocError);
+    }
+    Ok(())
+}
+
+/// Sends all that is pending. After a fault the bytes that the writer has not taken are pending.
+pub fn send<W: Sink>(writer: &mut W, pending: &mut Vec<u8>) -> io::Result<()>
+    ensures sent { (taken : List ℕ) × W.took writer.old writer.new taken × (pending.old.items ≡ taken ++ pending.new.items) }
+    ensures rose { W.failures writer.old ≤ W.failures writer.new }
+    ensures ok { OnOk result (pending.new.items ≡ []) }
+    ensures err { OnErr result (Blamed (W.failures writer.old) (W.failures writer.new)) }
+{
+    let mut done = 0;
+    while done < pending.len() {
+        match writer.push(&pending[done..]) {
+            Ok(n) => {
+                if n == 0 {
+                    cut_front(pending, done);
+                    return Err(io::Error::new(ErrorKind::WriteZero, "nothing taken"));
+                }
+                done += n;
+            }
+            Err(fault) => {
+                cut_front(pending, done);
+                return Err(fault);
+            }
+        }
+    }
+    pending.clear();
+    Ok(())
+}
+
+// Takes the first n bytes away.
+fn cut_front(pending: &mut Vec<u8>, n: usize)
+    requires { n ≤ length pending.old.items }
+    ensures { pending.new.items ≡ drop n pending.old.items }
+{
+    let rest = pending.len() - n;
+    pending.rotate_left(n);
+    pending.truncate(rest);
+}

@@ -1,0 +1,233 @@
+//! The puts of a serializer.
+ghost use Rattle.std.specs.Prelude.{◌≡◌, pos, ◌<◌, ◌^◌, ◌∷◌, ◌++◌, [], length, OnOk, IfOk, IfErr, encode_utf8};
+ghost use Rattle.std.specs.Int.{w32, to_le_bytes};
+ghost use Rattle.bser_base.specs.Canonical.{least_integer, least_count};
+ghost use Rattle.bser_base.specs.Pieces.{null_piece, bool_piece, integer_piece, real_piece, text_piece, bytes_piece, key_piece, array_head, object_head, newtype_variant_head, tuple_variant_head, struct_variant_head};
+ghost use Rattle.bser_base.specs.declared.errors.Collection.TheVariants.{Sequence, Map};
+ghost use Rattle.bser_ser.specs.Sent.{Puts, PutsOr, IsTooBig, IsTooMany, IsMiscounted, IsCounted, count_or_zero};
+
+use crate::pending::{
+    append_head, append_integer, append_string, append_variant, append_variant_of,
+};
+use crate::serializer::Serializer;
+use bser_base::device::Sink;
+use bser_base::errors::{Collection, Complaint, Error, Result};
+use bser_base::header::{
+    BSER_ARRAY, BSER_BYTESTRING, BSER_FALSE, BSER_NULL, BSER_OBJECT, BSER_REAL, BSER_TRUE,
+    BSER_UTF8STRING,
+};
+use byteorder::{ByteOrder, LittleEndian};
+
+/// Each put appends its piece, or nothing where it is refused.
+///
+/// A put sends first where more than 4096 bytes are pending, and hands the writer's fault on as
+/// `Io`; a growth that is refused is `OutOfMemory`. Other refusals stand at each put.
+///
+/// The crate has serde's `serialize_` calls in the place of the puts.
+impl<W: Sink> Serializer<W> {
+    /// Puts null.
+    pub fn put_null(&mut self) -> Result<()>
+        ensures { Puts W.took W.failures self.old self.new null_piece result }
+    {
+        self.put_byte(BSER_NULL)
+    }
+
+    /// Puts a truth value.
+    pub fn put_bool(&mut self, v: bool) -> Result<()>
+        ensures { Puts W.took W.failures self.old self.new (bool_piece v) result }
+    {
+        self.put_byte(if v { BSER_TRUE } else { BSER_FALSE })
+    }
+
+    /// Puts an integer in its least size.
+    pub fn put_i64(&mut self, v: i64) -> Result<()>
+        ensures { Puts W.took W.failures self.old self.new (integer_piece v) result }
+    {
+        self.make_room()?;
+        append_integer(&mut self.pending, v)?;
+        Ok(())
+    }
+
+    /// Puts an integer in its least size. One above `i64::MAX` is refused with `SerU64TooBig`.
+    pub fn put_u64(&mut self, v: u64) -> Result<()>
+        ensures put { PutsOr (IsTooBig v) W.took W.failures self.old self.new (integer_piece (pos v)) result }
+        ensures fits { OnOk result (v < 2 ^ 63) }
+    {
+        match i64::try_from(v) {
+            Ok(v) => self.put_i64(v),
+            Err(_) => Err(Error::SerU64TooBig { v }),
+        }
+    }
+
+    /// Puts a real, given by its 64 bits.
+    pub fn put_real_bits(&mut self, bits: u64) -> Result<()>
+        ensures { Puts W.took W.failures self.old self.new (real_piece bits) result }
+    {
+        self.make_room()?;
+        let mut piece = [BSER_REAL; 9];
+        LittleEndian::write_u64(&mut piece[1..], bits);
+        self.pending.extend_from_slice(&piece)?;
+        Ok(())
+    }
+
+    /// Puts a text.
+    pub fn put_text(&mut self, text: &str) -> Result<()>
+        ensures { Puts W.took W.failures self.old self.new (text_piece text.now) result }
+    {
+        self.put_string(BSER_UTF8STRING, text.as_bytes())
+    }
+
+    /// Puts the text of one character.
+    pub fn put_char(&mut self, c: char) -> Result<()>
+        ensures { Puts W.took W.failures self.old self.new (text_piece (encode_utf8 c)) result }
+    {
+        let mut buf = [0; 4];
+        self.put_text(c.encode_utf8(&mut buf))
+    }
+
+    /// Puts a byte string.
+    pub fn put_bytes(&mut self, bytes: &[u8]) -> Result<()>
+        ensures { Puts W.took W.failures self.old self.new (bytes_piece bytes.now) result }
+    {
+        self.put_string(BSER_BYTESTRING, bytes)
+    }
+
+    /// Puts an object's key: a text where it is UTF-8, else a byte string.
+    pub fn put_key(&mut self, key: &[u8]) -> Result<()>
+        ensures { Puts W.took W.failures self.old self.new (key_piece key.now) result }
+    {
+        match str::from_utf8(key) {
+            Ok(text) => self.put_text(text),
+            Err(_) => self.put_bytes(key),
+        }
+    }
+
+    /// Puts an array's head; the items follow.
+    ///
+    /// A missing count is refused with `SerNeedSize`, and one above `i64::MAX` with `SerCustom`
+    /// `CountTooGreat`.
+    pub fn put_seq(&mut self, count: Option<usize>) -> Result<()>
+        ensures put { PutsOr (IsMiscounted Sequence count) W.took W.failures self.old self.new (array_head (count_or_zero count)) result }
+        ensures counted { OnOk result (IsCounted count) }
+    {
+        let Some(n) = count else {
+            return Err(Error::SerNeedSize {
+                kind: Collection::Sequence,
+            });
+        };
+        self.put_head(BSER_ARRAY, n)
+    }
+
+    /// Puts an object's head; for each entry its key and its value follow.
+    ///
+    /// A missing count is refused with `SerNeedSize`, and one above `i64::MAX` with `SerCustom`
+    /// `CountTooGreat`.
+    pub fn put_map(&mut self, count: Option<usize>) -> Result<()>
+        ensures put { PutsOr (IsMiscounted Map count) W.took W.failures self.old self.new (object_head (count_or_zero count)) result }
+        ensures counted { OnOk result (IsCounted count) }
+    {
+        let Some(n) = count else {
+            return Err(Error::SerNeedSize {
+                kind: Collection::Map,
+            });
+        };
+        self.put_head(BSER_OBJECT, n)
+    }
+
+    /// Puts the head of an enum's variant with one value, which follows.
+    pub fn put_newtype_variant(&mut self, name: &str) -> Result<()>
+        ensures { Puts W.took W.failures self.old self.new (newtype_variant_head name.now) result }
+    {
+        self.make_room()?;
+        append_variant(&mut self.pending, name)?;
+        Ok(())
+    }
+
+    /// Puts the head of an enum's variant with `count` values, which follow as the items of an
+    /// array.
+    ///
+    /// A count above `i64::MAX` is refused with `SerCustom` `CountTooGreat`.
+    pub fn put_tuple_variant(&mut self, name: &str, count: usize) -> Result<()>
+        ensures put { PutsOr (IsTooMany count) W.took W.failures self.old self.new (tuple_variant_head name.now count) result }
+        ensures fits { OnOk result (count < 2 ^ 63) }
+    {
+        self.put_variant_of(name, BSER_ARRAY, count)
+    }
+
+    /// Puts the head of an enum's variant with `count` fields, which follow as the entries of an
+    /// object. The crate opens an array here, which no reader takes for the fields.
+    ///
+    /// A count above `i64::MAX` is refused with `SerCustom` `CountTooGreat`.
+    pub fn put_struct_variant(&mut self, name: &str, count: usize) -> Result<()>
+        ensures put { PutsOr (IsTooMany count) W.took W.failures self.old self.new (struct_variant_head name.now count) result }
+        ensures fits { OnOk result (count < 2 ^ 63) }
+    {
+        self.put_variant_of(name, BSER_OBJECT, count)
+    }
+
+    // Puts the front of a message whose body has this many bytes.
+    pub(crate) fn put_front(&mut self, body: i64) -> Result<()>
+        ensures { Puts W.took W.failures self.old self.new (0 ∷ 2 ∷ (to_le_bytes w32 0 ++ least_integer body)) result }
+    {
+        self.make_room()?;
+        let before = self.pending.len();
+        self.pending.extend_from_slice(&[0, 2, 0, 0, 0, 0])?;
+        if append_integer(&mut self.pending, body).is_err() {
+            self.pending.truncate(before);
+            return Err(Error::OutOfMemory);
+        }
+        Ok(())
+    }
+
+    // Puts one byte.
+    fn put_byte(&mut self, byte: u8) -> Result<()>
+        ensures { Puts W.took W.failures self.old self.new (byte ∷ []) result }
+    {
+        self.make_room()?;
+        self.pending.extend_from_slice(&[byte])?;
+        Ok(())
+    }
+
+    // Puts a string under this tag.
+    fn put_string(&mut self, tag: u8, bytes: &[u8]) -> Result<()>
+        ensures { Puts W.took W.failures self.old self.new (tag ∷ (least_count (length bytes.now) ++ bytes.now)) result }
+    {
+        self.make_room()?;
+        append_string(&mut self.pending, tag, bytes)?;
+        Ok(())
+    }
+
+    // Puts a container's tag and its count.
+    fn put_head(&mut self, tag: u8, count: usize) -> Result<()>
+        ensures put { PutsOr (IsTooMany count) W.took W.failures self.old self.new (tag ∷ least_count count) result }
+        ensures fits { OnOk result (count < 2 ^ 63) }
+    {
+        let count = as_count(count)?;
+        self.make_room()?;
+        append_head(&mut self.pending, tag, count)?;
+        Ok(())
+    }
+
+    // Puts a variant's head, and its payload's tag and count.
+    fn put_variant_of(&mut self, name: &str, tag: u8, count: usize) -> Result<()>
+        ensures put { PutsOr (IsTooMany count) W.took W.failures self.old self.new (newtype_variant_head name.now ++ tag ∷ least_count count) result }
+        ensures fits { OnOk result (count < 2 ^ 63) }
+    {
+        let count = as_count(count)?;
+        self.make_room()?;
+        append_variant_of(&mut self.pending, name, tag, count)?;
+        Ok(())
+    }
+}
+
+// The count as the format has it.
+fn as_count(n: usize) -> Result<i64>
+    ensures same { IfOk result (λ count. count ≡ pos n) }
+    ensures fits { OnOk result (n < 2 ^ 63) }
+    ensures err { IfErr result (IsTooMany n) }
+{
+    match i64::try_from(n) {
+        Ok(count) => Ok(count),
+        Err(_) => Err(Error::ser_custom(Complaint::CountTooGreat)),
+    }
+}
