@@ -1,0 +1,5 @@
+use Rattle.bser_base.proofs.Laws.{one_message}
+use Rattle.serde_bser.proofs.laws.one_front.Goals as goal
+
+pub returns : goal.returns
+returns c = one_message

@@ -1,0 +1,21 @@
+use Rattle.std.proofs.Common.{◌≡◌, [], ◌∷◌, ◌++◌, sym, ap, ◌∙◌, subst, append_assoc}
+use Rattle.std.specs.List.Sorted.{IsStrictlySortedBy}
+use Rattle.std.specs.Map.{keys_of}
+use Rattle.std.specs.String.{string_cmp}
+use Rattle.serde_bser.specs.ValueView.{entries_view}
+use Rattle.serde_bser.proofs.Views.{Entry, entries_view-insert_last}
+use Rattle.serde_bser.proofs.value.+copy.Goals as goal
+
+pub copy_entries-loop-key-preserved : goal.copy_entries-loop-key-preserved
+copy_entries-loop-key-preserved t c =
+    let l = c.loop-key in
+    let done = l.invariant.0 in
+    let e : Entry = (c.in-Some.key.now, c.in-Some.member.now) in
+    let left = c.next.new.self in
+    let all : c.args.entries.now.entries ≡ done ++ e ∷ left = l.invariant.1 ∙ ap (λ es. done ++ es) c.in-Some.ensures.steps in
+    let rise = subst (λ es. IsStrictlySortedBy string_cmp (keys_of es)) all c.iter-key-items.ensures.ordered in
+    let named = c.in_ok-name.ensures.ok ∙ c.as_str.ensures.value in (
+      done ++ e ∷ [],
+      all ∙ sym (append_assoc done (e ∷ []) left),
+      ap entries_view c.in_ok-insert.ensures.entries ∙ entries_view-insert_last l.copies.entries done e left c.in_ok-name.name c.in_ok-try_clone.field-0 rise l.invariant.2 named c.in_ok-try_clone.ensures,
+    )

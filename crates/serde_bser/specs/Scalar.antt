@@ -1,0 +1,56 @@
+-- The trees of one scalar or string, and what a call takes of them.
+use Rattle.std.specs.Prelude.{◌≡◌, ℕ, zero, ℤ, pos, true, false, List, [], ◌∷◌, ◌++◌, length, Option, Some, None, option_map}
+use Rattle.bser_base.specs.Tree.{Tree, null, boolean, integer, real, bytes, text}
+use Rattle.bser_base.specs.Grammar.{Format, Bytes, ◌then◌, SpellsCount, SpellsText, Spells}
+use Rattle.bser_base.specs.Content.{Content, value, Meaning, Needs}
+use Rattle.bser_base.specs.Source as source
+use Rattle.bser_base.specs.Source.{Took}
+
+-- the tree, where it is no container
+abbrev pub scalar : Tree → Option Tree
+scalar null = Some null
+scalar (boolean v) = Some (boolean v)
+scalar (integer v) = Some (integer v)
+scalar (real r) = Some (real r)
+scalar (bytes s) = Some (bytes s)
+scalar (text s) = Some (text s)
+scalar _ = None
+
+-- a `Value` of a scalar or string
+abbrev pub reads_scalar : Meaning
+reads_scalar t = option_map value (scalar t)
+
+-- a value that owns its bytes
+abbrev pub owned : Needs
+owned = record { lent = false; memory = true }
+
+-- a scalar or string
+pub record IsScalar (b : List ℕ) : Type 0 where
+  pub tree : Tree
+  pub known : scalar tree ≡ Some tree
+  pub spelled : Spells zero tree b
+
+-- the bytes of a scalar or string were taken
+pub record TookScalar (old new : source.State) (t : Tree) : Type 0 where
+  pub known : scalar t ≡ Some t
+  pub taken : List ℕ
+  pub spelled : Spells zero t taken
+  pub took : Took old new taken None
+
+-- a string under this tag
+abbrev pub IsString : ℕ → Format
+IsString tag b = (s : List ℕ) × (Bytes (tag ∷ []) then SpellsCount (length s) then Bytes s) b
+
+-- a text under its tag
+abbrev pub IsText : Format
+IsText b = (s : List ℕ) × SpellsText s b
+
+-- as many bytes
+abbrev pub Counted : ℤ → Format
+Counted len b = pos (length b) ≡ len
+
+-- the tag in sight, and a string's length and bytes were taken
+pub record TookString (tag : ℕ) (old new : source.State) (s : List ℕ) : Type 0 where
+  pub number : List ℕ
+  pub spelled : SpellsCount (length s) number
+  pub took : Took old new (tag ∷ (number ++ s)) None

@@ -1,0 +1,72 @@
+//! Laws of the format, over the trees of values. Each is a function that does nothing, and its
+//! contract is the law.
+
+ghost use Rattle.bser_base.specs.GrammarLaws.{OneFront};
+ghost use Rattle.serde_bser.specs.Laws.{BodyBound, CanonicalIsMessage, CanonicalIsTheFront, DepthBound, EqualMessages, LeastLength, MeaningStays, NodesBound, ReadIsValueTree, ShortBodiesFit, StandsForItself, TwiceIsOnce, ValueIsReturned, ValueReadsAsItself, WrittenIsMessage, WrittenIsTheFront, WrittenOutIsOneTree, WrittenOutIsSpelled, WrittenOutReadsAlike};
+
+/// A byte list begins with one message at most, of one tree and one number of capabilities.
+pub fn one_front()
+    ensures { OneFront }
+{}
+
+/// The canonical message of a value is a message, whatever follows it, and reads as that value: for
+/// values of at most as many levels as are read, whose message is at most `i64::MAX` bytes.
+pub fn reads_back()
+    ensures message { CanonicalIsMessage }
+    ensures front { CanonicalIsTheFront }
+    ensures value { ValueReadsAsItself }
+{}
+
+/// Values whose bodies are at most `i64::MAX` bytes have equal canonical messages exactly where
+/// they are equal.
+pub fn equal_messages()
+    ensures { EqualMessages }
+{}
+
+/// Writing what a canonical message reads as gives that message again.
+pub fn twice_is_once()
+    ensures { TwiceIsOnce }
+{}
+
+/// Whatever a message reads as is the tree of a value: without templates, with numbers in their
+/// ranges and texts in UTF-8, and each object's keys once, in rising order. So every value that was
+/// read can stand where the other laws ask for one.
+pub fn read_values_are_value_trees()
+    ensures { ReadIsValueTree }
+{}
+
+/// The canonical message of a tree without templates is a message, whatever follows it, stands for
+/// that tree alone, and means to every type what the tree does: for trees that can be written, of at
+/// most as many levels as are read, whose message is at most `i64::MAX` bytes. So a value of any type
+/// that reads its own tree as what it holds is read back from what was written for it. The trees of
+/// values are among them.
+pub fn round_trip()
+    ensures message { WrittenIsMessage }
+    ensures front { WrittenIsTheFront }
+    ensures itself { StandsForItself }
+    ensures meaning { MeaningStays }
+    ensures values { ValueIsReturned }
+{}
+
+/// No message without templates that reads as a value is shorter than its canonical message,
+/// whatever sizes of integers, tags of strings, repeated keys and capabilities it has.
+pub fn least_length()
+    ensures { LeastLength }
+{}
+
+/// How many values a body of `k` bytes reads as, how deep they are with `n` levels, and how long
+/// their canonical body is: at most `2 * k`, `2 * n - 1` and `k * k`.
+pub fn nodes_and_depth()
+    ensures nodes { NodesBound }
+    ensures depth { DepthBound }
+    ensures body { BodyBound }
+    ensures fits { ShortBodiesFit }
+{}
+
+/// A template's spelling, written out as an array of objects, spells one tree with one level more,
+/// and every type reads both alike.
+pub fn written_out()
+    ensures spelled { WrittenOutIsSpelled }
+    ensures one_tree { WrittenOutIsOneTree }
+    ensures alike { WrittenOutReadsAlike }
+{}

@@ -1,0 +1,14 @@
+//! Reads and writes BSER version 2, the binary messages of the Watchman file watcher.
+//!
+//! [`from_slice`] and [`from_reader`] read one message as a value of a type that is
+//! [`Deserialize`](de::Deserialize); [`ser::serialize`] and [`ser::serialize_to`] write one. The
+//! modules of the crates below stand here under the names that users know.
+#![tactic(auto)]
+
+pub mod de;
+pub mod laws;
+pub mod ser;
+pub mod value;
+
+pub use crate::de::{from_reader, from_slice};
+pub use bser_base::{bytestring, device, errors, header};

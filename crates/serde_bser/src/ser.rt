@@ -1,0 +1,3 @@
+//! Writing.
+pub use bser_ser::message::{serialize, serialize_to};
+pub use bser_ser::{CountWrite, Serialize, Serializer};
