@@ -1,0 +1,11 @@
+-- A line for the user.
+use Rattle.std.specs.Prelude.{◌≡◌, ℕ, List, [], ◌++◌, ◌⊎◌}
+use Rattle.bser_base.specs.Device.{Blamed}
+
+-- a writer took a beginning of the line, and all of it unless it failed
+pub record PutsLine {S : Type 0} (took : S → S → List ℕ → Type 0) (failures : S → ℕ) (line : List ℕ) (old new : S) : Type 0 where
+  pub front : List ℕ
+  pub rest : List ℕ
+  pub is : line ≡ front ++ rest
+  pub took_it : took old new front
+  pub whole : (rest ≡ []) ⊎ Blamed (failures old) (failures new)
