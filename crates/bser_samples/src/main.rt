@@ -1,0 +1,85 @@
+//! Compares reading and writing with a list of messages whose answers came from elsewhere, and
+//! prints how many agree.
+//!
+//! The file `sample.tsv` has a line for each message: its class, the message in hexadecimal digits,
+//! `ok` or `err`, the answer in the notation of `bser_vectors`, the bytes taken, the nodes and the
+//! depth of the value, and what is written for it, canonical and compact. A long message is
+//! `#LENGTH:SHA256`.
+#![tactic(auto)]
+
+mod sample;
+
+use crate::sample::Sample;
+use anyhow::{Context, Result};
+use std::alloc::Global;
+use std::fs;
+
+/// How many lines were treated in which way.
+#[derive(Default, Drop)]
+struct Counts {
+    lines: u64,
+    accepted: u64,
+    refused: u64,
+    not_read: u64,
+    written: u64,
+    mismatches: u64,
+}
+
+/// One more, below the greatest.
+fn count(counter: &mut u64) {
+    *counter = counter.saturating_add(1);
+}
+
+/// Compares one line, and counts what was done with it. Gives what differs.
+fn compare(
+    alloc: Global,
+    sample: &Sample<'_>,
+    counts: &mut Counts,
+) -> Result<Option<&'static str>> {
+    count(&mut counts.lines);
+    if sample.is_container(alloc) {
+        count(&mut counts.not_read);
+    } else {
+        count(if sample.accepted {
+            &mut counts.accepted
+        } else {
+            &mut counts.refused
+        });
+        if let Some(way) = sample.first_mismatch(alloc)? {
+            return Ok(Some(way));
+        }
+    }
+    if sample.accepted {
+        count(&mut counts.written);
+        if !sample.is_written(alloc)? {
+            return Ok(Some("written"));
+        }
+    }
+    Ok(None)
+}
+
+fn main(rt: HostRuntime) -> Result<()> {
+    let text = fs::read_to_string(&rt, "sample.tsv")?;
+    let mut counts = Counts::default();
+    for line in text.as_str().lines() {
+        let sample = Sample::parse(rt.alloc(), line)?;
+        let mismatch = compare(rt.alloc(), &sample, &mut counts).context(format_args!(
+            "line {}",
+            counts.lines
+        ))?;
+        if let Some(what) = mismatch {
+            count(&mut counts.mismatches);
+            println!(rt;
+                "line {}, {}: another answer, {what}",
+                counts.lines, sample.class
+            )?;
+        }
+    }
+    println!(rt; "{} lines", counts.lines)?;
+    println!(rt; "{} messages accepted as the file says", counts.accepted)?;
+    println!(rt; "{} messages refused as the file says", counts.refused)?;
+    println!(rt; "{} messages of containers not read", counts.not_read)?;
+    println!(rt; "{} values written", counts.written)?;
+    println!(rt; "{} mismatches", counts.mismatches)?;
+    Ok(())
+}
