@@ -1,5 +1,5 @@
 //! Readers and writers that tell what they give and take, and count their failures.
-ghost use Rattle.std.specs.Prelude.{◌≡◌, ◌≤◌, ℕ, List, [], ◌++◌, length, take, Option, Some, None, IfOk, MatchResult};
+ghost use Rattle.std.specs.Prelude.{◌≡◌, ◌≤◌, ℕ, List, [], ◌++◌, length, take, Option, Some, None, IfOk, MatchResult, if◌then◌else◌};
 ghost use Rattle.std.specs.Borrow.{GName};
 ghost use Rattle.std.specs.Io.{ReadsAtMost};
 ghost use Rattle.std.specs.Io.KnownBytes.{ReadConsumes, Appends};
@@ -54,6 +54,19 @@ pub trait Sink {
         ensures bound { IfOk result (λ n. n ≤ length bytes.now) }
         ensures taken { MatchResult result (λ n. took self.old self.new (take n bytes.now)) (λ _. took self.old self.new []) }
         ensures failures { failures self.new ≡ counted (has_failed result bytes.now) (failures self.old) };
+
+    /// Takes all of `front` and then of `back`, or answers false and takes nothing.
+    ///
+    /// A sink that can do so without a call that may fail, as one that only counts, saves its
+    /// caller the copy into a buffer. Every other sink answers false, as here.
+    fn take_at_once(&mut self, front: &[u8], back: &[u8]) -> bool
+        ensures taken { took self.old self.new (if result then front.now ++ back.now else []) }
+        ensures failures { failures self.new ≡ failures self.old }
+    {
+        let _ = front;
+        let _ = back;
+        false
+    }
 
     ghost took_nothing: { (s : Self) → took s s [] };
 
@@ -164,6 +177,10 @@ impl<S: Sink> Sink for &mut S {
 
     fn push(&mut self, bytes: &[u8]) -> io::Result<usize> {
         (**self).push(bytes)
+    }
+
+    fn take_at_once(&mut self, front: &[u8], back: &[u8]) -> bool {
+        (**self).take_at_once(front, back)
     }
 
     ghost took_nothing = { λ s. (refl, S.took_nothing s.now) };

@@ -1,14 +1,14 @@
 //! The program over any streams.
-ghost use Rattle.std.specs.Prelude.{◌≡◌, ◌≢◌, ◌≤◌, ◌<◌, ◌↔◌, [], ◌∷◌, ◌++◌, codes, length};
+ghost use Rattle.std.specs.Prelude.{◌≡◌, ◌≢◌, ◌≤◌, ◌<◌, ◌↔◌, [], ◌∷◌, ◌++◌, codes, length, string_bytes, IfOk};
 ghost use Rattle.bser_canon.specs.Canon.{Rewrote, Refuses};
-ghost use Rattle.bser_canon.specs.Line.{PutsLine};
+ghost use Rattle.bser_canon.specs.Line.{IsReport, PutsLine, PutsReport};
 
 use crate::engine::canon;
 use bser_base::device::{Sink, Source};
 use bser_base::errors::Error;
 use serde_bser::de::Shape;
 use serde_bser::value::Value;
-use std::alloc::Global;
+use std::alloc::{AllocError, Global};
 
 /// The status after the message was written.
 pub const DONE: u8 = 0;
@@ -37,6 +37,7 @@ pub fn run<R: Source, W: Sink, E: Sink>(
     ensures status { args.now ≡ [] → result ≤ REFUSED }
     ensures done { result ≡ DONE → Rewrote ⟦<Value as Shape>⟧.reads R.remaining W.took reader.old reader.new writer.old writer.new }
     ensures quiet { result ≡ DONE → errors.new ≡ errors.old }
+    ensures told { result ≡ REFUSED → PutsReport E.took E.failures errors.old errors.new }
     ensures refused { result ≡ REFUSED → (e : Error) × Refuses ⟦<Value as Shape>⟧.reads R.remaining R.failures W.took W.failures reader.old reader.new writer.old writer.new e }
 {
     if !args.is_empty() {
@@ -54,11 +55,21 @@ pub fn run<R: Source, W: Sink, E: Sink>(
 
 /// Writes a line with the error's text, as far as the writer takes it. Where there is no memory for
 /// the text, the line says so.
-pub fn report<E: Sink>(alloc: Global, errors: &mut E, error: &Error) {
-    match format!(in alloc; "bser_canon: {error}\n") {
+pub fn report<E: Sink>(alloc: Global, errors: &mut E, error: &Error)
+    ensures { PutsReport E.took E.failures errors.old errors.new }
+{
+    match report_line(alloc, error) {
         Ok(line) => put(errors, line.as_bytes()),
         Err(_) => put(errors, b"bser_canon: out of memory\n"),
     }
+}
+
+// The line with the error's text.
+fn report_line(alloc: Global, error: &Error) -> Result<String, AllocError>
+    ensures { IfOk result (λ line. IsReport (string_bytes line)) }
+{
+    let text = error.to_string(alloc)?;
+    format!(in alloc; "bser_canon: {text}\n")
 }
 
 // Writes the line, as far as the writer takes it.

@@ -8,6 +8,8 @@
 #![tactic(auto)]
 
 mod sample;
+#[cfg(test)]
+mod tests;
 
 use crate::sample::Sample;
 use anyhow::{Context, Result};
@@ -30,32 +32,21 @@ fn count(counter: &mut u64) {
     *counter = counter.saturating_add(1);
 }
 
-/// Compares one line, and counts what was done with it. Gives what differs.
-fn compare(
-    alloc: Global,
-    sample: &Sample<'_>,
-    counts: &mut Counts,
-) -> Result<Option<&'static str>> {
-    count(&mut counts.lines);
-    if sample.is_container(alloc) {
-        count(&mut counts.not_read);
-    } else {
-        count(if sample.accepted {
-            &mut counts.accepted
+impl Counts {
+    /// Counts a line by what is done with it.
+    fn add(&mut self, alloc: Global, sample: &Sample<'_>) {
+        count(&mut self.lines);
+        if sample.is_container(alloc) {
+            count(&mut self.not_read);
+        } else if sample.accepted {
+            count(&mut self.accepted);
         } else {
-            &mut counts.refused
-        });
-        if let Some(way) = sample.first_mismatch(alloc)? {
-            return Ok(Some(way));
+            count(&mut self.refused);
+        }
+        if sample.accepted {
+            count(&mut self.written);
         }
     }
-    if sample.accepted {
-        count(&mut counts.written);
-        if !sample.is_written(alloc)? {
-            return Ok(Some("written"));
-        }
-    }
-    Ok(None)
 }
 
 fn main(rt: HostRuntime) -> Result<()> {
@@ -63,10 +54,10 @@ fn main(rt: HostRuntime) -> Result<()> {
     let mut counts = Counts::default();
     for line in text.as_str().lines() {
         let sample = Sample::parse(rt.alloc(), line)?;
-        let mismatch = compare(rt.alloc(), &sample, &mut counts).context(format_args!(
-            "line {}",
-            counts.lines
-        ))?;
+        counts.add(rt.alloc(), &sample);
+        let mismatch = sample
+            .first_mismatch(rt.alloc())
+            .context(format_args!("line {}", counts.lines))?;
         if let Some(what) = mismatch {
             count(&mut counts.mismatches);
             println!(rt;

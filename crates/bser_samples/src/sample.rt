@@ -1,11 +1,16 @@
 //! One line of the list of messages.
+ghost use Rattle.std.specs.Prelude.{◌≡◌, ◌∷◌, IfOk, IfNone, IsTrue};
+ghost use Rattle.bser_vectors.specs.Ways.{Agrees};
+ghost use Rattle.bser_samples.specs.Sample.{columns_of, HasColumns, HasTag, Holds, IsContainer, is_container_tag, IsShown, IsWritten};
+
 use anyhow::{Context, Result};
 use bser_vectors::notation::parse_value;
 use bser_vectors::ways;
-use serde_bser::de::{Bunser, SliceRead};
+use serde_bser::de::{Bunser, Shape, SliceRead};
 use serde_bser::device::Watched;
 use serde_bser::header::{BSER_ARRAY, BSER_OBJECT, BSER_TEMPLATE};
 use serde_bser::ser::serialize;
+use serde_bser::value::Value;
 use sha2::{Digest, Sha256};
 use std::alloc::{AllocError, Global};
 
@@ -24,14 +29,20 @@ pub struct Sample<'a> {
 
 impl<'a> Sample<'a> {
     /// Takes a line apart at its tabs.
-    pub fn parse(alloc: Global, line: &'a str) -> Result<Self> {
-        let mut columns = line.split('\t');
-        let class = columns.next().context("no class")?;
-        let message = hex::decode(alloc, columns.next().context("no message")?)?;
-        let accepted = columns.next() == Some("ok");
-        let answer = columns.next().context("no answer")?;
-        let taken = columns.next().context("no bytes taken")?.parse::<usize>()?;
-        let canonical = columns.nth(2).unwrap_or("");
+    pub fn parse(alloc: Global, line: &'a str) -> Result<Self>
+        ensures { IfOk result (HasColumns line.now) }
+    {
+        let (class, rest) = cut(line)?;
+        let (message, rest) = cut(rest)?;
+        let (verdict, rest) = cut(rest)?;
+        let (answer, rest) = cut(rest)?;
+        let (taken, rest) = cut(rest)?;
+        let (_nodes, rest) = cut(rest)?;
+        let (_depth, rest) = cut(rest)?;
+        let (canonical, _compact) = cut(rest)?;
+        let accepted = verdict == "ok";
+        let message = hex::decode(alloc, message)?;
+        let taken = taken.parse::<usize>()?;
         Ok(Sample {
             class,
             accepted,
@@ -42,20 +53,42 @@ impl<'a> Sample<'a> {
         })
     }
 
+    /// The first thing in which reading or writing differs from what the list says.
+    pub fn first_mismatch(&self, alloc: Global) -> Result<Option<&'static str>>
+        ensures { IfOk result (λ what. IfNone what (Holds ⟦<Value as Shape>⟧.reads ⟦<Value as Shape>⟧.needs self.now)) }
+    {
+        if !self.is_container(alloc) {
+            if let Some(way) = self.read_mismatch(alloc)? {
+                return Ok(Some(way));
+            }
+        }
+        if self.accepted && !self.is_written(alloc)? {
+            return Ok(Some("written"));
+        }
+        Ok(None)
+    }
+
     /// Whether the head is read and an array, an object or a template stands behind it.
-    pub fn is_container(&self, alloc: Global) -> bool {
-        let mut bunser = Bunser::new(alloc, SliceRead::new(self.message.as_slice()));
-        bunser.read_pdu().is_ok()
-            && matches!(bunser.peek(), Ok(BSER_ARRAY | BSER_OBJECT | BSER_TEMPLATE))
+    pub fn is_container(&self, alloc: Global) -> bool
+        ensures { IsTrue result → IsContainer self.now.message.items }
+    {
+        match body_tag(alloc, self.message.as_slice()) {
+            Ok(tag) => is_container_tag(tag),
+            Err(_) => false,
+        }
     }
 
     /// The first way of reading that answers otherwise than the list says.
-    pub fn first_mismatch(&self, alloc: Global) -> Result<Option<&'static str>> {
+    fn read_mismatch(&self, alloc: Global) -> Result<Option<&'static str>>
+        ensures { IfOk result (λ way. IfNone way (Agrees ⟦<Value as Shape>⟧.reads ⟦<Value as Shape>⟧.needs self.now.message.items self.now.answer.now self.now.taken)) }
+    {
         Ok(ways::first_mismatch(alloc, self.message.as_slice(), self.answer, self.taken)?)
     }
 
     /// Whether the message that is written for the value is the one that the list says.
-    pub fn is_written(&self, alloc: Global) -> Result<bool> {
+    fn is_written(&self, alloc: Global) -> Result<bool>
+        ensures { IfOk result (λ same. IsTrue same → IsWritten self.now.answer.now self.now.canonical.now) }
+    {
         let value = parse_value(alloc, self.answer)?;
         match serialize(alloc, Watched::new(Vec::new(alloc)), &value) {
             Ok(writer) => Ok(is_shown(alloc, writer.into_inner().as_slice(), self.canonical)?),
@@ -64,14 +97,36 @@ impl<'a> Sample<'a> {
     }
 }
 
+/// The first column, and the others.
+fn cut(columns: &str) -> Result<(&str, &str)>
+    ensures { IfOk result (λ parts. columns_of columns.now ≡ parts.0.now ∷ columns_of parts.1.now) }
+{
+    columns.split_once('\t').context("too few columns")
+}
+
+fn is_container_tag(tag: u8) -> bool
+    ensures { result ≡ is_container_tag tag }
+{
+    matches!(tag, BSER_ARRAY | BSER_OBJECT | BSER_TEMPLATE)
+}
+
+/// The tag behind the head of the message.
+fn body_tag(alloc: Global, bytes: &[u8]) -> serde_bser::errors::Result<u8>
+    ensures { IfOk result (HasTag bytes.now) }
+{
+    let mut bunser = Bunser::new(alloc, SliceRead::new(bytes));
+    bunser.read_pdu()?;
+    bunser.peek()
+}
+
 /// Whether the column shows these bytes: in hexadecimal digits, or by their number and their digest.
-fn is_shown(alloc: Global, bytes: &[u8], column: &str) -> Result<bool, AllocError> {
-    match column.strip_prefix('#') {
-        None => Ok(hex::encode(alloc, bytes)?.as_str() == column),
-        Some(summary) => {
-            let digest = hex::encode(alloc, Sha256::digest(bytes))?;
-            let shown = format!(in alloc; "{}:{}", bytes.len(), digest)?;
-            Ok(shown.as_str() == summary)
-        }
+fn is_shown(alloc: Global, bytes: &[u8], column: &str) -> Result<bool, AllocError>
+    ensures { IfOk result (λ same. IsTrue same → IsShown bytes.now column.now) }
+{
+    if column.starts_with("#") {
+        let digest = hex::encode(alloc, Sha256::digest(bytes))?;
+        let shown = format!(in alloc; "#{}:{digest}", bytes.len())?;
+        return Ok(shown.as_str() == column);
     }
+    Ok(hex::encode(alloc, bytes)?.as_str() == column)
 }

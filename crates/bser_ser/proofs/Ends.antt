@@ -1,18 +1,14 @@
 -- What was written, part by part.
 use Rattle.std.proofs.Common.{◌≡◌, ℕ, ◌≤◌, List, [], ◌∷◌, ◌++◌, Option, Some, None, append_assoc, append-nil, arith, sym, ◌∙◌, ap, refl, subst}
 use Rattle.bser_base.specs.Device.{Blamed}
-use Rattle.bser_ser.specs.Sent.{Sent, Excuses}
+use Rattle.std.proofs.Common.{Result}
+use Rattle.std.proofs.lemmas.Result.{MatchResult-weaker}
+use Rattle.bser_ser.specs.Sent.{Sent, Excuses, Adds, refusal_of}
 use Rattle.bser_ser.specs.declared.serializer.Serializer.{Serializer}
 use Rattle.bser_base.specs.declared.errors.Error.{Error}
 use Rattle.bser_base.specs.declared.errors.Error.TheVariants.{OutOfMemory, Io}
 use Rattle.bser_ser.proofs.Sends.{Sent-both}
-use Rattle.bser_ser.specs.Ends.{Ends, Stops, Tried}
-
--- one text and then the other, where both are there
-abbrev pub then : Option (List ℕ) → Option (List ℕ) → Option (List ℕ)
-then None m = None
-then (Some xs) None = None
-then (Some xs) (Some ys) = Some (xs ++ ys)
+use Rattle.bser_ser.specs.Ends.{Ends, Stops, Tried, then}
 
 abbrev pub joined : {A : Type 0} → (A → Option (List ℕ)) → List A → Option (List ℕ)
 joined g [] = Some []
@@ -43,6 +39,13 @@ excused_later : {S : Type 0} (failures : S → ℕ) (a b c : Serializer S) (e : 
 excused_later failures a b c OutOfMemory h l k = k
 excused_later failures a b c (Io e) h l k = blamed_later _ _ _ h l k
 excused_later failures a b c _ h l k = absurd k
+
+-- a put after a call that put nothing
+pub Adds-after : {S A E : Type 0} (took : S → S → List ℕ → Type 0) (failures : S → ℕ) → ((a b c : S) (xs ys : List ℕ) → took a b xs → took b c ys → took a c (xs ++ ys))
+    → (a b c : Serializer S) (piece : List ℕ) (r : Result A E) → Sent took failures a b [] → Adds took failures b c piece r → Adds took failures a c piece r
+Adds-after took failures both a b c piece r s x =
+    MatchResult-weaker r x (λ _ t. (Sent-both both a b c [] piece s t.0, t.1))
+    (λ _ t. (Sent-both both a b c [] [] s t.0, excused_later failures a b c (refusal_of c) s.rose t.0.rose t.1))
 
 module _ {S : Type 0} (took : S → S → List ℕ → Type 0) (failures : S → ℕ) where
   -- nothing was written

@@ -1,8 +1,8 @@
 -- The least spelling of an integer, size by size, and how it comes to stand in a buffer.
-use Rattle.std.proofs.Common.{◌≡◌, ℕ, ℤ, suc, ◌<◌, ◌≤◌, ◌^◌, true, false, List, [], ◌∷◌, ◌++◌, length, take, slice_set, refl, ap, arith, append_assoc}
+use Rattle.std.proofs.Common.{◌≡◌, ℕ, ℤ, suc, ◌<◌, ◌≤◌, ◌^◌, true, false, nat_lt, List, [], ◌∷◌, ◌++◌, length, take, slice_set, refl, ap, arith, append_assoc}
 use Rattle.std.proofs.lemmas.Grind.{common_steps}
 use Rattle.bser_base.specs.Grammar.{int8, int16, int32, int64, int_bytes}
-use Rattle.bser_base.specs.Canonical.{least_integer, is_within}
+use Rattle.bser_base.specs.Canonical.{least_integer, least_count, is_within}
 
 pub least_int8 : (v : ℤ) → is_within (2 ^ 7) v ≡ true → least_integer v ≡ int_bytes int8 v
 unfolding least_integer
@@ -19,6 +19,13 @@ least_int32 v a b c = rw (a, b, c)
 pub least_int64 : (v : ℤ) → is_within (2 ^ 7) v ≡ false → is_within (2 ^ 15) v ≡ false → is_within (2 ^ 31) v ≡ false → least_integer v ≡ int_bytes int64 v
 unfolding least_integer
 least_int64 v a b c = rw (a, b, c)
+
+-- a count below 128 takes two bytes
+pub short_count : (n : ℕ) → n < 128 → least_count n ≡ 3 ∷ n ∷ []
+unfolding least_integer
+short_count n h =
+    let within : nat_lt n 128 ≡ true = grind (arith, h) in
+    rw (within) (ap (λ (m : ℕ). 3 ∷ m ∷ []) (omega (arith, h)))
 
 -- a tag and a byte, at the front of a buffer
 pub two_set : (xs : List ℕ) (a b : ℕ) → 2 ≤ length xs → take 2 (slice_set (slice_set xs 0 a) 1 b) ≡ a ∷ b ∷ []

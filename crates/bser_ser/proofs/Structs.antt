@@ -6,9 +6,9 @@ use Rattle.bser_base.specs.Pieces.{array_head, object_head, newtype_variant_head
 use Rattle.bser_base.specs.Written.{part_tree, same_bytes, tuple_tree, struct_tree, variant_tree}
 use Rattle.bser_base.specs.declared.errors.Error.{Error}
 use Rattle.bser_ser.specs.Sent.{Sent, Excuses}
-use Rattle.bser_ser.specs.Ends.{Ends, Stops, text_of}
+use Rattle.bser_ser.specs.Ends.{Ends, Stops, text_of, then}
 use Rattle.bser_ser.specs.declared.serializer.Serializer.{Serializer}
-use Rattle.bser_ser.proofs.Ends.{then, joined, then-assoc, Ends-both, Stops-second, Stops-none, UpTo, UpTo-start, UpTo-more, UpTo-all, UpTo-stops}
+use Rattle.bser_ser.proofs.Ends.{joined, then-assoc, Ends-both, Stops-second, Stops-none, UpTo, UpTo-start, UpTo-more, UpTo-all, UpTo-stops}
 use Rattle.bser_ser.proofs.Texts.{item_text, entry_text, array_text, object_text}
 
 one_entry_head : object_head 1 ≡ 0x01 ∷ 0x03 ∷ 0x01 ∷ []

@@ -7,9 +7,9 @@ use Rattle.bser_base.specs.Written.{item_before, entry_before, written_items, wr
 use Rattle.bser_base.specs.declared.errors.Error.{Error}
 use Rattle.bser_base.specs.declared.errors.Collection.TheVariants.{Sequence}
 use Rattle.bser_ser.specs.Sent.{Sent, Excuses, IsMiscounted}
-use Rattle.bser_ser.specs.Ends.{Ends, Stops, text_of}
+use Rattle.bser_ser.specs.Ends.{Ends, Stops, text_of, then}
 use Rattle.bser_ser.specs.declared.serializer.Serializer.{Serializer}
-use Rattle.bser_ser.proofs.Ends.{then, joined, Stops-none, UpTo, UpTo-start, UpTo-more, UpTo-all, UpTo-stops}
+use Rattle.bser_ser.proofs.Ends.{joined, Stops-none, UpTo, UpTo-start, UpTo-more, UpTo-all, UpTo-stops}
 
 -- a count, and what is written after it
 abbrev pub items_pair : Items → ℕ × List ℕ

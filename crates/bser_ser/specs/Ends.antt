@@ -1,7 +1,7 @@
 -- What the serializing of a value leaves.
 use Rattle.std.specs.Prelude.{◌≡◌, ℕ, List, ◌++◌, Option, Some, None}
 use Rattle.bser_base.specs.Tree.{Tree}
-use Rattle.bser_base.specs.Canonical.{canonical_body}
+use Rattle.bser_base.specs.Canonical.{canonical_body, canonical_key}
 use Rattle.bser_base.specs.declared.errors.Error.{Error}
 use Rattle.bser_ser.specs.Sent.{Sent, Excuses}
 use Rattle.bser_ser.specs.declared.serializer.Serializer.{Serializer}
@@ -10,6 +10,16 @@ use Rattle.bser_ser.specs.declared.serializer.Serializer.{Serializer}
 abbrev pub text_of : Option Tree → Option (List ℕ)
 text_of None = None
 text_of (Some t) = Some (canonical_body t)
+
+-- one text and then the other, where both are there
+abbrev pub then : Option (List ℕ) → Option (List ℕ) → Option (List ℕ)
+then None m = None
+then (Some xs) None = None
+then (Some xs) (Some ys) = Some (xs ++ ys)
+
+-- a field's key and then its value, where that has a tree
+abbrev pub field_text : List ℕ → Option Tree → Option (List ℕ)
+field_text key m = then (Some (canonical_key key)) (text_of m)
 
 -- there is a text, and it was put
 abbrev pub Ends : {S : Type 0} → (S → S → List ℕ → Type 0) → (S → ℕ) → Option (List ℕ) → Serializer S → Serializer S → Type 0

@@ -6,6 +6,7 @@ use Rattle.bser_base.specs.declared.errors.Complaint.TheVariants.{CountTooGreat}
 use Rattle.bser_base.specs.declared.errors.Error.{Error}
 use Rattle.bser_base.specs.declared.errors.Error.TheVariants.{OutOfMemory, Io, SerU64TooBig, SerNeedSize, SerCustom}
 use Rattle.bser_base.specs.declared.errors.Message.TheVariants.{Fixed}
+use Rattle.std.specs.declared.io.Error as io
 use Rattle.bser_ser.specs.declared.count.CountWrite.{CountWrite}
 use Rattle.bser_ser.specs.declared.serializer.Serializer.{Serializer}
 
@@ -38,6 +39,15 @@ Excuses failures old new OutOfMemory = ⊤
 Excuses failures old new (Io e) = WriterFailed failures old new
 Excuses failures old new _ = ⊥
 
+-- a fault of the writer, or else want of memory
+abbrev pub reason : Option io.Error → Error
+reason None = OutOfMemory
+reason (Some fault) = Io fault
+
+-- why the last put was refused
+abbrev pub refusal_of : {S : Type 0} → Serializer S → Error
+refusal_of s = reason s.fault
+
 -- over this writer, and nothing is pending
 abbrev pub IsNew : {S : Type 0} → Serializer S → S → Type 0
 IsNew s w = (writer_of s ≡ w) × (pending_of s ≡ [])
@@ -61,6 +71,12 @@ abbrev pub Puts : {S A : Type 0} → (S → S → List ℕ → Type 0) → (S �
 Puts took failures old new piece r = MatchResult r
     (λ _. Sent took failures old new piece × IsWithin new piece)
     (λ e. Sent took failures old new [] × Excuses failures old new e)
+
+-- a put appends its piece or, with an excuse that the serializer keeps, nothing
+abbrev pub Adds : {S A E : Type 0} → (S → S → List ℕ → Type 0) → (S → ℕ) → Serializer S → Serializer S → List ℕ → Result A E → Type 0
+Adds took failures old new piece r = MatchResult r
+    (λ _. Sent took failures old new piece × IsWithin new piece)
+    (λ _. Sent took failures old new [] × Excuses failures old new (refusal_of new))
 
 -- an integer above the greatest i64
 abbrev pub IsTooBig : ℕ → Error → Type 0

@@ -51,6 +51,14 @@ impl Sink for CountWrite {
         Ok(bytes.len())
     }
 
+    fn take_at_once(&mut self, front: &[u8], back: &[u8]) -> bool {
+        self.count = self
+            .count
+            .saturating_add(front.len())
+            .saturating_add(back.len());
+        true
+    }
+
     ghost took_nothing = { λ c. counts_to-none (count_of c) };
 
     ghost took_both = { λ a b c xs ys. counts_to-both (count_of a) (count_of b) (count_of c) xs ys };

@@ -9,6 +9,7 @@ use byteorder::{ByteOrder, LittleEndian};
 pub const LONGEST: usize = 9;
 
 /// Writes the least spelling of `v` to the front of `buf`, and answers how many bytes it takes.
+#[inline]
 pub fn spell(buf: &mut [u8], v: i64) -> usize
     requires { 9 ≤ length buf.old }
     ensures bound { result ≤ 9 }

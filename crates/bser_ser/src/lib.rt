@@ -8,6 +8,7 @@ ghost use Rattle.std.specs.Prelude.{Option, OnOk, IfErr};
 ghost use Rattle.bser_base.specs.Tree.{Tree};
 ghost use Rattle.bser_ser.specs.Ends.{Ends, Stops, text_of};
 
+mod adds;
 mod count;
 mod holders;
 mod integer;
@@ -22,7 +23,7 @@ mod tests;
 mod tuples;
 
 pub use crate::count::CountWrite;
-pub use crate::serializer::Serializer;
+pub use crate::serializer::{Refused, Serializer};
 use bser_base::device::Sink;
 use bser_base::errors::Result;
 use std::alloc::Global;

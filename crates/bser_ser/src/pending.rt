@@ -1,6 +1,6 @@
 //! The bytes that a writer has still to take.
-ghost use Rattle.std.specs.Prelude.{◌≡◌, ◌≤◌, List, ℕ, [], ◌∷◌, ◌++◌, length, drop, OnOk, OnErr};
-ghost use Rattle.bser_base.specs.Canonical.{least_integer, least_count};
+ghost use Rattle.std.specs.Prelude.{◌≡◌, ◌≤◌, List, ℕ, [], ◌∷◌, ◌++◌, length, take, drop, OnOk, OnErr};
+ghost use Rattle.bser_base.specs.Canonical.{least_integer};
 ghost use Rattle.bser_base.specs.Device.{Blamed};
 ghost use Rattle.bser_base.specs.Pieces.{newtype_variant_head};
 
@@ -12,14 +12,35 @@ use std::io;
 use std::io::ErrorKind;
 use std::result::Result;
 
-/// Appends an integer in its least size, or nothing.
-pub fn append_integer(pending: &mut Vec<u8>, v: i64) -> Result<(), AllocError>
-    ensures ok { OnOk result (pending.new.items ≡ pending.old.items ++ least_integer v) }
+/// Appends two pieces, or nothing.
+#[inline(always)]
+pub fn append_both(pending: &mut Vec<u8>, front: &[u8], back: &[u8]) -> Result<(), AllocError>
+    ensures ok { OnOk result (pending.new.items ≡ pending.old.items ++ (front.now ++ back.now)) }
     ensures err { OnErr result (pending.new.items ≡ pending.old.items) }
 {
-    let mut integer = [0; LONGEST];
-    let len = spell(&mut integer, v);
-    pending.extend_from_slice(&integer[..len])
+    let before = pending.len();
+    pending.extend_from_slice(front)?;
+    if pending.extend_from_slice(back).is_err() {
+        pending.truncate(before);
+        return Err(AllocError);
+    }
+    Ok(())
+}
+
+/// Appends the first n of these bytes, or nothing.
+///
+/// All are appended and the rest is cut off, since a copy whose length the compiler knows takes no
+/// call.
+#[inline(always)]
+pub fn append_front(pending: &mut Vec<u8>, bytes: &[u8], n: usize) -> Result<(), AllocError>
+    requires { n ≤ length bytes.now }
+    ensures ok { OnOk result (pending.new.items ≡ pending.old.items ++ take n bytes.now) }
+    ensures err { OnErr result (pending.new.items ≡ pending.old.items) }
+{
+    let before = pending.len();
+    pending.extend_from_slice(bytes)?;
+    pending.truncate(before + n);
+    Ok(())
 }
 
 /// Appends a tag and a count, or nothing.
@@ -32,20 +53,6 @@ pub fn append_head(pending: &mut Vec<u8>, tag: u8, count: i64) -> Result<(), All
     pending.extend_from_slice(&head[..len + 1])
 }
 
-/// Appends a tag, the length of `bytes` and the bytes, or nothing.
-pub fn append_string(pending: &mut Vec<u8>, tag: u8, bytes: &[u8]) -> Result<(), AllocError>
-    ensures ok { OnOk result (pending.new.items ≡ pending.old.items ++ tag ∷ (least_count (length bytes.now) ++ bytes.now)) }
-    ensures err { OnErr result (pending.new.items ≡ pending.old.items) }
-{
-    let before = pending.len();
-    append_head(pending, tag, bytes.len() as i64)?;
-    if pending.extend_from_slice(bytes).is_err() {
-        pending.truncate(before);
-        return Err(AllocError);
-    }
-    Ok(())
-}
-
 /// Appends an object's head for one entry, and the entry's key, or nothing.
 pub fn append_variant(pending: &mut Vec<u8>, name: &str) -> Result<(), AllocError>
     ensures ok { OnOk result (pending.new.items ≡ pending.old.items ++ newtype_variant_head name.now) }
@@ -53,7 +60,9 @@ pub fn append_variant(pending: &mut Vec<u8>, name: &str) -> Result<(), AllocErro
 {
     let before = pending.len();
     pending.extend_from_slice(&[BSER_OBJECT, BSER_INT8, 1])?;
-    if append_string(pending, BSER_UTF8STRING, name.as_bytes()).is_err() {
+    let key = name.as_bytes();
+    let put = append_head(pending, BSER_UTF8STRING, key.len() as i64);
+    if put.is_err() || pending.extend_from_slice(key).is_err() {
         pending.truncate(before);
         return Err(AllocError);
     }

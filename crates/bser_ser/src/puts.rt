@@ -6,17 +6,10 @@ ghost use Rattle.bser_base.specs.Pieces.{null_piece, bool_piece, integer_piece, 
 ghost use Rattle.bser_base.specs.declared.errors.Collection.TheVariants.{Sequence, Map};
 ghost use Rattle.bser_ser.specs.Sent.{Puts, PutsOr, IsTooBig, IsTooMany, IsMiscounted, IsCounted, count_or_zero};
 
-use crate::pending::{
-    append_head, append_integer, append_string, append_variant, append_variant_of,
-};
 use crate::serializer::Serializer;
 use bser_base::device::Sink;
 use bser_base::errors::{Collection, Complaint, Error, Result};
-use bser_base::header::{
-    BSER_ARRAY, BSER_BYTESTRING, BSER_FALSE, BSER_NULL, BSER_OBJECT, BSER_REAL, BSER_TRUE,
-    BSER_UTF8STRING,
-};
-use byteorder::{ByteOrder, LittleEndian};
+use bser_base::header::{BSER_ARRAY, BSER_OBJECT};
 
 /// Each put appends its piece, or nothing where it is refused.
 ///
@@ -29,23 +22,30 @@ impl<W: Sink> Serializer<W> {
     pub fn put_null(&mut self) -> Result<()>
         ensures { Puts W.took W.failures self.old self.new null_piece result }
     {
-        self.put_byte(BSER_NULL)
+        match self.add_null() {
+            Ok(()) => Ok(()),
+            Err(_) => Err(self.refusal()),
+        }
     }
 
     /// Puts a truth value.
     pub fn put_bool(&mut self, v: bool) -> Result<()>
         ensures { Puts W.took W.failures self.old self.new (bool_piece v) result }
     {
-        self.put_byte(if v { BSER_TRUE } else { BSER_FALSE })
+        match self.add_bool(v) {
+            Ok(()) => Ok(()),
+            Err(_) => Err(self.refusal()),
+        }
     }
 
     /// Puts an integer in its least size.
     pub fn put_i64(&mut self, v: i64) -> Result<()>
         ensures { Puts W.took W.failures self.old self.new (integer_piece v) result }
     {
-        self.make_room()?;
-        append_integer(&mut self.pending, v)?;
-        Ok(())
+        match self.add_i64(v) {
+            Ok(()) => Ok(()),
+            Err(_) => Err(self.refusal()),
+        }
     }
 
     /// Puts an integer in its least size. One above `i64::MAX` is refused with `SerU64TooBig`.
@@ -63,18 +63,20 @@ impl<W: Sink> Serializer<W> {
     pub fn put_real_bits(&mut self, bits: u64) -> Result<()>
         ensures { Puts W.took W.failures self.old self.new (real_piece bits) result }
     {
-        self.make_room()?;
-        let mut piece = [BSER_REAL; 9];
-        LittleEndian::write_u64(&mut piece[1..], bits);
-        self.pending.extend_from_slice(&piece)?;
-        Ok(())
+        match self.add_real_bits(bits) {
+            Ok(()) => Ok(()),
+            Err(_) => Err(self.refusal()),
+        }
     }
 
     /// Puts a text.
     pub fn put_text(&mut self, text: &str) -> Result<()>
         ensures { Puts W.took W.failures self.old self.new (text_piece text.now) result }
     {
-        self.put_string(BSER_UTF8STRING, text.as_bytes())
+        match self.add_text(text) {
+            Ok(()) => Ok(()),
+            Err(_) => Err(self.refusal()),
+        }
     }
 
     /// Puts the text of one character.
@@ -89,7 +91,10 @@ impl<W: Sink> Serializer<W> {
     pub fn put_bytes(&mut self, bytes: &[u8]) -> Result<()>
         ensures { Puts W.took W.failures self.old self.new (bytes_piece bytes.now) result }
     {
-        self.put_string(BSER_BYTESTRING, bytes)
+        match self.add_bytes(bytes) {
+            Ok(()) => Ok(()),
+            Err(_) => Err(self.refusal()),
+        }
     }
 
     /// Puts an object's key: a text where it is UTF-8, else a byte string.
@@ -100,6 +105,13 @@ impl<W: Sink> Serializer<W> {
             Ok(text) => self.put_text(text),
             Err(_) => self.put_bytes(key),
         }
+    }
+
+    // Puts an object's key that is a text.
+    pub(crate) fn put_text_key(&mut self, key: &str) -> Result<()>
+        ensures { Puts W.took W.failures self.old self.new (key_piece key.now) result }
+    {
+        self.put_text(key)
     }
 
     /// Puts an array's head; the items follow.
@@ -115,7 +127,11 @@ impl<W: Sink> Serializer<W> {
                 kind: Collection::Sequence,
             });
         };
-        self.put_head(BSER_ARRAY, n)
+        let count = checked(n)?;
+        match self.add_array(count) {
+            Ok(()) => Ok(()),
+            Err(_) => Err(self.refusal()),
+        }
     }
 
     /// Puts an object's head; for each entry its key and its value follow.
@@ -131,16 +147,21 @@ impl<W: Sink> Serializer<W> {
                 kind: Collection::Map,
             });
         };
-        self.put_head(BSER_OBJECT, n)
+        let count = checked(n)?;
+        match self.add_object(count) {
+            Ok(()) => Ok(()),
+            Err(_) => Err(self.refusal()),
+        }
     }
 
     /// Puts the head of an enum's variant with one value, which follows.
     pub fn put_newtype_variant(&mut self, name: &str) -> Result<()>
         ensures { Puts W.took W.failures self.old self.new (newtype_variant_head name.now) result }
     {
-        self.make_room()?;
-        append_variant(&mut self.pending, name)?;
-        Ok(())
+        match self.add_variant(name) {
+            Ok(()) => Ok(()),
+            Err(_) => Err(self.refusal()),
+        }
     }
 
     /// Puts the head of an enum's variant with `count` values, which follow as the items of an
@@ -169,43 +190,10 @@ impl<W: Sink> Serializer<W> {
     pub(crate) fn put_front(&mut self, body: i64) -> Result<()>
         ensures { Puts W.took W.failures self.old self.new (0 ∷ 2 ∷ (to_le_bytes w32 0 ++ least_integer body)) result }
     {
-        self.make_room()?;
-        let before = self.pending.len();
-        self.pending.extend_from_slice(&[0, 2, 0, 0, 0, 0])?;
-        if append_integer(&mut self.pending, body).is_err() {
-            self.pending.truncate(before);
-            return Err(Error::OutOfMemory);
+        match self.add_front(body) {
+            Ok(()) => Ok(()),
+            Err(_) => Err(self.refusal()),
         }
-        Ok(())
-    }
-
-    // Puts one byte.
-    fn put_byte(&mut self, byte: u8) -> Result<()>
-        ensures { Puts W.took W.failures self.old self.new (byte ∷ []) result }
-    {
-        self.make_room()?;
-        self.pending.extend_from_slice(&[byte])?;
-        Ok(())
-    }
-
-    // Puts a string under this tag.
-    fn put_string(&mut self, tag: u8, bytes: &[u8]) -> Result<()>
-        ensures { Puts W.took W.failures self.old self.new (tag ∷ (least_count (length bytes.now) ++ bytes.now)) result }
-    {
-        self.make_room()?;
-        append_string(&mut self.pending, tag, bytes)?;
-        Ok(())
-    }
-
-    // Puts a container's tag and its count.
-    fn put_head(&mut self, tag: u8, count: usize) -> Result<()>
-        ensures put { PutsOr (IsTooMany count) W.took W.failures self.old self.new (tag ∷ least_count count) result }
-        ensures fits { OnOk result (count < 2 ^ 63) }
-    {
-        let count = as_count(count)?;
-        self.make_room()?;
-        append_head(&mut self.pending, tag, count)?;
-        Ok(())
     }
 
     // Puts a variant's head, and its payload's tag and count.
@@ -213,21 +201,22 @@ impl<W: Sink> Serializer<W> {
         ensures put { PutsOr (IsTooMany count) W.took W.failures self.old self.new (newtype_variant_head name.now ++ tag ∷ least_count count) result }
         ensures fits { OnOk result (count < 2 ^ 63) }
     {
-        let count = as_count(count)?;
-        self.make_room()?;
-        append_variant_of(&mut self.pending, name, tag, count)?;
-        Ok(())
+        let count = checked(count)? as i64;
+        match self.add_variant_of(name, tag, count) {
+            Ok(()) => Ok(()),
+            Err(_) => Err(self.refusal()),
+        }
     }
 }
 
-// The count as the format has it.
-fn as_count(n: usize) -> Result<i64>
-    ensures same { IfOk result (λ count. count ≡ pos n) }
+// The count, where the format has it.
+fn checked(n: usize) -> Result<usize>
+    ensures same { IfOk result (λ count. count ≡ n) }
     ensures fits { OnOk result (n < 2 ^ 63) }
     ensures err { IfErr result (IsTooMany n) }
 {
     match i64::try_from(n) {
-        Ok(count) => Ok(count),
+        Ok(_) => Ok(n),
         Err(_) => Err(Error::ser_custom(Complaint::CountTooGreat)),
     }
 }

@@ -1,12 +1,13 @@
 //! A serializer: pieces on their way to a writer.
-ghost use Rattle.std.specs.Prelude.{◌≡◌, ◌≤◌, [], length, OnOk, OnErr, IfOk, IfErr};
-ghost use Rattle.bser_ser.specs.Sent.{Sent, Excuses, Finishes, IsFlushed, IsNew, WriterFailed, writer_of, pending_of};
+ghost use Rattle.std.specs.Prelude.{◌≡◌, ◌≤◌, [], ◌++◌, length, OnOk, OnErr, IfOk, IfErr, IsTrue, if◌then◌else◌};
+ghost use Rattle.bser_base.specs.declared.errors.Error.TheVariants.{OutOfMemory};
+ghost use Rattle.bser_ser.specs.Sent.{Sent, Excuses, Finishes, IsFlushed, IsNew, WriterFailed, writer_of, pending_of, refusal_of};
 
 use crate::pending::send;
 use bser_base::device::Sink;
-use bser_base::errors::Result;
 use std::alloc::Global;
 use std::io;
+use std::result::Result;
 
 // More pending bytes than these are sent before a put.
 const LIMIT: usize = 4096;
@@ -22,7 +23,13 @@ const LIMIT: usize = 4096;
 pub struct Serializer<W> {
     pub(crate) writer: W,
     pub(crate) pending: Vec<u8>,
+    // the writer's fault, where the last refusal was for one
+    pub(crate) fault: Option<io::Error>,
 }
+
+/// A put was refused, and its serializer keeps the reason: [`Serializer::refusal`].
+#[derive(Debug, Clone, Copy)]
+pub struct Refused;
 
 impl<W> Serializer<W> {
     /// Writes to `writer`; nothing is pending, and no front of a message is put.
@@ -32,6 +39,7 @@ impl<W> Serializer<W> {
         Serializer {
             writer,
             pending: Vec::new(alloc),
+            fault: None,
         }
     }
 
@@ -39,7 +47,11 @@ impl<W> Serializer<W> {
     pub fn into_writer(self) -> W
         ensures { result ≡ writer_of self }
     {
-        let Serializer { writer, pending: _ } = self;
+        let Serializer {
+            writer,
+            pending: _,
+            fault: _,
+        } = self;
         writer
     }
 }
@@ -76,7 +88,7 @@ impl<W: Sink> Serializer<W> {
     ///
     /// Faults are those of [`flush`](Serializer::flush); the serializer is then handed back, and
     /// can go on.
-    pub fn try_finish(self) -> std::result::Result<W, (Self, io::Error)>
+    pub fn try_finish(self) -> Result<W, (Self, io::Error)>
         ensures ok { IfOk result (λ w. Finishes W.took W.failures self w) }
         ensures err { IfErr result (λ e. Sent W.took W.failures self e.0 [] × WriterFailed W.failures self e.0) }
     {
@@ -88,14 +100,51 @@ impl<W: Sink> Serializer<W> {
     }
 
     /// Sends where more than [`LIMIT`] bytes are pending.
-    pub(crate) fn make_room(&mut self) -> Result<()>
+    #[inline(always)]
+    pub(crate) fn make_room(&mut self) -> Result<(), Refused>
         ensures sent { Sent W.took W.failures self.old self.new [] }
         ensures room { OnOk result (length (pending_of self.new) ≤ 4096) }
-        ensures err { IfErr result (Excuses W.failures self.old self.new) }
+        ensures err { OnErr result (Excuses W.failures self.old self.new (refusal_of self.new)) }
     {
         if self.pending.len() > LIMIT {
-            self.flush()?;
+            return self.send_now();
         }
         Ok(())
+    }
+
+    // Sends all that is pending, and keeps the writer's fault.
+    #[cold]
+    fn send_now(&mut self) -> Result<(), Refused>
+        ensures sent { Sent W.took W.failures self.old self.new [] }
+        ensures ok { OnOk result (IsFlushed self.new) }
+        ensures err { OnErr result (Excuses W.failures self.old self.new (refusal_of self.new)) }
+    {
+        match self.flush() {
+            Ok(()) => Ok(()),
+            Err(fault) => {
+                self.fault = Some(fault);
+                Err(Refused)
+            }
+        }
+    }
+
+    // Keeps want of memory as the reason of a refusal.
+    #[cold]
+    pub(crate) fn out_of_memory(&mut self) -> Refused
+        ensures writer { writer_of self.new ≡ writer_of self.old }
+        ensures pending { pending_of self.new ≡ pending_of self.old }
+        ensures reason { refusal_of self.new ≡ OutOfMemory }
+    {
+        self.fault = None;
+        Refused
+    }
+
+    // Gives the writer both parts of a piece, if nothing is pending and it takes them at once.
+    #[inline(always)]
+    pub(crate) fn is_taken_at_once(&mut self, front: &[u8], back: &[u8]) -> bool
+        ensures sent { Sent W.took W.failures self.old self.new (if result then front.now ++ back.now else []) }
+        ensures all { IsTrue result → IsFlushed self.new }
+    {
+        self.pending.is_empty() && self.writer.take_at_once(front, back)
     }
 }

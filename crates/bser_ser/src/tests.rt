@@ -1,11 +1,11 @@
 mod types;
 
-use self::types::TestEnum;
+use self::types::{FileInfo, RealBits, TestEnum, TestStruct};
 use crate::message::{serialize, serialize_to};
 use crate::{CountWrite, Serialize, Serializer};
 use bser_base::bytestring::ByteString;
 use bser_base::device::{Sink, Watched};
-use bser_base::errors::{Collection, Error, Result};
+use bser_base::errors::{Collection, Error};
 use std::alloc::Global;
 use std::collections::BTreeMap;
 use std::io;
@@ -98,6 +98,10 @@ fn goes_on_at_the_same_byte_after_a_fault(rt: HostRuntime) -> Tested {
     out.put_text("hello")?;
     let (out, fault) = out.try_finish().err().ok_or("no fault")?;
     assert_eq!(rt; fault.kind(), ErrorKind::Other);
+    assert_eq!(rt;
+        out.writer.get_ref().bytes.as_slice(),
+        b"\x0d\x03\x05".as_slice()
+    );
     let writer = out.try_finish().ok().ok_or("a fault")?;
     assert_eq!(rt;
         writer.into_inner().bytes.as_slice(),
@@ -113,6 +117,7 @@ fn a_writer_that_takes_nothing_gives_write_zero(rt: HostRuntime) -> Tested {
     out.put_text("hello")?;
     let fault = out.flush().err().ok_or("no fault")?;
     assert_eq!(rt; fault.kind(), ErrorKind::WriteZero);
+    assert_eq!(rt; out.pending.as_slice(), b"\x0d\x03\x05hello".as_slice());
     assert_eq!(rt;
         out.finish()?.into_inner().bytes.as_slice(),
         b"\x0d\x03\x05hello".as_slice()
@@ -166,6 +171,35 @@ fn sends_before_a_put_when_much_is_pending(rt: HostRuntime) -> Tested {
     Ok(())
 }
 
+/// Puts a text, and puts it again where memory was refused.
+fn put_again<W: Sink>(out: &mut Serializer<W>, text: &str) -> std::result::Result<(), Error> {
+    match out.put_text(text) {
+        Err(Error::OutOfMemory) => out.put_text(text),
+        answer => answer,
+    }
+}
+
+/// The pending bytes grow four times. Where the tests run with one of these growths refused, they
+/// are the same.
+#[test]
+fn a_put_that_is_refused_for_memory_can_be_put_again(rt: HostRuntime) -> Tested {
+    let alloc = rt.alloc();
+    let mut out = Serializer::new(alloc, Watched::new(Vec::new(alloc)));
+    for text in ["hello", "a text", "and one that is longer"] {
+        put_again(&mut out, text)?;
+    }
+    let variant = match out.put_newtype_variant("of an enum") {
+        Err(Error::OutOfMemory) => out.put_newtype_variant("of an enum"),
+        answer => answer,
+    };
+    variant?;
+    assert_eq!(rt;
+        out.pending.as_slice(),
+        b"\x0d\x03\x05hello\x0d\x03\x06a text\x0d\x03\x16and one that is longer\x01\x03\x01\x0d\x03\x0aof an enum".as_slice()
+    );
+    Ok(())
+}
+
 #[test]
 fn a_sequence_needs_its_size(rt: HostRuntime) -> Tested {
     let alloc = rt.alloc();
@@ -203,17 +237,51 @@ fn writes_the_variants_of_an_enum(rt: HostRuntime) -> Tested {
 }
 
 #[test]
-fn writes_lists_tuples_and_enums(rt: HostRuntime) -> Tested {
+fn writes_a_struct_of_a_list_a_tuple_and_enums(rt: HostRuntime) -> Tested {
     let alloc = rt.alloc();
-    let mut out = Serializer::new(alloc, Watched::new(Vec::new(alloc)));
-    out.put_map(Some(4))?;
-    put_list_and_tuple(alloc, &mut out)?;
-    put_enums(alloc, &mut out)?;
-    let written = out.finish()?.into_inner();
-    assert_eq!(rt; written.len(), 203);
-    let front =
-        b"\x01\x03\x04\x0d\x03\x09test_list\x00\x03\x05\x03\x03\x03\x04\x03\x2a\x04\xdb\x03\x05\x00\x00\x08\x00\x0d\x03\x0atest_tuple\x00\x03\x02\x0d\x03\x03foo\x07\x18\x2d\x44\x54\xfb\x21\x09\x40\x0d\x03\x09test_enum\x0d\x03\x08TestUnit\x0d\x03\x0etest_enum_list\x00\x03\x03\x01\x03\x01\x0d\x03\x0bTestNewtype\x02\x03\x09BSER test\x01\x03\x01\x0d\x03\x09TestTuple";
-    assert!(rt; written.as_slice().starts_with(front));
+    let shape = TestEnum::TestStruct {
+        abc: (),
+        def: '\u{1f4a9}',
+    };
+    let value = TestStruct {
+        test_list: vec![in alloc; 3, 4, 42, 987, 524288]?,
+        test_tuple: ("foo", Some(RealBits(0x400921fb54442d18))),
+        test_enum: TestEnum::TestUnit,
+        test_enum_list: vec![in alloc;
+            TestEnum::TestNewtype(ByteString::from_text(alloc, "BSER test")?),
+            TestEnum::TestTuple(42, 9223372036854775807),
+            shape,
+        ]?,
+    };
+    let expected =
+        b"\x00\x02\x00\x00\x00\x00\x04\xcb\x00\x01\x03\x04\x0d\x03\x09test_list\x00\x03\x05\x03\x03\x03\x04\x03\x2a\x04\xdb\x03\x05\x00\x00\x08\x00\x0d\x03\x0atest_tuple\x00\x03\x02\x0d\x03\x03foo\x07\x18\x2d\x44\x54\xfb\x21\x09\x40\x0d\x03\x09test_enum\x0d\x03\x08TestUnit\x0d\x03\x0etest_enum_list\x00\x03\x03\x01\x03\x01\x0d\x03\x0bTestNewtype\x02\x03\x09BSER test\x01\x03\x01\x0d\x03\x09TestTuple\x00\x03\x02\x03\x2a\x06\xff\xff\xff\xff\xff\xff\xff\x7f\x01\x03\x01\x0d\x03\x0aTestStruct\x01\x03\x02\x0d\x03\x03abc\x0a\x0d\x03\x03def\x0d\x03\x04\xf0\x9f\x92\xa9";
+    assert_eq!(rt; message(alloc, &value)?.as_slice(), expected.as_slice());
+    Ok(())
+}
+
+#[test]
+fn writes_a_struct_whose_name_is_no_text(rt: HostRuntime) -> Tested {
+    let alloc = rt.alloc();
+    let file = FileInfo {
+        name: ByteString::from_vec(vec![in alloc; b'a', 0xff]?),
+        size: 300,
+    };
+    assert_eq!(rt;
+        message(alloc, &file)?.as_slice(),
+        b"\x00\x02\x00\x00\x00\x00\x03\x19\x01\x03\x02\x0d\x03\x04name\x02\x03\x02a\xff\x0d\x03\x04size\x04\x2c\x01".as_slice()
+    );
+    Ok(())
+}
+
+#[test]
+fn writes_a_map_whose_key_is_no_text(rt: HostRuntime) -> Tested {
+    let alloc = rt.alloc();
+    let mut members = BTreeMap::new(alloc);
+    members.insert(ByteString::from_vec(vec![in alloc; 0xffu8]?), ())?;
+    assert_eq!(rt;
+        message(alloc, &members)?.as_slice(),
+        b"\x00\x02\x00\x00\x00\x00\x03\x08\x01\x03\x01\x02\x03\x01\xff\x0a".as_slice()
+    );
     Ok(())
 }
 
@@ -233,30 +301,4 @@ fn writes_maps_options_and_tuples(rt: HostRuntime) -> Tested {
         b"\x00\x02\x00\x00\x00\x00\x03\x10\x00\x03\x04\x08\x0d\x03\x01x\x00\x03\x01\x0a\x0d\x03\x01y".as_slice()
     );
     Ok(())
-}
-
-/// Two entries of an object: a list of integers, and a tuple of a text and a real.
-fn put_list_and_tuple<W: Sink>(alloc: Global, out: &mut Serializer<W>) -> Result<()> {
-    out.put_key(b"test_list")?;
-    vec![in alloc; 3i32, 4, 42, 987, 524288]?.serialize(alloc, out)?;
-    out.put_key(b"test_tuple")?;
-    out.put_seq(Some(2))?;
-    "foo".serialize(alloc, out)?;
-    out.put_real_bits(0x400921fb54442d18)
-}
-
-/// Two entries of an object: a unit variant, and a list of the other variants.
-fn put_enums<W: Sink>(alloc: Global, out: &mut Serializer<W>) -> Result<()> {
-    out.put_key(b"test_enum")?;
-    TestEnum::TestUnit.serialize(alloc, out)?;
-    out.put_key(b"test_enum_list")?;
-    out.put_seq(Some(3))?;
-    let payload = ByteString::from_text(alloc, "BSER test")?;
-    TestEnum::TestNewtype(payload).serialize(alloc, out)?;
-    TestEnum::TestTuple(42, 9223372036854775807).serialize(alloc, out)?;
-    let shape = TestEnum::TestStruct {
-        abc: (),
-        def: '\u{1f4a9}',
-    };
-    shape.serialize(alloc, out)
 }

@@ -3,3 +3,6 @@ pub mod Samples
 pub mod Templates
 pub mod Recorded
 pub mod Spelled
+pub mod Notation
+pub mod Planned
+pub mod Ways

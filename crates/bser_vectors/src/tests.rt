@@ -1,6 +1,7 @@
 //! Tests of the format over the ways of reading and writing.
 mod bytestrings;
 mod messages;
+mod notations;
 mod readers;
 mod scalars;
 mod texts;

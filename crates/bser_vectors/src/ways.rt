@@ -1,18 +1,52 @@
 //! The ways of reading one message as a `Value`.
+ghost use Rattle.std.specs.Prelude.{IfOk, IfNone, IsTrue};
+ghost use Rattle.bser_vectors.specs.Planned.{is_steady};
+ghost use Rattle.bser_vectors.specs.Ways.{Agrees, AnswersReader, AnswersSlice, GivenOfReader};
+
 use crate::devices::{Plan, PlannedReader};
-use crate::notation::{NotationError, is_answer};
+use crate::notation::is_answer;
+use serde_bser::de::Shape;
 use serde_bser::device::Watched;
 use serde_bser::errors::Result;
 use serde_bser::value::Value;
 use serde_bser::{from_reader, from_slice};
-use std::alloc::Global;
+use std::alloc::{AllocError, Global};
 
 /// Reads from a reader that gives `bytes` by the plan, and tells how many bytes it took.
-pub fn read_by_plan(alloc: Global, bytes: &[u8], plan: Plan) -> (Result<Value>, usize) {
+pub fn read_by_plan(alloc: Global, bytes: &[u8], plan: Plan) -> (Result<Value>, usize)
+    ensures { IsTrue (is_steady plan) → GivenOfReader ⟦<Value as Shape>⟧.reads bytes.now result.0 result.1 }
+{
     let mut reader = Watched::new(PlannedReader::new(bytes, plan));
     let answer = from_reader(alloc, &mut reader);
     let left = reader.get_ref().left().len();
     (answer, bytes.len().saturating_sub(left))
+}
+
+/// Whether the slice is answered as expected.
+fn is_slice_answered(
+    alloc: Global,
+    bytes: &[u8],
+    expected: &str,
+) -> std::result::Result<bool, AllocError>
+    ensures { IfOk result (λ same. IsTrue same → AnswersSlice ⟦<Value as Shape>⟧.reads ⟦<Value as Shape>⟧.needs bytes.now expected.now) }
+{
+    is_answer(alloc, &from_slice(alloc, bytes), expected)
+}
+
+/// Whether a reader of this plan is answered as expected, and a message that it read has `taken` bytes.
+fn is_reader_answered(
+    alloc: Global,
+    bytes: &[u8],
+    plan: Plan,
+    expected: &str,
+    taken: usize,
+) -> std::result::Result<bool, AllocError>
+    requires { IsTrue (is_steady plan) }
+    ensures { IfOk result (λ same. IsTrue same → AnswersReader ⟦<Value as Shape>⟧.reads bytes.now expected.now taken) }
+{
+    let (answer, count) = read_by_plan(alloc, bytes, plan);
+    let same = is_answer(alloc, &answer, expected)?;
+    Ok(same && (answer.is_err() || count == taken))
 }
 
 /// Reads from the slice, and from readers of one byte a call and of all bytes at once. Gives the
@@ -23,19 +57,17 @@ pub fn first_mismatch(
     bytes: &[u8],
     expected: &str,
     taken: usize,
-) -> std::result::Result<Option<&'static str>, NotationError> {
-    if !is_answer(alloc, &from_slice(alloc, bytes), expected)? {
+) -> std::result::Result<Option<&'static str>, AllocError>
+    ensures { IfOk result (λ way. IfNone way (Agrees ⟦<Value as Shape>⟧.reads ⟦<Value as Shape>⟧.needs bytes.now expected.now taken)) }
+{
+    if !is_slice_answered(alloc, bytes, expected)? {
         return Ok(Some("from a slice"));
     }
-    let plans = [
-        (Plan::pieces(1), "from a reader of one byte a call"),
-        (Plan::whole(), "from a reader of all bytes at once"),
-    ];
-    for (plan, way) in plans {
-        let (answer, count) = read_by_plan(alloc, bytes, plan);
-        if !is_answer(alloc, &answer, expected)? || answer.is_ok() && count != taken {
-            return Ok(Some(way));
-        }
+    if !is_reader_answered(alloc, bytes, Plan::pieces(1), expected, taken)? {
+        return Ok(Some("from a reader of one byte a call"));
+    }
+    if !is_reader_answered(alloc, bytes, Plan::whole(), expected, taken)? {
+        return Ok(Some("from a reader of all bytes at once"));
     }
     Ok(None)
 }

@@ -64,7 +64,7 @@ fn containers(rt: HostRuntime) -> Tested {
             b"\x00\x02\0\0\0\0\x03\x09\x01\x03\x01\x0d\x03\x01a\x03\x02",
         ),
         (
-            "{62:i1,61:i2}",
+            "{61:i2,62:i1}",
             b"\x00\x02\0\0\0\0\x03\x0f\x01\x03\x02\x0d\x03\x01a\x03\x02\x0d\x03\x01b\x03\x01",
         ),
         (
@@ -75,6 +75,19 @@ fn containers(rt: HostRuntime) -> Tested {
     for (value, expected) in cases {
         check_message(&rt, rt.alloc(), value, expected)?;
     }
+    Ok(())
+}
+
+#[test]
+fn keys_are_written_in_rising_order(rt: HostRuntime) -> Tested {
+    let alloc = rt.alloc();
+    let mut entries = BTreeMap::new(alloc);
+    drop(entries.insert(String::from_str(alloc, "b")?, Value::Integer(1))?);
+    drop(entries.insert(String::from_str(alloc, "a")?, Value::Integer(2))?);
+    assert_eq!(rt;
+        message(alloc, &Value::Object(entries))?.as_slice(),
+        b"\x00\x02\0\0\0\0\x03\x0f\x01\x03\x02\x0d\x03\x01a\x03\x02\x0d\x03\x01b\x03\x01".as_slice()
+    );
     Ok(())
 }
 
@@ -154,6 +167,13 @@ fn a_key_that_is_no_text(rt: HostRuntime) -> Tested {
 
 const TOM: &[u8] = b"\x00\x02\0\0\0\0\x03\x06\x0d\x03\x03Tom";
 
+/// Two rows of three fields each, in the notation.
+const ROWS: &str = "[{616263:i123,646566:b626172,676869:n},{616263:i456,646566:n,676869:i789}]";
+
+/// The message that is written for the two rows.
+const ROWS_MESSAGE: &[u8] =
+    b"\x00\x02\0\0\0\0\x03\x3d\x00\x03\x02\x01\x03\x03\x0d\x03\x03abc\x03\x7b\x0d\x03\x03def\x02\x03\x03bar\x0d\x03\x03ghi\x0a\x01\x03\x03\x0d\x03\x03abc\x04\xc8\x01\x0d\x03\x03def\x0a\x0d\x03\x03ghi\x04\x15\x03";
+
 /// Whether writing was refused by the writer's fault of this kind.
 fn is_fault(answer: &Result<(), Error>, wanted: ErrorKind) -> bool {
     match answer {
@@ -164,19 +184,20 @@ fn is_fault(answer: &Result<(), Error>, wanted: ErrorKind) -> bool {
 
 #[test]
 fn a_fault_at_each_byte_leaves_a_beginning(rt: HostRuntime) -> Tested {
-    let value = Value::from_text(rt.alloc(), "Tom")?;
+    let value = parse_value(rt.alloc(), ROWS)?;
+    assert_eq!(rt; ROWS_MESSAGE.len(), 69);
     let stops = [
         (Then::Ends, ErrorKind::WriteZero),
         (Then::Faults(ErrorKind::BrokenPipe), ErrorKind::BrokenPipe),
         (Then::Faults(ErrorKind::Interrupted), ErrorKind::Interrupted),
     ];
     for (then, kind) in stops {
-        for whole in 0..TOM.len() {
+        for whole in 0..ROWS_MESSAGE.len() {
             let plan = Plan::whole().up_to(whole, then);
             let mut writer = Watched::new(PlannedWriter::new(rt.alloc(), plan));
             let answer = serialize_to(rt.alloc(), &mut writer, &value);
             assert!(rt; is_fault(&answer, kind), "after {whole} bytes");
-            assert_eq!(rt; writer.get_ref().taken(), &TOM[..whole]);
+            assert_eq!(rt; writer.get_ref().taken(), &ROWS_MESSAGE[..whole]);
         }
     }
     Ok(())
@@ -184,10 +205,28 @@ fn a_fault_at_each_byte_leaves_a_beginning(rt: HostRuntime) -> Tested {
 
 #[test]
 fn a_message_is_written_a_byte_a_call(rt: HostRuntime) -> Tested {
-    let value = Value::from_text(rt.alloc(), "Tom")?;
+    let value = parse_value(rt.alloc(), ROWS)?;
     let mut writer = Watched::new(PlannedWriter::new(rt.alloc(), Plan::pieces(1)));
     serialize_to(rt.alloc(), &mut writer, &value)?;
-    assert_eq!(rt; writer.get_ref().taken(), TOM);
+    assert_eq!(rt; writer.get_ref().taken(), ROWS_MESSAGE);
+    Ok(())
+}
+
+/// Each growth is granted where the tests run. Where one is refused, a beginning was written.
+#[test]
+fn a_message_that_is_refused_for_memory_leaves_a_beginning(rt: HostRuntime) -> Tested {
+    let value = parse_value(rt.alloc(), ROWS)?;
+    let mut writer = Watched::new(PlannedWriter::new(rt.alloc(), Plan::pieces(5)));
+    match serialize_to(rt.alloc(), &mut writer, &value) {
+        Ok(()) => assert_eq!(rt; writer.get_ref().taken(), ROWS_MESSAGE),
+        Err(Error::OutOfMemory) => {
+            assert!(rt; ROWS_MESSAGE.starts_with(writer.get_ref().taken()));
+        }
+        answer => {
+            assert!(rt; is_fault(&answer, ErrorKind::OutOfMemory));
+            assert!(rt; ROWS_MESSAGE.starts_with(writer.get_ref().taken()));
+        }
+    }
     Ok(())
 }
 
