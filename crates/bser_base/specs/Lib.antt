@@ -35,3 +35,4 @@ pub mod Reader
 pub mod Escaped
 pub mod ByteStrings
 pub mod SameTree
+pub mod Held

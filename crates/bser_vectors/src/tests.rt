@@ -5,6 +5,7 @@ mod notations;
 mod readers;
 mod scalars;
 mod texts;
+mod typed;
 mod writing;
 
 use crate::ways::first_mismatch;

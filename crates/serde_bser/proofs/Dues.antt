@@ -1,11 +1,11 @@
 -- A scalar or string that was due.
-use Rattle.std.proofs.Common.{◌≡◌, ℕ, zero, suc, ◌+◌, ◌≤◌, Bool, true, false, List, [], ◌∷◌, ◌++◌, Option, Some, None, length, refl, sym, ap, subst, ◌∙◌, arith}
+use Rattle.std.proofs.Common.{◌≡◌, ℕ, zero, ◌≤◌, List, [], ◌∷◌, Option, Some, None, length, refl, sym, ap, subst, ◌∙◌, arith}
 use Rattle.std.specs.Prelude.{option_map}
 use Rattle.std.proofs.KnownBytes.{Consumes-trans}
 use Rattle.bser_base.specs.Tree.{Tree, null, boolean, integer, real, bytes, text, array, object, template}
-use Rattle.bser_base.specs.Grammar.{Format, Spells}
+use Rattle.bser_base.specs.Grammar.{Spells}
 use Rattle.bser_base.specs.Expand.{expand}
-use Rattle.bser_base.specs.Content.{Content, value, Needs}
+use Rattle.bser_base.specs.Content.{Content, value}
 use Rattle.bser_base.specs.Expected.{Fills, FillsNode, nothing_due, node_due}
 use Rattle.bser_base.specs.Source as source
 use Rattle.bser_base.specs.Source.{Took, sight_after}
@@ -20,7 +20,7 @@ use Rattle.serde_bser.proofs.Refusals.{sequel, passed_by, unwanted_front, may_re
 
 -- ---- scalars at any level
 
-scalar_tree : (t w : Tree) → scalar (expand t) ≡ Some w → (scalar t ≡ Some t) × (expand t ≡ t)
+pub scalar_tree : (t w : Tree) → scalar (expand t) ≡ Some w → (scalar t ≡ Some t) × (expand t ≡ t)
 scalar_tree null w e = (refl, refl)
 scalar_tree (boolean v) w e = (refl, refl)
 scalar_tree (integer v) w e = (refl, refl)
@@ -31,7 +31,7 @@ scalar_tree (array ts) w e = absurd cc
 scalar_tree (object es) w e = absurd cc
 scalar_tree (template ks rs) w e = absurd cc
 
-scalar_down : (n m : ℕ) (t : Tree) (b : List ℕ) → scalar t ≡ Some t → Spells n t b → Spells m t b
+pub scalar_down : (n m : ℕ) (t : Tree) (b : List ℕ) → scalar t ≡ Some t → Spells n t b → Spells m t b
 scalar_down n m null b e h = h
 scalar_down n m (boolean v) b e h = h
 scalar_down n m (integer v) b e h = h
@@ -42,7 +42,7 @@ scalar_down n m (array ts) b e h = absurd cc
 scalar_down n m (object es) b e h = absurd cc
 scalar_down n m (template ks rs) b e h = absurd cc
 
-scalar_stands : (t : Tree) → scalar t ≡ Some t → t ≡ expand t
+pub scalar_stands : (t : Tree) → scalar t ≡ Some t → t ≡ expand t
 scalar_stands null e = refl
 scalar_stands (boolean v) e = refl
 scalar_stands (integer v) e = refl
@@ -53,18 +53,18 @@ scalar_stands (array ts) e = absurd cc
 scalar_stands (object es) e = absurd cc
 scalar_stands (template ks rs) e = absurd cc
 
-scalar_read : (o : Option Tree) (c : Content) → option_map value o ≡ Some c → (w : Tree) × (o ≡ Some w)
+pub scalar_read : (o : Option Tree) (c : Content) → option_map value o ≡ Some c → (w : Tree) × (o ≡ Some w)
 scalar_read None c e = absurd cc
 scalar_read (Some w) c e = (w, refl)
 
 -- ---- what was taken
 
-some_text : (b : List ℕ) (seen : Option ℕ) → (b ≡ [] → ⊥) → sight_after (length b) seen ≡ None
+pub some_text : (b : List ℕ) (seen : Option ℕ) → (b ≡ [] → ⊥) → sight_after (length b) seen ≡ None
 some_text [] seen h = absurd (h refl)
 some_text (x ∷ b) seen h = refl
 
 -- a look, and then bytes
-took_after_look : (a b c : source.State) (x : ℕ) (bs : List ℕ) → Took a b [] (Some x) → Took b c bs None → Took a c bs None
+pub took_after_look : (a b c : source.State) (x : ℕ) (bs : List ℕ) → Took a b [] (Some x) → Took b c bs None → Took a c bs None
 took_after_look a b c x bs look took = record {
   bytes = Consumes-trans a.left b.left c.left [] bs look.bytes took.bytes;
   count = omega (arith, look.count, took.count);

@@ -1,28 +1,26 @@
 -- A message that was read, and one that was refused.
-use Rattle.std.proofs.Common.{◌≡◌, ℕ, suc, ◌+◌, ◌-◌, ◌≤◌, ◌<◌, ◌^◌, min, max, List, [], ◌∷◌, ◌++◌, Option, Some, None, length, length-append, append_assoc, refl, sym, ap, subst, ◌∙◌, arith, true, false, inl, inr}
+use Rattle.std.proofs.Common.{◌≡◌, ℕ, ◌+◌, ◌-◌, ◌≤◌, ◌<◌, ◌^◌, min, max, List, [], ◌∷◌, ◌++◌, Option, None, length, length-append, append_assoc, refl, sym, ap, subst, ◌∙◌, arith, true, false}
 use Rattle.std.proofs.lemmas.List.{append_cancel_left}
-use Rattle.std.specs.Prelude.{ℤ, pos, ◌+ℤ◌, ◌≤ℤ◌, IsTrue}
-use Rattle.std.specs.Io.KnownBytes.{Consumes}
+use Rattle.std.specs.Prelude.{ℤ, pos, ◌+ℤ◌, IsTrue}
 use Rattle.std.proofs.KnownBytes.{Consumes-trans}
 use Rattle.std.proofs.lemmas.Int.{ints}
 use Rattle.bser_base.specs.Source as source
 use Rattle.bser_base.specs.Source.{Took, with_limit, sight_after}
 use Rattle.bser_base.specs.Tree.{Tree}
-use Rattle.bser_base.specs.Grammar.{Format, Spells}
-use Rattle.bser_base.specs.Message.{Head, IsMessage}
+use Rattle.bser_base.specs.Grammar.{Spells}
 use Rattle.bser_base.specs.Expand.{expand}
-use Rattle.bser_base.specs.Expected.{Fills, FillsNode, node_due, nothing_due}
+use Rattle.bser_base.specs.Expected.{Fills, FillsNode, nothing_due}
 use Rattle.bser_base.specs.Content.{Content, Meaning, Needs}
-use Rattle.bser_base.specs.Tagged.{TookHead, IsHead, EndsAt}
-use Rattle.bser_base.specs.TaggedRefusal.{Unwanted, failures_by}
+use Rattle.bser_base.specs.Tagged.{IsHead}
+use Rattle.bser_base.specs.TaggedRefusal.{Unwanted}
 use Rattle.bser_base.specs.declared.errors.Error.{Error}
-use Rattle.bser_base.proofs.Frames.{framed, Parts, parts}
+use Rattle.bser_base.proofs.Frames.{framed, parts}
 use Rattle.bser_base.proofs.Fronts.{one_value}
 use Rattle.bser_base.proofs.OneHead.{one_head}
 use Rattle.bser_base.proofs.Tags.{no_empty}
 use Rattle.serde_bser.specs.State.{State, Begins, IsAtEnd}
-use Rattle.serde_bser.specs.Reading.{Answers, Refuses, RefusesFront, FillsReadably, IsRefusal, Outside}
-use Rattle.serde_bser.specs.Messages.{ReadsAs, ReadsMessage, IsReadable, RefusesMessage}
+use Rattle.serde_bser.specs.Reading.{Answers, RefusesFront, FillsReadably, IsRefusal}
+use Rattle.serde_bser.specs.Messages.{ReadsMessage, IsReadable, RefusesMessage}
 use Rattle.serde_bser.proofs.Refusals.{first_part, sequel, passed_head, unwanted_front, may_refuse, no_failure, rest_of}
 
 -- ---- what was taken

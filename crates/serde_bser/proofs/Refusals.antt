@@ -1,5 +1,5 @@
 -- A call that refuses part of what was wanted refuses the whole.
-use Rattle.std.proofs.Common.{◌≡◌, ℕ, ◌+◌, ◌≤◌, ◌<◌, ◌^◌, List, [], ◌∷◌, ◌++◌, Option, Some, None, true, false, length, length-append, refl, sym, ap, subst, ◌∙◌, arith, append_assoc, inl, inr}
+use Rattle.std.proofs.Common.{◌≡◌, ℕ, ◌+◌, ◌≤◌, List, ◌++◌, Option, Some, None, false, length, length-append, refl, sym, ap, ◌∙◌, arith, append_assoc, inl, inr}
 use Rattle.std.proofs.lemmas.List.{append_cancel_left}
 use Rattle.std.specs.Prelude.{IsSomeAnd}
 use Rattle.std.specs.Io.KnownBytes.{Consumes}
@@ -9,12 +9,9 @@ use Rattle.bser_base.specs.Source.{State, Took, with_limit}
 use Rattle.bser_base.specs.TaggedRefusal as tagged
 use Rattle.bser_base.specs.TaggedRefusal.{Unwanted, MayAnswer, cause_of, failures_by}
 use Rattle.bser_base.specs.declared.errors.Error.{Error}
-use Rattle.bser_base.specs.declared.errors.Error.TheVariants.{DeInvalidStartByte, DeCustom, DeRecursionLimitExceeded, DeEof, DeInvalidMagic, DeReaderError, SerCustom, SerNeedSize, SerU64TooBig, Io, OutOfMemory}
-use Rattle.bser_base.specs.declared.errors.Message.{Message}
-use Rattle.bser_base.specs.declared.errors.Message.TheVariants.{Fixed, Made}
-use Rattle.bser_base.specs.declared.errors.Complaint.{Complaint}
+use Rattle.bser_base.specs.declared.errors.Error.TheVariants.{DeInvalidStartByte, DeCustom, DeReaderError, OutOfMemory}
+use Rattle.bser_base.specs.declared.errors.Message.TheVariants.{Fixed}
 use Rattle.bser_base.specs.declared.errors.Complaint.TheVariants as complaints
-use Rattle.bser_base.specs.declared.errors.ReadCause.{ReadCause}
 use Rattle.bser_base.specs.declared.errors.ReadCause.TheVariants.{Eof, Utf8, Reader, Memory, Failed}
 use Rattle.serde_bser.specs.Reading.{Outside, MayRefuse, IsRefusal, RefusesFront}
 

@@ -1,9 +1,9 @@
 -- Scalars and strings by the tag in sight.
-use Rattle.std.proofs.Common.{◌≡◌, ℕ, zero, suc, ◌+◌, ◌≤◌, ◌<◌, ◌^◌, Bool, true, false, List, [], ◌∷◌, ◌++◌, Option, Some, None, length, refl, sym, ap, subst, ◌∙◌, arith, IsUtf8}
-use Rattle.std.specs.Prelude.{ℤ, pos}
+use Rattle.std.proofs.Common.{◌≡◌, ℕ, zero, suc, ◌≤◌, ◌<◌, ◌^◌, true, false, List, [], ◌∷◌, ◌++◌, Option, Some, None, length, refl, sym, ap, subst, ◌∙◌, arith, IsUtf8}
+use Rattle.std.specs.Prelude.{ℤ}
 use Rattle.std.specs.Int.{w64, to_le_bytes}
 use Rattle.bser_base.specs.Tree.{Tree, null, boolean, integer, real, bytes, text, array, object, template}
-use Rattle.bser_base.specs.Grammar.{Format, Bytes, Given, SpellsInteger, SpellsCount, SpellsText, SpellsBytes, Spells, ◌then◌}
+use Rattle.bser_base.specs.Grammar.{Format, SpellsInteger, Spells}
 use Rattle.bser_base.specs.Content.{Needs}
 use Rattle.bser_base.specs.Source.{State, Took, IsNext, bytes_in_sight}
 use Rattle.bser_base.specs.Tagged.{TookInt, TookBits, IsInteger}

@@ -1,21 +1,21 @@
 -- Strings that are read in steps: a tag in sight, a length, and as many bytes.
-use Rattle.std.proofs.Common.{◌≡◌, ℕ, zero, suc, ◌+◌, ◌≤◌, List, [], ◌∷◌, ◌++◌, Option, Some, None, length, length-append, append_assoc, refl, sym, ap, subst, ◌∙◌, arith, IsUtf8}
-use Rattle.std.proofs.lemmas.List.{append_cancel_left, append-nil}
+use Rattle.std.proofs.Common.{◌≡◌, ℕ, zero, suc, List, [], ◌∷◌, ◌++◌, Option, Some, None, length, length-append, append_assoc, refl, sym, ap, subst, ◌∙◌, arith, IsUtf8}
+use Rattle.std.proofs.lemmas.List.{append-nil}
 use Rattle.std.proofs.lemmas.Option.{some_pair_parts}
 use Rattle.std.proofs.KnownBytes.{Consumes-trans}
-use Rattle.std.specs.Prelude.{ℤ, pos, drop, Result, Ok, Err, IfOk, IfErr, IsOk}
-use Rattle.bser_base.specs.Grammar.{Format, Bytes, Given, SpellsInteger, SpellsCount, SpellsText, ◌then◌}
+use Rattle.std.specs.Prelude.{ℤ, pos, Result, Ok, Err, IfOk, IfErr, IsOk}
+use Rattle.bser_base.specs.Grammar.{Format, Bytes, SpellsInteger, SpellsCount, ◌then◌}
 use Rattle.bser_base.specs.Plain.{string}
 use Rattle.bser_base.specs.Content.{Needs}
-use Rattle.bser_base.specs.Source.{State, Took, IsNext, sight_after, bytes_in_sight}
+use Rattle.bser_base.specs.Source.{State, Took, sight_after, bytes_in_sight}
 use Rattle.bser_base.specs.Tagged.{TookInt, IsInteger}
 use Rattle.bser_base.specs.TaggedRefusal.{Unwanted}
 use Rattle.bser_base.specs.declared.errors.Error.{Error}
 use Rattle.bser_base.proofs.Laws.{one_int}
 use Rattle.bser_base.proofs.Fronts.{string_reads}
 use Rattle.serde_bser.specs.Reading.{RefusesFront, IsRefusal}
-use Rattle.serde_bser.specs.Scalar.{owned, IsString, IsText, TookString, Counted}
-use Rattle.serde_bser.proofs.Refusals.{Passed, passed_by, first_part, sequel, unwanted_front, rest_of, may_refuse, no_failure}
+use Rattle.serde_bser.specs.Scalar.{IsString, IsText, TookString, Counted}
+use Rattle.serde_bser.proofs.Refusals.{passed_by, first_part, sequel, unwanted_front, rest_of, may_refuse, no_failure}
 
 -- ---- results
 

@@ -9,13 +9,13 @@ use Rattle.std.specs.Ordering.{match_ordering, ordering_reverse}
 use Rattle.std.specs.BTreeMap.{insert_entry}
 use Rattle.std.specs.Map.{keys_of}
 use Rattle.std.specs.String.{string_cmp}
-use Rattle.bser_base.specs.Tree.{Tree, bytes, integer, text, array, object, items, Entries, entry, entries, entries_of, items_of}
+use Rattle.bser_base.specs.Tree.{Tree, null, bytes, integer, text, array, object, items, entry, entries, entries_of, items_of}
 use Rattle.bser_base.specs.Compact.{keys}
 use Rattle.bser_base.specs.declared.bytestring.ByteString.{ByteString}
 use Rattle.std.specs.Prelude.{ℤ, Some, option_map}
 use Rattle.bser_base.specs.Written.{item_before, entry_before, written_items, written_entries, array_tree, object_tree}
 use Rattle.serde_bser.specs.declared.value.Value as value
-use Rattle.serde_bser.specs.declared.value.Value.{Value, Array, Object, Integer, Utf8String, the_lemmas}
+use Rattle.serde_bser.specs.declared.value.Value.{Value, Array, Object, Integer, Null, Utf8String, the_lemmas}
 use Rattle.serde_bser.specs.ValueView.{tree_of, items_view, entries_view}
 
 -- an entry of an object's map
@@ -28,6 +28,9 @@ tree_of-Array v = search (rules, the_lemmas)
 
 pub tree_of-Object : (m : BTreeMap (String Global) Value) → tree_of (Object m) ≡ object (entries_view m.entries)
 tree_of-Object m = search (rules, the_lemmas)
+
+pub tree_of-Null : tree_of Null ≡ null
+tree_of-Null = search (rules, the_lemmas)
 
 pub tree_of-ByteString : (b : ByteString) → tree_of (value.ByteString b) ≡ bytes b
 tree_of-ByteString b = search (rules, the_lemmas)

@@ -1,5 +1,5 @@
 -- What a message as a whole is read as.
-use Rattle.std.specs.Prelude.{◌≡◌, ℕ, ◌≤◌, max, List, ◌++◌, length, Bool, true, Option, Some, None}
+use Rattle.std.specs.Prelude.{◌≡◌, ℕ, ◌≤◌, max, List, ◌++◌, true, Option, Some, None}
 use Rattle.std.specs.Io.KnownBytes.{Consumes}
 use Rattle.bser_base.specs.Tree.{Tree}
 use Rattle.bser_base.specs.Expand.{expand}

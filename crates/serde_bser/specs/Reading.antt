@@ -1,5 +1,5 @@
 -- What a reading type answers.
-use Rattle.std.specs.Prelude.{◌≡◌, ℕ, ◌+◌, ◌≤◌, ◌^◌, Bool, true, false, List, ◌++◌, length, Option, Some, ◌⊎◌}
+use Rattle.std.specs.Prelude.{◌≡◌, ℕ, ◌+◌, ◌≤◌, ◌^◌, true, false, List, ◌++◌, length, Some, ◌⊎◌}
 use Rattle.bser_base.specs.Tree.{Tree}
 use Rattle.bser_base.specs.Grammar.{Format}
 use Rattle.bser_base.specs.Content.{Content, Meaning, Needs}
@@ -66,6 +66,18 @@ pub record FillsReadably (reads : Meaning) (s : State) (text : List ℕ) : Type 
 -- what is due is not read: no front of the bytes left fills it with a tree that reads, or the refusal is not to blame on them
 abbrev pub Refuses : Meaning → Needs → Error → State → State → Type 0
 Refuses reads needs e old new = RefusesFront needs (FillsReadably reads old) e old.source new.source
+
+-- what is due, as any tree
+abbrev pub IsDue : State → Format
+IsDue s text = (u : Tree) × Fills s.levels s.due u text
+
+-- reading holds nothing lent and takes no memory
+abbrev pub bare : Needs
+bare = record { lent = false; memory = false }
+
+-- nothing that is due begins here, or the refusal is not to blame on the bytes left
+abbrev pub RefusesDue : Error → State → State → Type 0
+RefusesDue e old new = RefusesFront bare (IsDue old) e old.source new.source
 
 -- no front of the bytes left is the head of a message, or the refusal is not to blame on them
 pub record RefusesHead (old : source.State) (e : Error) : Type 0 where

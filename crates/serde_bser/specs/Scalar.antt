@@ -2,7 +2,8 @@
 use Rattle.std.specs.Prelude.{◌≡◌, ℕ, zero, ℤ, pos, true, false, List, [], ◌∷◌, ◌++◌, length, Option, Some, None, option_map}
 use Rattle.bser_base.specs.Tree.{Tree, null, boolean, integer, real, bytes, text}
 use Rattle.bser_base.specs.Grammar.{Format, Bytes, ◌then◌, SpellsCount, SpellsText, Spells}
-use Rattle.bser_base.specs.Content.{Content, value, Meaning, Needs}
+use Rattle.bser_base.specs.Content.{value, Meaning, Needs}
+use Rattle.bser_base.specs.Expected.{Due, nothing_due, node_due, key_due, field_due, name_due}
 use Rattle.bser_base.specs.Source as source
 use Rattle.bser_base.specs.Source.{Took}
 
@@ -23,6 +24,10 @@ reads_scalar t = option_map value (scalar t)
 -- a value that owns its bytes
 abbrev pub owned : Needs
 owned = record { lent = false; memory = true }
+
+-- a value that holds lent bytes
+abbrev pub lending : Needs
+lending = record { lent = true; memory = false }
 
 -- a scalar or string
 pub record IsScalar (b : List ℕ) : Type 0 where
@@ -54,3 +59,16 @@ pub record TookString (tag : ℕ) (old new : source.State) (s : List ℕ) : Type
   pub number : List ℕ
   pub spelled : SpellsCount (length s) number
   pub took : Took old new (tag ∷ (number ++ s)) None
+
+-- a key is due, or nothing
+abbrev pub IsNoValue : Due → Type 0
+IsNoValue nothing_due = Unit {0}
+IsNoValue key_due = Unit {0}
+IsNoValue (name_due k) = Unit {0}
+IsNoValue _ = ⊥
+
+-- a value is due, or a field
+abbrev pub IsValue : Due → Type 0
+IsValue node_due = Unit {0}
+IsValue field_due = Unit {0}
+IsValue _ = ⊥

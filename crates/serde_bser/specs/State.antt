@@ -1,8 +1,8 @@
 -- What callers see of a deserializer.
-use Rattle.std.specs.Prelude.{◌≡◌, ℕ, ◌-◌, ◌^◌, ℤ, pos, List, [], min}
+use Rattle.std.specs.Prelude.{◌≡◌, ℕ, ◌-◌, ◌^◌, ℤ, pos, true, List, [], min}
 use Rattle.bser_base.specs.Source as source
 use Rattle.bser_base.specs.Expected.{Due, nothing_due, node_due}
-use Rattle.bser_base.specs.Tagged.{TookHead, EndsAt}
+use Rattle.bser_base.specs.Tagged.{TookHead, EndsAt, with_failure}
 
 pub record State : Type 0 where
   -- what is left of the message, and of what follows
@@ -11,8 +11,9 @@ pub record State : Type 0 where
   pub due : Due
   -- how many levels are left
   pub levels : ℕ
-  -- the keys of the open templates, the innermost first
-  pub tables : List (List (List ℕ))
+  -- the keys of the innermost open template, and those of the templates around it
+  pub keys : List (List ℕ)
+  pub outer : List (List (List ℕ))
   -- how many containers are open
   pub opened : ℕ
   -- the message's capabilities, the count at which its body starts, and the body's length
@@ -24,9 +25,17 @@ pub record State : Type 0 where
 abbrev pub with_source : State → source.State → State
 with_source s r = record s { source = r }
 
+-- the same, with something else due
+abbrev pub awaiting : Due → State → State
+awaiting d s = record s { due = d }
+
 -- what was due is taken
 abbrev pub past : State → source.State → State
 past s r = record s { source = r; due = nothing_due }
+
+-- the same, after a refusal
+abbrev pub refused : State → State
+refused s = with_source s (with_failure true s.source)
 
 -- the head of a message is taken, and its value is due with n levels left
 pub record Begins (n : ℕ) (old : source.State) (new : State) : Type 0 where
@@ -34,7 +43,8 @@ pub record Begins (n : ℕ) (old : source.State) (new : State) : Type 0 where
   pub start : new.start ≡ pos (min new.source.count (2 ^ 63 - 1))
   pub due : new.due ≡ node_due
   pub levels : new.levels ≡ n
-  pub tables : new.tables ≡ []
+  pub keys : new.keys ≡ []
+  pub outer : new.outer ≡ []
   pub opened : new.opened ≡ 0
 
 -- nothing is due, no container is open, and the body ended where it was to

@@ -1,5 +1,5 @@
 //! Tagged values over a byte source.
-ghost use Rattle.std.specs.Prelude.{IsTrue, ◌≡◌, ◌≢◌, ◌≤◌, ◌<◌, ◌+◌, ◌-◌, ◌^◌, ◌∷◌, [], ◌++◌, ℕ, ℤ, pos, negsuc, ◌<ℤ◌, ◌≤ℤ◌, List, Bool, true, false, length, drop, take, Option, Some, None, IfOk, IfErr, OnOk, OnErr, IsSome, is_err, MatchResult, vec_len, min};
+ghost use Rattle.std.specs.Prelude.{◌≡◌, ◌≢◌, ◌≤◌, ◌<◌, ◌+◌, ◌-◌, ◌^◌, ◌∷◌, [], ◌++◌, ℕ, ℤ, pos, negsuc, ◌<ℤ◌, ◌≤ℤ◌, List, Bool, true, false, length, drop, take, Option, Some, None, IfOk, IfErr, OnOk, OnErr, IsSome, is_err, MatchResult, vec_len, min};
 ghost use Rattle.std.specs.Int.{w8, w16, w32, w64, to_le_bytes};
 ghost use Rattle.std.specs.Borrow.{sem};
 ghost use Rattle.std.specs.Io.BufRead.{Rests};
@@ -88,9 +88,9 @@ impl<R: DeRead> Bunser<R> {
 
     /// Whether a call was refused before, so that each later one is.
     pub fn is_failed(&self) -> bool
-        ensures { IsTrue result → IsTrue (bunser_state R.state self.now).failed }
+        ensures { result ≡ (bunser_state R.state self.now).failed }
     {
-        self.failed
+        self.failed || self.read.is_failed()
     }
 
     /// Fails, for what the source answered.

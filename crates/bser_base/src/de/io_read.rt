@@ -1,5 +1,5 @@
 //! A byte source over a reader.
-ghost use Rattle.std.specs.Prelude.{◌≡◌, ◌≤◌, ◌<◌, ◌+◌, ◌-◌, ◌^◌, [], true, false, length, Option, None, IfErr, OnOk, ◌⊎◌};
+ghost use Rattle.std.specs.Prelude.{refl, ◌≡◌, ◌≤◌, ◌<◌, ◌+◌, ◌-◌, ◌^◌, [], true, false, length, Option, None, IfErr, OnOk, ◌⊎◌};
 ghost use Rattle.bser_base.specs.Source.{State, Took, Ready, Gathered, io_state};
 ghost use Rattle.bser_base.specs.Blocks.{block_bytes};
 ghost use Rattle.bser_base.specs.Reader.{io_at, io_fresh, io_reader};
@@ -168,9 +168,16 @@ impl<S: Source> IoRead<S> {
 }
 
 impl<S: Source> DeRead for IoRead<S> {
+    ghost use Rattle.std.proofs.Common.{arith};
+    ghost use Rattle.bser_base.specs.Held.{sight_of_held};
+
     type Lent = NoLoan;
 
     ghost state = { io_at S.remaining S.failures S.through };
+
+    ghost lending = { λ _. refl };
+
+    ghost holding = { λ r _. Prim.omega (arith, r.limited, sight_of_held (block_bytes r.block) r.peeked r.seen) };
 
     fn next(&mut self) -> Result<u8, ReadCause> {
         self.ready()?;
@@ -187,6 +194,10 @@ impl<S: Source> DeRead for IoRead<S> {
 
     fn read_count(&self) -> usize {
         self.arrived - self.block.len()
+    }
+
+    fn is_failed(&self) -> bool {
+        self.failed
     }
 
     fn discard(&mut self) {

@@ -1,9 +1,14 @@
 //! What a byte source lends.
-ghost use Rattle.std.specs.Prelude.{◌≡◌, ℕ, List, [], IfOk, IfErr, OnErr};
+ghost use Rattle.std.specs.Prelude.{◌≡◌, ℕ, Bool, true, false, List, [], IfOk, IfErr, OnErr, MatchOption};
 ghost use Rattle.std.specs.Str.{IsUtf8};
 ghost use Rattle.bser_base.specs.declared.errors.ReadCause.TheVariants.{Utf8};
+ghost use Rattle.bser_base.specs.declared.errors.Error.TheVariants.{OutOfMemory};
+ghost use Rattle.bser_base.specs.Refs.{bytes_of, is_lent, text_of, is_lent_text};
 
-use crate::errors::ReadCause;
+use crate::bytestring::ByteString;
+use crate::de::read::{Reference, TextReference};
+use crate::errors::{Error, ReadCause, Result};
+use std::alloc::Global;
 
 /// A text that a source lends. The crate has no such trait: its references name a lifetime.
 pub trait LendingText: Copy {
@@ -18,9 +23,31 @@ pub trait LendingText: Copy {
 pub trait Lending: Copy {
     ghost bytes: { Self → List ℕ };
 
+    // whether a source that lends this lends what is read
+    ghost lends: { Bool };
+
+    /// What is kept of bytes that are wanted again later: the loan itself, or else a copy.
+    type Kept: Drop;
+
+    ghost kept: { Self.Kept → List ℕ };
+
     /// The bytes.
     fn as_bytes<'a>(&'a self) -> &'a [u8]
         ensures { result.now ≡ bytes self.now };
+
+    /// Keeps bytes that a source gave. Where they were copied it takes memory, and a refused growth
+    /// is [`Error::OutOfMemory`].
+    fn keep(alloc: Global, given: Reference<'_, Self>) -> Result<Self::Kept>
+        requires { is_lent given ≡ lends }
+        ensures ok { IfOk result (λ k. kept k ≡ bytes_of bytes given.entry) }
+        ensures err { IfErr result (λ e. (e ≡ OutOfMemory) × (lends ≡ false)) };
+
+    /// Lends kept bytes, or else copies them to `scratch` in place of what it held. A refused growth
+    /// is [`Error::OutOfMemory`].
+    fn lend<'s>(key: &Self::Kept, scratch: &'s mut Vec<u8>) -> Result<Reference<'s, Self>>
+        ensures ok { IfOk result (λ r. bytes_of bytes r ≡ kept key.now) }
+        ensures lent { IfOk result (λ r. is_lent r ≡ lends) }
+        ensures err { IfErr result (λ e. (e ≡ OutOfMemory) × (lends ≡ false)) };
 }
 
 /// Bytes that a source lends, and that are lent as a text too.
@@ -29,10 +56,25 @@ pub trait LendsText: Lending {
     type Text: LendingText;
 
     /// The bytes as a text. Bytes that are not UTF-8 are [`ReadCause::Utf8`].
-    fn to_text(self) -> Result<Self::Text, ReadCause>
+    fn to_text(self) -> std::result::Result<Self::Text, ReadCause>
         ensures ok { IfOk result (λ t. (Self.Text.text t ≡ Self.bytes self) × IsUtf8 (Self.bytes self)) }
         ensures err { OnErr result (¬ (IsUtf8 (Self.bytes self))) }
         ensures cause { IfErr result (λ e. e ≡ Utf8) };
+}
+
+/// What a source lends, where that may be bytes of an input of this lifetime.
+///
+/// The crate has no such trait: its sources name a lifetime.
+pub trait LendsFrom<'de>: LendsText {
+    /// The lent bytes, for as long as the input stands. None where the source lends nothing.
+    fn lent_bytes(given: Reference<'_, Self>) -> Option<&'de [u8]>
+        requires { is_lent given ≡ Self.lends }
+        ensures { MatchOption result (Self.lends ≡ false) (λ s. s.now ≡ bytes_of Self.bytes given.entry) };
+
+    /// The lent text, for as long as the input stands. None where the source lends nothing.
+    fn lent_text(given: TextReference<'_, Self::Text>) -> Option<&'de str>
+        requires { is_lent_text given ≡ Self.lends }
+        ensures { MatchOption result (Self.lends ≡ false) (λ s. s.now ≡ text_of Self.Text.text given.entry) };
 }
 
 impl<'a> LendingText for &'a str {
@@ -46,15 +88,40 @@ impl<'a> LendingText for &'a str {
 impl<'a> Lending for &'a [u8] {
     ghost bytes = { λ s. s.now };
 
+    ghost lends = { true };
+
+    type Kept = &'a [u8];
+
+    ghost kept = { λ s. s.now };
+
     fn as_bytes<'b>(&'b self) -> &'b [u8] {
         *self
+    }
+
+    fn keep(_alloc: Global, given: Reference<'_, &'a [u8]>) -> Result<&'a [u8]>
+        requires { is_lent given ≡ true }
+        ensures ok { IfOk result (λ k. k.now ≡ bytes_of (λ s. s.now) given.entry) }
+        ensures err { IfErr result (λ e. (e ≡ OutOfMemory) × (true ≡ false)) }
+    {
+        match given {
+            Reference::Borrowed(bytes) => Ok(bytes),
+            Reference::Copied(_) => Err(Error::OutOfMemory),
+        }
+    }
+
+    fn lend<'s>(key: &&'a [u8], _scratch: &'s mut Vec<u8>) -> Result<Reference<'s, &'a [u8]>>
+        ensures ok { IfOk result (λ r. bytes_of (λ s. s.now) r ≡ key.now.now) }
+        ensures lent { IfOk result (λ r. is_lent r ≡ true) }
+        ensures err { IfErr result (λ e. (e ≡ OutOfMemory) × (true ≡ false)) }
+    {
+        Ok(Reference::Borrowed(*key))
     }
 }
 
 impl<'a> LendsText for &'a [u8] {
     type Text = &'a str;
 
-    fn to_text(self) -> Result<&'a str, ReadCause> {
+    fn to_text(self) -> std::result::Result<&'a str, ReadCause> {
         match str::from_utf8(self) {
             Ok(text) => Ok(text),
             Err(_) => Err(ReadCause::Utf8),
@@ -80,15 +147,80 @@ impl LendingText for NoLoan {
 impl Lending for NoLoan {
     ghost bytes = { λ _. [] };
 
+    ghost lends = { false };
+
+    type Kept = ByteString;
+
+    ghost kept = { λ s. s };
+
     fn as_bytes<'b>(&'b self) -> &'b [u8] {
         &[]
+    }
+
+    fn keep(alloc: Global, given: Reference<'_, NoLoan>) -> Result<ByteString>
+        requires { is_lent given ≡ false }
+        ensures ok { IfOk result (λ k. k ≡ bytes_of (λ _. []) given.entry) }
+        ensures err { IfErr result (λ e. (e ≡ OutOfMemory) × (false ≡ false)) }
+    {
+        match given {
+            Reference::Borrowed(_) => Ok(ByteString::from_vec(Vec::new(alloc))),
+            Reference::Copied(bytes) => Ok(ByteString::from_vec(bytes.to_vec(alloc)?)),
+        }
+    }
+
+    fn lend<'s>(key: &ByteString, scratch: &'s mut Vec<u8>) -> Result<Reference<'s, NoLoan>>
+        ensures ok { IfOk result (λ r. bytes_of (λ _. []) r ≡ key.now) }
+        ensures lent { IfOk result (λ r. is_lent r ≡ false) }
+        ensures err { IfErr result (λ e. (e ≡ OutOfMemory) × (false ≡ false)) }
+    {
+        scratch.clear();
+        scratch.extend_from_slice(key.as_bytes())?;
+        Ok(Reference::Copied(scratch))
     }
 }
 
 impl LendsText for NoLoan {
     type Text = NoLoan;
 
-    fn to_text(self) -> Result<NoLoan, ReadCause> {
+    fn to_text(self) -> std::result::Result<NoLoan, ReadCause> {
         Ok(self)
+    }
+}
+
+impl<'de> LendsFrom<'de> for &'de [u8] {
+    fn lent_bytes(given: Reference<'_, &'de [u8]>) -> Option<&'de [u8]>
+        requires { is_lent given ≡ true }
+        ensures { MatchOption result (true ≡ false) (λ s. s.now ≡ bytes_of (λ b. b.now) given.entry) }
+    {
+        match given {
+            Reference::Borrowed(bytes) => Some(bytes),
+            Reference::Copied(_) => None,
+        }
+    }
+
+    fn lent_text(given: TextReference<'_, &'de str>) -> Option<&'de str>
+        requires { is_lent_text given ≡ true }
+        ensures { MatchOption result (true ≡ false) (λ s. s.now ≡ text_of (λ t. t.now) given.entry) }
+    {
+        match given {
+            TextReference::Borrowed(text) => Some(text),
+            TextReference::Copied(_) => None,
+        }
+    }
+}
+
+impl<'de> LendsFrom<'de> for NoLoan {
+    fn lent_bytes(_given: Reference<'_, NoLoan>) -> Option<&'de [u8]>
+        requires { is_lent _given ≡ false }
+        ensures { MatchOption result (false ≡ false) (λ s. s.now ≡ bytes_of (λ _. []) _given.entry) }
+    {
+        None
+    }
+
+    fn lent_text(_given: TextReference<'_, NoLoan>) -> Option<&'de str>
+        requires { is_lent_text _given ≡ false }
+        ensures { MatchOption result (false ≡ false) (λ s. s.now ≡ text_of (λ _. []) _given.entry) }
+    {
+        None
     }
 }

@@ -1,6 +1,7 @@
 //! Byte sources.
-ghost use Rattle.std.specs.Prelude.{◌≡◌, ◌≤◌, ◌<◌, ◌+◌, ◌-◌, ◌^◌, ◌∷◌, [], ◌++◌, ℕ, List, Bool, true, false, length, drop, take, Option, Some, None, IfOk, IfErr, OnOk, IsSome, is_some, MatchResult, vec_len, OnErr};
+ghost use Rattle.std.specs.Prelude.{refl, ◌≡◌, ◌≤◌, ◌<◌, ◌+◌, ◌-◌, ◌^◌, ◌∷◌, [], ◌++◌, ℕ, List, Bool, true, false, length, drop, take, Option, Some, None, IfOk, IfErr, OnOk, IsSome, is_some, MatchResult, vec_len, OnErr};
 ghost use Rattle.bser_base.specs.Source.{State, Took, Expects, IsNext, sight_after, in_sight, bytes_in_sight, slice_state};
+ghost use Rattle.bser_base.specs.Held.{HoldsWithin};
 ghost use Rattle.bser_base.specs.Refusal.{Refused};
 ghost use Rattle.bser_base.specs.Refs.{bytes_of, is_lent, text_of, is_lent_text};
 ghost use Rattle.std.specs.Borrow.{sem};
@@ -10,7 +11,7 @@ ghost use Rattle.bser_base.specs.declared.errors.ReadCause.TheVariants.{Utf8};
 ghost use Rattle.std.specs.Int.{w32, to_le_bytes};
 
 pub use crate::de::io_read::IoRead;
-pub use crate::de::lending::{Lending, LendingText, LendsText, NoLoan};
+pub use crate::de::lending::{Lending, LendingText, LendsFrom, LendsText, NoLoan};
 use crate::errors::ReadCause;
 use byteorder::{ByteOrder, LittleEndian};
 
@@ -118,6 +119,10 @@ pub trait DeRead {
     fn read_count(&self) -> usize
         ensures { result ≡ (state self.now).count };
 
+    /// Whether each later call that can be refused is. The crate has no such call.
+    fn is_failed(&self) -> bool
+        ensures { result ≡ (state self.now).failed };
+
     /// Takes the byte in sight. It wants one in sight, which a `peek` that succeeds gives.
     fn discard(&mut self)
         requires { IsSome (state self.old).sight }
@@ -150,6 +155,12 @@ pub trait DeRead {
     /// one changes nothing. It takes no memory. The crate has no such call.
     fn expect(&mut self, n: usize)
         ensures { Expects (state self.old) (state self.new) n };
+
+    // it lends what is read, or copies it, throughout
+    ghost lending: { (r : Self) → (state r).lends ≡ Self.Lent.lends };
+
+    // while it works, nothing is held but within the limit, or the byte in sight
+    ghost holding: { (r : Self) → HoldsWithin (state r) };
 
     /// Takes four bytes by `next_bytes`, and gives their number, the lowest first.
     final fn next_u32(&mut self, scratch: &mut Vec<u8>) -> Result<u32, ReadCause>
@@ -187,10 +198,15 @@ impl<'a> SliceRead<'a> {
 
 impl<'a> DeRead for SliceRead<'a> {
     ghost use Rattle.bser_base.specs.Slice.{slice_at};
+    ghost use Rattle.std.proofs.Common.{arith};
 
     type Lent = &'a [u8];
 
     ghost state = { slice_at };
+
+    ghost lending = { λ _. refl };
+
+    ghost holding = { λ _ _. Prim.omega arith };
 
     fn next(&mut self) -> Result<u8, ReadCause> {
         if self.index >= self.slice.len() {
@@ -212,6 +228,10 @@ impl<'a> DeRead for SliceRead<'a> {
 
     fn read_count(&self) -> usize {
         self.index
+    }
+
+    fn is_failed(&self) -> bool {
+        false
     }
 
     fn discard(&mut self) {

@@ -1,17 +1,14 @@
 //! The deserializer: what is left of a message, and what is due.
-ghost use Rattle.std.specs.Prelude.{IsTrue, ◌≡◌, ◌≤◌, ◌^◌, ℕ, pos, [], true, false, Some, IfOk, IfErr, OnOk, OnErr};
-ghost use Rattle.bser_base.specs.Tagged.{IsHead, with_failure};
+ghost use Rattle.std.specs.Prelude.{IsTrue, ◌≡◌, ◌≢◌, ◌≤◌, ◌^◌, ℕ, pos, [], true, false, IfOk, IfErr, OnOk, OnErr};
+ghost use Rattle.bser_base.specs.Tagged.{IsHead};
 ghost use Rattle.bser_base.specs.TaggedRefusal.{Unwanted};
 ghost use Rattle.bser_base.specs.Expected.{nothing_due, node_due};
-ghost use Rattle.serde_bser.specs.State.{Begins, IsAtEnd, with_source};
-ghost use Rattle.serde_bser.specs.Reading.{Answers, Refuses, IsRefusal, RefusesHead};
-ghost use Rattle.serde_bser.specs.Scalar.{reads_scalar, owned};
-ghost use Rattle.serde_bser.specs.ValueView.{HoldsTree};
+ghost use Rattle.serde_bser.specs.State.{Begins, IsAtEnd};
+ghost use Rattle.serde_bser.specs.Reading.{IsRefusal, RefusesHead};
 
-use crate::de::scalar;
-use crate::value::Value;
+use crate::de::skip::Frame;
 use bser_base::de::bunser::{Bunser, PduInfo};
-use bser_base::de::read::DeRead;
+use bser_base::de::read::{DeRead, Lending};
 use bser_base::errors::{Complaint, Error, ReadCause, Result};
 use std::alloc::Global;
 
@@ -25,18 +22,32 @@ pub(crate) enum Due {
     Nothing,
     /// A value.
     Node,
+    /// An object's key.
+    Key,
+    /// A field of a template's row.
+    Field,
+    /// The key of a row's field, by its place among the template's keys. It has no bytes.
+    Name(usize),
+    /// A template's row. It has no bytes but those of its fields.
+    Row,
 }
 
 /// Reads one message.
 ///
 /// After a refusal each later call that can be refused answers [`ReadCause::Failed`].
 #[derive(Drop)]
-pub struct Deserializer<R> {
-    bunser: Bunser<R>,
+pub struct Deserializer<R: DeRead> {
+    pub(crate) bunser: Bunser<R>,
     info: PduInfo,
-    due: Due,
-    levels: usize,
-    opened: usize,
+    pub(crate) due: Due,
+    pub(crate) levels: usize,
+    pub(crate) opened: usize,
+    // the keys of the innermost open template, and those of the templates around it
+    pub(crate) keys: Vec<<R::Lent as Lending>::Kept>,
+    pub(crate) outer: Vec<Vec<<R::Lent as Lending>::Kept>>,
+    // the containers around what is being skipped, and bytes that are copied and not kept
+    pub(crate) frames: Vec<Frame>,
+    pub(crate) scratch: Vec<u8>,
 }
 
 impl<R: DeRead + Drop> Deserializer<R> {
@@ -46,7 +57,7 @@ impl<R: DeRead + Drop> Deserializer<R> {
     ///
     /// Refused as [`Bunser::read_pdu`] is.
     pub fn new(alloc: Global, read: R) -> Result<Self>
-        ensures ok { IfOk result (λ d. Begins 128 (R.state read) (state R.state d)) }
+        ensures ok { IfOk result (λ d. Begins 128 (R.state read) (state R.state R.Lent.kept d)) }
         ensures err { IfErr result (RefusesHead (R.state read)) }
     {
         Self::with_limit(alloc, LEVELS, read)
@@ -57,7 +68,7 @@ impl<R: DeRead + Drop> Deserializer<R> {
     /// Refused as [`Bunser::read_pdu`] is. The crate has the limit 128 alone.
     pub fn with_limit(alloc: Global, limit: usize, read: R) -> Result<Self>
         requires { limit ≤ 1024 }
-        ensures ok { IfOk result (λ d. Begins limit (R.state read) (state R.state d)) }
+        ensures ok { IfOk result (λ d. Begins limit (R.state read) (state R.state R.Lent.kept d)) }
         ensures err { IfErr result (RefusesHead (R.state read)) }
     {
         let mut from = Deserializer::unread(alloc, read);
@@ -71,9 +82,11 @@ impl<R: DeRead> Deserializer<R> {
 
     /// Reads from the source's next byte on. Nothing is due before the head is read.
     pub(crate) fn unread(alloc: Global, read: R) -> Self
-        ensures source { (state R.state result).source ≡ R.state read }
-        ensures due { (state R.state result).due ≡ nothing_due }
-        ensures opened { (state R.state result).opened ≡ 0 }
+        ensures source { (state R.state R.Lent.kept result).source ≡ R.state read }
+        ensures due { (state R.state R.Lent.kept result).due ≡ nothing_due }
+        ensures keys { (state R.state R.Lent.kept result).keys ≡ [] }
+        ensures outer { (state R.state R.Lent.kept result).outer ≡ [] }
+        ensures opened { (state R.state R.Lent.kept result).opened ≡ 0 }
     {
         Deserializer {
             bunser: Bunser::new(alloc, read),
@@ -85,14 +98,20 @@ impl<R: DeRead> Deserializer<R> {
             due: Due::Nothing,
             levels: 0,
             opened: 0,
+            keys: Vec::new(alloc),
+            outer: Vec::new(alloc),
+            frames: Vec::new(alloc),
+            scratch: Vec::new(alloc),
         }
     }
 
     /// Takes the head of a message, whose value is due then.
     pub(crate) fn read_head(&mut self, limit: usize) -> Result<()>
-        requires { (state R.state self.old).opened ≡ 0 }
-        ensures ok { OnOk result (Begins limit (state R.state self.old).source (state R.state self.new)) }
-        ensures err { IfErr result (λ e. Unwanted IsHead e (state R.state self.old).source (state R.state self.new).source) }
+        requires opened { (state R.state R.Lent.kept self.old).opened ≡ 0 }
+        requires keys { (state R.state R.Lent.kept self.old).keys ≡ [] }
+        requires outer { (state R.state R.Lent.kept self.old).outer ≡ [] }
+        ensures ok { OnOk result (Begins limit (state R.state R.Lent.kept self.old).source (state R.state R.Lent.kept self.new)) }
+        ensures err { IfErr result (λ e. Unwanted IsHead e (state R.state R.Lent.kept self.old).source (state R.state R.Lent.kept self.new).source) }
     {
         self.info = self.bunser.read_pdu()?;
         self.due = Due::Node;
@@ -106,8 +125,8 @@ impl<R: DeRead> Deserializer<R> {
     /// [`ReadCause::Failed`] after an earlier refusal, and else as [`Bunser::end`] is. A refusal
     /// changes nothing.
     pub fn end(&self) -> Result<()>
-        ensures ok { OnOk result (IsAtEnd (state R.state self.now)) }
-        ensures err { OnErr result (IsAtEnd (state R.state self.now) → IsTrue (state R.state self.now).source.failed) }
+        ensures ok { OnOk result (IsAtEnd (state R.state R.Lent.kept self.now)) }
+        ensures err { OnErr result (IsAtEnd (state R.state R.Lent.kept self.now) → IsTrue (state R.state R.Lent.kept self.now).source.failed) }
         ensures kind { IfErr result IsRefusal }
     {
         if self.bunser.is_failed() {
@@ -115,47 +134,27 @@ impl<R: DeRead> Deserializer<R> {
                 source: ReadCause::Failed,
             });
         }
-        if self.due != Due::Nothing || self.opened != 0 {
+        if self.is_due() || self.opened != 0 {
             return Err(Error::de_custom(Complaint::ValueOpen));
         }
         self.bunser.end(&self.info)
     }
 
-    /// The refusal where nothing is due: too few items, or a container is still open.
-    fn refuse_none_due(&mut self) -> Error
-        ensures kind { IsRefusal result }
-        ensures state { state R.state self.new ≡ with_source (state R.state self.old) (with_failure true (state R.state self.old).source) }
-    {
-        let refusal = if self.bunser.is_failed() {
-            Error::de_reader_error(ReadCause::Failed)
-        } else if self.opened != 0 {
-            Error::de_custom(Complaint::ValueOpen)
-        } else {
-            Error::de_custom(Complaint::TooFewItems)
-        };
-        self.bunser.fail();
-        refusal
-    }
-
-    /// Reads the scalar or string that is due. A container is refused as an unknown item is.
-    pub(crate) fn read_scalar(&mut self, alloc: Global) -> Result<Value>
-        ensures found { IfOk result (Answers reads_scalar HoldsTree (state R.state self.old) (state R.state self.new)) }
-        ensures refused { IfErr result (λ e. Refuses reads_scalar owned e (state R.state self.old) (state R.state self.new)) }
+    /// Whether anything is due.
+    pub(crate) fn is_due(&self) -> bool
+        ensures none { result ≡ false → (state R.state R.Lent.kept self.now).due ≡ nothing_due }
+        ensures some { result ≡ true → (state R.state R.Lent.kept self.now).due ≢ nothing_due }
     {
         match self.due {
-            Due::Nothing => Err(self.refuse_none_due()),
-            Due::Node => {
-                let tag = self.bunser.peek()?;
-                let value = scalar::read_scalar(alloc, &mut self.bunser, tag)?;
-                self.due = Due::Nothing;
-                Ok(value)
-            }
+            Due::Nothing => false,
+            Due::Name(place) => place < self.keys.len(),
+            _ => true,
         }
     }
 
     /// The capabilities that the message's head gives.
     pub fn capabilities(&self) -> u32
-        ensures { result ≡ (state R.state self.now).capabilities }
+        ensures { result ≡ (state R.state R.Lent.kept self.now).capabilities }
     {
         self.info.bser_capabilities
     }
@@ -170,6 +169,10 @@ impl<R: DeRead> Deserializer<R> {
             due: _,
             levels: _,
             opened: _,
+            keys: _,
+            outer: _,
+            frames: _,
+            scratch: _,
         } = self;
         bunser.into_inner()
     }

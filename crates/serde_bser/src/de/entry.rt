@@ -1,5 +1,5 @@
 //! Reading whole messages.
-ghost use Rattle.std.specs.Prelude.{◌≡◌, ◌≤◌, IfOk, IfErr};
+ghost use Rattle.std.specs.Prelude.{◌≡◌, ◌≤◌, [], IfOk, IfErr};
 ghost use Rattle.serde_bser.specs.Messages.{BeginsWith, TookMessage, ReadsMessage, RefusesMessage, RefusesSlice, RefusesReader};
 ghost use Rattle.serde_bser.specs.View.{state};
 
@@ -78,10 +78,12 @@ fn read_message<R: DeRead, T: Deserialize<R::Lent>>(
 ) -> Result<T>
 where
     R::Lent: LendsText,
-    requires fresh { (state R.state from.old).opened ≡ 0 }
-    requires start { (state R.state from.old).source.count ≡ 0 }
-    ensures found { IfOk result (ReadsMessage limit T.reads T.holds (state R.state from.old).source (state R.state from.new).source) }
-    ensures refused { IfErr result (λ e. RefusesMessage limit T.reads T.needs e (state R.state from.old).source (state R.state from.new).source) }
+    requires fresh { (state R.state R.Lent.kept from.old).opened ≡ 0 }
+    requires fresh_keys { (state R.state R.Lent.kept from.old).keys ≡ [] }
+    requires fresh_outer { (state R.state R.Lent.kept from.old).outer ≡ [] }
+    requires start { (state R.state R.Lent.kept from.old).source.count ≡ 0 }
+    ensures found { IfOk result (ReadsMessage limit T.reads T.holds (state R.state R.Lent.kept from.old).source (state R.state R.Lent.kept from.new).source) }
+    ensures refused { IfErr result (λ e. RefusesMessage limit T.reads T.needs e (state R.state R.Lent.kept from.old).source (state R.state R.Lent.kept from.new).source) }
 {
     from.read_head(limit)?;
     let value = T::deserialize(alloc, from)?;

@@ -35,11 +35,18 @@ pub trait Deserialize<L: LendsText>: Shape + Drop {
     ///
     /// [`Complaint::BorrowedFromCopying`]: bser_base::errors::Complaint::BorrowedFromCopying
     fn deserialize<R: DeRead<Lent = L>>(alloc: Global, from: &mut Deserializer<R>) -> Result<Self>
-        ensures found { IfOk result (Answers Self.reads Self.holds (state R.state from.old) (state R.state from.new)) }
-        ensures refused { IfErr result (λ e. Refuses Self.reads Self.needs e (state R.state from.old) (state R.state from.new)) };
+        ensures found { IfOk result (Answers Self.reads Self.holds (state R.state L.kept from.old) (state R.state L.kept from.new)) }
+        ensures refused { IfErr result (λ e. Refuses Self.reads Self.needs e (state R.state L.kept from.old) (state R.state L.kept from.new)) };
+}
+
+/// A meaning whose values hold nothing that is lent.
+pub trait OwnedShape: Shape {
+    ghost owned: { Self.needs.lent ≡ false };
 }
 
 /// A type that needs nothing lent, so that it is read from any reader.
-pub trait DeserializeOwned: Deserialize<NoLoan> {
-    ghost owned: { Self.needs.lent ≡ false };
-}
+///
+/// Each type is one that has both halves.
+pub trait DeserializeOwned: OwnedShape + Deserialize<NoLoan> {}
+
+impl<T: OwnedShape + Deserialize<NoLoan>> DeserializeOwned for T {}

@@ -1,5 +1,4 @@
 -- A message is its head, its value and its end.
-use Rattle.std.proofs.Common.{◌≡◌, rules, arith, refl}
 use Rattle.std.proofs.lemmas.Result.{err_from_is_err_and}
 use Rattle.serde_bser.proofs.Messages.{message, head_refused, value_refused, end_refused}
 use Rattle.serde_bser.proofs.de.entry.read_message.Goals as goal

@@ -1,10 +1,9 @@
 -- Each tag has its own kind of scalar.
-use Rattle.std.proofs.Common.{◌≡◌, ◌≤◌, ◌∙◌, rules, arith, refl, sym, ap, subst, IsUtf8, Some}
+use Rattle.std.proofs.Common.{◌≡◌, ◌≤◌, ◌∙◌, rules, arith, ap}
 use Rattle.std.specs.Int.{w64}
 use mir.Val.{SFits, to_z, of_z}
 use Rattle.std.proofs.lemmas.Int.{ints}
 use Rattle.std.proofs.lemmas.Result.{err_from_is_err_and}
-use Rattle.bser_base.specs.Source.{IsNext}
 use Rattle.bser_base.specs.Tree.{bytes, integer}
 use Rattle.serde_bser.proofs.Views.{tree_of-ByteString, tree_of-Integer, tree_of-Utf8String}
 use Rattle.serde_bser.proofs.Scalars.{integer_refused, real_refused, bytes_refused, text_refused, tag_refused, took_as, took_integer, took_bytes, took_text}

@@ -1,5 +1,5 @@
 -- A string is its tag, its length and its bytes.
-use Rattle.std.proofs.Common.{◌≡◌, ◌∙◌, rules, arith, refl}
+use Rattle.std.proofs.Common.{◌≡◌, ◌∙◌, rules, arith}
 use Rattle.std.specs.Int.{w64}
 use mir.Val.{SFits, to_z, of_z}
 use Rattle.std.proofs.lemmas.Int.{ints}

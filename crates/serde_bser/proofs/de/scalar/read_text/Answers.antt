@@ -1,6 +1,6 @@
-use Rattle.std.proofs.Common.{◌≡◌, rules, arith, refl, ap, IsUtf8}
+use Rattle.std.proofs.Common.{ap, IsUtf8}
 use Rattle.serde_bser.specs.Scalar.{owned}
-use Rattle.serde_bser.proofs.Strings.{is_err_not_ok, not_text, text_refused}
+use Rattle.serde_bser.proofs.Strings.{is_err_not_ok, not_text}
 use Rattle.serde_bser.proofs.de.scalar.read_text.Goals as goal
 
 pub returns-clause-err : goal.returns-clause-err

@@ -1,21 +1,28 @@
--- A look at the tag, and the scalar that it begins.
-use Rattle.std.proofs.Common.{◌≡◌, ◌∙◌, rules, arith, refl, sym, ap}
-use Rattle.std.proofs.lemmas.Result.{err_from_is_err_and}
-use Rattle.serde_bser.specs.View.{due_of}
-use Rattle.serde_bser.specs.ValueView.{HoldsTree}
-use Rattle.serde_bser.proofs.Dues.{answers, look_refused, scalar_refused}
+-- A key is read as one, and else the tag in sight tells the scalar.
+use Rattle.std.proofs.Common.{refl}
+use Rattle.serde_bser.specs.View.{state}
+use Rattle.serde_bser.proofs.Strings.{if_err}
+use Rattle.serde_bser.proofs.ValueScalars.{no_value, value_refuses, row_refuses}
+use Rattle.serde_bser.proofs.de.deserializer.Deserializer.read_scalar.Goals.{in-Key, in_default}
 use Rattle.serde_bser.proofs.de.deserializer.Deserializer.read_scalar.Goals as goal
 
-pub returns-in_err-tag-in-Node-clause-refused : goal.returns-in_err-tag-in-Node-clause-refused
-returns-in_err-tag-in-Node-clause-refused g c =
-    let p = err_from_is_err_and c.from_residual.result c.from_residual.ensures.1 in
-    rw (p.1, p.2) (look_refused _ _ _ (ap due_of c.in-Node.is) c.in_err-tag-in-Node.ensures.err)
+pub read_key-requires : goal.read_key-requires
+read_key-requires g c =
+    elim c.match-matches.branch [
+      | in-Key w ↦ no_value _ _ w.in-Key.is
+      | in_default w ↦ (let f = w.matches-is in let t = c.if-matches.true in absurd cc)
+    ]
 
-pub returns-in_err-value-in-Node-clause-refused : goal.returns-in_err-value-in-Node-clause-refused
-returns-in_err-value-in-Node-clause-refused g c =
-    let p = err_from_is_err_and c.from_residual-in_err-value-in-Node.result c.from_residual-in_err-value-in-Node.ensures.1 in
-    rw (p.1, p.2) (scalar_refused _ _ _ _ _ (ap due_of c.in-Node.is) c.in_ok-tag-in-Node.ensures.ok c.in_err-value-in-Node.ensures.err)
+pub returns-in_default-2 : goal.returns-in_default-2
+returns-in_default-2 g c =
+    elim c.match-matches.branch [
+      | in-Key w ↦ (let f = w.matches-is in let t = c.if-matches.false in absurd cc)
+      | in_default w ↦ record { found = tt; refused = row_refuses c.args.self.now.due (state g.R.DeRead.state g.R.Lent.Lending.kept c.args.self.now) _ (state g.R.DeRead.state g.R.Lent.Lending.kept c.refuse_head.new.self) c.in_ok-head.head _ refl c.in_ok-head.ensures.ok c.in_default-2.not-Tag w.in_default.not-Key w.in_default.not-Name c.refuse_head.ensures.kind c.refuse_head.ensures.state }
+    ]
 
-pub returns-in_ok-value-in-Node-clause-found : goal.returns-in_ok-value-in-Node-clause-found
-returns-in_ok-value-in-Node-clause-found g c =
-    answers HoldsTree _ _ _ _ _ c.in_ok-value-in-Node.value (ap due_of c.in-Node.is) refl c.in_ok-tag-in-Node.ensures.ok c.in_ok-value-in-Node.ensures.ok refl
+pub returns-in-Tag-clause-refused : goal.returns-in-Tag-clause-refused
+returns-in-Tag-clause-refused g c =
+    let s = state g.R.DeRead.state g.R.Lent.Lending.kept c.args.self.now in
+    let m = state g.R.DeRead.state g.R.Lent.Lending.kept c.head.new.self in
+    let t = state g.R.DeRead.state g.R.Lent.Lending.kept c.read_tagged.new.self in
+    if_err c.read_tagged.result _ _ (λ e u. value_refuses s m t c.in-Tag.tag e (rw c.in-Tag.is at c.in_ok-head.ensures.ok) u) c.read_tagged.ensures.refused

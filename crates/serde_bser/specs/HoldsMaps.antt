@@ -1,0 +1,22 @@
+-- What maps hold.
+use Rattle.std.specs.Prelude.{◌≡◌, ℕ, List, [], ◌∷◌, map}
+use Rattle.bser_base.specs.Content.{Content, byte_list, pair}
+use Rattle.bser_base.specs.ReadsHolders.{list_of}
+
+-- a pair of a key's bytes and what the value holds
+pub record HoldsPair {V : Type 0} (holds : V → Content → Type 0) (name : List ℕ) (v : V) (c : Content) : Type 0 where
+  pub value : Content
+  pub pair : c ≡ pair (byte_list name) value
+  pub held : holds v value
+
+-- each entry holds its pair, under the key's bytes, as many
+abbrev pub HoldsEntries : {K V : Type 0} → (K → List ℕ) → (V → Content → Type 0) → List (K × V) → List (List ℕ × Content) → Type 0
+HoldsEntries bytes holds [] [] = Unit {0}
+HoldsEntries bytes holds (e ∷ es) (p ∷ ps) = (bytes e.0 ≡ p.0) × HoldsPair holds p.0 e.1 p.1 × HoldsEntries bytes holds es ps
+HoldsEntries bytes holds _ _ = ⊥
+
+-- a list of pairs in the map's order of keys
+pub record HoldsMap {K V : Type 0} (bytes : K → List ℕ) (holds : V → Content → Type 0) (es : List (K × V)) (c : Content) : Type 0 where
+  pub pairs : List (List ℕ × Content)
+  pub list : c ≡ list_of (map (λ p. p.1) pairs)
+  pub held : HoldsEntries bytes holds es pairs

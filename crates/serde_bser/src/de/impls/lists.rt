@@ -1,0 +1,144 @@
+//! Lists and tuples. A template is read as the array of its rows.
+ghost use Rattle.std.specs.Prelude.{◌||◌, true, [], ◌∷◌};
+ghost use Rattle.bser_base.specs.ReadsHolders.{reads_vec, reads_tuple};
+ghost use Rattle.serde_bser.specs.HoldsLists.{HoldsList, HoldsTuple};
+ghost use Rattle.std.proofs.Common.{ap, ◌∙◌};
+
+#[cfg(test)]
+mod tests;
+
+use crate::de::deserializer::Deserializer;
+use crate::de::reading::{Deserialize, OwnedShape, Shape};
+use bser_base::de::read::{DeRead, LendsText};
+use bser_base::errors::Result;
+use std::alloc::Global;
+
+/// An array of any number of items. Want of memory is refused by [`Error::OutOfMemory`].
+///
+/// [`Error::OutOfMemory`]: bser_base::errors::Error::OutOfMemory
+impl<T: Shape> Shape for Vec<T> {
+    ghost reads = { reads_vec T.reads };
+
+    ghost holds = { λ v c. HoldsList T.holds v.items c };
+
+    ghost needs = { record { lent = T.needs.lent; memory = true } };
+}
+
+impl<L: LendsText, T: Deserialize<L>> Deserialize<L> for Vec<T> {
+    fn deserialize<R: DeRead<Lent = L>>(
+        alloc: Global,
+        from: &mut Deserializer<R>,
+    ) -> Result<Vec<T>> {
+        let mut items = Vec::new(alloc);
+        let mut seq = from.read_seq(alloc)?;
+        while let Some(item) = seq.next_element::<T>(alloc)? {
+            items.push(item)?;
+        }
+        seq.end()?;
+        Ok(items)
+    }
+}
+
+impl<T: OwnedShape> OwnedShape for Vec<T> {
+    ghost owned = { T.owned };
+}
+
+/// An array of two items. Fewer are refused by [`Complaint::TooFewItems`], more by
+/// [`Complaint::ItemsLeft`].
+///
+/// [`Complaint::TooFewItems`]: bser_base::errors::Complaint::TooFewItems
+/// [`Complaint::ItemsLeft`]: bser_base::errors::Complaint::ItemsLeft
+impl<A: Shape, B: Shape> Shape for (A, B) {
+    ghost reads = { reads_tuple (A.reads ∷ B.reads ∷ []) };
+
+    ghost holds = { λ v c. HoldsTuple (A.holds v.0 ∷ B.holds v.1 ∷ []) c };
+
+    ghost needs = { record { lent = A.needs.lent || B.needs.lent; memory = true } };
+}
+
+impl<L: LendsText, A: Deserialize<L>, B: Deserialize<L>> Deserialize<L> for (A, B) {
+    fn deserialize<R: DeRead<Lent = L>>(
+        alloc: Global,
+        from: &mut Deserializer<R>,
+    ) -> Result<(A, B)> {
+        let mut seq = from.read_seq(alloc)?;
+        let first = seq.required_element::<A>(alloc)?;
+        let second = seq.required_element::<B>(alloc)?;
+        seq.end()?;
+        Ok((first, second))
+    }
+}
+
+impl<A: OwnedShape, B: OwnedShape> OwnedShape for (A, B) {
+    ghost owned = { ap (λ a. a || B.needs.lent) A.owned ∙ B.owned };
+}
+
+/// An array of three items. Fewer are refused by [`Complaint::TooFewItems`], more by
+/// [`Complaint::ItemsLeft`].
+///
+/// [`Complaint::TooFewItems`]: bser_base::errors::Complaint::TooFewItems
+/// [`Complaint::ItemsLeft`]: bser_base::errors::Complaint::ItemsLeft
+impl<A: Shape, B: Shape, C: Shape> Shape for (A, B, C) {
+    ghost reads = { reads_tuple (A.reads ∷ B.reads ∷ C.reads ∷ []) };
+
+    ghost holds = { λ v c. HoldsTuple (A.holds v.0 ∷ B.holds v.1 ∷ C.holds v.2 ∷ []) c };
+
+    ghost needs = { record { lent = A.needs.lent || B.needs.lent || C.needs.lent; memory = true } };
+}
+
+impl<L: LendsText, A: Deserialize<L>, B: Deserialize<L>, C: Deserialize<L>> Deserialize<L>
+    for (A, B, C) {
+    fn deserialize<R: DeRead<Lent = L>>(
+        alloc: Global,
+        from: &mut Deserializer<R>,
+    ) -> Result<(A, B, C)> {
+        let mut seq = from.read_seq(alloc)?;
+        let first = seq.required_element::<A>(alloc)?;
+        let second = seq.required_element::<B>(alloc)?;
+        let third = seq.required_element::<C>(alloc)?;
+        seq.end()?;
+        Ok((first, second, third))
+    }
+}
+
+impl<A: OwnedShape, B: OwnedShape, C: OwnedShape> OwnedShape for (A, B, C) {
+    ghost owned = { ap (λ a. a || B.needs.lent || C.needs.lent) A.owned ∙ ap (λ b. b || C.needs.lent) B.owned ∙ C.owned };
+}
+
+/// An array of four items. Fewer are refused by [`Complaint::TooFewItems`], more by
+/// [`Complaint::ItemsLeft`].
+///
+/// [`Complaint::TooFewItems`]: bser_base::errors::Complaint::TooFewItems
+/// [`Complaint::ItemsLeft`]: bser_base::errors::Complaint::ItemsLeft
+impl<A: Shape, B: Shape, C: Shape, D: Shape> Shape for (A, B, C, D) {
+    ghost reads = { reads_tuple (A.reads ∷ B.reads ∷ C.reads ∷ D.reads ∷ []) };
+
+    ghost holds = { λ v c. HoldsTuple (A.holds v.0 ∷ B.holds v.1 ∷ C.holds v.2 ∷ D.holds v.3 ∷ []) c };
+
+    ghost needs = { record { lent = A.needs.lent || B.needs.lent || C.needs.lent || D.needs.lent; memory = true } };
+}
+
+impl<
+    L: LendsText,
+    A: Deserialize<L>,
+    B: Deserialize<L>,
+    C: Deserialize<L>,
+    D: Deserialize<L>,
+> Deserialize<L> for (A, B, C, D) {
+    fn deserialize<R: DeRead<Lent = L>>(
+        alloc: Global,
+        from: &mut Deserializer<R>,
+    ) -> Result<(A, B, C, D)> {
+        let mut seq = from.read_seq(alloc)?;
+        let first = seq.required_element::<A>(alloc)?;
+        let second = seq.required_element::<B>(alloc)?;
+        let third = seq.required_element::<C>(alloc)?;
+        let fourth = seq.required_element::<D>(alloc)?;
+        seq.end()?;
+        Ok((first, second, third, fourth))
+    }
+}
+
+impl<A: OwnedShape, B: OwnedShape, C: OwnedShape, D: OwnedShape> OwnedShape for (A, B, C, D) {
+    ghost owned = { ap (λ a. a || B.needs.lent || C.needs.lent || D.needs.lent) A.owned ∙ ap (λ b. b || C.needs.lent || D.needs.lent) B.owned ∙ ap (λ c. c || D.needs.lent) C.owned ∙ D.owned };
+}

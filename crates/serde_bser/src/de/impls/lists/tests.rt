@@ -1,0 +1,104 @@
+//! Tests of lists and tuples that are read from whole messages.
+use crate::de::{from_reader, from_slice};
+use bser_base::device::Watched;
+use bser_base::errors::{Complaint, Error, Message, ReadCause, Result};
+use std::alloc::Global;
+
+fn is_complaint<T>(answer: &Result<T>, complaint: Complaint) -> bool {
+    matches!(answer, Err(Error::DeCustom { msg: Message::Fixed(found) }) if *found == complaint)
+}
+
+#[test]
+fn an_array_of_integers_is_a_list(rt: HostRuntime) -> Result<()> {
+    let list = from_slice::<Vec<i64>>(
+        rt.alloc(),
+        b"\x00\x02\x00\x00\x00\x00\x03\x08\x00\x03\x02\x03\x01\x04\xe8\x03",
+    )?;
+    assert_eq!(rt; list.as_slice(), [1, 1000].as_slice());
+    Ok(())
+}
+
+#[test]
+fn an_empty_array_is_an_empty_list(rt: HostRuntime) -> Result<()> {
+    let list = from_slice::<Vec<bool>>(
+        rt.alloc(),
+        b"\x00\x02\x00\x00\x00\x00\x03\x03\x00\x03\x00",
+    )?;
+    assert!(rt; list.is_empty());
+    Ok(())
+}
+
+#[test]
+fn arrays_nest(rt: HostRuntime) -> Result<()> {
+    let message = b"\x00\x02\x00\x00\x00\x00\x03\x0b\x00\x03\x02\x00\x03\x01\x03\x05\x00\x03\x00";
+    let lists = from_slice::<Vec<Vec<u8>>>(rt.alloc(), message)?;
+    assert_eq!(rt; lists.len(), 2);
+    assert_eq!(rt; lists[0].as_slice(), [5].as_slice());
+    assert!(rt; lists[1].is_empty());
+    Ok(())
+}
+
+#[test]
+fn arrays_are_tuples_of_as_many_items(rt: HostRuntime) -> Result<()> {
+    let alloc = rt.alloc();
+    let two = b"\x00\x02\x00\x00\x00\x00\x03\x06\x00\x03\x02\x03\x01\x08";
+    assert!(rt; matches!(from_slice::<(i64, bool)>(alloc, two)?, (1, true)));
+    let three = b"\x00\x02\x00\x00\x00\x00\x03\x07\x00\x03\x03\x03\x01\x08\x09";
+    assert!(rt;
+        matches!(
+            from_slice::<(i64, bool, bool)>(alloc, three)?,
+            (1, true, false)
+        )
+    );
+    let four = b"\x00\x02\x00\x00\x00\x00\x03\x08\x00\x03\x04\x03\x01\x08\x09\x0a";
+    assert!(rt;
+        matches!(
+            from_slice::<(i64, bool, bool, ())>(alloc, four)?,
+            (1, true, false, ())
+        )
+    );
+    Ok(())
+}
+
+#[test]
+fn a_tuple_takes_no_other_number_of_items(rt: HostRuntime) {
+    let alloc = rt.alloc();
+    let two = b"\x00\x02\x00\x00\x00\x00\x03\x05\x00\x03\x02\x08\x09";
+    let more = from_slice::<(bool, bool, bool)>(alloc, two);
+    assert!(rt; is_complaint(&more, Complaint::TooFewItems));
+    let three = b"\x00\x02\x00\x00\x00\x00\x03\x06\x00\x03\x03\x08\x09\x08";
+    let fewer = from_slice::<(bool, bool)>(alloc, three);
+    assert!(rt; is_complaint(&fewer, Complaint::ItemsLeft));
+}
+
+#[test]
+fn what_is_no_array_is_no_list(rt: HostRuntime) {
+    let alloc = rt.alloc();
+    let number = b"\x00\x02\x00\x00\x00\x00\x03\x02\x03\x01";
+    assert!(rt; is_complaint(&from_slice::<Vec<i64>>(alloc, number), Complaint::WrongType));
+    let item = b"\x00\x02\x00\x00\x00\x00\x03\x05\x00\x03\x02\x08\x09";
+    assert!(rt; is_complaint(&from_slice::<Vec<i64>>(alloc, item), Complaint::WrongType));
+}
+
+#[test]
+fn an_array_that_breaks_off_is_refused(rt: HostRuntime) {
+    let short = b"\x00\x02\x00\x00\x00\x00\x03\x06\x00\x03\x02\x03\x01";
+    let answer = from_slice::<Vec<i64>>(rt.alloc(), short);
+    assert!(rt;
+        matches!(
+            answer,
+            Err(Error::DeReaderError {
+                source: ReadCause::Eof
+            })
+        )
+    );
+}
+
+#[test]
+fn a_list_is_read_from_a_reader(rt: HostRuntime) -> Result<()> {
+    let message = b"\x00\x02\x00\x00\x00\x00\x03\x07\x00\x03\x02\x03\x01\x03\x02next";
+    let mut reader = Watched::new(message.as_slice());
+    let list: Vec<i64> = from_reader(rt.alloc(), &mut reader)?;
+    assert_eq!(rt; list.as_slice(), [1, 2].as_slice());
+    Ok(())
+}

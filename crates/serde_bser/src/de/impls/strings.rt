@@ -1,0 +1,145 @@
+//! Strings and characters.
+ghost use Rattle.std.specs.Prelude.{◌≡◌, refl, chars, string_bytes};
+ghost use Rattle.bser_base.specs.ReadsScalars.{reads_slice, reads_string, reads_byte_string, reads_char, one_char};
+ghost use Rattle.serde_bser.specs.HoldsTexts.{HoldsBytes, HoldsChar, char_content};
+ghost use Rattle.serde_bser.specs.Reading.{bare};
+ghost use Rattle.serde_bser.specs.Scalar.{owned, lending};
+
+use crate::de::deserializer::Deserializer;
+use crate::de::node::Node;
+use crate::de::reading::{Deserialize, OwnedShape, Shape};
+use bser_base::bytestring::ByteString;
+use bser_base::de::read::{DeRead, LendsFrom, LendsText};
+use bser_base::errors::{Complaint, Result};
+use std::alloc::Global;
+
+/// A text, or a byte string or key that is UTF-8.
+impl Shape for String {
+    ghost reads = { reads_string };
+
+    ghost holds = { λ s. HoldsBytes (string_bytes s) };
+
+    ghost needs = { owned };
+}
+
+impl<L: LendsText> Deserialize<L> for String {
+    fn deserialize<R: DeRead<Lent = L>>(
+        alloc: Global,
+        from: &mut Deserializer<R>,
+    ) -> Result<String> {
+        from.read_string(alloc)
+    }
+}
+
+impl OwnedShape for String {
+    ghost owned = { refl };
+}
+
+/// A text, or a byte string or key that is UTF-8, lent from the input.
+impl<'de> Shape for &'de str {
+    ghost reads = { reads_string };
+
+    ghost holds = { λ s. HoldsBytes s.now };
+
+    ghost needs = { lending };
+}
+
+impl<'de, L: LendsFrom<'de>> Deserialize<L> for &'de str {
+    fn deserialize<R: DeRead<Lent = L>>(
+        alloc: Global,
+        from: &mut Deserializer<R>,
+    ) -> Result<&'de str> {
+        let mut scratch = Vec::new(alloc);
+        match L::lent_text(from.read_text(&mut scratch)?) {
+            Some(text) => Ok(text),
+            None => Err(from.refuse_loan()),
+        }
+    }
+}
+
+/// The bytes of a string or key, lent from the input.
+impl<'de> Shape for &'de [u8] {
+    ghost reads = { reads_slice };
+
+    ghost holds = { λ s. HoldsBytes s.now };
+
+    ghost needs = { lending };
+}
+
+impl<'de, L: LendsFrom<'de>> Deserialize<L> for &'de [u8] {
+    fn deserialize<R: DeRead<Lent = L>>(
+        alloc: Global,
+        from: &mut Deserializer<R>,
+    ) -> Result<&'de [u8]> {
+        let mut scratch = Vec::new(alloc);
+        match L::lent_bytes(from.read_bytes(&mut scratch)?) {
+            Some(bytes) => Ok(bytes),
+            None => Err(from.refuse_loan()),
+        }
+    }
+}
+
+/// The bytes of a string or key, or those of an array of integers from 0 to 255.
+///
+/// Another integer in the array is refused by [`Complaint::IntegerOutOfRange`], another kind of
+/// value by [`Complaint::WrongType`], and want of memory by [`Error::OutOfMemory`].
+///
+/// [`Error::OutOfMemory`]: bser_base::errors::Error::OutOfMemory
+impl Shape for ByteString {
+    ghost reads = { reads_byte_string };
+
+    ghost holds = { HoldsBytes };
+
+    ghost needs = { owned };
+}
+
+impl<L: LendsText> Deserialize<L> for ByteString {
+    fn deserialize<R: DeRead<Lent = L>>(
+        alloc: Global,
+        from: &mut Deserializer<R>,
+    ) -> Result<ByteString> {
+        match from.node()? {
+            Node::Array => Ok(ByteString::from_vec(Vec::<u8>::deserialize(alloc, from)?)),
+            _ => from.read_byte_string(alloc),
+        }
+    }
+}
+
+impl OwnedShape for ByteString {
+    ghost owned = { refl };
+}
+
+/// A text of one character, or a byte string or key that is one in UTF-8.
+impl Shape for char {
+    ghost reads = { reads_char };
+
+    ghost holds = { HoldsChar };
+
+    ghost needs = { bare };
+}
+
+impl<L: LendsText> Deserialize<L> for char {
+    fn deserialize<R: DeRead<Lent = L>>(alloc: Global, from: &mut Deserializer<R>) -> Result<char> {
+        let mut scratch = Vec::new(alloc);
+        let text = from.read_text(&mut scratch)?;
+        match only_char(text.get_ref()) {
+            Some(only) => Ok(only),
+            None => Err(from.refuse(Complaint::WrongType)),
+        }
+    }
+}
+
+impl OwnedShape for char {
+    ghost owned = { refl };
+}
+
+/// The text's only character.
+fn only_char(text: &str) -> Option<char>
+    ensures { char_content result ≡ one_char (chars text.now) }
+{
+    let mut chars = text.chars();
+    match (chars.next(), chars.next()) {
+        (Some(only), None) => Some(only),
+        _ => None,
+    }
+}

@@ -1,0 +1,246 @@
+//! Opening and closing containers.
+ghost use Rattle.std.specs.Prelude.{◌≡◌, ◌+◌, ◌++◌, [], ◌∷◌, ℕ, true, false, map, IfOk, IfErr, OnOk, OnErr};
+ghost use Rattle.bser_base.specs.Device.{one_more};
+ghost use Rattle.bser_base.specs.Expected.{nothing_due, row_due};
+ghost use Rattle.bser_base.specs.Tagged.{with_failure};
+ghost use Rattle.serde_bser.specs.Parts.{wanted_items};
+ghost use Rattle.serde_bser.specs.Openings.{IsBefore};
+ghost use Rattle.serde_bser.specs.Access.{OpensItems, IsItemsHead, OpensPairs, IsPairsHead, KeysOutside, closed};
+ghost use Rattle.serde_bser.specs.Accesses.{open_items, items_head, pairs_head};
+ghost use Rattle.serde_bser.specs.Scalar.{owned};
+ghost use Rattle.serde_bser.specs.State.{refused};
+ghost use Rattle.serde_bser.specs.Reading.{RefusesFront, IsRefusal, bare};
+ghost use Rattle.std.specs.Borrow.{sem, RestsIfErr};
+ghost use Rattle.serde_bser.specs.contracts.de.deserializer.Deserializer.{the_row};
+ghost use Rattle.serde_bser.specs.View.{state};
+
+use crate::de::cursor::Head;
+use crate::de::deserializer::{Deserializer, Due};
+use crate::de::node::Node;
+use crate::de::seq::SeqAccess;
+use crate::de::table::{take_count, take_table, take_table_tags};
+use bser_base::de::read::{DeRead, Lending};
+use bser_base::errors::{Error, Kind, Result};
+use bser_base::header::BSER_ARRAY;
+use std::alloc::Global;
+use std::mem;
+
+#[cfg(test)]
+mod tests;
+
+/// An array that was opened: how many items it has, whether they are rows, and how it stood outside.
+#[derive(Clone, Copy)]
+pub(crate) struct SeqHead {
+    pub(crate) remaining: usize,
+    pub(crate) rows: bool,
+    pub(crate) levels: usize,
+    pub(crate) opened: usize,
+}
+
+/// An object or a row that was opened: of an object how many entries it has, of a row the place of
+/// its first field, and how it stood outside.
+#[derive(Clone, Copy)]
+pub(crate) struct MapHead {
+    pub(crate) at: usize,
+    pub(crate) row: bool,
+    pub(crate) levels: usize,
+    pub(crate) opened: usize,
+}
+
+impl<R: DeRead> Deserializer<R> {
+    /// How many levels are left inside a container of this kind.
+    fn levels_inside(&mut self, kind: Kind) -> Result<usize>
+        ensures ok { IfOk result (λ n. (state R.state R.Lent.kept self.old).levels ≡ n + 1) }
+        ensures same { OnOk result (state R.state R.Lent.kept self.new ≡ state R.state R.Lent.kept self.old) }
+        ensures none { OnErr result ((state R.state R.Lent.kept self.old).levels ≡ 0) }
+        ensures kind { IfErr result IsRefusal }
+        ensures state { OnErr result (state R.state R.Lent.kept self.new ≡ refused (state R.state R.Lent.kept self.old)) }
+    {
+        match self.levels.checked_sub(1) {
+            Some(levels) => Ok(levels),
+            None => {
+                self.bunser.fail();
+                Err(Error::DeRecursionLimitExceeded { kind })
+            }
+        }
+    }
+
+    /// Goes into a container, with so many levels inside.
+    fn enter(&mut self, levels: usize)
+        ensures { state R.state R.Lent.kept self.new ≡ record (state R.state R.Lent.kept self.old) { due = nothing_due; levels = levels; opened = one_more (state R.state R.Lent.kept self.old).opened } }
+    {
+        self.due = Due::Nothing;
+        self.levels = levels;
+        self.opened = self.opened.saturating_add(1);
+    }
+
+    /// Goes into a template with these keys, with so many levels inside.
+    fn enter_rows(&mut self, keys: Vec<<R::Lent as Lending>::Kept>, levels: usize) -> Result<()>
+        ensures ok { OnOk result (state R.state R.Lent.kept self.new ≡ record (state R.state R.Lent.kept self.old) {
+          due = nothing_due;
+          levels = levels;
+          opened = one_more (state R.state R.Lent.kept self.old).opened;
+          keys = map R.Lent.kept keys.items;
+          outer = (state R.state R.Lent.kept self.old).outer ++ (state R.state R.Lent.kept self.old).keys ∷ [];
+        }) }
+        ensures err { IfErr result (λ e. e ≡ Error.OutOfMemory) }
+        ensures source { OnErr result ((state R.state R.Lent.kept self.new).source ≡ with_failure true (state R.state R.Lent.kept self.old).source) }
+    {
+        let outside = mem::replace(&mut self.keys, keys);
+        if self.outer.push(outside).is_err() {
+            self.bunser.fail();
+            return Err(Error::OutOfMemory);
+        }
+        self.enter(levels);
+        Ok(())
+    }
+
+    /// Opens the array whose tag is in sight.
+    fn open_array(&mut self) -> Result<SeqHead>
+        requires { IsBefore 0x00 (state R.state R.Lent.kept self.old) }
+        ensures found { IfOk result (λ h. OpensItems (state R.state R.Lent.kept self.old) (items_head h (state R.state R.Lent.kept self.new))) }
+        ensures refused { IfErr result (λ e. RefusesFront bare (IsItemsHead (state R.state R.Lent.kept self.old)) e (state R.state R.Lent.kept self.old).source (state R.state R.Lent.kept self.new).source) }
+        ensures failed { OnErr result ((state R.state R.Lent.kept self.new).source.failed ≡ true) }
+    {
+        let inside = self.levels_inside(Kind::Array)?;
+        self.bunser.discard();
+        let remaining = take_count(&mut self.bunser)?;
+        let head = SeqHead {
+            remaining,
+            rows: false,
+            levels: self.levels,
+            opened: self.opened,
+        };
+        self.enter(inside);
+        Ok(head)
+    }
+
+    /// Opens the template whose tag is in sight.
+    fn open_template(&mut self, alloc: Global) -> Result<SeqHead>
+        requires { IsBefore 0x0b (state R.state R.Lent.kept self.old) }
+        ensures found { IfOk result (λ h. OpensItems (state R.state R.Lent.kept self.old) (items_head h (state R.state R.Lent.kept self.new))) }
+        ensures refused { IfErr result (λ e. RefusesFront owned (IsItemsHead (state R.state R.Lent.kept self.old)) e (state R.state R.Lent.kept self.old).source (state R.state R.Lent.kept self.new).source) }
+        ensures failed { OnErr result ((state R.state R.Lent.kept self.new).source.failed ≡ true) }
+    {
+        let inside = self.levels_inside(Kind::Template)?;
+        take_table_tags(&mut self.bunser)?;
+        if inside == 0 {
+            self.bunser.fail();
+            return Err(Error::DeRecursionLimitExceeded { kind: Kind::Array });
+        }
+        let (keys, rows) = take_table(alloc, &mut self.bunser)?;
+        let head = SeqHead {
+            remaining: rows,
+            rows: true,
+            levels: self.levels,
+            opened: self.opened,
+        };
+        self.enter_rows(keys, inside)?;
+        Ok(head)
+    }
+
+    /// Opens the object whose tag is in sight.
+    fn open_object(&mut self) -> Result<MapHead>
+        requires { IsBefore 0x01 (state R.state R.Lent.kept self.old) }
+        ensures found { IfOk result (λ h. OpensPairs (state R.state R.Lent.kept self.old) (pairs_head h (state R.state R.Lent.kept self.new))) }
+        ensures refused { IfErr result (λ e. RefusesFront bare (IsPairsHead (state R.state R.Lent.kept self.old)) e (state R.state R.Lent.kept self.old).source (state R.state R.Lent.kept self.new).source) }
+        ensures failed { OnErr result ((state R.state R.Lent.kept self.new).source.failed ≡ true) }
+    {
+        let inside = self.levels_inside(Kind::Object)?;
+        self.bunser.discard();
+        let entries = take_count(&mut self.bunser)?;
+        let head = MapHead {
+            at: entries,
+            row: false,
+            levels: self.levels,
+            opened: self.opened,
+        };
+        self.enter(inside);
+        Ok(head)
+    }
+
+    /// Opens the row that is due.
+    fn open_row(&mut self) -> MapHead
+        requires due { (state R.state R.Lent.kept self.old).due ≡ row_due (state R.state R.Lent.kept self.old).keys }
+        requires working { (state R.state R.Lent.kept self.old).source.failed ≡ false }
+        ensures { OpensPairs (state R.state R.Lent.kept self.old) (pairs_head result (state R.state R.Lent.kept self.new)) }
+    {
+        let head = MapHead {
+            at: 0,
+            row: true,
+            levels: self.levels,
+            opened: self.opened,
+        };
+        self.enter(self.levels);
+        head
+    }
+
+    /// Opens the array or template that is due.
+    pub(crate) fn open_items(&mut self, alloc: Global) -> Result<SeqHead>
+        ensures found { IfOk result (λ h. OpensItems (state R.state R.Lent.kept self.old) (items_head h (state R.state R.Lent.kept self.new))) }
+        ensures refused { IfErr result (λ e. RefusesFront owned (IsItemsHead (state R.state R.Lent.kept self.old)) e (state R.state R.Lent.kept self.old).source (state R.state R.Lent.kept self.new).source) }
+        ensures failed { OnErr result ((state R.state R.Lent.kept self.new).source.failed ≡ true) }
+    {
+        match self.expect(Node::Array)? {
+            Head::Tag(BSER_ARRAY) => self.open_array(),
+            _ => self.open_template(alloc),
+        }
+    }
+
+    /// Opens the object or the row that is due.
+    pub(crate) fn open_pairs(&mut self) -> Result<MapHead>
+        ensures found { IfOk result (λ h. OpensPairs (state R.state R.Lent.kept self.old) (pairs_head h (state R.state R.Lent.kept self.new))) }
+        ensures refused { IfErr result (λ e. RefusesFront bare (IsPairsHead (state R.state R.Lent.kept self.old)) e (state R.state R.Lent.kept self.old).source (state R.state R.Lent.kept self.new).source) }
+        ensures failed { OnErr result ((state R.state R.Lent.kept self.new).source.failed ≡ true) }
+    {
+        match self.expect(Node::Object)? {
+            Head::Row => Ok(self.open_row()),
+            _ => self.open_object(),
+        }
+    }
+
+    /// Reads the array or template that is due, as an access to its items. The items of a template
+    /// are its rows, each an object.
+    ///
+    /// Another kind of value is [`Complaint::WrongType`](bser_base::errors::Complaint::WrongType). A
+    /// container that nests too deep is [`Error::DeRecursionLimitExceeded`], a template's list of
+    /// keys too; a template without that list, or with a key of another kind, is
+    /// [`Error::DeInvalidStartByte`]; and a count below 0, and rows without keys, are
+    /// [`Error::DeCustom`]. A template takes memory for its keys, as they are read, and a refused
+    /// growth is [`Error::OutOfMemory`]. After a refusal each later call is refused.
+    pub fn read_seq<'a>(&'a mut self, alloc: Global) -> Result<SeqAccess<'a, R>>
+        ensures* rests { sem 𝓛 (RestsIfErr (the_row R.row R.Lent.row R.Lent.Kept.row) self.entry (λ a. a.from.ghost_name) result
+            (λ d. IfErr result (λ e. RefusesFront owned (IsItemsHead (state R.state R.Lent.kept self.old)) e (state R.state R.Lent.kept self.old).source (state R.state R.Lent.kept d).source))) }
+        ensures same_reference { IfOk result (λ a. a.from.ghost_name ≡ self.entry.ghost_name) }
+        ensures found { IfOk result (λ a. OpensItems (state R.state R.Lent.kept self.old) (open_items R.state R.Lent.kept a)) }
+    {
+        let SeqHead {
+            remaining,
+            rows,
+            levels,
+            opened,
+        } = self.open_items(alloc)?;
+        Ok(SeqAccess {
+            from: self,
+            remaining,
+            rows,
+            levels,
+            opened,
+        })
+    }
+
+    /// Closes an array, and gives the keys outside a template back.
+    pub(crate) fn close_items(&mut self, rows: bool, levels: usize, opened: usize)
+        ensures keys { (k : ℕ) → KeysOutside (wanted_items (state R.state R.Lent.kept self.old).keys rows k) (state R.state R.Lent.kept self.old) (state R.state R.Lent.kept self.new) }
+        ensures state { state R.state R.Lent.kept self.new ≡ record (closed levels opened (state R.state R.Lent.kept self.old)) { keys = (state R.state R.Lent.kept self.new).keys; outer = (state R.state R.Lent.kept self.new).outer } }
+    {
+        self.levels = levels;
+        self.opened = opened;
+        self.due = Due::Nothing;
+        if rows {
+            if let Some(keys) = self.outer.pop() {
+                self.keys = keys;
+            }
+        }
+    }
+}

@@ -1,0 +1,107 @@
+//! Reading the items of an array.
+ghost use Rattle.std.specs.Prelude.{◌≡◌, IfOk, IfErr, OnOk};
+ghost use Rattle.serde_bser.specs.Access.{NextItem, IsNext, RefusesItem, ClosesItems, LeavesItems};
+ghost use Rattle.serde_bser.specs.Required.{RefusesRequired};
+
+use crate::de::deserializer::{Deserializer, Due};
+use crate::de::reading::Deserialize;
+use bser_base::de::read::{DeRead, LendsText};
+use bser_base::errors::{Complaint, Error, ReadCause, Result};
+use std::alloc::Global;
+
+/// The items of an open array or template.
+///
+/// Where it is dropped before its `end`, the array stays open.
+#[derive(Drop)]
+pub struct SeqAccess<'a, R: DeRead> {
+    pub(crate) from: &'a mut Deserializer<R>,
+    pub(crate) remaining: usize,
+    // whether the items are a template's rows
+    pub(crate) rows: bool,
+    // the levels and the number of open containers outside
+    pub(crate) levels: usize,
+    pub(crate) opened: usize,
+}
+
+impl<'a, R: DeRead> SeqAccess<'a, R> {
+    ghost use Rattle.serde_bser.specs.View.{state};
+    ghost use Rattle.serde_bser.specs.Accesses.{open_items};
+
+    /// How many items are left.
+    pub fn remaining(&self) -> usize
+        ensures { result ≡ self.now.remaining }
+    {
+        self.remaining
+    }
+
+    /// Closes the array.
+    ///
+    /// Refused by [`Complaint::ItemsLeft`] where items are left, and by [`ReadCause::Failed`] after an
+    /// earlier refusal.
+    pub fn end(self) -> Result<()>
+        ensures ok { OnOk result (ClosesItems (open_items R.state R.Lent.kept self.entry) (state R.state R.Lent.kept self.exit.0.now)) }
+        ensures err { IfErr result (λ e. LeavesItems e (open_items R.state R.Lent.kept self.entry) (state R.state R.Lent.kept self.exit.0.now)) }
+    {
+        if self.from.is_failed() {
+            return Err(self.from.refuse_failed());
+        }
+        if self.remaining != 0 {
+            return Err(self.from.refuse(Complaint::ItemsLeft));
+        }
+        let rows = self.rows;
+        let levels = self.levels;
+        let opened = self.opened;
+        self.from.close_items(rows, levels, opened);
+        Ok(())
+    }
+}
+
+impl<'a, R: DeRead> SeqAccess<'a, R>
+where
+    R::Lent: LendsText,
+{
+    ghost use Rattle.serde_bser.specs.View.{state};
+    ghost use Rattle.serde_bser.specs.Accesses.{open_items};
+
+    /// Reads the next item, if one is left.
+    ///
+    /// Refused as the type's reading is; the deserializer then refuses each later call.
+    pub fn next_element<T: Deserialize<R::Lent>>(&mut self, alloc: Global) -> Result<Option<T>>
+        ensures same_reference { self.new.from.ghost_name ≡ self.old.from.ghost_name }
+        ensures found { IfOk result (NextItem T.reads T.holds (open_items R.state R.Lent.kept self.old) (open_items R.state R.Lent.kept self.new)) }
+        ensures refused { IfErr result (λ e. RefusesItem T.reads T.needs e (open_items R.state R.Lent.kept self.old) (state R.state R.Lent.kept self.new.from.now)) }
+    {
+        if self.from.is_failed() {
+            return Err(self.from.refuse_failed());
+        }
+        if self.remaining == 0 {
+            return Ok(None);
+        }
+        self.from.due = if self.rows { Due::Row } else { Due::Node };
+        match T::deserialize(alloc, self.from) {
+            Ok(value) => {
+                self.remaining -= 1;
+                Ok(Some(value))
+            }
+            Err(refusal) => {
+                self.from.fail();
+                Err(refusal)
+            }
+        }
+    }
+
+    /// Reads the next item, which has to be there: where none is left it is refused by
+    /// [`Complaint::TooFewItems`], and the deserializer then refuses each later call.
+    ///
+    /// Refused else as [`SeqAccess::next_element`] is.
+    pub fn required_element<T: Deserialize<R::Lent>>(&mut self, alloc: Global) -> Result<T>
+        ensures same_reference { self.new.from.ghost_name ≡ self.old.from.ghost_name }
+        ensures found { IfOk result (IsNext T.reads T.holds (open_items R.state R.Lent.kept self.old) (open_items R.state R.Lent.kept self.new)) }
+        ensures refused { IfErr result (λ e. RefusesRequired T.reads T.needs e (open_items R.state R.Lent.kept self.old) (state R.state R.Lent.kept self.new.from.now)) }
+    {
+        match self.next_element(alloc)? {
+            Some(item) => Ok(item),
+            None => Err(self.from.refuse(Complaint::TooFewItems)),
+        }
+    }
+}

@@ -1,0 +1,58 @@
+//! A struct, read field by field.
+ghost use Rattle.serde_bser.specs.Files.{file_of, HoldsFile};
+ghost use Rattle.serde_bser.specs.Fold.{either};
+
+use crate::de::deserializer::Deserializer;
+use crate::de::field::Field;
+use crate::de::reading::{Deserialize, Shape};
+use bser_base::de::read::{DeRead, LendsText};
+use bser_base::errors::{Complaint, Error, Result};
+use std::alloc::Global;
+
+/// A file's name and size.
+#[derive(Drop)]
+pub struct FileInfo<S, N> {
+    pub name: S,
+    pub size: N,
+}
+
+impl<S: Shape, N: Shape> Shape for FileInfo<S, N> {
+    ghost reads = { file_of S.reads N.reads };
+
+    ghost holds = { λ v c. HoldsFile S.holds N.holds v.name v.size c };
+
+    ghost needs = { either S.needs N.needs };
+}
+
+impl<L: LendsText, S: Deserialize<L>, N: Deserialize<L>> Deserialize<L> for FileInfo<S, N> {
+    fn deserialize<R: DeRead<Lent = L>>(
+        alloc: Global,
+        from: &mut Deserializer<R>,
+    ) -> Result<FileInfo<S, N>> {
+        let mut name = None;
+        let mut size = None;
+        let mut map = from.read_map()?;
+        while let Some(field) = map.next_field(alloc, &["name", "size"])? {
+            match field {
+                Field::Known(0) => {
+                    if name.is_some() {
+                        return Err(Error::de_custom(Complaint::WrongType));
+                    }
+                    name = Some(map.next_value::<S>(alloc)?);
+                }
+                Field::Known(_) => {
+                    if size.is_some() {
+                        return Err(Error::de_custom(Complaint::WrongType));
+                    }
+                    size = Some(map.next_value::<N>(alloc)?);
+                }
+                Field::Unknown => return Err(Error::de_custom(Complaint::WrongType)),
+            }
+        }
+        map.end()?;
+        match (name, size) {
+            (Some(name), Some(size)) => Ok(FileInfo { name, size }),
+            _ => Err(Error::de_custom(Complaint::WrongType)),
+        }
+    }
+}
