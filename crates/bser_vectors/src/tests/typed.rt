@@ -317,14 +317,15 @@ fn typed_messages_are_read_one_after_another(rt: HostRuntime) -> Tested {
 
 /// A message of so many arrays in one another, around a body.
 fn nested(alloc: Global, arrays: usize, body: &[u8]) -> std::result::Result<Vec<u8>, Fail> {
-    let len = 3 * arrays + body.len();
-    let mut message = Vec::new(alloc);
-    message.extend_from_slice(b"\x00\x02\0\0\0\0\x05")?;
-    message.extend_from_slice(&(len as u32).to_le_bytes())?;
+    let mut whole = Vec::new(alloc);
     for _array in 0..arrays {
-        message.extend_from_slice(b"\x00\x03\x01")?;
+        whole.extend_from_slice(b"\x00\x03\x01")?;
     }
-    message.extend_from_slice(body)?;
+    whole.extend_from_slice(body)?;
+    let mut message = Vec::new(alloc);
+    message.extend_from_slice(b"\x00\x02\0\0\0\0\x06")?;
+    message.extend_from_slice(&(whole.len() as u64).to_le_bytes())?;
+    message.extend_from_slice(&whole)?;
     Ok(message)
 }
 

@@ -1,11 +1,12 @@
+//! Skipping, in whole messages.
 use crate::de::impls::Ignored;
 use crate::de::{from_slice, from_slice_within};
 use bser_base::errors::{Complaint, Error, Kind, Message, ReadCause, Result};
 use std::alloc::Global;
 
 fn skipped(alloc: Global, body: &[u8]) -> Result<Ignored> {
-    let mut message = Vec::from_slice(alloc, b"\x00\x02\x00\x00\x00\x00\x03")?;
-    message.push(body.len() as u8)?;
+    let mut message = Vec::from_slice(alloc, b"\x00\x02\x00\x00\x00\x00\x06")?;
+    message.extend_from_slice(&(body.len() as u64).to_le_bytes())?;
     message.extend_from_slice(body)?;
     from_slice::<Ignored>(alloc, &message)
 }
