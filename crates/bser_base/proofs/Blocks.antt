@@ -1,6 +1,6 @@
 -- What is held after a step, and refusals after some bytes were taken.
-use Rattle.std.proofs.Common.{◌≡◌, ℕ, ◌+◌, ◌-◌, ◌≤◌, ◌<◌, min, max, List, [], ◌++◌, length, take, drop, slice_range, Option, Some, None, Bool, true, false, length-append, refl, sym, ap, subst, ◌∙◌, arith, inl, inr}
-use Rattle.std.specs.Prelude.{IfSome}
+use Rattle.std.proofs.Common.{◌≡◌, ℕ, zero, suc, ◌+◌, ◌-◌, ◌≤◌, ◌<◌, min, max, List, [], ◌∷◌, ◌++◌, length, take, drop, slice_range, if◌then◌else◌, Option, Some, None, Bool, true, false, length-append, refl, sym, ap, subst, ◌∙◌, arith, inl, inr}
+use Rattle.std.specs.Prelude.{IfSome, IfErr, Result, Ok, Err}
 use Rattle.std.proofs.lemmas.List.{drop-take, drop-drop, take-take, drop-append-le, take-append-drop}
 use Rattle.std.specs.Io.KnownBytes.{Consumes}
 use Rattle.std.proofs.KnownBytes.{Consumes-trans}
@@ -8,7 +8,7 @@ use Rattle.std.specs.Borrow.{GName}
 use Rattle.std.specs.Io.KnownBytes.{prepend_known}
 use Rattle.std.proofs.lemmas.List.{length-take-le, length-drop}
 use Rattle.std.proofs.Common.{append_assoc}
-use Rattle.bser_base.specs.Source.{State, Took, Ready, io_state, in_sight}
+use Rattle.bser_base.specs.Source.{State, Took, Ready, SightFirst, io_state, in_sight, first_of}
 use Rattle.bser_base.specs.Refusal.{Refused, Excuse, failures_after}
 use Rattle.bser_base.specs.declared.errors.ReadCause.{ReadCause}
 use Rattle.bser_base.specs.declared.errors.ReadCause.TheVariants.{Eof, Utf8, Reader, Memory, Failed}
@@ -58,6 +58,11 @@ refused_later e a b c more n m copies took le r = record {
   before = λ f. (let w = took.working in absurd cc);
 }
 
+-- the same of a call's answer
+pub all_refused : (r : Result Unit ReadCause) (a b c : State) (more : List ℕ) (n m : ℕ) → a.lends ≡ false → Took a b more None → length more + n ≤ m → IfErr r (λ e. Refused e b c n) → IfErr r (λ e. Refused e a c m)
+all_refused (Ok v) a b c more n m copies took le h = tt
+all_refused (Err e) a b c more n m copies took le h = refused_later e a b c more n m copies took le h
+
 pub refused_ready : (e : ReadCause) (a b c : State) (n : ℕ) → a.lends ≡ false → Ready a b → Refused e b c n → Refused e a c n
 refused_ready e a b c n copies ready r = record {
   excuse = excuse_later a b [] n n copies ready.bytes (omega (arith, ready.count)) ready.failed (omega arith) e r.excuse;
@@ -73,6 +78,13 @@ front_known : (r : Option (List ℕ)) (n : ℕ) (held now : List ℕ) → now �
 front_known None n held now left = tt
 front_known (Some xs) n held now left = ap (λ l. l ++ xs) (sym (take-append-drop n held)) ∙ append_assoc (take n held) (drop n held) xs ∙ ap (λ l. take n held ++ (l ++ xs)) (sym left)
 
+-- the byte in sight is the first that is held
+first_held : (peeked : Bool) (held : List ℕ) (n : ℕ) → min (length held) 1 ≤ n → SightFirst (if peeked then first_of held else None) (take n held) None
+first_held false held n some b e = absurd cc
+first_held true [] n some b e = absurd cc
+first_held true (x ∷ held) zero some b e = absurd (omega (arith, some))
+first_held true (x ∷ held) (suc n) some b e = e
+
 -- some of what is held is taken
 pub took_held : (r : Option (List ℕ)) (failures : ℕ) (through : Option GName) (arrived : ℕ) (held now : List ℕ) (peeked : Bool) (limit : ℕ) (failed : Bool) (n : ℕ)
     → failed ≡ false → n ≤ length held → length held ≤ arrived → now ≡ drop n held
@@ -83,6 +95,7 @@ took_held r failures through arrived held now peeked limit failed n works le fit
     let rest : length now ≡ length held - n = ap length left ∙ length-drop n held in
     record {
       bytes = front_known r n held now left;
+      first = first_held peeked held n some;
       count = omega (arith, front, rest, le, fits);
       sight = refl;
       lends = refl;

@@ -1,11 +1,12 @@
 -- Of equal keys the last entry stays.
-use Rattle.std.proofs.Common.{◌≡◌, Bool, true, false, cond, ℕ, List, [], ◌∷◌, ◌++◌, reverse, Option, Some, None, fold, refl, sym, ap, subst, ◌∙◌, Ordering, Less, Equal, Greater, nat_cmp, bytes_eq, arith}
+use Rattle.std.proofs.Common.{◌≡◌, Bool, true, false, cond, ℕ, List, [], ◌∷◌, ◌++◌, reverse, length, ◌+◌, Option, Some, None, fold, refl, sym, ap, subst, ◌∙◌, Ordering, Less, Equal, Greater, nat_cmp, bytes_eq, arith}
 use Rattle.std.proofs.lemmas.List.{reverse-append}
 use Rattle.std.proofs.lemmas.List.Elements.{All-head, All-tail, All-contains_itself}
 use Rattle.std.proofs.lemmas.Cmp.{nat_list_cmp_total}
 use Rattle.std.proofs.lemmas.Slice.Eq.{bytes_eq-Decides}
 use Rattle.std.proofs.lemmas.Map.Text.{is_eq-slice_cmp}
 use Rattle.std.proofs.lemmas.Map.Views.{All-keys-insert_entry}
+use Rattle.std.specs.Prelude.{if◌then◌else◌, is_some}
 use Rattle.std.specs.Ordering.{is_eq, match_ordering, ordering_reverse}
 use Rattle.std.specs.Cmp.Lexicographic.{slice_cmp}
 use Rattle.std.specs.BTreeMap.{insert_entry}
@@ -40,7 +41,7 @@ module _ {X : Type 0} where
       go Equal r = h
       go Greater r = (h.0, r)
 
-  put_rises : (k : List ℕ) (v : X) (es : List (List ℕ × X)) → IsStrictlySortedBy cmp (keys_of es) → IsStrictlySortedBy cmp (keys_of (put es k v))
+  pub put_rises : (k : List ℕ) (v : X) (es : List (List ℕ × X)) → IsStrictlySortedBy cmp (keys_of es) → IsStrictlySortedBy cmp (keys_of (put es k v))
   unfolding IsStrictlySortedBy
   put_rises k v [] s = (tt, tt)
   put_rises k v (e ∷ es) s = go (cmp k e.0) refl (put_rises k v es s.1)
@@ -73,7 +74,7 @@ module _ {X : Type 0} where
           let same : k ≡ d = sym ((bytes_eq-Decides q k).0 r) ∙ (bytes_eq-Decides q d).0 p in
           let both : true ≡ false = sym ((bytes_eq-Decides k d).1 same) ∙ apart_keys in cc
 
-  put_value : (q k : List ℕ) (v : X) (es : List (List ℕ × X)) → lookup (bytes_eq q) (put es k v) ≡ cond (bytes_eq q k) (Some v) (lookup (bytes_eq q) es)
+  pub put_value : (q k : List ℕ) (v : X) (es : List (List ℕ × X)) → lookup (bytes_eq q) (put es k v) ≡ cond (bytes_eq q k) (Some v) (lookup (bytes_eq q) es)
   put_value q k v [] = refl
   put_value q k v (e ∷ es) = go (cmp k e.0) (sym (is_eq-slice_cmp k e.0)) (put_value q k v es)
     where
@@ -82,6 +83,31 @@ module _ {X : Type 0} where
       go Less t r = refl
       go Equal t r = same_test q k e.0 v e.1 (lookup (bytes_eq q) es) ((bytes_eq-Decides k e.0).0 t)
       go Greater t r = ap (λ o. cond (bytes_eq q e.0) (Some e.1) o) r ∙ other_test q k e.0 v e.1 (lookup (bytes_eq q) es) t
+
+  lookup_above : (k : List ℕ) (es : List (List ℕ × X)) → AllByRecursion (λ y. cmp k y ≡ Less) (keys_of es) → lookup (bytes_eq k) es ≡ None
+  lookup_above k [] h = refl
+  lookup_above k (e ∷ es) h =
+      let t : bytes_eq k e.0 ≡ false = sym (is_eq-slice_cmp k e.0) ∙ ap is_eq h.0 in
+      rw t (lookup_above k es h.1)
+
+  -- there is one more, unless the key was there
+  pub put_length : (k : List ℕ) (v : X) (es : List (List ℕ × X)) → IsStrictlySortedBy cmp (keys_of es) → length (put es k v) ≡ length es + (if is_some (lookup (bytes_eq k) es) then 0 else 1)
+  unfolding IsStrictlySortedBy
+  put_length k v [] s = refl
+  put_length k v (e ∷ es) s = go (cmp k e.0) refl (put_length k v es s.1)
+    where
+      go : (o : Ordering) → cmp k e.0 ≡ o → length (put es k v) ≡ length es + (if is_some (lookup (bytes_eq k) es) then 0 else 1)
+          → length (match_ordering o ((k, v) ∷ e ∷ es) ((e.0, v) ∷ es) (e ∷ put es k v)) ≡ length (e ∷ es) + (if is_some (cond (bytes_eq k e.0) (Some e.1) (lookup (bytes_eq k) es)) then 0 else 1)
+      go Less l r =
+          let t : bytes_eq k e.0 ≡ false = sym (is_eq-slice_cmp k e.0) ∙ ap is_eq l in
+          let none : lookup (bytes_eq k) es ≡ None = lookup_above k es (above k e.0 l (keys_of es) s.0) in
+          rw (t, none) (omega arith)
+      go Equal l r =
+          let t : bytes_eq k e.0 ≡ true = sym (is_eq-slice_cmp k e.0) ∙ ap is_eq l in
+          rw t (omega arith)
+      go Greater l r =
+          let t : bytes_eq k e.0 ≡ false = sym (is_eq-slice_cmp k e.0) ∙ ap is_eq l in
+          rw t (omega (arith, r))
 
   lookup_push : (q : List ℕ) (es : List (List ℕ × X)) (e : List ℕ × X) (o : Option X) → prefer (lookup (bytes_eq q) (es ++ e ∷ [])) o ≡ prefer (lookup (bytes_eq q) es) (cond (bytes_eq q e.0) (Some e.1) o)
   lookup_push q [] e o = alone (bytes_eq q e.0)

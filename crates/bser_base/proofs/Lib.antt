@@ -10,6 +10,7 @@ pub mod Least
 pub mod Back
 pub mod Written
 pub mod Tagged
+pub mod Taken
 pub mod Fits
 pub mod Values
 pub mod Bounds
@@ -26,3 +27,4 @@ pub mod Same
 pub mod Cuts
 pub mod Settled
 pub mod RoundTrip
+pub mod KeyNames

@@ -1,8 +1,7 @@
 -- An integer, and a message's head, that are taken in steps.
-use Rattle.std.proofs.Common.{◌≡◌, ℕ, zero, suc, ◌-◌, ◌%◌, ◌≤◌, ◌<◌, ◌^◌, max, List, [], ◌∷◌, ◌++◌, Some, None, length, get_or, length-append, refl, sym, ap, subst, ◌∙◌, arith, FitsSigned}
+use Rattle.std.proofs.Common.{◌≡◌, ℕ, zero, suc, ◌-◌, ◌%◌, ◌≤◌, ◌<◌, ◌^◌, max, List, [], ◌∷◌, ◌++◌, Some, None, length, get_or, refl, sym, ap, subst, ◌∙◌, arith, FitsSigned}
 use Rattle.std.specs.Int.{Width, w8, w16, w32, w64, to_le_bytes, cast_signed, cast_unsigned}
 use Rattle.std.specs.Prelude.{ℤ, pos}
-use Rattle.std.proofs.KnownBytes.{Consumes-trans}
 use Rattle.std.proofs.Math.Facts.{sfits_to_z, Fits-of_lt}
 use Rattle.std.proofs.lemmas.Int.{of_z-to_z}
 use Rattle.std.proofs.lemmas.Nat.{le_bytes_2, le_bytes_4, le_bytes_8}
@@ -10,6 +9,7 @@ use mir.Val.{bits, Fits}
 use Rattle.byteorder.specs.Endian.{little_number}
 use Rattle.bser_base.specs.Grammar.{SpellsInteger, IntSize, tag_of, width_of, int_bytes}
 use Rattle.bser_base.specs.Source.{State, Took, Expects, bytes_in_sight, sight_after, with_limit}
+use Rattle.bser_base.proofs.Taken.{took_then}
 use Rattle.bser_base.specs.Tagged.{TookNumber, TookInt, TookLength, TookHead}
 
 -- ---- a number's bytes
@@ -40,33 +40,11 @@ bytes_of_64 bs n l small is = record { fits = omega (arith, is, small 0, small 1
 
 -- a look, and then bytes that begin with what was seen
 pub took_after_look : (old mid new : State) (b : ℕ) (bytes : List ℕ) → Took old mid [] (Some b) → Took mid new (b ∷ bytes) None → Took old new (b ∷ bytes) None
-took_after_look old mid new b bytes look took = record {
-  bytes = Consumes-trans old.left mid.left new.left [] (b ∷ bytes) look.bytes took.bytes;
-  count = omega (arith, look.count, took.count);
-  sight = took.sight;
-  lends = took.lends ∙ look.lends;
-  working = look.working;
-  failed = took.failed;
-  failures = took.failures ∙ look.failures;
-  through = took.through ∙ look.through;
-  limit = took.limit ∙ look.limit;
-  held = took.held;
-}
+took_after_look old mid new b bytes = took_then old mid new [] (b ∷ bytes) (Some b) None
 
 -- one call after another
 pub took_both : (a b c : State) (xs ys : List ℕ) → Took a b xs None → Took b c ys None → Took a c (xs ++ ys) None
-took_both a b c xs ys first second = record {
-  bytes = Consumes-trans a.left b.left c.left xs ys first.bytes second.bytes;
-  count = omega (arith, length-append xs ys, first.count, second.count);
-  sight = second.sight;
-  lends = second.lends ∙ first.lends;
-  working = first.working;
-  failed = second.failed;
-  failures = second.failures ∙ first.failures;
-  through = second.through ∙ first.through;
-  limit = second.limit ∙ first.limit;
-  held = second.held;
-}
+took_both a b c xs ys = took_then a b c xs ys None None
 
 -- ---- integers
 
@@ -110,6 +88,7 @@ relimited a b c text same took =
     let relimit_held : length b.held ≤ max (a.limit - b.count) 0 = omega (arith, took.limit, took.held) in
     subst (λ s. Took a s text None) (sym k) (record {
       bytes = took.bytes;
+      first = took.first;
       count = took.count;
       sight = took.sight;
       lends = took.lends;

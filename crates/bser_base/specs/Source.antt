@@ -29,9 +29,19 @@ abbrev pub bytes_in_sight : Option ℕ → List ℕ
 bytes_in_sight None = []
 bytes_in_sight (Some b) = b ∷ []
 
+-- the first of the bytes taken, or what is in sight where none is
+abbrev pub first_or : List ℕ → Option ℕ → Option ℕ
+first_or [] seen = seen
+first_or (b ∷ bs) seen = Some b
+
+-- a byte that was in sight is the first to be taken, and stays in sight where none is
+abbrev pub SightFirst : Option ℕ → List ℕ → Option ℕ → Type 0
+SightFirst sight bs seen = (b : ℕ) → sight ≡ Some b → first_or bs seen ≡ Some b
+
 -- a call took the bytes bs, and `seen` is in sight afterwards
 pub record Took (old new : State) (bs : List ℕ) (seen : Option ℕ) : Type 0 where
   pub bytes : Consumes old.left new.left bs
+  pub first : SightFirst old.sight bs seen
   pub count : new.count ≡ old.count + length bs
   pub sight : new.sight ≡ seen
   pub lends : new.lends ≡ old.lends
@@ -104,6 +114,7 @@ io_state remaining failures through arrived held peeked limit failed = record {
 -- the same source, with a byte at hand
 pub record Ready (old new : State) : Type 0 where
   pub bytes : Consumes old.left new.left []
+  pub first : SightFirst old.sight [] new.sight
   pub count : new.count ≡ old.count
   pub lends : new.lends ≡ old.lends
   pub working : old.failed ≡ false

@@ -1,57 +1,140 @@
 //! Does one operation of the library many times, so that its instructions can be counted.
 //!
-//! `bser_bench OPERATION FILE COUNT` does it COUNT times. The one operation is `serialize`: the
-//! answer of 500 files, made in the program, is written to memory; FILE is ignored. Without
-//! arguments an answer of a few files is written once. Either way it prints the length and a
-//! checksum of what was written last.
+//! `bser_bench OPERATION FILE COUNT` does it COUNT times with the message in FILE, and prints what
+//! came of the last time. Where FILE is `-`, the message is the program's own answer of 500 files,
+//! which has no template. Without arguments each operation is done once with an answer of a few
+//! files.
+//!
+//! `serialize` writes a `Value` to memory, and `value` and `value-reader` read one; they print the
+//! length and a checksum of its message. `typed-lent`, `typed-owned` and `typed-reader` read the
+//! files as structs, and print how many there are and the sum of their fields. `skip` keeps
+//! nothing. The operations on a `reader` read from a reader over the bytes, the others from the
+//! bytes themselves.
 #![tactic(auto)]
 
 mod files;
+mod rows;
 
+use crate::rows::{Bytes, Files};
 use anyhow::{Context, Result, bail};
-use bser_base::device::Watched;
+use serde_bser::bytestring::ByteString;
+use serde_bser::de::{Deserialize, DeserializeOwned, Ignored};
+use serde_bser::device::Watched;
 use serde_bser::ser::serialize;
 use serde_bser::value::Value;
+use serde_bser::{from_reader, from_slice};
 use std::alloc::Global;
-use std::env;
+use std::{env, fs};
 
-/// The files of the answer that is written where there are no arguments.
+/// The files of the answer where there are no arguments.
 const FEW: usize = 3;
 
 /// The files of the answer that is measured.
 const MANY: usize = 500;
 
+/// What is done.
+const OPERATIONS: [&str; 7] = [
+    "serialize",
+    "value",
+    "value-reader",
+    "typed-lent",
+    "typed-owned",
+    "typed-reader",
+    "skip",
+];
+
+/// Files of which the names and the types are lent.
+type Lent<'a> = Files<&'a [u8], &'a str>;
+
+/// Files of which the names and the types are owned.
+type Owned = Files<ByteString, String>;
+
 fn main(rt: HostRuntime) -> Result<()> {
     let alloc = rt.alloc();
     let mut args = env::args(&rt)?.skip(1);
-    let written = match args.next() {
-        None => written(alloc, &files::answer(alloc, FEW)?)?,
-        Some(operation) => {
-            let _file = args.next().context("no FILE")?;
-            let count = args.next().context("no COUNT")?.parse::<u32>()?;
-            if operation.as_str() != "serialize" {
-                bail!("unknown operation {operation}");
+    match args.next() {
+        None => {
+            let message = written(alloc, &files::answer(alloc, FEW)?)?;
+            for operation in OPERATIONS {
+                let line = repeated(alloc, operation, &message, 1)?;
+                println!(rt; "{operation}: {line}")?;
             }
-            serialized(alloc, count)?
         }
-    };
-    println!(rt;
-        "{} bytes, checksum {:016x}",
-        written.len(),
-        checksum(&written)
-    )?;
+        Some(operation) => {
+            let file = args.next().context("no FILE")?;
+            let count = args.next().context("no COUNT")?.parse::<u32>()?;
+            let message = if file.as_str() == "-" {
+                written(alloc, &files::answer(alloc, MANY)?)?
+            } else {
+                fs::read(&rt, file.as_str())?
+            };
+            let line = repeated(alloc, operation.as_str(), &message, count)?;
+            println!(rt; "{line}")?;
+        }
+    }
     Ok(())
 }
 
-// Writes the answer of 500 files `count` times, each time to memory of its own, and answers what
-// was written last.
-fn serialized(alloc: Global, count: u32) -> Result<Vec<u8>> {
-    let value = files::answer(alloc, MANY)?;
+// Does the operation `count` times, and tells what came of the last time.
+fn repeated(alloc: Global, operation: &str, message: &[u8], count: u32) -> Result<String> {
+    match operation {
+        "serialize" => written_often(alloc, message, count),
+        "value" => value_told(alloc, &read_often(alloc, message, count)?),
+        "value-reader" => value_told(alloc, &copied_often(alloc, message, count)?),
+        "typed-lent" => {
+            let files: Lent<'_> = read_often(alloc, message, count)?;
+            files_told(alloc, &files)
+        }
+        "typed-owned" => {
+            let files: Owned = read_often(alloc, message, count)?;
+            files_told(alloc, &files)
+        }
+        "typed-reader" => {
+            let files: Owned = copied_often(alloc, message, count)?;
+            files_told(alloc, &files)
+        }
+        "skip" => {
+            let _skipped: Ignored = read_often(alloc, message, count)?;
+            Ok(String::from_str(alloc, "skipped")?)
+        }
+        _ => bail!("unknown operation {operation}"),
+    }
+}
+
+// Reads the message `count` times, and answers what was read last.
+fn read_often<'de, T: Deserialize<&'de [u8]>>(
+    alloc: Global,
+    message: &'de [u8],
+    count: u32,
+) -> Result<T> {
+    let mut last = None;
+    for _ in 0..count {
+        let read: T = from_slice(alloc, message)?;
+        last = Some(read);
+    }
+    last.context("COUNT is 0")
+}
+
+// Reads the message `count` times, each time from a reader, and answers what was read last.
+fn copied_often<T: DeserializeOwned>(alloc: Global, message: &[u8], count: u32) -> Result<T> {
+    let mut last = None;
+    for _ in 0..count {
+        let mut reader = Watched::new(message);
+        let read: T = from_reader(alloc, &mut reader)?;
+        last = Some(read);
+    }
+    last.context("COUNT is 0")
+}
+
+// Writes the message's value `count` times, each time to memory of its own, and tells of what was
+// written last.
+fn written_often(alloc: Global, message: &[u8], count: u32) -> Result<String> {
+    let value: Value = from_slice(alloc, message)?;
     let mut last = Vec::new(alloc);
     for _ in 0..count {
         last = written(alloc, &value)?;
     }
-    Ok(last)
+    bytes_told(alloc, &last)
 }
 
 // The value's message in memory.
@@ -60,6 +143,20 @@ fn written(alloc: Global, value: &Value) -> Result<Vec<u8>> {
         Ok(writer) => Ok(writer.into_inner()),
         Err((_, error)) => Err(error.into()),
     }
+}
+
+fn value_told(alloc: Global, value: &Value) -> Result<String> {
+    bytes_told(alloc, &written(alloc, value)?)
+}
+
+fn files_told<B: Bytes, S: Bytes>(alloc: Global, files: &Files<B, S>) -> Result<String> {
+    let line = format!(in alloc; "{} files, sum {}", files.files.len(), files.sum())?;
+    Ok(line)
+}
+
+fn bytes_told(alloc: Global, bytes: &[u8]) -> Result<String> {
+    let line = format!(in alloc; "{} bytes, checksum {:016x}", bytes.len(), checksum(bytes))?;
+    Ok(line)
 }
 
 // The FNV-1a hash of 64 bits.

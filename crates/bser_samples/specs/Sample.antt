@@ -1,5 +1,5 @@
 -- That reading and writing do what a line of the list says.
-use Rattle.std.specs.Prelude.{◌≡◌, ◌==◌, ◌||◌, ℕ, Bool, List, ◌∷◌, ◌++◌, length, codes, decimal, IsTrue, ◌⊎◌, ◌↔◌, Ok}
+use Rattle.std.specs.Prelude.{◌≡◌, ◌==◌, ℕ, List, ◌∷◌, ◌++◌, length, codes, decimal, IsTrue, ◌⊎◌, ◌↔◌, Ok}
 use Rattle.std.specs.List.{slice_split}
 use Rattle.std.specs.Str.Parse.{ParsesUnsigned}
 use Rattle.std.specs.declared.num.ParseIntError.{ParseIntError}
@@ -7,7 +7,6 @@ use Rattle.hex.specs.Hex.{encode_lower, decode_of}
 use Rattle.sha2.specs.Sha256.{sha256}
 use Rattle.bser_base.specs.Canonical.{canonical_message}
 use Rattle.bser_base.specs.Content.{Meaning, Needs}
-use Rattle.bser_base.specs.Tagged.{IsHead}
 use Rattle.serde_bser.specs.ValueView.{tree_of}
 use Rattle.serde_bser.specs.declared.value.Value.{Value}
 use Rattle.bser_vectors.specs.Notation.{notation}
@@ -41,21 +40,7 @@ pub record IsWritten (answer column : List ℕ) : Type 0 where
   pub named : notation (tree_of value) ≡ answer
   pub shown : IsShown (canonical_message (tree_of value)) column
 
--- the bytes begin with the head of a message, and then this tag
-pub record HasTag (bytes : List ℕ) (tag : ℕ) : Type 0 where
-  pub head : List ℕ
-  pub rest : List ℕ
-  pub is_head : IsHead head
-  pub is : bytes ≡ head ++ tag ∷ rest
-
-abbrev pub is_container_tag : ℕ → Bool
-is_container_tag tag = tag == 0x00 || tag == 0x01 || tag == 0x0b
-
--- the bytes begin with the head of a message and the tag of an array, an object or a template
-abbrev pub IsContainer : List ℕ → Type 0
-IsContainer bytes = (tag : ℕ) × HasTag bytes tag × IsTrue (is_container_tag tag)
-
--- reading answers as the line says, of all but containers, and what is accepted is written as the line says
+-- reading answers as the line says, and what is accepted is written as the line says
 pub record Holds (reads : Meaning) (needs : Needs) (sample : Sample) : Type 0 where
-  pub read : IsContainer sample.message.items ⊎ Agrees reads needs sample.message.items sample.answer.now sample.taken
+  pub read : Agrees reads needs sample.message.items sample.answer.now sample.taken
   pub written : IsTrue sample.accepted → IsWritten sample.answer.now sample.canonical.now

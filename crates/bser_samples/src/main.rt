@@ -13,7 +13,6 @@ mod tests;
 
 use crate::sample::Sample;
 use anyhow::{Context, Result};
-use std::alloc::Global;
 use std::fs;
 
 /// How many lines were treated in which way.
@@ -22,7 +21,6 @@ struct Counts {
     lines: u64,
     accepted: u64,
     refused: u64,
-    not_read: u64,
     written: u64,
     mismatches: u64,
 }
@@ -34,17 +32,13 @@ fn count(counter: &mut u64) {
 
 impl Counts {
     /// Counts a line by what is done with it.
-    fn add(&mut self, alloc: Global, sample: &Sample<'_>) {
+    fn add(&mut self, sample: &Sample<'_>) {
         count(&mut self.lines);
-        if sample.is_container(alloc) {
-            count(&mut self.not_read);
-        } else if sample.accepted {
+        if sample.accepted {
             count(&mut self.accepted);
+            count(&mut self.written);
         } else {
             count(&mut self.refused);
-        }
-        if sample.accepted {
-            count(&mut self.written);
         }
     }
 }
@@ -54,7 +48,7 @@ fn main(rt: HostRuntime) -> Result<()> {
     let mut counts = Counts::default();
     for line in text.as_str().lines() {
         let sample = Sample::parse(rt.alloc(), line)?;
-        counts.add(rt.alloc(), &sample);
+        counts.add(&sample);
         let mismatch = sample
             .first_mismatch(rt.alloc())
             .context(format_args!("line {}", counts.lines))?;
@@ -69,7 +63,6 @@ fn main(rt: HostRuntime) -> Result<()> {
     println!(rt; "{} lines", counts.lines)?;
     println!(rt; "{} messages accepted as the file says", counts.accepted)?;
     println!(rt; "{} messages refused as the file says", counts.refused)?;
-    println!(rt; "{} messages of containers not read", counts.not_read)?;
     println!(rt; "{} values written", counts.written)?;
     println!(rt; "{} mismatches", counts.mismatches)?;
     Ok(())

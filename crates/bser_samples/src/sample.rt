@@ -1,14 +1,13 @@
 //! One line of the list of messages.
 ghost use Rattle.std.specs.Prelude.{◌≡◌, ◌∷◌, IfOk, IfNone, IsTrue};
 ghost use Rattle.bser_vectors.specs.Ways.{Agrees};
-ghost use Rattle.bser_samples.specs.Sample.{columns_of, HasColumns, HasTag, Holds, IsContainer, is_container_tag, IsShown, IsWritten};
+ghost use Rattle.bser_samples.specs.Sample.{columns_of, HasColumns, Holds, IsShown, IsWritten};
 
 use anyhow::{Context, Result};
 use bser_vectors::notation::parse_value;
 use bser_vectors::ways;
-use serde_bser::de::{Bunser, Shape, SliceRead};
+use serde_bser::de::Shape;
 use serde_bser::device::Watched;
-use serde_bser::header::{BSER_ARRAY, BSER_OBJECT, BSER_TEMPLATE};
 use serde_bser::ser::serialize;
 use serde_bser::value::Value;
 use sha2::{Digest, Sha256};
@@ -57,25 +56,13 @@ impl<'a> Sample<'a> {
     pub fn first_mismatch(&self, alloc: Global) -> Result<Option<&'static str>>
         ensures { IfOk result (λ what. IfNone what (Holds ⟦<Value as Shape>⟧.reads ⟦<Value as Shape>⟧.needs self.now)) }
     {
-        if !self.is_container(alloc) {
-            if let Some(way) = self.read_mismatch(alloc)? {
-                return Ok(Some(way));
-            }
+        if let Some(way) = self.read_mismatch(alloc)? {
+            return Ok(Some(way));
         }
         if self.accepted && !self.is_written(alloc)? {
             return Ok(Some("written"));
         }
         Ok(None)
-    }
-
-    /// Whether the head is read and an array, an object or a template stands behind it.
-    pub fn is_container(&self, alloc: Global) -> bool
-        ensures { IsTrue result → IsContainer self.now.message.items }
-    {
-        match body_tag(alloc, self.message.as_slice()) {
-            Ok(tag) => is_container_tag(tag),
-            Err(_) => false,
-        }
     }
 
     /// The first way of reading that answers otherwise than the list says.
@@ -102,21 +89,6 @@ fn cut(columns: &str) -> Result<(&str, &str)>
     ensures { IfOk result (λ parts. columns_of columns.now ≡ parts.0.now ∷ columns_of parts.1.now) }
 {
     columns.split_once('\t').context("too few columns")
-}
-
-fn is_container_tag(tag: u8) -> bool
-    ensures { result ≡ is_container_tag tag }
-{
-    matches!(tag, BSER_ARRAY | BSER_OBJECT | BSER_TEMPLATE)
-}
-
-/// The tag behind the head of the message.
-fn body_tag(alloc: Global, bytes: &[u8]) -> serde_bser::errors::Result<u8>
-    ensures { IfOk result (HasTag bytes.now) }
-{
-    let mut bunser = Bunser::new(alloc, SliceRead::new(bytes));
-    bunser.read_pdu()?;
-    bunser.peek()
 }
 
 /// Whether the column shows these bytes: in hexadecimal digits, or by their number and their digest.

@@ -2,11 +2,9 @@
 use Rattle.std.proofs.Common.{◌≡◌, ℕ, ◌+◌, ◌-◌, Bool, true, false, List, ◌++◌, length, length-append, Option, Some, Result, Ok, Err, refl, subst, arith}
 use Rattle.std.specs.Prelude.{IfOk, IfErr}
 use Rattle.std.specs.Io.KnownBytes.{Consumes}
-use Rattle.bser_base.specs.Content.{Meaning}
+use Rattle.bser_base.specs.Content.{Content, Meaning}
 use Rattle.bser_base.specs.declared.errors.Error.{Error}
 use Rattle.serde_bser.specs.Messages.{TookMessage, RefusesReader}
-use Rattle.serde_bser.specs.ValueView.{HoldsTree}
-use Rattle.serde_bser.specs.declared.value.Value.{Value}
 use Rattle.bser_vectors.specs.Planned.{known}
 use Rattle.bser_vectors.specs.Ways.{GivenOfReader}
 
@@ -16,15 +14,15 @@ rest_known true bytes rest text e = (refl, e)
 rest_known false bytes rest text e = absurd e
 
 -- an answer of a reader of known bytes, and how many it took
-pub given : (reads : Meaning) (answer : Result Value Error) (old : Option (List ℕ)) (told : Bool) (bytes rest : List ℕ) (taken before failures : ℕ) → old ≡ Some bytes → before ≡ 0
-    → IfOk answer (TookMessage 128 reads HoldsTree old (known told rest)) → IfErr answer (λ e. RefusesReader 128 reads e old before failures) → taken ≡ length bytes - length rest
-    → GivenOfReader reads bytes answer taken
-given reads (Ok v) old told bytes rest taken before failures start none found refused count =
-    let read : TookMessage 128 reads HoldsTree (Some bytes) (known told rest) v = subst (λ (o : Option (List ℕ)). TookMessage 128 reads HoldsTree o (known told rest) v) start found in
+pub given : {A : Type 0} (reads : Meaning) (holds : A → Content → Type 0) (answer : Result A Error) (old : Option (List ℕ)) (told : Bool) (bytes rest : List ℕ) (taken before failures : ℕ) → old ≡ Some bytes → before ≡ 0
+    → IfOk answer (TookMessage 128 reads holds old (known told rest)) → IfErr answer (λ e. RefusesReader 128 reads e old before failures) → taken ≡ length bytes - length rest
+    → GivenOfReader reads holds bytes answer taken
+given reads holds (Ok v) old told bytes rest taken before failures start none found refused count =
+    let read : TookMessage 128 reads holds (Some bytes) (known told rest) v = subst (λ (o : Option (List ℕ)). TookMessage 128 reads holds o (known told rest) v) start found in
     let parts = rest_known told bytes rest read.text read.bytes in
     let sizes : length bytes ≡ length read.text + length rest = rw parts.1 (length-append read.text rest) in
     record { left = known told rest; failures = failures; read = read; count = λ ok. (rest, parts.0, omega (arith, sizes, count)) }
-given reads (Err e) old told bytes rest taken before failures start none found refused count =
+given reads holds (Err e) old told bytes rest taken before failures start none found refused count =
     record {
       left = known told rest;
       failures = failures;

@@ -1,3 +1,4 @@
 pub mod Computed
 pub mod Spelling
 pub mod KnownLeft
+pub mod ReadBack

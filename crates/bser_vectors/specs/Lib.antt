@@ -6,3 +6,4 @@ pub mod Spelled
 pub mod Notation
 pub mod Planned
 pub mod Ways
+pub mod Structs

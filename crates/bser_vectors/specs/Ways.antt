@@ -1,6 +1,6 @@
 -- That a way of reading answers as a text says.
 use Rattle.std.specs.Prelude.{◌≡◌, ℕ, ◌+◌, List, length, Option, Some, Result, MatchResult, IsOk}
-use Rattle.bser_base.specs.Content.{Meaning, Needs}
+use Rattle.bser_base.specs.Content.{Content, Meaning, Needs}
 use Rattle.bser_base.specs.declared.errors.Error.{Error}
 use Rattle.serde_bser.specs.Messages.{BeginsWith, TookMessage, RefusesSlice, RefusesReader}
 use Rattle.serde_bser.specs.ValueView.{HoldsTree}
@@ -18,17 +18,17 @@ pub record AnswersSlice (reads : Meaning) (needs : Needs) (bytes expected : List
   pub shown : expected ≡ answer_notation answer
 
 -- an answer of a reader of known bytes, without failures before: the value of the message that it took, or a refusal of the bytes
-pub record GivenOfReader (reads : Meaning) (bytes : List ℕ) (answer : Result Value Error) (taken : ℕ) : Type 0 where
+pub record GivenOfReader {A : Type 0} (reads : Meaning) (holds : A → Content → Type 0) (bytes : List ℕ) (answer : Result A Error) (taken : ℕ) : Type 0 where
   pub left : Option (List ℕ)
   pub failures : ℕ
-  pub read : MatchResult answer (TookMessage 128 reads HoldsTree (Some bytes) left) (λ e. RefusesReader 128 reads e (Some bytes) 0 failures)
+  pub read : MatchResult answer (TookMessage 128 reads holds (Some bytes) left) (λ e. RefusesReader 128 reads e (Some bytes) 0 failures)
   pub count : IsOk answer → (rest : List ℕ) × (left ≡ Some rest) × (length bytes ≡ taken + length rest)
 
 -- a reader is answered so, the notation of the answer is the text expected, and a message has as many bytes as are expected
 pub record AnswersReader (reads : Meaning) (bytes expected : List ℕ) (taken : ℕ) : Type 0 where
   pub answer : Result Value Error
   pub count : ℕ
-  pub given : GivenOfReader reads bytes answer count
+  pub given : GivenOfReader reads HoldsTree bytes answer count
   pub shown : expected ≡ answer_notation answer
   pub all : IsOk answer → count ≡ taken
 

@@ -1,11 +1,21 @@
 //! Tests of the format over the ways of reading and writing.
 mod bytestrings;
+mod checks;
+mod hostile;
+mod levels;
 mod messages;
+mod nesting;
 mod notations;
+mod options;
+mod order;
 mod readers;
 mod scalars;
+mod sizes;
+mod structs;
+mod templates;
 mod texts;
 mod typed;
+mod values;
 mod writing;
 
 use crate::ways::first_mismatch;

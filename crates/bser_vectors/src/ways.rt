@@ -5,7 +5,7 @@ ghost use Rattle.bser_vectors.specs.Ways.{Agrees, AnswersReader, AnswersSlice, G
 
 use crate::devices::{Plan, PlannedReader};
 use crate::notation::is_answer;
-use serde_bser::de::Shape;
+use serde_bser::de::{DeserializeOwned, Shape};
 use serde_bser::device::Watched;
 use serde_bser::errors::Result;
 use serde_bser::value::Value;
@@ -13,8 +13,12 @@ use serde_bser::{from_reader, from_slice};
 use std::alloc::{AllocError, Global};
 
 /// Reads from a reader that gives `bytes` by the plan, and tells how many bytes it took.
-pub fn read_by_plan(alloc: Global, bytes: &[u8], plan: Plan) -> (Result<Value>, usize)
-    ensures { IsTrue (is_steady plan) → GivenOfReader ⟦<Value as Shape>⟧.reads bytes.now result.0 result.1 }
+pub fn read_by_plan<T: DeserializeOwned>(
+    alloc: Global,
+    bytes: &[u8],
+    plan: Plan,
+) -> (Result<T>, usize)
+    ensures { IsTrue (is_steady plan) → GivenOfReader T.reads T.holds bytes.now result.0 result.1 }
 {
     let mut reader = Watched::new(PlannedReader::new(bytes, plan));
     let answer = from_reader(alloc, &mut reader);

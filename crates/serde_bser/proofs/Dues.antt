@@ -1,7 +1,6 @@
 -- A scalar or string that was due.
 use Rattle.std.proofs.Common.{◌≡◌, ℕ, zero, ◌≤◌, List, [], ◌∷◌, Option, Some, None, length, refl, sym, ap, subst, ◌∙◌, arith}
 use Rattle.std.specs.Prelude.{option_map}
-use Rattle.std.proofs.KnownBytes.{Consumes-trans}
 use Rattle.bser_base.specs.Tree.{Tree, null, boolean, integer, real, bytes, text, array, object, template}
 use Rattle.bser_base.specs.Grammar.{Spells}
 use Rattle.bser_base.specs.Expand.{expand}
@@ -9,6 +8,7 @@ use Rattle.bser_base.specs.Content.{Content, value}
 use Rattle.bser_base.specs.Expected.{Fills, FillsNode, nothing_due, node_due}
 use Rattle.bser_base.specs.Source as source
 use Rattle.bser_base.specs.Source.{Took, sight_after}
+use Rattle.bser_base.proofs.Taken.{took_then}
 use Rattle.bser_base.specs.TaggedRefusal.{ShortOf}
 use Rattle.bser_base.specs.declared.errors.Error.{Error}
 use Rattle.bser_base.proofs.Heads.{short_of}
@@ -65,18 +65,7 @@ some_text (x ∷ b) seen h = refl
 
 -- a look, and then bytes
 pub took_after_look : (a b c : source.State) (x : ℕ) (bs : List ℕ) → Took a b [] (Some x) → Took b c bs None → Took a c bs None
-took_after_look a b c x bs look took = record {
-  bytes = Consumes-trans a.left b.left c.left [] bs look.bytes took.bytes;
-  count = omega (arith, look.count, took.count);
-  sight = took.sight;
-  lends = took.lends ∙ look.lends;
-  working = look.working;
-  failed = took.failed;
-  failures = took.failures ∙ look.failures;
-  through = took.through ∙ look.through;
-  limit = took.limit ∙ look.limit;
-  held = took.held;
-}
+took_after_look a b c x bs = took_then a b c [] bs (Some x) None
 
 pub answers : {A : Type 0} (holds : A → Content → Type 0) (s t : State) (seen : source.State) (x : ℕ) (u : Tree) (v : A) → s.due ≡ node_due → holds v (value u) → Took s.source seen [] (Some x) → TookScalar seen t.source u → t ≡ past s t.source
     → Answers reads_scalar holds s t v

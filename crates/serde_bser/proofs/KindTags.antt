@@ -1,5 +1,5 @@
 -- The kinds of values, by their tags.
-use Rattle.std.proofs.Common.{◌≡◌, ℕ, zero, suc, ◌≤◌, Bool, true, false, List, [], ◌∷◌, ◌++◌, Some, None, refl, sym, ap, subst, ◌∙◌, arith, inl, inr, ◌⊎◌}
+use Rattle.std.proofs.Common.{◌≡◌, ℕ, zero, suc, ◌≤◌, Bool, true, false, List, [], ◌∷◌, ◌++◌, Option, Some, None, refl, sym, ap, subst, ◌∙◌, arith, inl, inr, ◌⊎◌}
 use Rattle.std.specs.Prelude.{nat_eq, if◌then◌else◌}
 use Rattle.std.proofs.lemmas.Bool.{eqb-true}
 use Rattle.std.specs.Str.{is_utf8}
@@ -9,13 +9,14 @@ use Rattle.bser_base.specs.Expand.{key_tree}
 use Rattle.bser_base.specs.Content.{Content, Meaning, Needs}
 use Rattle.bser_base.specs.Expected.{Due, Fills, nothing_due, node_due, key_due, field_due, name_due, row_due}
 use Rattle.bser_base.specs.Source as source
+use Rattle.bser_base.specs.Source.{Took, first_or}
 use Rattle.bser_base.specs.Tagged.{with_failure}
 use Rattle.bser_base.specs.declared.errors.Error.{Error}
 use Rattle.bser_base.proofs.Tags.{integer_tag}
 use Rattle.serde_bser.specs.State.{State}
 use Rattle.serde_bser.specs.View.{name_at}
 use Rattle.serde_bser.specs.Nodes.{tag_node, key_node, field_node, node_at, BeginsKind, BeginsNode}
-use Rattle.serde_bser.specs.Heads.{IsTagged, BeginsDue, Stands}
+use Rattle.serde_bser.specs.Heads.{IsTagged, BeginsDue, Standing, Stands}
 use Rattle.serde_bser.specs.Reading.{RefusesFront, FillsReadably, IsRefusal, bare}
 use Rattle.serde_bser.specs.declared.de.node.Node.{Node}
 use Rattle.serde_bser.specs.declared.de.node.Node.TheVariants as kinds
@@ -117,7 +118,7 @@ shown_kind (array ts) x b (inr h) = tag_is 0x0b x kinds.Array h (refl, refl)
 shown_kind (object es) x b h = tag_is 0x01 x kinds.Object h (refl, refl)
 shown_kind (template ks rs) x b h = absurd h
 
-key_kind : (k : List ℕ) → (kind (key_tree k) ≡ kinds.Text) ⊎ (kind (key_tree k) ≡ kinds.Bytes)
+pub key_kind : (k : List ℕ) → (kind (key_tree k) ≡ kinds.Text) ⊎ (kind (key_tree k) ≡ kinds.Bytes)
 key_kind k = at (is_utf8 k)
   where
     at : (x : Bool) → (kind (if x then text k else bytes k) ≡ kinds.Text) ⊎ (kind (if x then text k else bytes k) ≡ kinds.Bytes)
@@ -175,7 +176,7 @@ kind_refused needs reads k s e b plain only u =
 
 -- ---- the kind of what stands
 
-begins_due : (d : Due) (k : Node) (b : List ℕ) → BeginsKind d k b → BeginsDue d b
+pub begins_due : (d : Due) (k : Node) (b : List ℕ) → BeginsKind d k b → BeginsDue d b
 begins_due nothing_due k b h = h
 begins_due node_due k b h = (h.0, h.1)
 begins_due key_due k b h = (h.0, h.1)
@@ -211,6 +212,15 @@ name_kind place [] k b p h = absurd h
 name_kind zero (key ∷ ks) k b p h = ap Some (sym h.1)
 name_kind (suc place) (key ∷ ks) k b p h = name_kind place ks k b p h
 
+named_kind : (s mid : State) (p : ℕ) (k : Node) (b : List ℕ) → Standing (name_at p s.keys) s mid → BeginsKind s.due k b → node_at s.due (Name p) ≡ Some k
+named_kind s mid p k b stands begins =
+    subst (λ d. node_at d (Name p) ≡ Some k) (sym stands.due) (name_kind p s.keys k b p (subst (λ d. BeginsKind d k b) stands.due begins))
+
+row_kind : (s mid : State) (k : Node) (b : List ℕ) → Standing (row_due s.keys) s mid → BeginsKind s.due k b → node_at s.due Row ≡ Some k
+row_kind s mid k b stands begins =
+    let h : BeginsKind (row_due s.keys) k b = subst (λ d. BeginsKind d k b) stands.due begins in
+    subst (λ d. node_at d Row ≡ Some k) (sym stands.due) (ap Some (sym h.1))
+
 -- what stands is of the kind that the bytes left begin with
 pub stand_kind : (s mid : State) (h : Head) (k : Node) (b rest : List ℕ) → Stands s mid h → BeginsKind s.due k b → s.source.left ≡ Some (b ++ rest) → node_at s.due h ≡ Some k
 stand_kind s mid (Tag x) k b rest look begins left =
@@ -218,11 +228,24 @@ stand_kind s mid (Tag x) k b rest look begins left =
     let r = rest_of s.source.left mid.source.left [] (t.0 ∷ rest) (left ∙ ap (λ c. Some (c ++ rest)) t.1) look.took.bytes in
     let same : t.0 ≡ x = next_in mid.source.left x rest r.0 t.0 look.next r.1 r.2 in
     subst (λ y. node_at s.due (Tag y) ≡ Some k) same t.2
-stand_kind s mid (Name p) k b rest stands begins left =
-    subst (λ d. node_at d (Name p) ≡ Some k) (sym stands.due) (name_kind p s.keys k b p (subst (λ d. BeginsKind d k b) stands.due begins))
-stand_kind s mid Row k b rest stands begins left =
-    let h : BeginsKind (row_due s.keys) k b = subst (λ d. BeginsKind d k b) stands.due begins in
-    subst (λ d. node_at d Row ≡ Some k) (sym stands.due) (ap Some (sym h.1))
+stand_kind s mid (Name p) k b rest stands begins left = named_kind s mid p k b stands begins
+stand_kind s mid Row k b rest stands begins left = row_kind s mid k b stands begins
+
+-- what is taken with a tag in sight is of that tag's kind, and a key or a row is of its own
+pub taken_kind : (s mid : State) (t : source.State) (h : Head) (u : Tree) (b : List ℕ) (seen : Option ℕ) → IsPlain (kind u) → Stands s mid h → Fills s.levels s.due u b → Took mid.source t b seen → node_at s.due h ≡ Some (kind u)
+taken_kind s mid t (Tag x) u b seen plain look filled took =
+    let g = begins s.levels s.due u b plain filled in
+    let k = tag_kind s.due (kind u) g.0 look.tagged g.3 in
+    let front : b ≡ k.0 ∷ g.1 = g.2 ∙ ap (λ l. l ++ g.1) k.1 in
+    let first : Some k.0 ≡ Some x = ap (λ l. first_or l seen) (sym front) ∙ took.first x look.took.sight in
+    let same : k.0 ≡ x = cc in
+    subst (λ y. node_at s.due (Tag y) ≡ Some (kind u)) same k.2
+taken_kind s mid t (Name p) u b seen plain stands filled took =
+    let g = begins s.levels s.due u b plain filled in
+    named_kind s mid p (kind u) g.0 stands g.3
+taken_kind s mid t Row u b seen plain stands filled took =
+    let g = begins s.levels s.due u b plain filled in
+    row_kind s mid (kind u) g.0 stands g.3
 
 pub same_due : (s mid : State) (h : Head) → Stands s mid h → mid.due ≡ s.due
 same_due s mid (Tag x) look = ap (λ z. z.due) look.state
@@ -240,7 +263,7 @@ here needs W s mid e b same kind state none = record {
 }
 
 -- a refusal after a look at what stands
-looked : (needs : Needs) (W : Format) (s mid : State) (h : Head) (e : Error) (b : source.State) → Stands s mid h → IsRefusal e → b ≡ with_failure true mid.source
+pub looked : (needs : Needs) (W : Format) (s mid : State) (h : Head) (e : Error) (b : source.State) → Stands s mid h → IsRefusal e → b ≡ with_failure true mid.source
     → ((text rest : List ℕ) → W text → s.source.left ≡ Some (text ++ rest) → ⊥) → RefusesFront needs W e s.source b
 looked needs W s mid (Tag x) e b look kind state none = unfit needs W e s.source mid.source b [] (Some x) kind look.took state none
 looked needs W s mid (Name p) e b stands kind state none = here needs W s mid e b stands.same kind state none

@@ -5,6 +5,7 @@ pub mod Seen
 pub mod KindTags
 pub mod Pulls
 pub mod Looks
+pub mod Options
 pub mod Ranges
 pub mod Messages
 pub mod Strings
@@ -37,5 +38,14 @@ pub mod Pairs
 pub mod ObjectFills
 pub mod Objects
 pub mod Structs
+pub mod Slots
 pub mod ValueScalars
 pub mod Maps
+pub mod HashMaps
+pub mod Buildings
+pub mod ValueParts
+pub mod BuildingNames
+pub mod ValueOutlooks
+pub mod DueKinds
+pub mod VariantHeads
+pub mod Variants

@@ -8,9 +8,9 @@ use Rattle.bser_base.specs.ReadsHolders.{list_of, reads_vec, reads_each, reads_t
 use Rattle.bser_base.specs.declared.errors.Error.{Error}
 use Rattle.bser_base.specs.declared.errors.Error.TheVariants.{OutOfMemory}
 use Rattle.serde_bser.specs.State.{State}
-use Rattle.serde_bser.specs.Reading.{Answers, Refuses, RefusesFront}
+use Rattle.serde_bser.specs.Reading.{Answers, Refuses}
 use Rattle.serde_bser.specs.Scalar.{owned}
-use Rattle.serde_bser.specs.Access.{OpenItems, OpensItems, IsItemsHead, IsNext, IsOver, RefusesItem, ClosesItems, LeavesItems}
+use Rattle.serde_bser.specs.Access.{OpenItems, OpensItems, IsItemsHead, RefusesOpening, IsNext, IsOver, RefusesItem, ClosesItems, LeavesItems}
 use Rattle.serde_bser.specs.Required.{RefusesRequired}
 use Rattle.serde_bser.specs.HoldsLists.{HoldsAll, HoldsList, HoldsEach, HoldsTuple}
 use Rattle.serde_bser.proofs.Arrays.{ReadsArrays, ReadsNext, Inside, inside_start, inside_next, inside_end, opening_refused, item_refused, leaves_refused, over_refused, room_refused}
@@ -117,8 +117,8 @@ items_end T holds items_of o z u t v h over closes =
 abbrev pub with_memory : Needs → Needs
 with_memory needs = record { lent = needs.lent; memory = true }
 
-pub list_refused : (T : Meaning) (needs : Needs) (e : Error) (o z : State) → RefusesFront owned (IsItemsHead o) e o.source z.source → Refuses (reads_vec T) (with_memory needs) e o z
-list_refused T needs e o z u = opening_refused (reads_vec T) (rest_of_list T []) (with_memory needs) e o z (reads_list T) refl u
+pub list_refused : (T : Meaning) (needs : Needs) (e : Error) (o z : State) → RefusesOpening owned (IsItemsHead o) e o z → Refuses (reads_vec T) (with_memory needs) e o z
+list_refused T needs e o z u = opening_refused (reads_vec T) (rest_of_list T []) (with_memory needs) e o z (reads_list T) refl u.0
 
 pub items_refused : {A : Type 0} (T : Meaning) (needs : Needs) (holds : A → Content → Type 0) (e : Error) (o z : State) (vs : List A) (u : OpenItems) → ReadsItems T holds o vs u → RefusesItem T needs e u z → Refuses (reads_vec T) (with_memory needs) e o z
 items_refused T needs holds e o z vs u h refuses =
@@ -159,8 +159,8 @@ parts_end all parts_of o z u v h closes =
     inside_end (λ w c. HoldsTuple (parts_of w) c) (reads_tuple all) (rest_of_tuple [] h.contents) o z u (list_of (h.contents ++ [])) v h.inside closes refl
     (record { contents = h.contents; list = ap list_of (append-nil h.contents); held = h.held })
 
-pub tuple_refused : (all : List Meaning) (needs : Needs) (e : Error) (o z : State) → needs.memory ≡ true → RefusesFront owned (IsItemsHead o) e o.source z.source → Refuses (reads_tuple all) needs e o z
-tuple_refused all needs e o z memory u = opening_refused (reads_tuple all) (rest_of_tuple all []) needs e o z (reads_parts all) memory u
+pub tuple_refused : (all : List Meaning) (needs : Needs) (e : Error) (o z : State) → needs.memory ≡ true → RefusesOpening owned (IsItemsHead o) e o z → Refuses (reads_tuple all) needs e o z
+tuple_refused all needs e o z memory u = opening_refused (reads_tuple all) (rest_of_tuple all []) needs e o z (reads_parts all) memory u.0
 
 -- a part that is refused, or that is not there
 pub parts_refused : (T : Meaning) (some : Needs) (all Ts : List Meaning) (hs : List (Content → Type 0)) (needs : Needs) (e : Error) (o z : State) (u : OpenItems) → (some.lent ≡ true → needs.lent ≡ true) → needs.memory ≡ true

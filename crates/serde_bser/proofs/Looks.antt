@@ -58,7 +58,7 @@ same_levels s mid Row stands = ap (λ z. z.levels) stands.same
 fills_there : (s mid : State) (h : Head) (u : Tree) (b : List ℕ) → Stands s mid h → Fills s.levels s.due u b → Fills mid.levels mid.due u b
 fills_there s mid h u b stands f = subst (λ n. Fills n mid.due u b) (sym (same_levels s mid h stands)) (subst (λ d. Fills s.levels d u b) (sym (same_due s mid h stands)) f)
 
-fills_here : (s mid : State) (h : Head) (u : Tree) (b : List ℕ) → Stands s mid h → Fills mid.levels mid.due u b → Fills s.levels s.due u b
+pub fills_here : (s mid : State) (h : Head) (u : Tree) (b : List ℕ) → Stands s mid h → Fills mid.levels mid.due u b → Fills s.levels s.due u b
 fills_here s mid h u b stands f = subst (λ d. Fills s.levels d u b) (same_due s mid h stands) (subst (λ n. Fills n mid.due u b) (same_levels s mid h stands) f)
 
 took_from : (s mid : State) (t : source.State) (h : Head) (u : Tree) (b : List ℕ) → Stands s mid h → Fills s.levels s.due u b → Took mid.source t b (sight_after (length b) mid.source.sight) → Took s.source t b (sight_after (length b) s.source.sight)

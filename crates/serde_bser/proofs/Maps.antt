@@ -1,32 +1,24 @@
 -- A map that is read entry by entry.
-use Rattle.std.proofs.Common.{◌≡◌, ℕ, Bool, true, false, List, [], ◌∷◌, map, String, Ordering, Less, Equal, Greater, nat_cmp, string_bytes, Bor, Option, Some, None, option_map, option_and_then, fold, refl, sym, ap, subst, ◌∙◌, ◌<◌, inl, inr}
+use Rattle.std.proofs.Common.{◌≡◌, ℕ, List, [], ◌∷◌, map, Ordering, Less, Equal, Greater, nat_cmp, Option, Some, None, option_map, option_and_then, fold, refl, sym, ap, subst, ◌∙◌, ◌<◌, ◌||◌, inl, inr, true, false}
+use Rattle.std.proofs.lemmas.Bool.{or_left, or_right}
 use Rattle.std.proofs.lemmas.Map.Text.{is_eq-slice_cmp}
 use Rattle.std.proofs.lemmas.Slice.Eq.{bytes_eq-Decides}
-use Rattle.std.specs.declared.alloc.Global.{Global}
 use Rattle.std.specs.Cmp.Lexicographic.{slice_cmp}
 use Rattle.std.specs.Ordering.{match_ordering, is_eq}
 use Rattle.std.specs.BTreeMap.{insert_entry}
-use Rattle.std.specs.String.{string_cmp}
-use Rattle.std.specs.Str.{bytes_eq}
-use Rattle.bser_base.specs.Tree.{Tree, null, boolean, integer, real, bytes, text, array, object, template, Entries, entries}
+use Rattle.bser_base.specs.Tree.{Tree, null, boolean, integer, real, bytes, text, array, object, template, Entries}
 use Rattle.bser_base.specs.Expand.{key_tree}
 use Rattle.bser_base.specs.Content.{Content, byte_list, pair, Meaning, Needs, each_some}
 use Rattle.bser_base.specs.ReadsHolders.{reads_map, reads_entry, list_of}
-use Rattle.bser_base.specs.Normal.{last_entries}
-use Rattle.std.specs.Prelude.{if◌then◌else◌}
-use Rattle.std.specs.Str.{is_utf8}
-use Rattle.bser_base.specs.ReadsScalars.{reads_string, reads_slice, reads_byte_string, string_bytes_of}
 use Rattle.bser_base.specs.declared.errors.Error.{Error}
 use Rattle.bser_base.specs.declared.errors.Error.TheVariants.{OutOfMemory}
 use Rattle.serde_bser.specs.State.{State}
-use Rattle.serde_bser.specs.Reading.{Answers, Refuses, RefusesFront, bare}
-use Rattle.serde_bser.specs.Scalar.{owned}
-use Rattle.serde_bser.specs.HoldsTexts.{HoldsBytes}
+use Rattle.serde_bser.specs.Reading.{Answers, Refuses, bare}
 use Rattle.serde_bser.specs.Parts.{pairs_left}
-use Rattle.serde_bser.specs.Access.{OpenPairs, OpensPairs, IsPairsHead, NoEntry, IsEntry, RefusesEntry, ClosesPairs}
-use Rattle.serde_bser.specs.HoldsMaps.{HoldsPair, HoldsEntries, HoldsMap}
-use Rattle.serde_bser.proofs.Objects.{Outlook, ReadsObjects, ReadsKeys, ReadsValues, AtKey, AtValue, key_name, key_read, inside_start, inside_key, inside_value, inside_same, inside_end, opening_refused, key_refused, value_refused, room_refused}
-use Rattle.serde_bser.proofs.Structs.{utf8_key, same_text, fewer, either_left, either_right}
+use Rattle.serde_bser.specs.Access.{OpenPairs, OpensPairs, IsPairsHead, RefusesOpening, NoEntry, IsEntry, RefusesEntry, ClosesPairs}
+use Rattle.serde_bser.specs.HoldsMaps.{HoldsEntries}
+use Rattle.serde_bser.proofs.Objects.{Outlook, ReadsObjects, ReadsKeys, ReadsValues, AtKey, key_name, key_read, inside_start, inside_key, inside_value, inside_same, inside_end, opening_refused, key_refused, value_refused, room_refused}
+use Rattle.serde_bser.proofs.Structs.{same_text, fewer}
 
 -- ---- what the entries come to
 
@@ -111,152 +103,92 @@ holds_insert name_of cmp by_name holds (x ∷ es) (p ∷ ps) k v name d e h (nam
 
 -- ---- a map by its keys' bytes
 
--- what a text key holds
-abbrev pub HoldsKey : String Global → Content → Type 0
-HoldsKey k = HoldsBytes (string_bytes k)
-
 -- what a map of these keys and values needs
 abbrev pub map_needs : Needs → Needs → Needs
-map_needs key some = record { lent = if key.lent then true else some.lent; memory = true }
+map_needs key some = record { lent = key.lent || some.lent; memory = true }
 
--- keys that are ordered and read by their bytes
-pub record KeysByName {Y : Type 0} (name_of : Y → List ℕ) (cmp : Y → Y → Ordering) (K : Meaning) : Type 0 where
-  pub order : (k l : Y) → cmp k l ≡ slice_cmp nat_cmp (name_of k) (name_of l)
-  pub read : (name : List ℕ) (c : Content) → K (key_tree name) ≡ Some c → c ≡ byte_list name
+-- the types of a map's keys and of its values, and by which bytes keys are read
+pub record MapOf : Type 1 where
+  pub Key : Type 0
+  pub Val : Type 0
+  pub name : Key → List ℕ
+  pub keys : Meaning
+  pub holds_key : Key → Content → Type 0
+  pub key_needs : Needs
+  pub vals : Meaning
+  pub holds : Val → Content → Type 0
+  pub val_needs : Needs
+  pub read : (k : List ℕ) (c : Content) → keys (key_tree k) ≡ Some c → c ≡ byte_list k
+  pub held : (k : Key) (c : Content) → holds_key k c → c ≡ byte_list (name k)
 
--- texts are
-pub texts_by_name : KeysByName {Y = String Global} string_bytes string_cmp reads_string
-texts_by_name = record { order = λ k l. refl; read = λ name c read. (utf8_key (is_utf8 name) name c refl read).1 }
+-- what the entries so far hold
+abbrev pub HoldsPairs : Type 1
+HoldsPairs = List (List ℕ × Content) → Type 0
 
-bytes_key : (b : Bool) (name : List ℕ) (c : Content) → option_map byte_list (string_bytes_of (if b then text name else bytes name)) ≡ Some c → c ≡ byte_list name
-bytes_key true name c h = cc
-bytes_key false name c h = cc
-
--- the bytes themselves
-abbrev pub own_bytes : List ℕ → List ℕ
-own_bytes k = k
-
--- the bytes that are lent
-abbrev pub lent_bytes : Bor (List ℕ) → List ℕ
-lent_bytes k = k.now
-
--- their order
-abbrev pub lent_cmp : Bor (List ℕ) → Bor (List ℕ) → Ordering
-lent_cmp k l = slice_cmp nat_cmp k.now l.now
-
--- byte strings are
-pub bytes_by_name : KeysByName own_bytes (slice_cmp nat_cmp) reads_slice
-bytes_by_name = record { order = λ k l. refl; read = λ name c read. bytes_key (is_utf8 name) name c read }
-
--- lent bytes are
-pub lent_bytes_by_name : KeysByName lent_bytes lent_cmp reads_slice
-lent_bytes_by_name = record { order = λ k l. refl; read = λ name c read. bytes_key (is_utf8 name) name c read }
-
--- lent texts are
-pub lent_texts_by_name : KeysByName lent_bytes lent_cmp reads_string
-lent_texts_by_name = record { order = λ k l. refl; read = λ name c read. (utf8_key (is_utf8 name) name c refl read).1 }
-
--- ---- keys as byte strings and as slices
-
-same_key_bytes : (b : Bool) (name : List ℕ) → reads_slice (if b then text name else bytes name) ≡ reads_byte_string (if b then text name else bytes name)
-same_key_bytes true name = refl
-same_key_bytes false name = refl
-
-same_entries : (V : Meaning) (es : List (List ℕ × Tree)) → each_some (reads_entry reads_slice V) es ≡ each_some (reads_entry reads_byte_string V) es
-same_entries V [] = refl
-same_entries V ((name, t) ∷ es) =
-    ap (λ k. option_and_then (λ y. option_map (λ ys. y ∷ ys) (each_some (reads_entry reads_slice V) es)) (option_and_then (λ k. option_map (λ v. (name, pair k v)) (V t)) k)) (same_key_bytes (is_utf8 name) name)
-    ∙ ap (λ o. option_and_then (λ y. option_map (λ ys. y ∷ ys) o) (reads_entry reads_byte_string V (name, t))) (same_entries V es)
-
--- a map reads its keys alike as byte strings and as slices, for no key is an array
-pub same_maps : (V : Meaning) (t : Tree) → reads_map reads_slice V t ≡ reads_map reads_byte_string V t
-same_maps V null = refl
-same_maps V (boolean v) = refl
-same_maps V (integer v) = refl
-same_maps V (real v) = refl
-same_maps V (bytes v) = refl
-same_maps V (text v) = refl
-same_maps V (array v) = refl
-same_maps V (object us) = ap (option_map (λ m. list_of (map (λ e. e.1) (last_entries m)))) (same_entries V (entries us))
-same_maps V (template ks rs) = refl
-
-pub answers_alike : {A : Type 0} (K L : Meaning) (holds : A → Content → Type 0) (o z : State) (v : A) → ((t : Tree) → K t ≡ L t) → Answers K holds o z v → Answers L holds o z v
-answers_alike K L holds o z v same a = record {
-  tree = a.tree;
-  content = a.content;
-  text = a.text;
-  filled = a.filled;
-  read = sym (same a.tree) ∙ a.read;
-  held = a.held;
-  took = a.took;
-  state = a.state;
-}
-
-pub refuses_alike : (K L : Meaning) (needs : Needs) (e : Error) (o z : State) → ((t : Tree) → K t ≡ L t) → Refuses K needs e o z → Refuses L needs e o z
-refuses_alike K L needs e o z same r = record {
-  excuse = λ text rest w left. r.excuse text rest (record { tree = w.tree; content = w.content; filled = w.filled; read = same w.tree ∙ w.read }) left;
-  may = r.may;
-  lends = r.lends;
-  through = r.through;
-  failures = r.failures;
-}
-
-module _ {X Y : Type 0} (name_of : Y → List ℕ) (cmp : Y → Y → Ordering) (K : Meaning) (by : KeysByName name_of cmp K) (key_needs : Needs) (V : Meaning) (holds : X → Content → Type 0) (some : Needs) where
-  -- these entries were read of the map that was due in the state o
-  pub record AtEntry (o : State) (es : List (Y × X)) (u : OpenPairs) : Type 0 where
+module _ (T : MapOf) where
+  -- entries with these pairs were read of the map that was due in the state o
+  pub record AtEntry (o : State) (Held : HoldsPairs) (u : OpenPairs) : Type 0 where
     pub pairs : List (List ℕ × Content)
-    pub held : HoldsEntries name_of holds es pairs
-    pub inside : AtKey (reads_map K V) o (map_outlook K V pairs) u
+    pub held : Held pairs
+    pub inside : AtKey (reads_map T.keys T.vals) o (map_outlook T.keys T.vals pairs) u
     pub pending : u.pending ≡ false
 
-  pub map_start : (o : State) (u : OpenPairs) → OpensPairs o u → AtEntry o [] u
-  map_start o u opens = record {
+  pub map_start : (o : State) (Held : HoldsPairs) (u : OpenPairs) → Held [] → OpensPairs o u → AtEntry o Held u
+  map_start o Held u empty opens = record {
     pairs = [];
-    held = tt;
-    inside = inside_start (reads_map K V) (map_outlook K V []) o u (map_reads K V) opens;
+    held = empty;
+    inside = inside_start (reads_map T.keys T.vals) (map_outlook T.keys T.vals []) o u (map_reads T.keys T.vals) opens;
     pending = opens.pending;
   }
 
-  pub map_entry : (o : State) (es : List (Y × X)) (u t : OpenPairs) (e : Y × X) → AtEntry o es u → IsEntry K V (λ k. HoldsBytes (name_of k)) holds u t e → AtEntry o (insert_entry cmp es e.0 e.1) t
-  map_entry o es u t e h next =
+  -- an entry goes to the others as its pair does
+  abbrev pub PutsPair : HoldsPairs → HoldsPairs → T.Key × T.Val → Type 0
+  PutsPair Held After e = (d : Content) (ps : List (List ℕ × Content)) → T.holds e.1 d → Held ps → After (with_pair ps (T.name e.0, pair (byte_list (T.name e.0)) d))
+
+  pub map_entry : (o : State) (Held After : HoldsPairs) (u t : OpenPairs) (e : T.Key × T.Val) → AtEntry o Held u → IsEntry T.keys T.vals T.holds_key T.holds u t e → PutsPair Held After e → AtEntry o After t
+  map_entry o Held After u t e h next puts =
       let key = next.key in
       let value = next.value.answers in
-      let name = key_name K (λ k. HoldsBytes (name_of k)) u next.between e.0 key in
-      let read = key_read K (λ k. HoldsBytes (name_of k)) u next.between e.0 key in
+      let name = key_name T.keys T.holds_key u next.between e.0 key in
+      let read = key_read T.keys T.holds_key u next.between e.0 key in
       let c = key.answers.content in
-      let text : c ≡ byte_list name = by.read name c read in
-      let named : name_of e.0 ≡ name = same_text (name_of e.0) name (sym key.answers.held ∙ text) in
-      let read' : K (key_tree name) ≡ Some (byte_list name) = read ∙ ap Some text in
-      let made = map_next K V h.pairs name value.tree (byte_list name) value.content read' value.read in
-      let at = inside_key K (λ k. HoldsBytes (name_of k)) (reads_map K V) (map_outlook K V h.pairs) o u next.between e.0 h.inside key in
+      let text : c ≡ byte_list name = T.read name c read in
+      let named : T.name e.0 ≡ name = same_text (T.name e.0) name (sym (T.held e.0 c key.answers.held) ∙ text) in
+      let read' : T.keys (key_tree name) ≡ Some (byte_list name) = read ∙ ap Some text in
+      let made = map_next T.keys T.vals h.pairs name value.tree (byte_list name) value.content read' value.read in
+      let at = inside_key T.keys T.holds_key (reads_map T.keys T.vals) (map_outlook T.keys T.vals h.pairs) o u next.between e.0 h.inside key in
+      let put = with_pair h.pairs (name, pair (byte_list name) value.content) in
       record {
-        pairs = with_pair h.pairs (name, pair (byte_list name) value.content);
-        held = holds_insert name_of cmp by.order holds es h.pairs e.0 e.1 name value.content named value.held h.held;
-        inside = inside_value V holds (reads_map K V) (map_outlook K V h.pairs) (map_outlook K V (with_pair h.pairs (name, pair (byte_list name) value.content))) name o next.between t e.1 at next.value made;
+        pairs = put;
+        held = subst (λ n. After (with_pair h.pairs (n, pair (byte_list n) value.content))) named (puts value.content h.pairs value.held h.held);
+        inside = inside_value T.vals T.holds (reads_map T.keys T.vals) (map_outlook T.keys T.vals h.pairs) (map_outlook T.keys T.vals put) name o next.between t e.1 at next.value made;
         pending = ap (λ p. p.pending) next.value.after;
       }
 
-  pub map_end : (o z : State) (es : List (Y × X)) (u t : OpenPairs) {M : Type 0} (list : M → List (Y × X)) (m : M) → list m ≡ es → AtEntry o es u → NoEntry u t → ClosesPairs t z
-      → Answers (reads_map K V) (λ m. HoldsMap name_of holds (list m)) o z m
-  map_end o z es u t list m same h none closes =
-      inside_end (λ m. HoldsMap name_of holds (list m)) (reads_map K V) (map_outlook K V h.pairs) o z t (list_of (map (λ p. p.1) h.pairs)) m
-      (inside_same (reads_map K V) (map_outlook K V h.pairs) o u t h.inside none) closes refl
-      (record { pairs = h.pairs; list = refl; held = subst (λ es. HoldsEntries name_of holds es h.pairs) (sym same) h.held })
+  pub map_end : {M : Type 0} (holds : M → Content → Type 0) (o z : State) (Held : HoldsPairs) (u t : OpenPairs) (m : M) → ((ps : List (List ℕ × Content)) → Held ps → holds m (list_of (map (λ p. p.1) ps)))
+      → AtEntry o Held u → NoEntry u t → ClosesPairs t z → Answers (reads_map T.keys T.vals) holds o z m
+  map_end holds o z Held u t m whole h none closes =
+      inside_end holds (reads_map T.keys T.vals) (map_outlook T.keys T.vals h.pairs) o z t (list_of (map (λ p. p.1) h.pairs)) m
+      (inside_same (reads_map T.keys T.vals) (map_outlook T.keys T.vals h.pairs) o u t h.inside none) closes refl (whole h.pairs h.held)
 
-  pub map_refused : (e : Error) (o z : State) → RefusesFront bare (IsPairsHead o) e o.source z.source → Refuses (reads_map K V) (map_needs key_needs some) e o z
-  map_refused e o z u = opening_refused (reads_map K V) (map_outlook K V []) (map_needs key_needs some) e o z (map_reads K V) u
+  pub map_refused : (e : Error) (o z : State) → RefusesOpening bare (IsPairsHead o) e o z → Refuses (reads_map T.keys T.vals) (map_needs T.key_needs T.val_needs) e o z
+  map_refused e o z u = opening_refused (reads_map T.keys T.vals) (map_outlook T.keys T.vals []) (map_needs T.key_needs T.val_needs) e o z (map_reads T.keys T.vals) u.0
 
-  pub entry_refused : (e : Error) (o z : State) (es : List (Y × X)) (u : OpenPairs) → AtEntry o es u → RefusesEntry K V (λ k. HoldsBytes (name_of k)) key_needs some e u z → Refuses (reads_map K V) (map_needs key_needs some) e o z
-  entry_refused e o z es u h (inl refuses) =
-      key_refused K key_needs (map_needs key_needs some) (reads_map K V) (map_outlook K V h.pairs) e o z u (λ lent. either_left key_needs.lent some.lent lent) (λ memory. refl) (map_keys K V h.pairs) h.inside h.pending refuses
-  entry_refused e o z es u h (inr later) =
-      let name = key_name K (λ k. HoldsBytes (name_of k)) u later.between later.name later.key in
-      let at = inside_key K (λ k. HoldsBytes (name_of k)) (reads_map K V) (map_outlook K V h.pairs) o u later.between later.name h.inside later.key in
-      value_refused V some (map_needs key_needs some) (reads_map K V) (map_outlook K V h.pairs) name e o z later.between (λ lent. either_right key_needs.lent some.lent lent) (λ memory. refl)
-      (map_values K V h.pairs name) at (ap (λ p. p.pending) later.key.after) later.value
+  pub entry_refused : (e : Error) (o z : State) (Held : HoldsPairs) (u : OpenPairs) → AtEntry o Held u → RefusesEntry T.keys T.vals T.holds_key T.key_needs T.val_needs e u z → Refuses (reads_map T.keys T.vals) (map_needs T.key_needs T.val_needs) e o z
+  entry_refused e o z Held u h (inl refuses) =
+      key_refused T.keys T.key_needs (map_needs T.key_needs T.val_needs) (reads_map T.keys T.vals) (map_outlook T.keys T.vals h.pairs) e o z u (or_left T.key_needs.lent T.val_needs.lent) (λ memory. refl) (map_keys T.keys T.vals h.pairs) h.inside h.pending refuses
+  entry_refused e o z Held u h (inr later) =
+      let name = key_name T.keys T.holds_key u later.between later.name later.key in
+      let at = inside_key T.keys T.holds_key (reads_map T.keys T.vals) (map_outlook T.keys T.vals h.pairs) o u later.between later.name h.inside later.key in
+      value_refused T.vals T.val_needs (map_needs T.key_needs T.val_needs) (reads_map T.keys T.vals) (map_outlook T.keys T.vals h.pairs) name e o z later.between (or_right T.key_needs.lent T.val_needs.lent) (λ memory. refl)
+      (map_values T.keys T.vals h.pairs name) at (ap (λ p. p.pending) later.key.after) later.value
 
-  pub entry_room : (o : State) (es : List (Y × X)) (u : OpenPairs) → AtEntry o es u → Refuses (reads_map K V) (map_needs key_needs some) OutOfMemory o u.state
-  entry_room o es u h = room_refused (reads_map K V) (map_outlook K V h.pairs) (map_needs key_needs some) o u refl h.inside
+  entry_room : (o : State) (Held : HoldsPairs) (u : OpenPairs) → AtEntry o Held u → Refuses (reads_map T.keys T.vals) (map_needs T.key_needs T.val_needs) OutOfMemory o u.state
+  entry_room o Held u h = room_refused (reads_map T.keys T.vals) (map_outlook T.keys T.vals h.pairs) (map_needs T.key_needs T.val_needs) o u refl h.inside
+
+  -- no room for an entry that was read
+  pub insert_refused : (o : State) (Held : HoldsPairs) (u t : OpenPairs) (e : T.Key × T.Val) → AtEntry o Held u → IsEntry T.keys T.vals T.holds_key T.holds u t e → Refuses (reads_map T.keys T.vals) (map_needs T.key_needs T.val_needs) OutOfMemory o t.state
+  insert_refused o Held u t e h next = entry_room o (λ ps. Unit {0}) t (map_entry o Held (λ ps. Unit {0}) u t e h next (λ d ps held pairs. tt))
 
 pub entry_fewer : {A B : Type 0} (K V : Meaning) (holds_key : A → Content → Type 0) (holds : B → Content → Type 0) (u t : OpenPairs) (e : A × B) → IsEntry K V holds_key holds u t e → pairs_left t.wanted < pairs_left u.wanted
 entry_fewer K V holds_key holds u t e next =

@@ -6,6 +6,7 @@ use Rattle.std.proofs.KnownBytes.{Consumes-trans}
 use Rattle.std.proofs.lemmas.Int.{ints}
 use Rattle.bser_base.specs.Source as source
 use Rattle.bser_base.specs.Source.{Took, with_limit, sight_after}
+use Rattle.bser_base.proofs.Taken.{first_joined}
 use Rattle.bser_base.specs.Tree.{Tree}
 use Rattle.bser_base.specs.Grammar.{Spells}
 use Rattle.bser_base.specs.Expand.{expand}
@@ -44,6 +45,7 @@ took_announced : (a s t : source.State) (head body : List ℕ) → Took a (with_
     → Took a (with_limit a.limit t) (head ++ body) None
 took_announced a s t head body first announced second = record {
   bytes = Consumes-trans a.left s.left t.left head body first.bytes second.bytes;
+  first = first_joined a.sight s.sight head body None None first.sight first.first second.first;
   count = omega (arith, length-append head body, first.count, second.count);
   sight = second.sight;
   lends = second.lends ∙ first.lends;

@@ -86,7 +86,7 @@ key_of_field n k ks (entry name t us) text (names, h) =
       left = record { front = h.front; rest = h.rest; whole = h.whole; first = h.first; second = (others, h.second) };
     }
 
-first_key : (n : ℕ) (w : WantedPairs) (us : Entries) (text : List ℕ) → 0 < pairs_left w → FillsPairs n w us text → FirstKey n w us text
+pub first_key : (n : ℕ) (w : WantedPairs) (us : Entries) (text : List ℕ) → 0 < pairs_left w → FillsPairs n w us text → FirstKey n w us text
 first_key n (entries_of_object k) us text some h = key_of_entry n k us text some h
 first_key n (fields_of_row []) us text some h = absurd (omega (arith, some))
 first_key n (fields_of_row (k ∷ ks)) us text some h = key_of_field n k ks us text h
@@ -309,7 +309,7 @@ goes_on : (reads : Meaning) (o : State) (V : Content → Format) (u : OpenPairs)
 goes_on reads o V u h text rest ys f e = let p = h.within.only f.content text rest ys (due_as reads o text f) e in (p.0, p.1, (f.content, p.2))
 
 -- a refusal of the first part of what is left
-part_refused : (needs : Needs) (reads : Meaning) (V : Content → Format) (W : Format) (e : Error) (o z : State) (u : OpenPairs) → Inside reads o V u
+pub part_refused : (needs : Needs) (reads : Meaning) (V : Content → Format) (W : Format) (e : Error) (o z : State) (u : OpenPairs) → Inside reads o V u
     → ((c : Content) (text : List ℕ) → V c text → (first : List ℕ) × (second : List ℕ) × (text ≡ first ++ second) × W first) → RefusesFront needs W e u.state.source z.source → Refuses reads needs e o z
 part_refused needs reads V W e o z u h first refuses =
     sequel needs (λ x. (c : Content) × V c x) (FillsReadably reads o) e o.source u.state.source z.source h.taken (passed_by o.source u.state.source h.taken _ h.took) (goes_on reads o V u h)

@@ -23,7 +23,8 @@ use Rattle.serde_bser.specs.Tables.{TookPart, SpellsTable, IsTable}
 use Rattle.serde_bser.proofs.Refusals.{passed_by, first_part, sequel}
 use Rattle.serde_bser.proofs.Steps.{with_needs, narrower, unfit, unfit_here}
 use Rattle.serde_bser.proofs.Strings.{after_tag, took_tag}
-use Rattle.serde_bser.proofs.TemplateKeys.{took_then, by_next, looked}
+use Rattle.bser_base.proofs.Taken.{took_then}
+use Rattle.serde_bser.proofs.TemplateKeys.{by_next, looked}
 use Rattle.serde_bser.proofs.ContainerHeads.{Counted, items_head, items_begin, object_head, object_begins, counted, counted_head, table_head, array_at, table_at, some_items, no_items, items_look, some_object, value_row, name_object, items_kind, pairs_kind}
 
 -- ---- what was refused

@@ -2,7 +2,6 @@
 use Rattle.std.proofs.Common.{◌≡◌, ℕ, ◌≤◌, ◌<◌, ◌^◌, Bool, true, false, List, [], ◌∷◌, ◌++◌, Option, Some, None, length, refl, sym, ap, subst, ◌∙◌, arith, inl, inr, ◌⊎◌}
 use Rattle.std.specs.Prelude.{ℤ, pos, negsuc, if◌then◌else◌, FitsSigned}
 use Rattle.std.specs.Int.{w64, to_le_bytes}
-use Rattle.std.proofs.KnownBytes.{Consumes-trans}
 use Rattle.std.proofs.lemmas.Bool.{lt-ltb}
 use Rattle.std.proofs.lemmas.Int.{ints}
 use Rattle.bser_base.specs.Tree.{Tree, null, boolean, integer, real, bytes, text, array, object, template}
@@ -12,6 +11,7 @@ use Rattle.bser_base.specs.Expected.{Due, Fills, FillsNode, nothing_due, node_du
 use Rattle.bser_base.specs.ReadsScalars.{reads_bool, reads_unit, reads_real, reads_signed, is_signed}
 use Rattle.bser_base.specs.Source as source
 use Rattle.bser_base.specs.Source.{Took, sight_after, bytes_in_sight}
+use Rattle.bser_base.proofs.Taken.{took_then}
 use Rattle.bser_base.specs.Tagged.{TookInt, TookBits, IsInteger}
 use Rattle.bser_base.specs.TaggedRefusal.{Unwanted, ShortOf}
 use Rattle.bser_base.specs.declared.errors.Error.{Error}
@@ -102,18 +102,7 @@ some_text (x ∷ b) seen h = refl
 
 -- a look, and then bytes
 pub took_after_look : (a b c : source.State) (x : ℕ) (bs : List ℕ) → Took a b [] (Some x) → Took b c bs None → Took a c bs None
-took_after_look a b c x bs look took = record {
-  bytes = Consumes-trans a.left b.left c.left [] bs look.bytes took.bytes;
-  count = omega (arith, look.count, took.count);
-  sight = took.sight;
-  lends = took.lends ∙ look.lends;
-  working = look.working;
-  failed = took.failed;
-  failures = took.failures ∙ look.failures;
-  through = took.through ∙ look.through;
-  limit = took.limit ∙ look.limit;
-  held = took.held;
-}
+took_after_look a b c x bs = took_then a b c [] bs (Some x) None
 
 -- all of what is due was taken, after a look at its tag
 pub took_due : (s mid : State) (t : source.State) (x : ℕ) (u : Tree) (b : List ℕ) → TagInSight s mid x → Fills s.levels s.due u b → Took mid.source t b None → Took s.source t b (sight_after (length b) s.source.sight)

@@ -1,12 +1,12 @@
 -- Steps of skipping: what was taken, and what is refused.
-use Rattle.std.proofs.Common.{◌≡◌, ℕ, zero, suc, ◌≤◌, List, [], ◌∷◌, ◌++◌, Option, Some, None, length, length-append, refl, sym, ap, subst, ◌∙◌, arith}
+use Rattle.std.proofs.Common.{◌≡◌, ℕ, ◌≤◌, List, [], ◌∷◌, ◌++◌, Option, Some, None, length, refl, sym, ap, subst, ◌∙◌, arith}
 use Rattle.std.proofs.lemmas.List.{append-nil}
-use Rattle.std.proofs.KnownBytes.{Consumes-trans}
 use Rattle.std.specs.Prelude.{pos}
 use Rattle.bser_base.specs.Grammar.{Format, ◌then◌, SpellsCount}
 use Rattle.bser_base.specs.Content.{Needs}
 use Rattle.bser_base.specs.Source as source
 use Rattle.bser_base.specs.Source.{Took, IsNext, sight_after, bytes_in_sight}
+use Rattle.bser_base.proofs.Taken as taken
 use Rattle.bser_base.specs.Tagged.{IsLength}
 use Rattle.bser_base.specs.TaggedRefusal.{ShortOf}
 use Rattle.bser_base.specs.declared.errors.Error.{Error}
@@ -19,29 +19,7 @@ use Rattle.serde_bser.specs.Skip.{Within, Skips, SkipsFrom, SkipsCount, Counting
 use Rattle.serde_bser.proofs.Refusals.{first_part, sequel, passed_by, unwanted_front, may_refuse, no_failure}
 use Rattle.serde_bser.proofs.Strings.{took_tag}
 use Rattle.serde_bser.proofs.Skipping.{within_then, within_before, count_within}
-
-stays : (n : ℕ) → sight_after n None ≡ None
-stays zero = refl
-stays (suc n) = refl
-
-sights : (xs ys : List ℕ) (s m : Option ℕ) → m ≡ sight_after (length xs) s → sight_after (length ys) m ≡ sight_after (length (xs ++ ys)) s
-sights [] ys s m e = ap (sight_after (length ys)) e
-sights (x ∷ xs) ys s m e = ap (sight_after (length ys)) e ∙ stays (length ys)
-
--- one call after another
-pub took_then : (a b c : source.State) (xs ys : List ℕ) → Took a b xs (sight_after (length xs) a.sight) → Took b c ys (sight_after (length ys) b.sight) → Took a c (xs ++ ys) (sight_after (length (xs ++ ys)) a.sight)
-took_then a b c xs ys first second = subst (Took a c (xs ++ ys)) (sights xs ys a.sight b.sight first.sight) (record {
-  bytes = Consumes-trans a.left b.left c.left xs ys first.bytes second.bytes;
-  count = omega (arith, length-append xs ys, first.count, second.count);
-  sight = second.sight;
-  lends = second.lends ∙ first.lends;
-  working = first.working;
-  failed = second.failed;
-  failures = second.failures ∙ first.failures;
-  through = second.through ∙ first.through;
-  limit = second.limit ∙ first.limit;
-  held = second.held;
-})
+use Rattle.serde_bser.proofs.Within.{took_then}
 
 pub skips_then : (W V U : Format) (a b c : State) → Skips W V a b → Skips V U b c → Skips W U a c
 skips_then W V U a b c f g = record {
@@ -66,18 +44,7 @@ skips_from tag W V a b f = record { taken = tag ∷ f.rest; within = f.within; t
 
 -- a look, and then bytes
 look_took : (a b c : source.State) (seen : Option ℕ) (bs : List ℕ) → Took a b [] seen → Took b c bs None → Took a c bs None
-look_took a b c seen bs look took = record {
-  bytes = Consumes-trans a.left b.left c.left [] bs look.bytes took.bytes;
-  count = omega (arith, look.count, took.count);
-  sight = took.sight;
-  lends = took.lends ∙ look.lends;
-  working = look.working;
-  failed = took.failed;
-  failures = took.failures ∙ look.failures;
-  through = took.through ∙ look.through;
-  limit = took.limit ∙ look.limit;
-  held = took.held;
-}
+look_took a b c seen bs = taken.took_then a b c [] bs seen None
 
 -- a look, and then a first byte and more
 pub looked : (tag first : ℕ) (W V : Format) (a b c : State) → Took a.source b.source [] (Some tag) → b ≡ with_source a b.source → SkipsFrom first W V b c → SkipsFrom first W V a c

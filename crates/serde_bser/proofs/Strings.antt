@@ -1,13 +1,13 @@
 -- Strings that are read in steps: a tag in sight, a length, and as many bytes.
-use Rattle.std.proofs.Common.{◌≡◌, ℕ, zero, suc, List, [], ◌∷◌, ◌++◌, Option, Some, None, length, length-append, append_assoc, refl, sym, ap, subst, ◌∙◌, arith, IsUtf8}
+use Rattle.std.proofs.Common.{◌≡◌, ℕ, zero, suc, List, [], ◌∷◌, ◌++◌, Option, Some, None, length, append_assoc, refl, sym, ap, subst, ◌∙◌, IsUtf8}
 use Rattle.std.proofs.lemmas.List.{append-nil}
 use Rattle.std.proofs.lemmas.Option.{some_pair_parts}
-use Rattle.std.proofs.KnownBytes.{Consumes-trans}
 use Rattle.std.specs.Prelude.{ℤ, pos, Result, Ok, Err, IfOk, IfErr, IsOk}
 use Rattle.bser_base.specs.Grammar.{Format, Bytes, SpellsInteger, SpellsCount, ◌then◌}
 use Rattle.bser_base.specs.Plain.{string}
 use Rattle.bser_base.specs.Content.{Needs}
 use Rattle.bser_base.specs.Source.{State, Took, sight_after, bytes_in_sight}
+use Rattle.bser_base.proofs.Taken.{took_then}
 use Rattle.bser_base.specs.Tagged.{TookInt, IsInteger}
 use Rattle.bser_base.specs.TaggedRefusal.{Unwanted}
 use Rattle.bser_base.specs.declared.errors.Error.{Error}
@@ -86,18 +86,7 @@ none_after n s e = ap (sight_after n) e ∙ stays n
 
 -- one call after another
 took_both : (a b c : State) (xs ys : List ℕ) → Took a b xs None → Took b c ys None → Took a c (xs ++ ys) None
-took_both a b c xs ys first second = record {
-  bytes = Consumes-trans a.left b.left c.left xs ys first.bytes second.bytes;
-  count = omega (arith, length-append xs ys, first.count, second.count);
-  sight = second.sight;
-  lends = second.lends ∙ first.lends;
-  working = first.working;
-  failed = second.failed;
-  failures = second.failures ∙ first.failures;
-  through = second.through ∙ first.through;
-  limit = second.limit ∙ first.limit;
-  held = second.held;
-}
+took_both a b c xs ys = took_then a b c xs ys None None
 
 pub took_string : (tag : ℕ) (len : ℤ) (s : List ℕ) (a b c d : State) → a.sight ≡ Some tag → Took a b (bytes_in_sight a.sight) None → TookInt b c len → pos (length s) ≡ len → Took c d s (sight_after (length s) c.sight)
     → TookString tag a d s

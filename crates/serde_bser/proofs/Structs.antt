@@ -2,20 +2,21 @@
 use Rattle.std.proofs.Common.{◌≡◌, ℕ, Bool, true, false, List, [], ◌∷◌, zero, suc, Option, Some, None, option_and_then, option_map, is_some, refl, sym, ap, subst, ◌∙◌, ◌<◌, arith}
 use Rattle.std.specs.Prelude.{if◌then◌else◌}
 use Rattle.std.specs.Str.{is_utf8}
-use Rattle.bser_base.specs.Tree.{Tree, null, boolean, integer, real, bytes, text, array, object, template, Entries}
-use Rattle.bser_base.specs.Content.{Content, byte_list, Meaning, Needs}
+use Rattle.bser_base.specs.Tree.{Tree, null, boolean, integer, real, bytes, text, array, object, template, Entries, entries}
+use Rattle.bser_base.specs.Content.{Content, one, byte_list, Meaning, Needs}
 use Rattle.bser_base.specs.ReadsScalars.{reads_string, utf8_of}
 use Rattle.bser_base.specs.Expected.{WantedPairs, entries_of_object, fields_of_row}
 use Rattle.bser_base.specs.declared.errors.Error.{Error}
-use Rattle.serde_bser.specs.State.{State}
-use Rattle.serde_bser.specs.Reading.{Answers, Refuses, RefusesFront, IsRefusal, bare}
-use Rattle.serde_bser.specs.Parts.{pairs_left, pairs_after}
-use Rattle.serde_bser.specs.Access.{OpenPairs, OpensPairs, IsPairsHead, IsKey, NoEntry, RefusesKey, IsValue, RefusesValue, ClosesPairs, LeavesPairs}
+use Rattle.serde_bser.specs.State.{State, awaiting, refused}
+use Rattle.serde_bser.specs.Reading.{Answers, Refuses, IsRefusal, bare}
+use Rattle.serde_bser.specs.Parts.{pairs_left, pair_value, pairs_after}
+use Rattle.serde_bser.specs.Access.{OpenPairs, OpensPairs, IsPairsHead, RefusesOpening, IsKey, NoEntry, RefusesKey, IsValue, RefusesValue, ClosesPairs, LeavesPairs}
 use Rattle.serde_bser.specs.Fields.{field_of, HoldsField}
 use Rattle.bser_base.specs.Source as source
 use Rattle.serde_bser.specs.Fold.{folds, comes_to, by_name, struct_of, read_once}
+use Rattle.serde_bser.specs.Slots.{Keeps, Steps, FillsStep, RefusesStep}
 use Rattle.serde_bser.specs.declared.de.field.Field.{Field}
-use Rattle.serde_bser.proofs.Objects.{Outlook, ReadsObjects, AtKey, AtValue, Stays, ReadsKeys, key_name, key_read, inside_start, inside_key, inside_value, inside_same, inside_end, opening_refused, key_refused, value_refused, key_unread, end_unread}
+use Rattle.serde_bser.proofs.Objects.{Outlook, ReadsObjects, AtKey, AtValue, Stays, ReadsKeys, key_name, key_read, inside_start, inside_key, inside_value, inside_same, inside_end, opening_refused, key_refused, value_refused, key_unread, end_unread, part_refused, ValueLeft}
 
 -- ---- steps that may refuse
 
@@ -92,7 +93,7 @@ module _ {A : Type 0} (names : List (List ℕ)) (step : A → Field → Tree →
       }
 
   -- the step that a field makes
-  made : (a : A) (f : Field) (name : List ℕ) (t : Tree) (es : List (List ℕ × Tree)) → is_utf8 name ≡ true → f ≡ field_of names name → outlook a ((name, t) ∷ es) ≡ option_and_then finish (option_and_then (λ b. folds (by_name names step) b es) (step a f t))
+  pub made : (a : A) (f : Field) (name : List ℕ) (t : Tree) (es : List (List ℕ × Tree)) → is_utf8 name ≡ true → f ≡ field_of names name → outlook a ((name, t) ∷ es) ≡ option_and_then finish (option_and_then (λ b. folds (by_name names step) b es) (step a f t))
   made a f name t es utf8 found = rw (utf8, found) refl
 
   pub struct_value : {V : Type 0} (T : Meaning) (holds : V → Content → Type 0) (o : State) (a b : A) (f : Field) (u t : OpenPairs) (v : V) → AtFieldValue o a f u → (value : IsValue T holds u t v) → step a f value.answers.tree ≡ Some b → AtField o b t
@@ -102,14 +103,24 @@ module _ {A : Type 0} (names : List (List ℕ)) (step : A → Field → Tree →
     pending = ap (λ z. z.pending) value.after;
   }
 
+  -- the value of a field was taken, by which its step leads on
+  pub struct_step : (o : State) (a : A) (f : Field) (u t : OpenPairs) (keeps : A → Type 0) → AtFieldValue o a f u → (s : Steps (λ b. step b f) keeps a u t) → AtField o s.next t
+  struct_step o a f u t keeps h s =
+      let k = s.taken in
+      struct_value (λ v. Some one) (λ (v : Unit {0}) c. Unit {0}) o a s.next f u t tt h (record {
+        key = k.key;
+        answers = record { tree = s.tree; content = one; text = k.text; filled = k.filled; read = refl; held = tt; took = k.took; state = k.state };
+        after = k.after;
+      }) s.made
+
   pub struct_end : {V : Type 0} (holds : V → Content → Type 0) (o z : State) (a : A) (u t : OpenPairs) (c : Content) (v : V) → AtField o a u → NoEntry u t → ClosesPairs t z → finish a ≡ Some c → holds v c → Answers (struct_of names step start finish) holds o z v
   struct_end holds o z a u t c v h none closes read held =
       inside_end holds (struct_of names step start finish) (outlook a) o z t c v (inside_same (struct_of names step start finish) (outlook a) o u t h.inside none) closes read held
 
   -- ---- what is refused
 
-  pub opening : (needs : Needs) (e : Error) (o z : State) → RefusesFront bare (IsPairsHead o) e o.source z.source → Refuses (struct_of names step start finish) needs e o z
-  opening needs e o z u = opening_refused (struct_of names step start finish) (outlook start) needs e o z reads_objects u
+  pub opening : (needs : Needs) (e : Error) (o z : State) → RefusesOpening bare (IsPairsHead o) e o z → Refuses (struct_of names step start finish) needs e o z
+  opening needs e o z u = opening_refused (struct_of names step start finish) (outlook start) needs e o z reads_objects u.0
 
   reads_names : (a : A) → ReadsKeys reads_string (outlook a)
   reads_names a name t es c h =
@@ -132,6 +143,16 @@ module _ {A : Type 0} (names : List (List ℕ)) (step : A → Field → Tree →
       let q = and_then_some (λ b. folds (by_name names step) b es) (step a f t) p.0 p.1 in
       by t q.0 q.1)
       h.inside h.pending refuses
+
+  -- the value of a field is refused, by which its step leads on
+  pub step_refused : (needs : Needs) (e : Error) (o z : State) (a : A) (f : Field) (u : OpenPairs) → AtFieldValue o a f u → RefusesStep (λ b. step b f) needs e a u z → Refuses (struct_of names step start finish) needs e o z
+  step_refused needs e o z a f u h refuses =
+      part_refused needs (struct_of names step start finish) (ValueLeft (outlook a) h.name u.state.levels u.wanted) (FillsStep (λ b. step b f) a (awaiting (pair_value u.wanted) u.state)) e o z u h.inside
+      (λ c text v.
+      let p = and_then_some finish (option_and_then (λ b. folds (by_name names step) b (entries v.parts)) (step a f v.value)) c (sym (made a f h.name v.value (entries v.parts) h.utf8 h.found) ∙ v.read) in
+      let q = and_then_some (λ b. folds (by_name names step) b (entries v.parts)) (step a f v.value) p.0 p.1 in
+      (v.filled.front, v.filled.rest, v.filled.whole, record { tree = v.value; next = q.0; made = q.1; filled = v.filled.first }))
+      (refuses h.pending)
 
   -- a field that no step reads
   pub field_unread : (needs : Needs) (e : Error) (o z : State) (a : A) (f : Field) (u : OpenPairs) → AtFieldValue o a f u → ((t : Tree) → step a f t ≡ None) → IsRefusal e → Stays u.state.source z.source → Refuses (struct_of names step start finish) needs e o z
@@ -163,11 +184,6 @@ fewer (fields_of_row []) h = absurd (omega (arith, h))
 fewer (fields_of_row (k ∷ ks)) h = omega arith
 
 -- ---- variables of fields
-
--- a variable of a field that was read or was not, and what it holds
-abbrev pub Keeps : {A : Type 0} → (A → Content → Type 0) → Option A → Option Content → Type 0
-Keeps holds None c = c ≡ None
-Keeps holds (Some v) c = (d : Content) × (c ≡ Some d) × holds v d
 
 pub keeps_not : {A : Type 0} (holds : A → Content → Type 0) (v : Option A) (c : Option Content) (b : Bool) → b ≡ is_some v → b ≡ false → Keeps holds v c → c ≡ None
 keeps_not holds None c b e f h = h
@@ -216,3 +232,9 @@ stays_here a = record { lends = refl; through = refl; failures = refl }
 -- closing an object takes nothing
 pub closed_stays : (u : OpenPairs) (z : State) → ClosesPairs u z → Stays u.state.source z.source
 closed_stays u z closes = record { lends = ap (λ s. s.source.lends) closes.state; through = ap (λ s. s.source.through) closes.state; failures = ap (λ s. s.source.failures) closes.state }
+
+-- a refusal after it was closed takes nothing either
+pub closed_refused : (u : OpenPairs) (z y : State) → ClosesPairs u z → y ≡ refused z → Stays u.state.source y.source
+closed_refused u z y closes same =
+    let c = closed_stays u z closes in
+    record { lends = ap (λ s. s.source.lends) same ∙ c.lends; through = ap (λ s. s.source.through) same ∙ c.through; failures = ap (λ s. s.source.failures) same ∙ c.failures }

@@ -2,13 +2,13 @@
 use Rattle.std.proofs.Common.{◌≡◌, inl, inr, ◌⊎◌, ℕ, ◌+◌, ◌<◌, List, [], ◌∷◌, ◌++◌, Option, Some, None, true, length, map, length-append, append_assoc, refl, sym, ap, subst, ◌∙◌, arith, IsUtf8}
 use Rattle.std.proofs.lemmas.List.{append_cancel_left, append_cancel_right, append-nil}
 use Rattle.std.proofs.lemmas.Option.{some_pair_parts}
-use Rattle.std.proofs.KnownBytes.{Consumes-trans}
 use Rattle.std.proofs.lemmas.Int.{ints}
 use Rattle.std.specs.Prelude.{ℤ, pos, negsuc, ◌<ℤ◌, Result, Ok, Err, is_err, MatchResult}
 use Rattle.bser_base.specs.Content.{Needs}
 use Rattle.bser_base.specs.Grammar.{Format, Bytes, SpellsInteger, SpellsCount, SpellsKey, Each, ◌then◌}
 use Rattle.bser_base.specs.Plain.{Reader, ◌>>=◌, next, string, key, count, many}
 use Rattle.bser_base.specs.Source.{State, Took, IsNext, sight_after, bytes_in_sight}
+use Rattle.bser_base.proofs.Taken.{took_then}
 use Rattle.bser_base.specs.Tagged.{TookInt, IsInteger, IsLength, with_failure}
 use Rattle.bser_base.specs.TaggedRefusal.{Unwanted, BytesRefused, NegativeLength}
 use Rattle.bser_base.specs.declared.errors.Error.{Error}
@@ -26,20 +26,6 @@ use Rattle.serde_bser.proofs.Steps.{with_needs, narrower, unfit}
 use Rattle.serde_bser.proofs.Strings.{len_refused, bytes_refused, took_string}
 
 -- ---- calls, one after another
-
-pub took_then : (a b c : State) (xs ys : List ℕ) (seen last : Option ℕ) → Took a b xs seen → Took b c ys last → Took a c (xs ++ ys) last
-took_then a b c xs ys seen last first second = record {
-  bytes = Consumes-trans a.left b.left c.left xs ys first.bytes second.bytes;
-  count = omega (arith, length-append xs ys, first.count, second.count);
-  sight = second.sight;
-  lends = second.lends ∙ first.lends;
-  working = first.working;
-  failed = second.failed;
-  failures = second.failures ∙ first.failures;
-  through = second.through ∙ first.through;
-  limit = second.limit ∙ first.limit;
-  held = second.held;
-}
 
 -- a refusal after a look
 pub looked : (needs : Needs) (W : Format) (e : Error) (a b c : State) (seen : Option ℕ) → Took a b [] seen → RefusesFront needs W e b c → RefusesFront needs W e a c

@@ -2,7 +2,6 @@
 use Rattle.std.proofs.Common.{◌≡◌, ℕ, zero, suc, ◌<◌, ℤ, pos, negsuc, Bool, true, false, List, [], ◌∷◌, ◌++◌, Option, Some, None, length, get_or, refl, sym, ap, subst, ◌∙◌, arith, IsUtf8, inl, inr}
 use Rattle.std.specs.Prelude.{option_map, map, nat_eq, Result, Ok, Err, MatchResult, is_err}
 use Rattle.std.specs.Io.KnownBytes.{Consumes}
-use Rattle.std.proofs.KnownBytes.{Consumes-trans}
 use Rattle.bser_base.specs.Grammar.{Format, Given}
 use Rattle.bser_base.specs.Content.{byte_list, Meaning}
 use Rattle.bser_base.specs.ReadsScalars.{string_bytes_of, utf8_of, reads_slice, reads_string}
@@ -10,6 +9,7 @@ use Rattle.bser_base.specs.Expected.{nothing_due, name_due, row_due}
 use Rattle.bser_base.specs.Held.{HoldsWithin}
 use Rattle.bser_base.specs.Source as source
 use Rattle.bser_base.specs.Source.{Took, IsNext}
+use Rattle.bser_base.proofs.Taken.{took_then}
 use Rattle.bser_base.specs.Tagged.{with_failure}
 use Rattle.bser_base.specs.TaggedRefusal.{BytesRefused, NegativeLength}
 use Rattle.bser_base.specs.declared.errors.Error.{Error}
@@ -157,18 +157,7 @@ counted_refused (negsuc n) e a b h =
 
 -- a look, and then a call
 look_then : (a mid b : source.State) (tag : ℕ) (text : List ℕ) → Took a mid [] (Some tag) → Took mid b text None → Took a b text None
-look_then a mid b tag text look took = record {
-  bytes = Consumes-trans a.left mid.left b.left [] text look.bytes took.bytes;
-  count = omega (arith, look.count, took.count);
-  sight = took.sight;
-  lends = took.lends ∙ look.lends;
-  working = look.working;
-  failed = took.failed;
-  failures = took.failures ∙ look.failures;
-  through = took.through ∙ look.through;
-  limit = took.limit ∙ look.limit;
-  held = took.held;
-}
+look_then a mid b tag text = took_then a mid b [] text (Some tag) None
 
 taken_under : (m : Bool) (a mid b : State) (s : List ℕ) → TagInSight a mid (string_tag m) → TookString (string_tag m) mid.source b.source s → b ≡ past mid b.source → TookBytes a b m s
 taken_under m a mid b s look took state = record {
@@ -216,6 +205,7 @@ named_at kept (suc place) (x ∷ ks) k h e = named_at kept place ks k (omega ari
 pub took_nothing : (a : source.State) → a.failed ≡ false → HoldsWithin a → Took a a [] a.sight
 took_nothing a working holds = record {
   bytes = at a.left;
+  first = λ b e. e;
   count = omega arith;
   sight = refl;
   lends = refl;

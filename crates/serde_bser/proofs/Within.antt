@@ -1,8 +1,7 @@
 -- A container that is read in steps: what was taken, and what is left to take.
-use Rattle.std.proofs.Common.{◌≡◌, ℕ, zero, suc, ◌+◌, ◌-◌, ◌≤◌, max, true, List, [], ◌∷◌, ◌++◌, length, length-append, append_assoc, Option, Some, None, refl, sym, ap, subst, ◌∙◌, arith, inl, inr}
+use Rattle.std.proofs.Common.{◌≡◌, ℕ, zero, suc, ◌+◌, true, List, [], ◌∷◌, ◌++◌, length, length-append, append_assoc, Option, Some, None, refl, sym, ap, subst, ◌∙◌, arith, inl, inr}
 use Rattle.std.proofs.lemmas.List.{append_cancel_left, append_cancel_right}
 use Rattle.std.proofs.lemmas.Option.{some_pair_parts}
-use Rattle.std.proofs.KnownBytes.{Consumes-trans}
 use Rattle.bser_base.specs.Tree.{Tree, null, object, Fields, fields, fields_of}
 use Rattle.bser_base.specs.Grammar.{Format, Each, Spells, SpellsString, SpellsField}
 use Rattle.bser_base.specs.Expand.{expand, expand_fields, key_tree}
@@ -10,7 +9,8 @@ use Rattle.bser_base.specs.Plain.{Reader, any_string, field_of, many, value}
 use Rattle.bser_base.specs.Content.{Content, Meaning, Needs}
 use Rattle.bser_base.specs.Expected.{Due, Fills, nothing_due, node_due, key_due, field_due, name_due, row_due}
 use Rattle.bser_base.specs.Source as source
-use Rattle.bser_base.specs.Source.{Took, sight_after, bytes_in_sight}
+use Rattle.bser_base.specs.Source.{Took, sight_after}
+use Rattle.bser_base.proofs.Taken as taken
 use Rattle.bser_base.specs.declared.errors.Error.{Error}
 use Rattle.bser_base.specs.declared.errors.Error.TheVariants.{DeCustom, DeReaderError, OutOfMemory}
 use Rattle.bser_base.specs.declared.errors.Message.TheVariants.{Fixed}
@@ -67,18 +67,7 @@ pub took_then : (a b c : source.State) (xs ys : List ℕ) → Took a b xs (sight
 took_then a b c xs ys first second =
     let seen : sight_after (length ys) b.sight ≡ sight_after (length (xs ++ ys)) a.sight =
     ap (sight_after (length ys)) first.sight ∙ sight_by (length xs) (length ys) a.sight ∙ ap (λ n. sight_after n a.sight) (sym (length-append xs ys)) in
-    record {
-      bytes = Consumes-trans a.left b.left c.left xs ys first.bytes second.bytes;
-      count = omega (arith, length-append xs ys, first.count, second.count);
-      sight = second.sight ∙ seen;
-      lends = second.lends ∙ first.lends;
-      working = first.working;
-      failed = second.failed;
-      failures = second.failures ∙ first.failures;
-      through = second.through ∙ first.through;
-      limit = second.limit ∙ first.limit;
-      held = subst (λ s. length c.held ≤ max (c.limit - c.count) (length (bytes_in_sight s))) seen second.held;
-    }
+    subst (Took a c (xs ++ ys)) seen (taken.took_then a b c xs ys (sight_after (length xs) a.sight) (sight_after (length ys) b.sight) first second)
 
 -- ---- one front
 

@@ -10,7 +10,7 @@ use Rattle.bser_base.specs.declared.errors.Error.{Error}
 use Rattle.bser_base.specs.declared.errors.ReadCause.TheVariants.{Failed}
 use Rattle.bser_base.specs.declared.errors.Error.TheVariants.{DeReaderError}
 use Rattle.serde_bser.specs.State.{State, awaiting, refused}
-use Rattle.serde_bser.specs.Reading.{Answers, Refuses, IsRefusal}
+use Rattle.serde_bser.specs.Reading.{Answers, Refuses, RefusesFront, IsRefusal}
 use Rattle.serde_bser.specs.Parts.{BeginsItems, BeginsPairs, items_left, item_due, items_after, pairs_left, pair_key, pair_value, pairs_after}
 
 -- an open array: what it wants, and the levels and the number of open containers outside
@@ -66,6 +66,10 @@ IsItemsHead s text = (w : WantedItems) × BeginsItems s.levels s.due w text
 -- the head of some object or row
 abbrev pub IsPairsHead : State → Format
 IsPairsHead s text = (w : WantedPairs) × BeginsPairs s.levels s.due w text
+
+-- no container is opened, and each later call is refused
+abbrev pub RefusesOpening : Needs → Format → Error → State → State → Type 0
+RefusesOpening needs W e old new = RefusesFront needs W e old.source new.source × (new.source.failed ≡ true)
 
 -- ---- items
 

@@ -1,7 +1,7 @@
 -- What values of the types that are read hold.
-use Rattle.std.specs.Prelude.{◌≡◌, ℕ, ℤ, pos, Bool}
+use Rattle.std.specs.Prelude.{◌≡◌, ℕ, ℤ, pos, Bool, Option, Some, None}
 use Rattle.std.specs.Global.{Box}
-use Rattle.bser_base.specs.Content.{Content, one, truth, number}
+use Rattle.bser_base.specs.Content.{Content, one, truth, number, nothing, just}
 use Rattle.serde_bser.specs.declared.de.impls.scalars.RealBits.{RealBits}
 
 -- a truth value
@@ -27,3 +27,8 @@ HoldsOne v c = c ≡ one
 -- what the value in the box holds
 abbrev pub HoldsBox : {A : Type 0} → (A → Content → Type 0) → Box A → Content → Type 0
 HoldsBox holds b c = holds b.value c
+
+-- nothing, or what the value inside holds
+abbrev pub HoldsOption : {A : Type 0} → (A → Content → Type 0) → Option A → Content → Type 0
+HoldsOption holds None c = c ≡ nothing
+HoldsOption holds (Some v) c = (inner : Content) × (c ≡ just inner) × holds v inner

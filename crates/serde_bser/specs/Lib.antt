@@ -7,6 +7,7 @@ pub mod Fields
 pub mod Files
 pub mod HoldsMaps
 pub mod Fold
+pub mod Slots
 pub mod Heads
 pub mod Nodes
 pub mod Messages
@@ -23,3 +24,8 @@ pub mod HoldsTexts
 pub mod HoldsLists
 pub mod Required
 pub mod ScalarAnswer
+pub mod Building
+pub mod BuildingSteps
+pub mod Variants
+pub mod EnumAccess
+pub mod TestVariants

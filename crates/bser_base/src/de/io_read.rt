@@ -122,6 +122,22 @@ impl<S: Source> IoRead<S> {
         }
     }
 
+    /// Takes what a block brings, where it brings more than is missing.
+    fn take_block(&mut self, scratch: &mut Vec<u8>, len: usize) -> Result<(), ReadCause>
+        requires none { block_bytes self.old.block ≡ [] }
+        requires working { self.old.failed ≡ false }
+        requires room { length scratch.old.items < len }
+        ensures ok { OnOk result (Gathered (io_at S.remaining S.failures S.through self.old) (io_at S.remaining S.failures S.through self.new) scratch.old.items scratch.new.items) }
+        ensures all { OnOk result ((length scratch.new.items ≡ len) ⊎ ((length scratch.new.items < len) × (block_bytes self.new.block ≡ []))) }
+        ensures err { IfErr result (λ e. Refused e (io_at S.remaining S.failures S.through self.old) (io_at S.remaining S.failures S.through self.new) (len - length scratch.old.items)) }
+    {
+        if len - scratch.len() >= self.ahead() {
+            return Ok(());
+        }
+        self.refill()?;
+        self.take_held(scratch, len)
+    }
+
     /// Fills `scratch` from the reader, where nothing is held.
     fn take_rest(&mut self, scratch: &mut Vec<u8>, len: usize) -> Result<(), ReadCause>
         requires none { block_bytes self.old.block ≡ [] }
@@ -156,12 +172,9 @@ impl<S: Source> IoRead<S> {
         if scratch.len() == len {
             return Ok(());
         }
-        if len - scratch.len() < self.ahead() {
-            self.refill()?;
-            self.take_held(scratch, len)?;
-            if scratch.len() == len {
-                return Ok(());
-            }
+        self.take_block(scratch, len)?;
+        if scratch.len() == len {
+            return Ok(());
         }
         self.take_rest(scratch, len)
     }

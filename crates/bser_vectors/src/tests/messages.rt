@@ -92,25 +92,123 @@ fn capabilities_are_told(rt: HostRuntime) -> Tested {
     Ok(())
 }
 
-/// Until arrays, objects and templates are read.
 #[test]
-fn containers_are_refused_as_unknown_items(rt: HostRuntime) -> Tested {
-    let cases: [Case; 3] = [
+fn containers(rt: HostRuntime) -> Tested {
+    let cases: [Case; 19] = [
         (
-            "an array",
-            b"\x00\x02\0\0\0\0\x03\x03\x00\x03\x00",
-            "E1 next item 0",
+            "rows of a template",
+            b"\x00\x02\x00\x00\x00\x00\x05\x28\x00\x00\x00\x0b\x00\x03\x03\x02\x03\x03abc\x02\x03\x03def\x02\x03\x03ghi\x03\x02\x03\x7b\x02\x03\x03bar\x0a\x04\xc8\x01\x0c\x04\x15\x03",
+            "[{616263:i123,646566:b626172,676869:n},{616263:i456,646566:n,676869:i789}]",
         ),
         (
-            "an object",
-            b"\x00\x02\0\0\0\0\x03\x03\x01\x03\x00",
-            "E1 next item 1",
+            "a template without keys and rows",
+            b"\x00\x02\x00\x00\x00\x00\x03\x06\x0b\x00\x03\x00\x03\x00",
+            "[]",
         ),
         (
-            "a template",
-            b"\x00\x02\0\0\0\0\x03\x06\x0b\x00\x03\x00\x03\x00",
-            "E1 next item 11",
+            "a row without keys",
+            b"\x00\x02\x00\x00\x00\x00\x03\x06\x0b\x00\x03\x00\x03\x01",
+            "C7",
+        ),
+        (
+            "a list of keys that is null",
+            b"\x00\x02\x00\x00\x00\x00\x03\x02\x0b\x0a",
+            "E1 template keys 10",
+        ),
+        (
+            "the last of equal keys",
+            b"\x00\x02\x00\x00\x00\x00\x03\x0f\x01\x03\x02\x0d\x03\x01a\x03\x01\x0d\x03\x01a\x03\x02",
+            "{61:i2}",
+        ),
+        (
+            "a key that is not UTF-8",
+            b"\x00\x02\x00\x00\x00\x00\x03\x08\x01\x03\x01\x02\x03\x01\xff\x0a",
+            "E6 Utf8",
+        ),
+        (
+            "a key that is an integer",
+            b"\x00\x02\x00\x00\x00\x00\x03\x06\x01\x03\x01\x03\x01\x0a",
+            "E1 map key 3",
+        ),
+        (
+            "an empty array",
+            b"\x00\x02\x00\x00\x00\x00\x03\x03\x00\x03\x00",
+            "[]",
+        ),
+        (
+            "a negative count",
+            b"\x00\x02\x00\x00\x00\x00\x03\x03\x00\x03\xff",
+            "C2",
+        ),
+        (
+            "a count that is null",
+            b"\x00\x02\x00\x00\x00\x00\x03\x02\x00\x0a",
+            "E1 integer 10",
+        ),
+        (
+            "the last of a template's equal keys",
+            b"\x00\x02\x00\x00\x00\x00\x03\x12\x0b\x00\x03\x02\x0d\x03\x01a\x0d\x03\x01a\x03\x01\x03\x01\x03\x02",
+            "[{61:i2}]",
+        ),
+        (
+            "a template's key that is an integer",
+            b"\x00\x02\x00\x00\x00\x00\x03\x06\x0b\x00\x03\x01\x03\x01",
+            "E1 template key 3",
+        ),
+        (
+            "a template's key that is not UTF-8",
+            b"\x00\x02\x00\x00\x00\x00\x03\x0a\x0b\x00\x03\x01\x02\x03\x01\xff\x03\x00",
+            "E6 Utf8",
+        ),
+        (
+            "a template written out",
+            b"\x00\x02\x00\x00\x00\x00\x03\x3d\x00\x03\x02\x01\x03\x03\x02\x03\x03abc\x03\x7b\x02\x03\x03def\x02\x03\x03bar\x02\x03\x03ghi\x0a\x01\x03\x03\x02\x03\x03abc\x04\xc8\x01\x02\x03\x03def\x0a\x02\x03\x03ghi\x04\x15\x03",
+            "[{616263:i123,646566:b626172,676869:n},{616263:i456,646566:n,676869:i789}]",
+        ),
+        (
+            "a string cut short",
+            b"\x00\x02\x00\x00\x00\x00\x03\x0d\x02\x06\x00\x00\x00\x00\x00\x00\x00\x40abc",
+            "E6 Eof",
+        ),
+        (
+            "an array cut short",
+            b"\x00\x02\x00\x00\x00\x00\x03\x0a\x00\x06\x00\x00\x00\x00\x00\x00\x00\x40",
+            "E6 Eof",
+        ),
+        (
+            "many rows without keys",
+            b"\x00\x02\x00\x00\x00\x00\x03\x0d\x0b\x00\x03\x00\x06\x00\x00\x00\x00\x00\x00\x00\x40",
+            "C7",
+        ),
+        (
+            "empty objects in an array",
+            b"\x00\x02\x00\x00\x00\x00\x03\x09\x00\x03\x02\x01\x03\x00\x01\x03\x00",
+            "[{},{}]",
+        ),
+        (
+            "objects in an array",
+            b"\x00\x02\x00\x00\x00\x00\x03\x13\x00\x03\x02\x01\x03\x01\x0d\x03\x01a\x0a\x01\x03\x01\x0d\x03\x01b\x0a",
+            "[{61:n},{62:n}]",
         ),
     ];
     check_cases(&rt, rt.alloc(), &cases)
+}
+
+#[test]
+fn arrays_as_deep_as_the_limit(rt: HostRuntime) -> Tested {
+    let alloc = rt.alloc();
+    let mut message = Vec::from_slice(alloc, b"\x00\x02\0\0\0\0\x04\x80\x01")?;
+    let mut answer = String::new(alloc);
+    for _ in 0..127 {
+        message.extend_from_slice(b"\x00\x03\x01")?;
+        answer.push('[')?;
+    }
+    message.extend_from_slice(b"\x00\x03\x00")?;
+    answer.push('[')?;
+    for _ in 0..128 {
+        answer.push(']')?;
+    }
+    let taken = message.len();
+    assert!(rt; first_mismatch(alloc, &message, answer.as_str(), taken)?.is_none());
+    Ok(())
 }

@@ -9,6 +9,10 @@ use serde_bser::from_reader;
 use serde_bser::value::Value;
 use std::io::ErrorKind;
 
+/// Two rows of three fields each.
+const ROWS: &[u8] =
+    b"\x00\x02\0\0\0\0\x05\x28\0\0\0\x0b\x00\x03\x03\x02\x03\x03abc\x02\x03\x03def\x02\x03\x03ghi\x03\x02\x03\x7b\x02\x03\x03bar\x0a\x04\xc8\x01\x0c\x04\x15\x03";
+
 const REAL: &[u8] = b"\x00\x02\0\0\0\0\x03\x09\x07\x18\x2d\x44\x54\xfb\x21\x09\x40";
 
 #[test]
@@ -39,13 +43,15 @@ fn is_fault(answer: &Result<Value>, wanted: ErrorKind) -> bool {
 
 #[test]
 fn a_fault_at_each_byte_is_handed_on(rt: HostRuntime) -> Tested {
-    for kind in [ErrorKind::Interrupted, ErrorKind::BrokenPipe] {
-        for most in [1, 3, usize::MAX] {
-            for whole in 0..REAL.len() {
-                let plan = Plan::pieces(most).up_to(whole, Then::Faults(kind));
-                let (answer, taken) = read_by_plan(rt.alloc(), REAL, plan);
-                assert!(rt; is_fault(&answer, kind), "after {whole} bytes");
-                assert_eq!(rt; taken, whole, "after {whole} bytes");
+    for message in [REAL, ROWS] {
+        for kind in [ErrorKind::Interrupted, ErrorKind::BrokenPipe] {
+            for most in [1, 3, usize::MAX] {
+                for whole in 0..message.len() {
+                    let plan = Plan::pieces(most).up_to(whole, Then::Faults(kind));
+                    let (answer, taken) = read_by_plan(rt.alloc(), message, plan);
+                    assert!(rt; is_fault(&answer, kind), "after {whole} bytes");
+                    assert_eq!(rt; taken, whole, "after {whole} bytes");
+                }
             }
         }
     }

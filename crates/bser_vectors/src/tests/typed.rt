@@ -1,66 +1,16 @@
 //! Messages read as typed values.
 use super::Tested;
+use super::checks::{check_code, check_refusal, check_value};
 use crate::devices::{Plan, PlannedReader};
-use crate::notation::code;
 use bser_base::de::read::NoLoan;
 use serde_bser::bytestring::ByteString;
-use serde_bser::de::{Deserialize, DeserializeOwned, Deserializer, Ignored, IoRead, SliceRead};
+use serde_bser::de::{Deserialize, Deserializer, Ignored, IoRead, SliceRead};
 use serde_bser::device::Watched;
-use serde_bser::errors::Result;
+use serde_bser::ser::serialize_to;
 use serde_bser::{from_reader, from_slice};
 use std::alloc::Global;
 use std::collections::BTreeMap;
-use std::process::Abort;
 use std::test::Fail;
-
-/// Reads the message from a reader that gives it by the plan, and takes it whole.
-fn read_by<T: DeserializeOwned>(alloc: Global, bytes: &[u8], plan: Plan) -> (Result<T>, usize) {
-    let mut reader = Watched::new(PlannedReader::new(bytes, plan));
-    let answer = from_reader(alloc, &mut reader);
-    let left = reader.get_ref().left().len();
-    (answer, left)
-}
-
-/// Checks that the message is read as this value from the slice, and from readers of one byte a
-/// call and of all bytes at once.
-fn check_value<'a, T: Deserialize<&'a [u8]> + DeserializeOwned + PartialEq>(
-    rt: &impl Abort,
-    alloc: Global,
-    bytes: &'a [u8],
-    expected: &T,
-) {
-    let answer = from_slice::<T>(alloc, bytes);
-    assert!(rt; matches!(&answer, Ok(value) if value == expected));
-    for plan in [Plan::pieces(1), Plan::whole()] {
-        let (answer, left) = read_by::<T>(alloc, bytes, plan);
-        assert!(rt; matches!(&answer, Ok(value) if value == expected));
-        assert_eq!(rt; left, 0);
-    }
-}
-
-/// Checks that the message is refused so, by its code in the notation, on each way.
-fn check_refusal<'a, T: Deserialize<&'a [u8]> + DeserializeOwned>(
-    rt: &impl Abort,
-    alloc: Global,
-    bytes: &'a [u8],
-    expected: &str,
-) -> Tested {
-    let answer = from_slice::<T>(alloc, bytes);
-    check_code(rt, alloc, &answer, expected)?;
-    for plan in [Plan::pieces(1), Plan::whole()] {
-        let (answer, _) = read_by::<T>(alloc, bytes, plan);
-        check_code(rt, alloc, &answer, expected)?;
-    }
-    Ok(())
-}
-
-fn check_code<T>(rt: &impl Abort, alloc: Global, answer: &Result<T>, expected: &str) -> Tested {
-    match answer {
-        Ok(_) => assert!(rt; false, "{expected} is read"),
-        Err(error) => assert_eq!(rt; code(alloc, error)?.as_str(), expected),
-    }
-    Ok(())
-}
 
 #[test]
 fn the_empty_input_is_no_number(rt: HostRuntime) -> Tested {
@@ -164,6 +114,9 @@ fn a_map_with_a_key_that_is_no_text(rt: HostRuntime) -> Tested {
     let mut expected = BTreeMap::new(alloc);
     drop(expected.insert(ByteString::from_vec([0xff].to_vec(alloc)?), ())?);
     check_value(&rt, alloc, bytes, &expected);
+    let mut writer = Watched::new(Vec::new(alloc));
+    serialize_to(alloc, &mut writer, &expected)?;
+    assert_eq!(rt; writer.into_inner().as_slice(), bytes.as_slice());
     Ok(())
 }
 
@@ -259,6 +212,27 @@ fn an_object_of_texts(rt: HostRuntime) -> Tested {
     let abc = String::from_str(alloc, "abc")?;
     drop(expected.insert(abc, String::from_str(alloc, "def")?)?);
     check_value(&rt, alloc, bytes, &expected);
+    Ok(())
+}
+
+#[test]
+fn an_object_of_bytes_is_lent(rt: HostRuntime) -> Tested {
+    let bytes = b"\x00\x02\0\0\0\0\x05\x0f\0\0\0\x01\x03\x01\x02\x03\x03abc\x02\x03\x03def";
+    let lent = from_slice::<BTreeMap<&[u8], &[u8]>>(rt.alloc(), bytes)?;
+    assert_eq!(rt; lent.len(), 1);
+    assert_eq!(rt;
+        lent.get(b"abc".as_slice()).copied(),
+        Some(b"def".as_slice())
+    );
+    Ok(())
+}
+
+#[test]
+fn a_number_and_a_lent_text(rt: HostRuntime) -> Tested {
+    let bytes = b"\x00\x02\0\0\0\0\x03\x09\x00\x03\x02\x03\x07\x0d\x03\x01x";
+    let (number, text) = from_slice::<(i64, &str)>(rt.alloc(), bytes)?;
+    assert_eq!(rt; number, 7);
+    assert_eq!(rt; text, "x");
     Ok(())
 }
 

@@ -126,6 +126,7 @@ impl<R: DeRead> Deserializer<R> {
     /// changes nothing.
     pub fn end(&self) -> Result<()>
         ensures ok { OnOk result (IsAtEnd (state R.state R.Lent.kept self.now)) }
+        ensures working { OnOk result ((state R.state R.Lent.kept self.now).source.failed ≡ false) }
         ensures err { OnErr result (IsAtEnd (state R.state R.Lent.kept self.now) → IsTrue (state R.state R.Lent.kept self.now).source.failed) }
         ensures kind { IfErr result IsRefusal }
     {

@@ -2,11 +2,12 @@
 ghost use Rattle.std.specs.Prelude.{◌≡◌, ◌<◌, true, false, map, IfOk, IfErr, OnOk};
 ghost use Rattle.std.specs.Borrow.{sem, RestsIfErr};
 ghost use Rattle.bser_base.specs.ReadsScalars.{reads_string};
-ghost use Rattle.serde_bser.specs.Access.{OpensPairs, IsPairsHead, AwaitsKey, AwaitsValue, OutOfTurn, NextKey, RefusesKey, NoEntry, IsValue, RefusesValue, NextEntry, RefusesEntry, ClosesPairs, LeavesPairs, pairs_in};
+ghost use Rattle.serde_bser.specs.Access.{OpensPairs, IsPairsHead, RefusesOpening, AwaitsKey, AwaitsValue, OutOfTurn, NextKey, RefusesKey, NoEntry, IsValue, RefusesValue, NextEntry, RefusesEntry, ClosesPairs, LeavesPairs, pairs_in};
 ghost use Rattle.serde_bser.specs.contracts.de.deserializer.Deserializer.{the_row};
 ghost use Rattle.serde_bser.specs.Fields.{HoldsField};
 ghost use Rattle.serde_bser.specs.Parts.{pairs_left, pairs_after};
-ghost use Rattle.serde_bser.specs.Reading.{RefusesFront, bare};
+ghost use Rattle.serde_bser.specs.Reading.{bare};
+ghost use Rattle.serde_bser.specs.Slots.{ReadsOnce, RefusesOnce};
 
 use crate::de::deserializer::{Deserializer, Due};
 use crate::de::field::{Field, find_field};
@@ -38,10 +39,10 @@ impl<R: DeRead> Deserializer<R> {
 
     /// Reads the object or the row that is due, as an access to its entries.
     ///
-    /// Another kind of value is [`Complaint::WrongType`].
+    /// Another kind of value is [`Complaint::WrongType`]. After a refusal each later call is refused.
     pub fn read_map<'a>(&'a mut self) -> Result<MapAccess<'a, R>>
         ensures* rests { sem 𝓛 (RestsIfErr (the_row R.row R.Lent.row R.Lent.Kept.row) self.entry (λ a. a.from.ghost_name) result
-            (λ d. IfErr result (λ e. RefusesFront bare (IsPairsHead (state R.state R.Lent.kept self.old)) e (state R.state R.Lent.kept self.old).source (state R.state R.Lent.kept d).source))) }
+            (λ d. IfErr result (λ e. RefusesOpening bare (IsPairsHead (state R.state R.Lent.kept self.old)) e (state R.state R.Lent.kept self.old) (state R.state R.Lent.kept d)))) }
         ensures same_reference { IfOk result (λ a. a.from.ghost_name ≡ self.entry.ghost_name) }
         ensures found { IfOk result (λ a. OpensPairs (state R.state R.Lent.kept self.old) (open_pairs R.state R.Lent.kept a)) }
     {
@@ -205,6 +206,27 @@ where
                 Err(refusal)
             }
         }
+    }
+
+    /// Reads the value of the key that was read into a variable that has none.
+    ///
+    /// A variable that has a value is refused by [`Complaint::ItemsLeft`]; refused else as
+    /// [`MapAccess::next_value`] is.
+    pub fn next_value_once<V: Deserialize<R::Lent>>(
+        &mut self,
+        alloc: Global,
+        value: &mut Option<V>,
+    ) -> Result<()>
+        ensures same_reference { self.new.from.ghost_name ≡ self.old.from.ghost_name }
+        ensures found { OnOk result (ReadsOnce V.reads V.holds value.old value.new (open_pairs R.state R.Lent.kept self.old) (open_pairs R.state R.Lent.kept self.new)) }
+        ensures refused { IfErr result (λ e. RefusesOnce V.reads V.needs e value.old (open_pairs R.state R.Lent.kept self.old) (state R.state R.Lent.kept self.new.from.now)) }
+    {
+        if value.is_some() {
+            self.await_value()?;
+            return Err(self.from.refuse(Complaint::ItemsLeft));
+        }
+        *value = Some(self.next_value::<V>(alloc)?);
+        Ok(())
     }
 
     /// Reads the next key and its value, if an entry is left.

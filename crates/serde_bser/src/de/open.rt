@@ -5,7 +5,7 @@ ghost use Rattle.bser_base.specs.Expected.{nothing_due, row_due};
 ghost use Rattle.bser_base.specs.Tagged.{with_failure};
 ghost use Rattle.serde_bser.specs.Parts.{wanted_items};
 ghost use Rattle.serde_bser.specs.Openings.{IsBefore};
-ghost use Rattle.serde_bser.specs.Access.{OpensItems, IsItemsHead, OpensPairs, IsPairsHead, KeysOutside, closed};
+ghost use Rattle.serde_bser.specs.Access.{OpensItems, IsItemsHead, RefusesOpening, OpensPairs, IsPairsHead, KeysOutside, closed};
 ghost use Rattle.serde_bser.specs.Accesses.{open_items, items_head, pairs_head};
 ghost use Rattle.serde_bser.specs.Scalar.{owned};
 ghost use Rattle.serde_bser.specs.State.{refused};
@@ -210,7 +210,7 @@ impl<R: DeRead> Deserializer<R> {
     /// growth is [`Error::OutOfMemory`]. After a refusal each later call is refused.
     pub fn read_seq<'a>(&'a mut self, alloc: Global) -> Result<SeqAccess<'a, R>>
         ensures* rests { sem 𝓛 (RestsIfErr (the_row R.row R.Lent.row R.Lent.Kept.row) self.entry (λ a. a.from.ghost_name) result
-            (λ d. IfErr result (λ e. RefusesFront owned (IsItemsHead (state R.state R.Lent.kept self.old)) e (state R.state R.Lent.kept self.old).source (state R.state R.Lent.kept d).source))) }
+            (λ d. IfErr result (λ e. RefusesOpening owned (IsItemsHead (state R.state R.Lent.kept self.old)) e (state R.state R.Lent.kept self.old) (state R.state R.Lent.kept d)))) }
         ensures same_reference { IfOk result (λ a. a.from.ghost_name ≡ self.entry.ghost_name) }
         ensures found { IfOk result (λ a. OpensItems (state R.state R.Lent.kept self.old) (open_items R.state R.Lent.kept a)) }
     {

@@ -13,7 +13,8 @@ use bser_base::errors::Result;
 use bser_base::header::BSER_TRUE;
 
 impl<R: DeRead> Deserializer<R> {
-    /// What kind of value is due. It is not taken.
+    /// What kind of value is due. It is not taken: what is read next begins with the tag that was
+    /// seen.
     ///
     /// A template is an array, its row an object, and a skipped field null. The key of an object or
     /// of a row's field is [`Node::Key`]. Refused where nothing is due, and where a byte is next
@@ -78,7 +79,8 @@ impl<R: DeRead> Deserializer<R> {
         Ok(())
     }
 
-    /// Whether a null or a skipped field is due, which is taken then. Another kind of value is not.
+    /// Whether a null or a skipped field is due, which is taken then. Another kind of value is not:
+    /// what is read next is no null.
     ///
     /// Refused as [`Deserializer::node`] is.
     pub fn read_none(&mut self) -> Result<bool>

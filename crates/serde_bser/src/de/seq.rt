@@ -1,6 +1,7 @@
 //! Reading the items of an array.
 ghost use Rattle.std.specs.Prelude.{◌≡◌, IfOk, IfErr, OnOk};
 ghost use Rattle.serde_bser.specs.Access.{NextItem, IsNext, RefusesItem, ClosesItems, LeavesItems};
+ghost use Rattle.serde_bser.specs.Parts.{items_left};
 ghost use Rattle.serde_bser.specs.Required.{RefusesRequired};
 
 use crate::de::deserializer::{Deserializer, Due};
@@ -29,7 +30,7 @@ impl<'a, R: DeRead> SeqAccess<'a, R> {
 
     /// How many items are left.
     pub fn remaining(&self) -> usize
-        ensures { result ≡ self.now.remaining }
+        ensures { result ≡ items_left (open_items R.state R.Lent.kept self.now).wanted }
     {
         self.remaining
     }

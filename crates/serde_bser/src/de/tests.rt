@@ -1,4 +1,6 @@
+mod enums;
 mod files;
+mod variants;
 
 use self::files::FileInfo;
 use crate::de::entry::from_slice;

@@ -1,25 +1,42 @@
 //! Reading a `Value`.
-ghost use Rattle.std.specs.Prelude.{refl, ◌≡◌, Some, true, false, IfOk, IfErr};
+ghost use Rattle.std.specs.Prelude.{refl, ◌≡◌, Some, true, false, IfOk, IfErr, OnOk};
+ghost use Rattle.bser_base.specs.ReadsAny.{reads_value};
 ghost use Rattle.bser_base.specs.Source.{IsNext};
 ghost use Rattle.serde_bser.specs.Scalar.{reads_scalar, owned, IsNoValue, IsValue};
+ghost use Rattle.bser_base.specs.declared.errors.Error.TheVariants.{OutOfMemory};
+ghost use Rattle.serde_bser.specs.Building.{ClosesInto};
+ghost use Rattle.serde_bser.specs.BuildingSteps.{ReadsPart, ReadsInto, ClosesPart};
 ghost use Rattle.serde_bser.specs.ScalarAnswer.{TookValue};
 ghost use Rattle.serde_bser.specs.Reading.{Answers, Refuses};
 ghost use Rattle.serde_bser.specs.ValueView.{HoldsTree};
 ghost use Rattle.serde_bser.specs.View.{state};
 
+use crate::de::building::Building;
 use crate::de::cursor::Head;
 use crate::de::deserializer::{Deserializer, Due};
+use crate::de::node::Node;
 use crate::de::reading::{Deserialize, OwnedShape, Shape};
 use crate::de::scalar;
 use crate::value::Value;
 use bser_base::de::read::{DeRead, LendsText};
-use bser_base::errors::Result;
+use bser_base::errors::{Error, Result};
 use bser_base::header::BSER_SKIP;
 use std::alloc::Global;
+use std::mem;
+
+#[cfg(test)]
+mod tests;
+
+/// What is read of a value that is due: the whole, or the head of a container.
+#[derive(Drop)]
+enum Part {
+    Whole(Value),
+    Opened(Building),
+}
 
 impl<R: DeRead> Deserializer<R> {
     /// Reads the scalar, string or key that is due. A container is refused as an unknown item is.
-    pub(crate) fn read_scalar(&mut self, alloc: Global) -> Result<Value>
+    fn read_scalar(&mut self, alloc: Global) -> Result<Value>
         ensures found { IfOk result (Answers reads_scalar HoldsTree (state R.state R.Lent.kept self.old) (state R.state R.Lent.kept self.new)) }
         ensures refused { IfErr result (λ e. Refuses reads_scalar owned e (state R.state R.Lent.kept self.old) (state R.state R.Lent.kept self.new)) }
     {
@@ -71,9 +88,85 @@ fn is_skip(due: Due, tag: u8) -> bool
     due == Due::Field && tag == BSER_SKIP
 }
 
-/// A `Value` reads every scalar and string. A container is refused as an unknown item is.
+impl<R: DeRead> Deserializer<R>
+where
+    R::Lent: LendsText,
+{
+    /// Reads what is due, with all that it holds. It does not call itself: the containers around
+    /// the innermost one stand in a list.
+    fn read_value(&mut self, alloc: Global) -> Result<Value>
+        ensures found { IfOk result (Answers reads_value HoldsTree (state R.state R.Lent.kept self.old) (state R.state R.Lent.kept self.new)) }
+        ensures refused { IfErr result (λ e. Refuses reads_value owned e (state R.state R.Lent.kept self.old) (state R.state R.Lent.kept self.new)) }
+    {
+        let mut inner = match self.read_part(alloc)? {
+            Part::Whole(value) => return Ok(value),
+            Part::Opened(building) => building,
+        };
+        let mut around = Vec::new(alloc);
+        for _ in 0..u64::MAX {
+            if self.await_next(alloc, &mut inner)? {
+                self.read_into(alloc, &mut around, &mut inner)?;
+                continue;
+            }
+            match self.close_into(&mut around, inner)? {
+                Part::Whole(value) => return Ok(value),
+                Part::Opened(building) => inner = building,
+            }
+        }
+        self.fail();
+        Err(Error::OutOfMemory)
+    }
+
+    /// Reads the value that is due, and puts it into the innermost container or opens it inside.
+    fn read_into(
+        &mut self,
+        alloc: Global,
+        around: &mut Vec<Building>,
+        inner: &mut Building,
+    ) -> Result<()>
+        ensures found { OnOk result (ReadsInto around.old.items around.new.items inner.old inner.new (state R.state R.Lent.kept self.old) (state R.state R.Lent.kept self.new)) }
+        ensures refused { IfErr result (λ e. Refuses reads_value owned e (state R.state R.Lent.kept self.old) (state R.state R.Lent.kept self.new)) }
+    {
+        match self.read_part(alloc)? {
+            Part::Whole(value) => inner.put(value),
+            Part::Opened(building) => Ok(around.push(mem::replace(inner, building))?),
+        }
+    }
+
+    /// Closes the innermost container, of which all was read, and puts its value into the one
+    /// around it. Answers that one, or the value where none is around.
+    fn close_into(&mut self, around: &mut Vec<Building>, inner: Building) -> Result<Part>
+        ensures found { IfOk result (ClosesPart around.old.items around.new.items inner (state R.state R.Lent.kept self.old) (state R.state R.Lent.kept self.new)) }
+        ensures err { IfErr result (λ e. e ≡ OutOfMemory) }
+        ensures state { ClosesInto inner (state R.state R.Lent.kept self.old) (state R.state R.Lent.kept self.new) }
+    {
+        let value = self.close(inner);
+        match around.pop() {
+            None => Ok(Part::Whole(value)),
+            Some(mut building) => {
+                building.put(value)?;
+                Ok(Part::Opened(building))
+            }
+        }
+    }
+
+    /// Reads what is due, or opens it where it is a container.
+    fn read_part(&mut self, alloc: Global) -> Result<Part>
+        ensures found { IfOk result (ReadsPart (state R.state R.Lent.kept self.old) (state R.state R.Lent.kept self.new)) }
+        ensures refused { IfErr result (λ e. Refuses reads_value owned e (state R.state R.Lent.kept self.old) (state R.state R.Lent.kept self.new)) }
+    {
+        match self.node()? {
+            Node::Array => Ok(Part::Opened(Building::items(alloc, self.open_items(alloc)?))),
+            Node::Object => Ok(Part::Opened(Building::pairs(alloc, self.open_pairs()?))),
+            _ => Ok(Part::Whole(self.read_scalar(alloc)?)),
+        }
+    }
+}
+
+/// Any value is read, as a key's text or bytes too. The keys of objects have to be UTF-8, and the
+/// last of equal keys stays. Want of memory is refused by [`Error::OutOfMemory`].
 impl Shape for Value {
-    ghost reads = { reads_scalar };
+    ghost reads = { reads_value };
 
     ghost holds = { HoldsTree };
 
@@ -85,7 +178,7 @@ impl<L: LendsText> Deserialize<L> for Value {
         alloc: Global,
         from: &mut Deserializer<R>,
     ) -> Result<Value> {
-        from.read_scalar(alloc)
+        from.read_value(alloc)
     }
 }
 

@@ -72,6 +72,23 @@ fn a_tuple_takes_no_other_number_of_items(rt: HostRuntime) {
 }
 
 #[test]
+fn rows_are_objects_and_no_scalars(rt: HostRuntime) {
+    let alloc = rt.alloc();
+    // the key "a", and rows of 1 and of 2
+    let rows =
+        b"\x00\x02\x00\x00\x00\x00\x03\x0e\x0b\x00\x03\x01\x0d\x03\x01a\x03\x02\x03\x01\x03\x02";
+    assert!(rt; is_complaint(&from_slice::<(u8, u8)>(alloc, rows), Complaint::WrongType));
+    // no key, and no row
+    let empty = b"\x00\x02\x00\x00\x00\x00\x03\x06\x0b\x00\x03\x00\x03\x00";
+    assert!(rt;
+        is_complaint(
+            &from_slice::<(u8, u8)>(alloc, empty),
+            Complaint::TooFewItems
+        )
+    );
+}
+
+#[test]
 fn what_is_no_array_is_no_list(rt: HostRuntime) {
     let alloc = rt.alloc();
     let number = b"\x00\x02\x00\x00\x00\x00\x03\x02\x03\x01";

@@ -1,0 +1,3 @@
+pub mod Shown
+pub mod Ways
+pub mod Watchman

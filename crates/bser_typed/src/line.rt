@@ -1,0 +1,49 @@
+//! One line of the list of messages.
+use crate::types;
+use crate::ways::{Sample, Way};
+use anyhow::{Context, Result};
+use std::alloc::Global;
+
+/// A message, and what the list says of it.
+#[derive(Drop)]
+pub struct Line<'a> {
+    /// The name of the type that it is read as.
+    pub kind: &'a str,
+    /// Whether it is accepted.
+    pub accepted: bool,
+    message: Vec<u8>,
+    answer: &'a str,
+    taken: usize,
+}
+
+impl<'a> Line<'a> {
+    /// Takes a line apart at its tabs.
+    pub fn parse(alloc: Global, line: &'a str) -> Result<Self> {
+        let (kind, rest) = cut(line)?;
+        let (message, rest) = cut(rest)?;
+        let (verdict, rest) = cut(rest)?;
+        let (answer, taken) = cut(rest)?;
+        Ok(Line {
+            kind,
+            accepted: verdict == "ok",
+            message: hex::decode(alloc, message)?,
+            answer,
+            taken: taken.parse::<usize>()?,
+        })
+    }
+
+    /// The first way of reading that answers otherwise than the list says.
+    pub fn first_mismatch(&self, alloc: Global) -> Result<Option<Way>> {
+        let sample = Sample {
+            message: &self.message,
+            answer: self.answer,
+            taken: self.taken,
+        };
+        Ok(types::compare(alloc, self.kind, &sample).context("no such type")??)
+    }
+}
+
+/// The first column, and the others.
+fn cut(columns: &str) -> Result<(&str, &str)> {
+    columns.split_once('\t').context("too few columns")
+}

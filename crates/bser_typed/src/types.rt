@@ -1,0 +1,88 @@
+//! The types by their names in the list: `vec_T` is a `Vec` of T, `opt_T` an `Option`, `map_K_V` a
+//! `BTreeMap`, `unit` is `()`, `tup2` a pair of `i64`, `str` is `&str`, and `bytes` is `&[u8]`, but
+//! `ByteString` as the key of a map, where `raw` is `&[u8]`.
+use crate::ways::{Compared, Sample};
+use bser_vectors::structs::{Files, TemplateRow};
+use serde_bser::bytestring::ByteString;
+use serde_bser::de::Ignored;
+use std::alloc::Global;
+use std::collections::BTreeMap;
+
+/// Whether the type of this name is not compared.
+pub fn is_left_out(kind: &str) -> bool {
+    matches!(
+        kind,
+        "TestEnum" | "opt_TestEnum" | "vec_TestEnum" | "vec_EnumRow"
+    )
+}
+
+/// Reads the message as the type of this name, and compares the answers, where there is one.
+pub fn compare(alloc: Global, kind: &str, sample: &Sample<'_>) -> Option<Compared> {
+    scalars(alloc, kind, sample)
+        .or_else(|| lists(alloc, kind, sample))
+        .or_else(|| maps(alloc, kind, sample))
+        .or_else(|| structs(alloc, kind, sample))
+}
+
+fn scalars(alloc: Global, kind: &str, sample: &Sample<'_>) -> Option<Compared> {
+    Some(match kind {
+        "bool" => sample.owned_mismatch::<bool>(alloc),
+        "i8" => sample.owned_mismatch::<i8>(alloc),
+        "i64" => sample.owned_mismatch::<i64>(alloc),
+        "u8" => sample.owned_mismatch::<u8>(alloc),
+        "u64" => sample.owned_mismatch::<u64>(alloc),
+        "unit" => sample.owned_mismatch::<()>(alloc),
+        "Ignored" => sample.owned_mismatch::<Ignored>(alloc),
+        "char" => sample.owned_mismatch::<char>(alloc),
+        "String" => sample.owned_mismatch::<String>(alloc),
+        "ByteString" => sample.owned_mismatch::<ByteString>(alloc),
+        "str" => sample.lent_mismatch::<&str>(alloc),
+        "bytes" => sample.lent_mismatch::<&[u8]>(alloc),
+        _ => return None,
+    })
+}
+
+fn lists(alloc: Global, kind: &str, sample: &Sample<'_>) -> Option<Compared> {
+    Some(match kind {
+        "tup2" => sample.owned_mismatch::<(i64, i64)>(alloc),
+        "vec_i64" => sample.owned_mismatch::<Vec<i64>>(alloc),
+        "vec_char" => sample.owned_mismatch::<Vec<char>>(alloc),
+        "vec_String" => sample.owned_mismatch::<Vec<String>>(alloc),
+        "vec_ByteString" => sample.owned_mismatch::<Vec<ByteString>>(alloc),
+        "vec_tup2" => sample.owned_mismatch::<Vec<(i64, i64)>>(alloc),
+        "vec_str" => sample.lent_mismatch::<Vec<&str>>(alloc),
+        "opt_i64" => sample.owned_mismatch::<Option<i64>>(alloc),
+        "vec_opt_i64" => sample.owned_mismatch::<Vec<Option<i64>>>(alloc),
+        "vec_opt_vec_i64" => sample.owned_mismatch::<Vec<Option<Vec<i64>>>>(alloc),
+        _ => return None,
+    })
+}
+
+fn maps(alloc: Global, kind: &str, sample: &Sample<'_>) -> Option<Compared> {
+    Some(match kind {
+        "map_String_i64" => sample.owned_mismatch::<BTreeMap<String, i64>>(alloc),
+        "map_String_unit" => sample.owned_mismatch::<BTreeMap<String, ()>>(alloc),
+        "map_String_vec_String" => sample.owned_mismatch::<BTreeMap<String, Vec<String>>>(alloc),
+        "map_String_Ignored" => sample.owned_mismatch::<BTreeMap<String, Ignored>>(alloc),
+        "map_bytes_unit" => sample.owned_mismatch::<BTreeMap<ByteString, ()>>(alloc),
+        "map_str_i64" => sample.lent_mismatch::<BTreeMap<&str, i64>>(alloc),
+        "map_raw_opt_i64" => sample.lent_mismatch::<BTreeMap<&[u8], Option<i64>>>(alloc),
+        "vec_map_bytes_opt_i64" => {
+            sample.owned_mismatch::<Vec<BTreeMap<ByteString, Option<i64>>>>(alloc)
+        }
+        "vec_map_str_opt_i64" => sample.lent_mismatch::<Vec<BTreeMap<&str, Option<i64>>>>(alloc),
+        "vec_map_String_unit" => sample.owned_mismatch::<Vec<BTreeMap<String, ()>>>(alloc),
+        "vec_map_raw_unit" => sample.lent_mismatch::<Vec<BTreeMap<&[u8], ()>>>(alloc),
+        _ => return None,
+    })
+}
+
+fn structs(alloc: Global, kind: &str, sample: &Sample<'_>) -> Option<Compared> {
+    Some(match kind {
+        "TemplateRow" => sample.owned_mismatch::<TemplateRow<String>>(alloc),
+        "vec_TemplateRow" => sample.owned_mismatch::<Vec<TemplateRow<String>>>(alloc),
+        "vec_opt_TemplateRow" => sample.owned_mismatch::<Vec<Option<TemplateRow<String>>>>(alloc),
+        "Files" => sample.owned_mismatch::<Files<String>>(alloc),
+        _ => return None,
+    })
+}

@@ -1,0 +1,104 @@
+//! Recorded answers of a Watchman server: how many files each holds.
+ghost use Rattle.std.specs.Prelude.{[], ◌∷◌};
+ghost use Rattle.serde_bser.specs.Slots.{struct_needs};
+ghost use Rattle.bser_typed.specs.Watchman.{reads_name, HoldsName, reads_names, HoldsNames};
+
+use anyhow::{Context, Result};
+use serde_bser::de::read::LendsText;
+use serde_bser::de::{DeRead, Deserialize, Deserializer, Required, Shape};
+use serde_bser::from_slice;
+use serde_json::Value;
+use std::alloc::Global;
+
+/// The name of a file, of which all else is passed over.
+#[derive(Debug, Drop)]
+pub struct FileName<S> {
+    pub name: S,
+}
+
+impl<S: Shape> Shape for FileName<S> {
+    ghost reads = { reads_name S.reads };
+
+    ghost holds = { HoldsName S.holds };
+
+    ghost needs = { struct_needs (S.needs ∷ []) };
+}
+
+impl<L: LendsText, S: Deserialize<L>> Deserialize<L> for FileName<S> {
+    fn deserialize<R: DeRead<Lent = L>>(
+        alloc: Global,
+        from: &mut Deserializer<R>,
+    ) -> serde_bser::errors::Result<FileName<S>> {
+        let (name, ()) = from.read_fields::<(Required<S>, ())>(alloc, &["name"])?;
+        Ok(FileName { name })
+    }
+}
+
+/// The files of an answer, by their names.
+#[derive(Debug, Drop)]
+pub struct FileNames<S> {
+    pub files: Vec<FileName<S>>,
+}
+
+impl<S: Shape> Shape for FileNames<S> {
+    ghost reads = { reads_names S.reads };
+
+    ghost holds = { HoldsNames S.holds };
+
+    ghost needs = { struct_needs (struct_needs (S.needs ∷ []) ∷ []) };
+}
+
+impl<L: LendsText, S: Deserialize<L>> Deserialize<L> for FileNames<S> {
+    fn deserialize<R: DeRead<Lent = L>>(
+        alloc: Global,
+        from: &mut Deserializer<R>,
+    ) -> serde_bser::errors::Result<FileNames<S>> {
+        let (files, ()) = from.read_fields::<(Required<Vec<FileName<S>>>, ())>(alloc, &["files"])?;
+        Ok(FileNames { files })
+    }
+}
+
+/// What the manifest says of a recorded answer whose files stand in a template.
+#[derive(Drop)]
+pub struct Recorded {
+    /// The message's file.
+    pub file: String,
+    /// How many rows the template has.
+    pub rows: u64,
+}
+
+impl Recorded {
+    /// What a line of the manifest says, where its message has such a template.
+    pub fn parse(alloc: Global, line: &str) -> Result<Option<Self>> {
+        let entry = Value::from_str(alloc, line)?;
+        if !names_files(&entry) {
+            return Ok(None);
+        }
+        let file = entry
+            .get("file")
+            .and_then(Value::as_str)
+            .context("no file")?;
+        let rows = entry
+            .pointer("/templates/0/rows")
+            .and_then(Value::as_u64)
+            .context("no rows")?;
+        Ok(Some(Recorded {
+            file: format!(in alloc; "watchman/{file}")?,
+            rows,
+        }))
+    }
+}
+
+/// Whether names are among the keys of the first template.
+fn names_files(entry: &Value) -> bool {
+    match entry.pointer("/templates/0/keys").and_then(Value::as_array) {
+        Some(keys) => keys.iter().any(|key| key.as_str() == Some("name")),
+        None => false,
+    }
+}
+
+/// How many files are in the answer, whose names are lent from it.
+pub fn files(alloc: Global, message: &[u8]) -> serde_bser::errors::Result<usize> {
+    let answer = from_slice::<FileNames<&[u8]>>(alloc, message)?;
+    Ok(answer.files.len())
+}

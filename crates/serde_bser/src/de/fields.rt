@@ -1,0 +1,269 @@
+//! Reading the fields of a struct.
+ghost use Rattle.std.specs.Prelude.{◌≡◌, ℕ, List, [], ◌∷◌, map, IfOk, IfErr, OnOk};
+ghost use Rattle.bser_base.specs.Content.{Content, Needs};
+ghost use Rattle.bser_base.specs.ReadsHolders.{reads_option};
+ghost use Rattle.serde_bser.specs.Accesses.{open_pairs};
+ghost use Rattle.serde_bser.specs.Holds.{HoldsOption};
+ghost use Rattle.serde_bser.specs.HoldsLists.{HoldsTuple};
+ghost use Rattle.serde_bser.specs.Reading.{Answers, Refuses};
+ghost use Rattle.serde_bser.specs.Slots.{StructField, required, optional, fill, fill_at, reads_struct, struct_needs, KeepsField, KeepsBoth, Finishes, FinishesEach, Steps, RefusesStep};
+ghost use Rattle.serde_bser.specs.View.{state};
+
+use crate::de::deserializer::Deserializer;
+use crate::de::field::Field;
+use crate::de::impls::Ignored;
+use crate::de::map::MapAccess;
+use crate::de::reading::{Deserialize, Shape};
+use bser_base::de::read::{DeRead, LendsText};
+use bser_base::errors::{Complaint, Result};
+use std::alloc::Global;
+
+/// A field of a struct, and what was read of it.
+pub trait Slot<L: LendsText>: Drop {
+    /// What the field is read as.
+    type Value: Drop;
+
+    // the field before it is read
+    ghost field: { StructField };
+
+    // what was read of it
+    ghost keeps: { Self → StructField → Type 0 };
+
+    // what its value holds
+    ghost holds: { Self.Value → Content → Type 0 };
+
+    // what reading it needs
+    ghost needs: { Needs };
+
+    /// A field that was not read yet.
+    fn empty() -> Self
+        ensures { Self.keeps result Self.field };
+
+    /// Reads the field as the value of the key that was read.
+    ///
+    /// A field that was read before is refused by [`Complaint::ItemsLeft`].
+    fn fill<'a, R: DeRead<Lent = L>>(
+        &mut self,
+        alloc: Global,
+        map: &mut MapAccess<'a, R>,
+    ) -> Result<()>
+        ensures same_reference { map.new.from.ghost_name ≡ map.old.from.ghost_name }
+        ensures found { OnOk result ((s : StructField) → Self.keeps self.old s → Steps fill (Self.keeps self.new) s (open_pairs R.state L.kept map.old) (open_pairs R.state L.kept map.new)) }
+        ensures refused { IfErr result (λ e. (s : StructField) → Self.keeps self.old s → RefusesStep fill Self.needs e s (open_pairs R.state L.kept map.old) (state R.state L.kept map.new.from.now)) };
+
+    /// The field's value, or None where it is required and absent.
+    fn finish(self) -> Option<Self::Value>
+        ensures { (s : StructField) → Self.keeps self s → Finishes Self.holds s result };
+}
+
+/// A field that has to be there.
+#[derive(Drop)]
+pub struct Required<T> {
+    value: Option<T>,
+}
+
+impl<L: LendsText, T: Deserialize<L>> Slot<L> for Required<T> {
+    type Value = T;
+
+    ghost field = { required T.reads };
+
+    ghost keeps = { λ v. KeepsField (required T.reads) T.holds v.value };
+
+    ghost holds = { T.holds };
+
+    ghost needs = { T.needs };
+
+    fn empty() -> Self {
+        Required { value: None }
+    }
+
+    fn fill<'a, R: DeRead<Lent = L>>(
+        &mut self,
+        alloc: Global,
+        map: &mut MapAccess<'a, R>,
+    ) -> Result<()> {
+        map.next_value_once(alloc, &mut self.value)
+    }
+
+    fn finish(self) -> Option<T> {
+        self.value
+    }
+}
+
+/// A field that is `None` where it is null or absent.
+#[derive(Drop)]
+pub struct Optional<T> {
+    value: Option<Option<T>>,
+}
+
+impl<L: LendsText, T: Deserialize<L>> Slot<L> for Optional<T> {
+    type Value = Option<T>;
+
+    ghost field = { optional T.reads };
+
+    ghost keeps = { λ v. KeepsField (optional T.reads) (HoldsOption T.holds) v.value };
+
+    ghost holds = { HoldsOption T.holds };
+
+    ghost needs = { T.needs };
+
+    fn empty() -> Self {
+        Optional { value: None }
+    }
+
+    fn fill<'a, R: DeRead<Lent = L>>(
+        &mut self,
+        alloc: Global,
+        map: &mut MapAccess<'a, R>,
+    ) -> Result<()> {
+        map.next_value_once(alloc, &mut self.value)
+    }
+
+    fn finish(self) -> Option<Option<T>> {
+        match self.value {
+            Some(value) => Some(value),
+            None => Some(None),
+        }
+    }
+}
+
+/// The fields of a struct, one after another: pairs of a field and the others, up to `()`.
+pub trait Slots<L: LendsText>: Drop {
+    /// What the fields are read as.
+    type Values: Drop;
+
+    // the fields before one is read
+    ghost fields: { List StructField };
+
+    // what was read of them
+    ghost keeps: { Self → List StructField → Type 0 };
+
+    // what their values hold
+    ghost holds: { Self.Values → List (Content → Type 0) };
+
+    // what reading them needs
+    ghost needs: { List Needs };
+
+    /// Fields that were not read yet.
+    fn empty() -> Self
+        ensures { Self.keeps result Self.fields };
+
+    /// Reads the field at this place as the value of the key that was read. Where no field has the
+    /// place, the value is read as [`Ignored`].
+    ///
+    /// A field that was read before is refused by [`Complaint::ItemsLeft`].
+    fn fill_at<'a, R: DeRead<Lent = L>>(
+        &mut self,
+        alloc: Global,
+        place: usize,
+        map: &mut MapAccess<'a, R>,
+    ) -> Result<()>
+        ensures same_reference { map.new.from.ghost_name ≡ map.old.from.ghost_name }
+        ensures found { OnOk result ((ss : List StructField) → Self.keeps self.old ss → Steps (fill_at place) (Self.keeps self.new) ss (open_pairs R.state L.kept map.old) (open_pairs R.state L.kept map.new)) }
+        ensures refused { IfErr result (λ e. (ss : List StructField) → Self.keeps self.old ss → RefusesStep (fill_at place) (struct_needs Self.needs) e ss (open_pairs R.state L.kept map.old) (state R.state L.kept map.new.from.now)) };
+
+    /// The fields' values, or None where one is required and absent.
+    fn finish(self) -> Option<Self::Values>
+        ensures { (ss : List StructField) → Self.keeps self ss → FinishesEach Self.holds ss result };
+}
+
+impl<L: LendsText> Slots<L> for () {
+    type Values = ();
+
+    ghost fields = { [] };
+
+    ghost keeps = { λ _ ss. ss ≡ [] };
+
+    ghost holds = { λ _. [] };
+
+    ghost needs = { [] };
+
+    fn empty() -> Self {}
+
+    fn fill_at<'a, R: DeRead<Lent = L>>(
+        &mut self,
+        alloc: Global,
+        _place: usize,
+        map: &mut MapAccess<'a, R>,
+    ) -> Result<()> {
+        map.next_value::<Ignored>(alloc)?;
+        Ok(())
+    }
+
+    fn finish(self) -> Option<()> {
+        Some(())
+    }
+}
+
+impl<L: LendsText, A: Slot<L>, F: Slots<L>> Slots<L> for (A, F) {
+    type Values = (A::Value, F::Values);
+
+    ghost fields = { A.field ∷ F.fields };
+
+    ghost keeps = { λ v. KeepsBoth (A.keeps v.0) (F.keeps v.1) };
+
+    ghost holds = { λ v. A.holds v.0 ∷ F.holds v.1 };
+
+    ghost needs = { A.needs ∷ F.needs };
+
+    fn empty() -> Self {
+        (A::empty(), F::empty())
+    }
+
+    fn fill_at<'a, R: DeRead<Lent = L>>(
+        &mut self,
+        alloc: Global,
+        place: usize,
+        map: &mut MapAccess<'a, R>,
+    ) -> Result<()> {
+        if place == 0 {
+            self.0.fill(alloc, map)
+        } else {
+            self.1.fill_at(alloc, place - 1, map)
+        }
+    }
+
+    fn finish(self) -> Option<(A::Value, F::Values)> {
+        let (first, others) = self;
+        match (first.finish(), others.finish()) {
+            (Some(first), Some(others)) => Some((first, others)),
+            _ => None,
+        }
+    }
+}
+
+impl<R: DeRead> Deserializer<R>
+where
+    R::Lent: LendsText,
+{
+    /// Reads the object or the row that is due as the fields of a struct, in any order. The value
+    /// of a name that no field has is read as [`Ignored`].
+    ///
+    /// A required field that is absent is refused by [`Complaint::TooFewItems`], a field that
+    /// comes twice by [`Complaint::ItemsLeft`], and another kind of value by
+    /// [`Complaint::WrongType`].
+    pub fn read_fields<F: Slots<R::Lent>>(
+        &mut self,
+        alloc: Global,
+        names: &[&str],
+    ) -> Result<F::Values>
+        ensures found { IfOk result (Answers (reads_struct (map (λ r. r.now) names.now) F.fields) (λ v c. HoldsTuple (F.holds v) c) (state R.state R.Lent.kept self.old) (state R.state R.Lent.kept self.new)) }
+        ensures refused { IfErr result (λ e. Refuses (reads_struct (map (λ r. r.now) names.now) F.fields) (struct_needs F.needs) e (state R.state R.Lent.kept self.old) (state R.state R.Lent.kept self.new)) }
+    {
+        let mut fields = F::empty();
+        let mut map = self.read_map()?;
+        while let Some(field) = map.next_field(alloc, names)? {
+            match field {
+                Field::Known(place) => fields.fill_at(alloc, place, &mut map)?,
+                Field::Unknown => {
+                    map.next_value::<Ignored>(alloc)?;
+                }
+            }
+        }
+        map.end()?;
+        match fields.finish() {
+            Some(values) => Ok(values),
+            None => Err(self.refuse(Complaint::TooFewItems)),
+        }
+    }
+}

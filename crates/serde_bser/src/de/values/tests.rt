@@ -1,0 +1,155 @@
+//! Tests of values that are read from whole messages.
+use crate::de::{from_reader, from_slice, from_slice_within};
+use crate::value::Value;
+use bser_base::device::Watched;
+use bser_base::errors::{Error, Kind, ReadCause, Result};
+use std::alloc::Global;
+
+/// Two rows over the keys "abc", "def" and "ghi": 123, the bytes "bar" and null; 456, nothing and 789.
+const TEMPLATE: &[u8] =
+    b"\x00\x02\x00\x00\x00\x00\x05\x28\x00\x00\x00\x0b\x00\x03\x03\x02\x03\x03abc\x02\x03\x03def\x02\x03\x03ghi\x03\x02\x03\x7b\x02\x03\x03bar\x0a\x04\xc8\x01\x0c\x04\x15\x03";
+
+/// The value at this key of an object.
+fn entry<'a>(value: &'a Value, key: &str) -> Option<&'a Value> {
+    match value {
+        Value::Object(entries) => entries.get(key),
+        _ => None,
+    }
+}
+
+/// The items of an array.
+fn items<'a>(value: &'a Value) -> Option<&'a [Value]> {
+    match value {
+        Value::Array(items) => Some(items.as_slice()),
+        _ => None,
+    }
+}
+
+/// A message with so many arrays, each the only item of the one around it, after this head.
+fn nested(alloc: Global, head: &[u8], depth: usize) -> Result<Vec<u8>> {
+    let mut message = Vec::from_slice(alloc, head)?;
+    for _ in 1..depth {
+        message.extend_from_slice(b"\x00\x03\x01")?;
+    }
+    message.extend_from_slice(b"\x00\x03\x00")?;
+    Ok(message)
+}
+
+/// How many arrays are around the first item that is no array, or around nothing.
+fn depth_of(mut value: &Value) -> usize {
+    for depth in 0..1000 {
+        match items(value).and_then(|items| items.first()) {
+            Some(item) => value = item,
+            None => return depth + 1,
+        }
+    }
+    0
+}
+
+#[test]
+fn a_template_is_an_array_of_objects(rt: HostRuntime) -> Result<()> {
+    let value = from_slice::<Value>(rt.alloc(), TEMPLATE)?;
+    let rows = items(&value).unwrap_or_default();
+    assert_eq!(rt; rows.len(), 2);
+    assert!(rt; matches!(entry(&rows[0], "abc"), Some(Value::Integer(123))));
+    assert!(rt; matches!(entry(&rows[0], "def"), Some(Value::ByteString(_))));
+    assert!(rt; matches!(entry(&rows[0], "ghi"), Some(Value::Null)));
+    assert!(rt; matches!(entry(&rows[1], "abc"), Some(Value::Integer(456))));
+    assert!(rt; matches!(entry(&rows[1], "def"), Some(Value::Null)));
+    assert!(rt; matches!(entry(&rows[1], "ghi"), Some(Value::Integer(789))));
+    Ok(())
+}
+
+#[test]
+fn a_reader_gives_the_same_value(rt: HostRuntime) -> Result<()> {
+    let alloc = rt.alloc();
+    let mut reader = Watched::new(TEMPLATE);
+    let value = from_reader::<_, Value>(alloc, &mut reader)?;
+    assert!(rt; value == from_slice::<Value>(alloc, TEMPLATE)?);
+    Ok(())
+}
+
+#[test]
+fn the_last_of_equal_keys_stays(rt: HostRuntime) -> Result<()> {
+    let value = from_slice::<Value>(
+        rt.alloc(),
+        b"\x00\x02\x00\x00\x00\x00\x03\x0f\x01\x03\x02\x0d\x03\x01a\x03\x01\x0d\x03\x01a\x03\x02",
+    )?;
+    assert!(rt; matches!(entry(&value, "a"), Some(Value::Integer(2))));
+    Ok(())
+}
+
+#[test]
+fn arrays_and_objects_nest(rt: HostRuntime) -> Result<()> {
+    let value = from_slice::<Value>(
+        rt.alloc(),
+        b"\x00\x02\x00\x00\x00\x00\x03\x13\x00\x03\x03\x00\x03\x01\x08\x01\x03\x01\x0d\x03\x01a\x00\x03\x00\x03\x07",
+    )?;
+    let outer = items(&value).unwrap_or_default();
+    assert_eq!(rt; outer.len(), 3);
+    let first = items(&outer[0]).unwrap_or_default();
+    assert_eq!(rt; first.len(), 1);
+    assert!(rt; matches!(first[0], Value::Bool(true)));
+    assert!(rt; matches!(entry(&outer[1], "a"), Some(Value::Array(_))));
+    assert!(rt; matches!(outer[2], Value::Integer(7)));
+    Ok(())
+}
+
+#[test]
+fn a_key_that_is_not_utf8_is_refused(rt: HostRuntime) {
+    let refused = from_slice::<Value>(
+        rt.alloc(),
+        b"\x00\x02\x00\x00\x00\x00\x03\x08\x01\x03\x01\x02\x03\x01\xff\x0a",
+    );
+    assert!(rt;
+        matches!(
+            refused,
+            Err(Error::DeReaderError {
+                source: ReadCause::Utf8
+            })
+        )
+    );
+}
+
+#[test]
+fn a_skip_outside_a_row_is_refused(rt: HostRuntime) {
+    let refused = from_slice::<Value>(
+        rt.alloc(),
+        b"\x00\x02\x00\x00\x00\x00\x03\x04\x00\x03\x01\x0c",
+    );
+    assert!(rt;
+        matches!(
+            refused,
+            Err(Error::DeInvalidStartByte {
+                kind: Kind::NextItem,
+                byte: 0x0c
+            })
+        )
+    );
+}
+
+#[test]
+fn levels_are_given_back(rt: HostRuntime) -> Result<()> {
+    // [[], [], []] with two levels
+    let message =
+        b"\x00\x02\x00\x00\x00\x00\x03\x0c\x00\x03\x03\x00\x03\x00\x00\x03\x00\x00\x03\x00";
+    let value = from_slice_within::<Value>(rt.alloc(), 2, message)?;
+    assert_eq!(rt; items(&value).unwrap_or_default().len(), 3);
+    Ok(())
+}
+
+#[test]
+fn as_many_levels_as_the_limit_are_read(rt: HostRuntime) -> Result<()> {
+    let alloc = rt.alloc();
+    let deepest = nested(alloc, b"\x00\x02\x00\x00\x00\x00\x04\x80\x01", 128)?;
+    assert_eq!(rt; depth_of(&from_slice::<Value>(alloc, &deepest)?), 128);
+    let deeper = nested(alloc, b"\x00\x02\x00\x00\x00\x00\x04\x83\x01", 129)?;
+    let refused = from_slice::<Value>(alloc, &deeper);
+    assert!(rt;
+        matches!(
+            refused,
+            Err(Error::DeRecursionLimitExceeded { kind: Kind::Array })
+        )
+    );
+    Ok(())
+}

@@ -1,0 +1,587 @@
+//! Reading enums.
+ghost use Rattle.std.specs.Prelude.{◌≡◌, ℕ, List, map, IfOk, IfErr, OnOk, OnErr, true, false};
+ghost use Rattle.std.specs.Borrow.{sem, RestsIfErr};
+ghost use Rattle.serde_bser.specs.Reading.{Answers, Refuses, RefusesFront, IsRefusal, bare};
+ghost use Rattle.serde_bser.specs.contracts.de.deserializer.Deserializer.{the_row};
+ghost use Rattle.serde_bser.specs.View.{state, due_of};
+ghost use Rattle.serde_bser.specs.Variants.{reads_place, HoldsPlace, IsVariantKind, BeginsEntry, BeginsVariant, BeginsVariantKind, SeesVariant, OpensEntry, OpensVariant, payload_due, before_payload, ReadsPayload, IsPayload, IsUnitVariant, RefusesPayload, RefusesUnitVariant, LacksPayload, OpensPayloadItems, OpensPayloadPairs, IsTuplePayload, IsStructPayload, RefusesTuple, RefusesStruct};
+ghost use Rattle.serde_bser.specs.Access.{IsItemsHead, IsPairsHead, closed};
+ghost use Rattle.serde_bser.specs.Accesses.{items_head, pairs_head};
+ghost use Rattle.serde_bser.specs.Parts.{pairs_left, pair_key, wanted_pairs};
+ghost use Rattle.serde_bser.specs.Scalar.{owned};
+ghost use Rattle.serde_bser.specs.State.{awaiting, refused};
+ghost use Rattle.bser_base.specs.ReadsScalars.{reads_unit};
+ghost use Rattle.bser_base.specs.Content.{one};
+
+use crate::de::cursor::Head;
+use crate::de::deserializer::{Deserializer, Due};
+use crate::de::field::{Field, find_field};
+use crate::de::map::MapAccess;
+use crate::de::node::Node;
+use crate::de::open::{MapHead, SeqHead};
+use crate::de::reading::Deserialize;
+use crate::de::seq::SeqAccess;
+use bser_base::de::read::{DeRead, LendsText};
+use bser_base::errors::{Complaint, EnumName, Error, Kind, Result};
+use std::alloc::Global;
+
+/// A variant whose name was read, and whose payload is next.
+///
+/// Where it is dropped before its payload is read, its object stays open.
+#[derive(Drop)]
+pub struct EnumAccess<'a, R: DeRead> {
+    from: &'a mut Deserializer<R>,
+    // the first place at which the name stands among the variants
+    place: usize,
+    // none where the name stands alone
+    head: Option<VariantHead>,
+}
+
+/// The two forms of a variant whose name was read.
+#[derive(Drop)]
+pub enum VariantForm<'a, R: DeRead> {
+    /// The name alone.
+    Unit(UnitVariantAccess<'a, R>),
+    /// An object of one entry, from the name to the payload.
+    Object(VariantAccess<'a, R>),
+}
+
+/// A variant's name that stands alone.
+#[derive(Drop)]
+pub struct UnitVariantAccess<'a, R: DeRead> {
+    from: &'a mut Deserializer<R>,
+}
+
+/// A variant's payload, in an object of one entry.
+///
+/// Where it is dropped before the payload is read, the object stays open.
+#[derive(Drop)]
+pub struct VariantAccess<'a, R: DeRead> {
+    from: &'a mut Deserializer<R>,
+    head: VariantHead,
+}
+
+/// An object of one entry, of which the key was read: whether it is a row, and the levels and the
+/// number of open containers outside.
+#[derive(Clone, Copy)]
+pub(crate) struct VariantHead {
+    row: bool,
+    levels: usize,
+    opened: usize,
+}
+
+impl Node {
+    /// Whether a value of this kind names a variant.
+    fn names_variant(self) -> bool
+        ensures yes { result ≡ true → IsVariantKind self }
+        ensures no { result ≡ false → IsVariantKind self → ⊥ }
+    {
+        matches!(self, Node::Bytes | Node::Text | Node::Key | Node::Object)
+    }
+}
+
+/// What is due as the first key of an object or a row.
+fn first_key(head: MapHead) -> Due
+    ensures { (ks : List (List ℕ)) → due_of ks result ≡ pair_key (wanted_pairs ks head.row head.at) }
+{
+    if head.row {
+        Due::Name(head.at)
+    } else {
+        Due::Key
+    }
+}
+
+/// What is due as the value of the only entry of an object, or of a row.
+fn payload(row: bool) -> Due
+    ensures { (ks : List (List ℕ)) → due_of ks result ≡ payload_due row }
+{
+    if row { Due::Field } else { Due::Node }
+}
+
+impl<R: DeRead> Deserializer<R> {
+    ghost use Rattle.serde_bser.specs.EnumAccess.{enum_head};
+
+    /// The kind of what is due, which must be a string, a key or an object. It is not taken.
+    fn variant_kind(&mut self, name: &str) -> Result<Node>
+        ensures found { IfOk result (SeesVariant (state R.state R.Lent.kept self.old) (state R.state R.Lent.kept self.new)) }
+        ensures refused { IfErr result (λ e. RefusesFront bare (BeginsVariantKind (state R.state R.Lent.kept self.old).due) e (state R.state R.Lent.kept self.old).source (state R.state R.Lent.kept self.new).source) }
+        ensures failed { OnErr result ((state R.state R.Lent.kept self.new).source.failed ≡ true) }
+    {
+        let head = self.head()?;
+        match Node::at(self.due, head) {
+            Some(node) => {
+                if node.names_variant() {
+                    Ok(node)
+                } else {
+                    Err(self.refuse_form(name, head))
+                }
+            }
+            None => Err(self.refuse_form(name, head)),
+        }
+    }
+
+    /// Refuses what stands where an enum of this name is asked for.
+    fn refuse_form(&mut self, name: &str, head: Head) -> Error
+        ensures kind { IsRefusal result }
+        ensures state { state R.state R.Lent.kept self.new ≡ refused (state R.state R.Lent.kept self.old) }
+    {
+        self.bunser.fail();
+        match (self.due, head) {
+            (Due::Key, Head::Tag(byte)) => Error::DeInvalidStartByte {
+                kind: Kind::MapKey,
+                byte,
+            },
+            (_, Head::Tag(byte)) => Error::DeInvalidStartByte {
+                kind: Kind::Enum(EnumName::new(name)),
+                byte,
+            },
+            _ => Error::de_custom(Complaint::WrongType),
+        }
+    }
+
+    /// Whether no level is left for the object that is due. A row takes none.
+    fn is_too_deep(&self) -> bool
+        ensures { result ≡ true → (text : List ℕ) → IsPairsHead (state R.state R.Lent.kept self.now) text → ⊥ }
+    {
+        match self.due {
+            Due::Row => false,
+            _ => self.levels == 0,
+        }
+    }
+
+    /// Refuses an enum of this name that nests too deep.
+    fn refuse_depth(&mut self, name: &str) -> Error
+        ensures kind { IsRefusal result }
+        ensures state { state R.state R.Lent.kept self.new ≡ refused (state R.state R.Lent.kept self.old) }
+    {
+        self.bunser.fail();
+        Error::DeRecursionLimitExceeded {
+            kind: Kind::ObjectLikeEnum(EnumName::new(name)),
+        }
+    }
+
+    /// How many entries an object or a row has.
+    fn entries_in(&self, head: MapHead) -> usize
+        ensures { result ≡ pairs_left (pairs_head head (state R.state R.Lent.kept self.now)).wanted }
+    {
+        if head.row {
+            self.keys.len().saturating_sub(head.at)
+        } else {
+            head.at
+        }
+    }
+
+    /// Makes the first key due.
+    fn await_name(&mut self, head: MapHead)
+        ensures { state R.state R.Lent.kept self.new ≡ awaiting (pair_key (pairs_head head (state R.state R.Lent.kept self.old)).wanted) (state R.state R.Lent.kept self.old) }
+    {
+        self.due = first_key(head);
+    }
+
+    /// Makes the payload due.
+    fn await_payload(&mut self, head: VariantHead)
+        ensures { state R.state R.Lent.kept self.new ≡ awaiting (payload_due head.row) (state R.state R.Lent.kept self.old) }
+    {
+        self.due = payload(head.row);
+    }
+
+    /// Opens the array or template that is a variant's payload, or refuses a name alone.
+    fn open_tuple(
+        &mut self,
+        alloc: Global,
+        head: Option<VariantHead>,
+    ) -> Result<(SeqHead, usize, usize)>
+        ensures found { IfOk result (λ p. IsTuplePayload (enum_head head (state R.state R.Lent.kept self.old)) (record (items_head p.0 (state R.state R.Lent.kept self.new)) { levels = p.1; opened = p.2 })) }
+        ensures refused { IfErr result (λ e. RefusesTuple e (enum_head head (state R.state R.Lent.kept self.old)) (state R.state R.Lent.kept self.new)) }
+    {
+        match head {
+            None => Err(self.refuse(Complaint::WrongType)),
+            Some(variant) => {
+                self.await_payload(variant);
+                let items = self.open_items(alloc)?;
+                Ok((items, variant.levels, variant.opened))
+            }
+        }
+    }
+
+    /// Opens the object or row that is a variant's payload, or refuses a name alone.
+    fn open_struct(&mut self, head: Option<VariantHead>) -> Result<(MapHead, usize, usize)>
+        ensures found { IfOk result (λ p. IsStructPayload (enum_head head (state R.state R.Lent.kept self.old)) (record (pairs_head p.0 (state R.state R.Lent.kept self.new)) { levels = p.1; opened = p.2 })) }
+        ensures refused { IfErr result (λ e. RefusesStruct e (enum_head head (state R.state R.Lent.kept self.old)) (state R.state R.Lent.kept self.new)) }
+    {
+        match head {
+            None => Err(self.refuse(Complaint::WrongType)),
+            Some(variant) => {
+                self.await_payload(variant);
+                let pairs = self.open_pairs()?;
+                Ok((pairs, variant.levels, variant.opened))
+            }
+        }
+    }
+
+    /// Closes the object of a variant whose payload was read.
+    fn close_variant(&mut self, head: VariantHead)
+        ensures { state R.state R.Lent.kept self.new ≡ closed head.levels head.opened (state R.state R.Lent.kept self.old) }
+    {
+        self.due = Due::Nothing;
+        self.levels = head.levels;
+        self.opened = head.opened;
+    }
+}
+
+impl<R: DeRead> Deserializer<R>
+where
+    R::Lent: LendsText,
+{
+    ghost use Rattle.serde_bser.specs.EnumAccess.{open_enum, place_of, variant_head, enum_head};
+
+    /// Reads the variant's name.
+    fn open_variant(
+        &mut self,
+        alloc: Global,
+        name: &str,
+        variants: &[&str],
+    ) -> Result<(usize, Option<VariantHead>)>
+        ensures found { IfOk result (λ p. OpensVariant (map (λ r. r.now) variants.now) (state R.state R.Lent.kept self.old) (enum_head p.1 (state R.state R.Lent.kept self.new)) p.0) }
+        ensures refused { IfErr result (λ e. RefusesFront bare (BeginsVariant (map (λ r. r.now) variants.now) (state R.state R.Lent.kept self.old)) e (state R.state R.Lent.kept self.old).source (state R.state R.Lent.kept self.new).source) }
+    {
+        match self.variant_kind(name)? {
+            Node::Object => {
+                let (place, head) = self.open_entry(alloc, name, variants)?;
+                Ok((place, Some(head)))
+            }
+            _ => {
+                let place = self.read_place(alloc, variants)?;
+                Ok((place, None))
+            }
+        }
+    }
+
+    /// Reads the name of the variant of the enum that is due, as an access to its payload, which
+    /// tells the first place in `variants` at which the name stands.
+    ///
+    /// A string of either kind, or a key, is a variant without a payload; an object of one entry, or
+    /// a row of one field, is a variant with one. Another kind of value is
+    /// [`Error::DeInvalidStartByte`], an object without exactly one entry is
+    /// [`Complaint::EnumObjectEntries`], and a name that is not in `variants` is
+    /// [`Complaint::UnknownVariant`]. After a refusal each later call is refused.
+    pub fn read_enum<'a>(
+        &'a mut self,
+        alloc: Global,
+        name: &str,
+        variants: &[&str],
+    ) -> Result<EnumAccess<'a, R>>
+        ensures* rests { sem 𝓛 (RestsIfErr (the_row R.row R.Lent.row R.Lent.Kept.row) self.entry (λ a. a.from.ghost_name) result
+            (λ d. IfErr result (λ e. RefusesFront bare (BeginsVariant (map (λ r. r.now) variants.now) (state R.state R.Lent.kept self.old)) e (state R.state R.Lent.kept self.old).source (state R.state R.Lent.kept d).source))) }
+        ensures same_reference { IfOk result (λ a. a.from.ghost_name ≡ self.entry.ghost_name) }
+        ensures found { IfOk result (λ a. OpensVariant (map (λ r. r.now) variants.now) (state R.state R.Lent.kept self.old) (open_enum R.state R.Lent.kept a) (place_of a)) }
+    {
+        let (place, head) = self.open_variant(alloc, name, variants)?;
+        Ok(EnumAccess {
+            from: self,
+            place,
+            head,
+        })
+    }
+
+    /// Reads the variant's name in the object or the row that is due, of which it is the only key.
+    fn open_entry(
+        &mut self,
+        alloc: Global,
+        name: &str,
+        variants: &[&str],
+    ) -> Result<(usize, VariantHead)>
+        ensures found { IfOk result (λ p. OpensEntry (map (λ r. r.now) variants.now) (state R.state R.Lent.kept self.old) (variant_head p.1 (state R.state R.Lent.kept self.new)) p.0) }
+        ensures refused { IfErr result (λ e. RefusesFront bare (BeginsEntry (map (λ r. r.now) variants.now) (state R.state R.Lent.kept self.old)) e (state R.state R.Lent.kept self.old).source (state R.state R.Lent.kept self.new).source) }
+        ensures failed { OnErr result ((state R.state R.Lent.kept self.new).source.failed ≡ true) }
+    {
+        if self.is_too_deep() {
+            return Err(self.refuse_depth(name));
+        }
+        let head = self.open_pairs()?;
+        if self.entries_in(head) != 1 {
+            return Err(self.refuse(Complaint::EnumObjectEntries));
+        }
+        self.await_name(head);
+        let place = self.read_place(alloc, variants)?;
+        let MapHead {
+            at: _,
+            row,
+            levels,
+            opened,
+        } = head;
+        Ok((
+            place,
+            VariantHead {
+                row,
+                levels,
+                opened,
+            },
+        ))
+    }
+
+    /// Reads the name that is due, as the first place in `variants` at which it stands.
+    fn read_place(&mut self, alloc: Global, variants: &[&str]) -> Result<usize>
+        ensures found { IfOk result (Answers (reads_place (map (λ r. r.now) variants.now)) HoldsPlace (state R.state R.Lent.kept self.old) (state R.state R.Lent.kept self.new)) }
+        ensures refused { IfErr result (λ e. Refuses (reads_place (map (λ r. r.now) variants.now)) bare e (state R.state R.Lent.kept self.old) (state R.state R.Lent.kept self.new)) }
+        ensures failed { OnErr result ((state R.state R.Lent.kept self.new).source.failed ≡ true) }
+    {
+        let mut scratch = Vec::new(alloc);
+        let name = self.read_text(&mut scratch)?;
+        match find_field(variants, name.get_ref()) {
+            Field::Known(place) => Ok(place),
+            Field::Unknown => Err(self.refuse(Complaint::UnknownVariant)),
+        }
+    }
+}
+
+impl<'a, R: DeRead> UnitVariantAccess<'a, R> {
+    /// Answers that nothing is left to read.
+    pub fn unit_variant(self) -> Result<()>
+        ensures ok { OnErr result ⊥ }
+        ensures same { state R.state R.Lent.kept self.exit.0.now ≡ state R.state R.Lent.kept self.entry.from.now }
+    {
+        Ok(())
+    }
+
+    /// Refused by [`Complaint::WrongType`]: a name alone has no payload.
+    pub fn newtype_variant<T>(self, _alloc: Global) -> Result<T>
+        ensures none { OnOk result ⊥ }
+        ensures refused { IfErr result (λ e. LacksPayload e (state R.state R.Lent.kept self.entry.from.now) (state R.state R.Lent.kept self.exit.0.now)) }
+    {
+        Err(self.from.refuse(Complaint::WrongType))
+    }
+
+    /// Refused by [`Complaint::WrongType`]: a name alone has no payload.
+    pub fn tuple_variant(self, _alloc: Global) -> Result<SeqAccess<'a, R>>
+        ensures* rests { sem 𝓛 (RestsIfErr (the_row R.row R.Lent.row R.Lent.Kept.row) self.entry.from (λ a. a.from.ghost_name) result
+            (λ d. IfErr result (λ e. LacksPayload e (state R.state R.Lent.kept self.entry.from.now) (state R.state R.Lent.kept d)))) }
+        ensures none { OnOk result ⊥ }
+    {
+        let UnitVariantAccess { from } = self;
+        Err(from.refuse(Complaint::WrongType))
+    }
+
+    /// Refused by [`Complaint::WrongType`]: a name alone has no payload.
+    pub fn struct_variant(self) -> Result<MapAccess<'a, R>>
+        ensures* rests { sem 𝓛 (RestsIfErr (the_row R.row R.Lent.row R.Lent.Kept.row) self.entry.from (λ a. a.from.ghost_name) result
+            (λ d. IfErr result (λ e. LacksPayload e (state R.state R.Lent.kept self.entry.from.now) (state R.state R.Lent.kept d)))) }
+        ensures none { OnOk result ⊥ }
+    {
+        let UnitVariantAccess { from } = self;
+        Err(from.refuse(Complaint::WrongType))
+    }
+}
+
+impl<'a, R: DeRead> VariantAccess<'a, R> {
+    ghost use Rattle.serde_bser.specs.EnumAccess.{open_variant};
+    ghost use Rattle.serde_bser.specs.Accesses.{open_items, open_pairs};
+
+    /// Reads null as the payload.
+    ///
+    /// Another payload is [`Complaint::WrongType`].
+    pub fn unit_variant(self) -> Result<()>
+        ensures found { OnOk result (ReadsPayload reads_unit (λ _ c. c ≡ one) (open_variant R.state R.Lent.kept self.entry) (state R.state R.Lent.kept self.exit.0.now) (tt {0})) }
+        ensures refused { IfErr result (λ e. Refuses reads_unit bare e (before_payload (open_variant R.state R.Lent.kept self.entry)) (state R.state R.Lent.kept self.exit.0.now)) }
+    {
+        let head = self.head;
+        self.from.await_payload(head);
+        self.from.read_unit()?;
+        self.from.close_variant(head);
+        Ok(())
+    }
+
+    /// Reads the payload as an array or a template.
+    ///
+    /// Refused as [`Deserializer::read_seq`] is.
+    pub fn tuple_variant(self, alloc: Global) -> Result<SeqAccess<'a, R>>
+        ensures* rests { sem 𝓛 (RestsIfErr (the_row R.row R.Lent.row R.Lent.Kept.row) self.entry.from (λ a. a.from.ghost_name) result
+            (λ d. IfErr result (λ e. RefusesFront owned (IsItemsHead (before_payload (open_variant R.state R.Lent.kept self.entry))) e (open_variant R.state R.Lent.kept self.entry).state.source (state R.state R.Lent.kept d).source))) }
+        ensures same_reference { IfOk result (λ a. a.from.ghost_name ≡ self.entry.from.ghost_name) }
+        ensures found { IfOk result (λ a. OpensPayloadItems (open_variant R.state R.Lent.kept self.entry) (open_items R.state R.Lent.kept a)) }
+    {
+        let VariantAccess { from, head } = self;
+        from.await_payload(head);
+        let items = from.open_items(alloc)?;
+        Ok(SeqAccess {
+            from,
+            remaining: items.remaining,
+            rows: items.rows,
+            levels: head.levels,
+            opened: head.opened,
+        })
+    }
+
+    /// Reads the payload as an object or a row.
+    ///
+    /// Refused as [`Deserializer::read_map`] is.
+    pub fn struct_variant(self) -> Result<MapAccess<'a, R>>
+        ensures* rests { sem 𝓛 (RestsIfErr (the_row R.row R.Lent.row R.Lent.Kept.row) self.entry.from (λ a. a.from.ghost_name) result
+            (λ d. IfErr result (λ e. RefusesFront bare (IsPairsHead (before_payload (open_variant R.state R.Lent.kept self.entry))) e (open_variant R.state R.Lent.kept self.entry).state.source (state R.state R.Lent.kept d).source))) }
+        ensures same_reference { IfOk result (λ a. a.from.ghost_name ≡ self.entry.from.ghost_name) }
+        ensures found { IfOk result (λ a. OpensPayloadPairs (open_variant R.state R.Lent.kept self.entry) (open_pairs R.state R.Lent.kept a)) }
+    {
+        let VariantAccess { from, head } = self;
+        from.await_payload(head);
+        let pairs = from.open_pairs()?;
+        Ok(MapAccess {
+            from,
+            at: pairs.at,
+            row: pairs.row,
+            pending: false,
+            levels: head.levels,
+            opened: head.opened,
+        })
+    }
+}
+
+impl<'a, R: DeRead> VariantAccess<'a, R>
+where
+    R::Lent: LendsText,
+{
+    ghost use Rattle.serde_bser.specs.EnumAccess.{open_variant};
+
+    /// Reads the payload.
+    ///
+    /// Refused as the type's reading is.
+    pub fn newtype_variant<T: Deserialize<R::Lent>>(self, alloc: Global) -> Result<T>
+        ensures found { IfOk result (ReadsPayload T.reads T.holds (open_variant R.state R.Lent.kept self.entry) (state R.state R.Lent.kept self.exit.0.now)) }
+        ensures refused { IfErr result (λ e. Refuses T.reads T.needs e (before_payload (open_variant R.state R.Lent.kept self.entry)) (state R.state R.Lent.kept self.exit.0.now)) }
+    {
+        let head = self.head;
+        self.from.await_payload(head);
+        match T::deserialize(alloc, self.from) {
+            Ok(payload) => {
+                self.from.close_variant(head);
+                Ok(payload)
+            }
+            Err(refusal) => {
+                self.from.fail();
+                Err(refusal)
+            }
+        }
+    }
+}
+
+impl<'a, R: DeRead> EnumAccess<'a, R> {
+    ghost use Rattle.serde_bser.specs.EnumAccess.{open_enum, place_of, open_form, reference};
+    ghost use Rattle.serde_bser.specs.Accesses.{open_items, open_pairs};
+
+    /// The first place at which the variant's name stands among the names that were passed.
+    pub fn place(&self) -> usize
+        ensures { result ≡ place_of self.now }
+    {
+        self.place
+    }
+
+    /// The form of the variant, as an access of its own.
+    pub fn form(self) -> VariantForm<'a, R>
+        ensures same_reference { reference result ≡ self.entry.from.ghost_name }
+        ensures same { open_form R.state R.Lent.kept result ≡ (open_enum R.state R.Lent.kept self.entry) }
+    {
+        let EnumAccess {
+            from,
+            place: _,
+            head,
+        } = self;
+        match head {
+            None => VariantForm::Unit(UnitVariantAccess { from }),
+            Some(head) => VariantForm::Object(VariantAccess { from, head }),
+        }
+    }
+
+    /// Reads null as the payload, or nothing where the name stands alone.
+    ///
+    /// Another payload is [`Complaint::WrongType`].
+    pub fn unit_variant(self) -> Result<()>
+        ensures found { OnOk result (IsUnitVariant (open_enum R.state R.Lent.kept self.entry) (state R.state R.Lent.kept self.exit.0.now)) }
+        ensures refused { IfErr result (λ e. RefusesUnitVariant e (open_enum R.state R.Lent.kept self.entry) (state R.state R.Lent.kept self.exit.0.now)) }
+    {
+        let EnumAccess {
+            from,
+            place: _,
+            head,
+        } = self;
+        match head {
+            None => UnitVariantAccess { from }.unit_variant(),
+            Some(head) => VariantAccess { from, head }.unit_variant(),
+        }
+    }
+
+    /// Reads the payload as an array or a template.
+    ///
+    /// Refused as [`Deserializer::read_seq`] is, and by [`Complaint::WrongType`] where the name
+    /// stands alone.
+    pub fn tuple_variant(self, alloc: Global) -> Result<SeqAccess<'a, R>>
+        ensures* rests { sem 𝓛 (RestsIfErr (the_row R.row R.Lent.row R.Lent.Kept.row) self.entry.from (λ a. a.from.ghost_name) result
+            (λ d. IfErr result (λ e. RefusesTuple e (open_enum R.state R.Lent.kept self.entry) (state R.state R.Lent.kept d)))) }
+        ensures same_reference { IfOk result (λ a. a.from.ghost_name ≡ self.entry.from.ghost_name) }
+        ensures found { IfOk result (λ a. IsTuplePayload (open_enum R.state R.Lent.kept self.entry) (open_items R.state R.Lent.kept a)) }
+    {
+        let EnumAccess {
+            from,
+            place: _,
+            head,
+        } = self;
+        let (items, levels, opened) = from.open_tuple(alloc, head)?;
+        Ok(SeqAccess {
+            from,
+            remaining: items.remaining,
+            rows: items.rows,
+            levels,
+            opened,
+        })
+    }
+
+    /// Reads the payload as an object or a row.
+    ///
+    /// Refused as [`Deserializer::read_map`] is, and by [`Complaint::WrongType`] where the name
+    /// stands alone.
+    pub fn struct_variant(self) -> Result<MapAccess<'a, R>>
+        ensures* rests { sem 𝓛 (RestsIfErr (the_row R.row R.Lent.row R.Lent.Kept.row) self.entry.from (λ a. a.from.ghost_name) result
+            (λ d. IfErr result (λ e. RefusesStruct e (open_enum R.state R.Lent.kept self.entry) (state R.state R.Lent.kept d)))) }
+        ensures same_reference { IfOk result (λ a. a.from.ghost_name ≡ self.entry.from.ghost_name) }
+        ensures found { IfOk result (λ a. IsStructPayload (open_enum R.state R.Lent.kept self.entry) (open_pairs R.state R.Lent.kept a)) }
+    {
+        let EnumAccess {
+            from,
+            place: _,
+            head,
+        } = self;
+        let (pairs, levels, opened) = from.open_struct(head)?;
+        Ok(MapAccess {
+            from,
+            at: pairs.at,
+            row: pairs.row,
+            pending: false,
+            levels,
+            opened,
+        })
+    }
+}
+
+impl<'a, R: DeRead> EnumAccess<'a, R>
+where
+    R::Lent: LendsText,
+{
+    ghost use Rattle.serde_bser.specs.EnumAccess.{open_enum};
+
+    /// Reads the payload.
+    ///
+    /// Refused as the type's reading is, and by [`Complaint::WrongType`] where the name stands
+    /// alone.
+    pub fn newtype_variant<T: Deserialize<R::Lent>>(self, alloc: Global) -> Result<T>
+        ensures found { IfOk result (IsPayload T.reads T.holds (open_enum R.state R.Lent.kept self.entry) (state R.state R.Lent.kept self.exit.0.now)) }
+        ensures refused { IfErr result (λ e. RefusesPayload T.reads T.needs e (open_enum R.state R.Lent.kept self.entry) (state R.state R.Lent.kept self.exit.0.now)) }
+    {
+        let EnumAccess {
+            from,
+            place: _,
+            head,
+        } = self;
+        match head {
+            None => UnitVariantAccess { from }.newtype_variant(alloc),
+            Some(head) => VariantAccess { from, head }.newtype_variant(alloc),
+        }
+    }
+}
