@@ -11,6 +11,7 @@ pub mod Back
 pub mod Written
 pub mod Tagged
 pub mod Taken
+pub mod Hand
 pub mod Fits
 pub mod Values
 pub mod Bounds

@@ -1,6 +1,6 @@
 -- What a value of a readable type holds, whatever the type, and what a type's meaning is.
-use Rattle.std.specs.Prelude.{ℕ, ℤ, Bool, List, [], ◌∷◌, Option, Some, option_map, option_and_then}
-use Rattle.bser_base.specs.Tree.{Tree}
+use Rattle.std.specs.Prelude.{◌≡◌, ℕ, ℤ, Bool, List, [], ◌∷◌, Option, Some, None, option_map, option_and_then}
+use Rattle.bser_base.specs.Tree.{Tree, Entries, object}
 
 mutual
   -- the one value, a truth value, a number, bytes, nothing, something, a list, a pair, a variant by its place, a `Value`
@@ -34,7 +34,12 @@ abbrev pub each_some : {X Y : Type 0} → (X → Option Y) → List X → Option
 each_some f [] = Some []
 each_some f (x ∷ xs) = option_and_then (λ y. option_map (λ ys. y ∷ ys) (each_some f xs)) (f x)
 
--- what a type needs: whether a value may hold bytes that the source lends, and whether reading it may take memory
+-- no object is read
+abbrev pub ReadsNoObject : Meaning → Type 0
+ReadsNoObject reads = (es : Entries) → reads (object es) ≡ None
+
+-- what a type needs: whether a value may hold bytes that the source lends, whether reading a value may take memory, and whether a refusal may, for a template's keys
 pub record Needs : Type 0 where
   pub lent : Bool
   pub memory : Bool
+  pub keys : Bool

@@ -36,3 +36,4 @@ pub mod Escaped
 pub mod ByteStrings
 pub mod SameTree
 pub mod Held
+pub mod Hand

@@ -1,5 +1,9 @@
 -- What a reference to bytes or to a text holds.
-use Rattle.std.specs.Prelude.{ℕ, List, Bool, true, false}
+use Rattle.std.specs.Prelude.{◌≡◌, ℕ, List, Bool, true, false, IsUtf8, ◌⊎◌}
+use Rattle.bser_base.specs.Errors.{error_of}
+use Rattle.bser_base.specs.declared.errors.Error.{Error}
+use Rattle.bser_base.specs.declared.errors.Error.TheVariants.{OutOfMemory}
+use Rattle.bser_base.specs.declared.errors.ReadCause.TheVariants.{Utf8}
 use Rattle.bser_base.specs.declared.de.read.Reference.{Reference}
 use Rattle.bser_base.specs.declared.de.read.Reference.TheVariants.{Borrowed, Copied}
 use Rattle.bser_base.specs.declared.de.read.TextReference.{TextReference}
@@ -24,3 +28,7 @@ text_of lent (texts.Copied text) = text.now
 abbrev pub is_lent_text : {T : Type 0} → TextReference T → Bool
 is_lent_text (texts.Borrowed text) = true
 is_lent_text (texts.Copied text) = false
+
+-- bytes are not kept: for want of memory where they are copied, or since they are not UTF-8
+abbrev pub RefusesKept : Bool → List ℕ → Error → Type 0
+RefusesKept lends s e = ((e ≡ OutOfMemory) × (lends ≡ false)) ⊎ ((e ≡ error_of Utf8) × (¬ (IsUtf8 s)))

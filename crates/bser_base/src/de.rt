@@ -2,6 +2,7 @@
 mod block;
 pub mod bunser;
 mod fill;
+mod hand;
 mod held;
 mod io_read;
 mod lending;

@@ -1,5 +1,5 @@
 //! The structs as which an answer of Watchman is read.
-ghost use Rattle.std.specs.Prelude.{false, ◌||◌, [], ◌∷◌};
+ghost use Rattle.std.specs.Prelude.{false, ◌||◌, [], ◌∷◌, None};
 ghost use Rattle.std.proofs.Common.{ap, ◌∙◌};
 ghost use Rattle.serde_bser.specs.Slots.{struct_needs};
 ghost use Rattle.bser_bench.specs.Rows.{reads_file, HoldsFile, file_needs, reads_files, HoldsFiles};
@@ -27,6 +27,8 @@ impl<B: Shape, S: Shape> Shape for File<B, S> {
     ghost holds = { HoldsFile B.holds S.holds };
 
     ghost needs = { file_needs B.needs S.needs };
+
+    ghost plain = { None };
 }
 
 impl<L: LendsText, B: Deserialize<L>, S: Deserialize<L>> Deserialize<L> for File<B, S> {
@@ -91,6 +93,8 @@ impl<B: Shape, S: Shape> Shape for Files<B, S> {
     ghost holds = { HoldsFiles B.holds S.holds };
 
     ghost needs = { struct_needs (file_needs B.needs S.needs ∷ []) };
+
+    ghost plain = { None };
 }
 
 impl<L: LendsText, B: Deserialize<L>, S: Deserialize<L>> Deserialize<L> for Files<B, S> {

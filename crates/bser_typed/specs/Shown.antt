@@ -1,6 +1,8 @@
 -- The notation of the types that are read.
 use Rattle.std.specs.Prelude.{ℕ, List, [], ◌∷◌, ◌++◌, Option, Some, None, codes}
 use Rattle.hex.specs.Hex.{encode_lower}
+use Rattle.bser_vectors.specs.declared.enums.TestEnum.{TestEnum}
+use Rattle.bser_vectors.specs.declared.enums.TestEnum.TheVariants.{TestUnit, TestNewtype, TestTuple, TestStruct}
 
 -- `x`, and the bytes in hexadecimal digits
 abbrev pub bytes_notation : List ℕ → List ℕ
@@ -27,3 +29,10 @@ map_notation key value es = codes "{" ++ (joined (entry_notation key value) [] e
 abbrev pub option_notation : {A : Type 0} → (A → List ℕ) → Option A → List ℕ
 option_notation shown None = codes "-"
 option_notation shown (Some v) = codes "+" ++ shown v
+
+-- the name of the variant, and its payload after a colon
+abbrev pub test_enum_notation : {A : Type 0} → (A → List ℕ) → TestEnum A → List ℕ
+test_enum_notation shown TestUnit = codes "TestUnit"
+test_enum_notation shown (TestNewtype x) = codes "TestNewtype:" ++ shown x
+test_enum_notation shown (TestTuple x y) = codes "TestTuple:(" ++ (shown x ++ (codes "," ++ (shown y ++ codes ")")))
+test_enum_notation shown (TestStruct x y) = codes "TestStruct:<abc=" ++ (shown x ++ (codes ",def=" ++ (shown y ++ codes ">")))

@@ -1,5 +1,5 @@
 -- What the files of a Watchman answer are read from, by their names, and what they hold.
-use Rattle.std.specs.Prelude.{List, [], ◌∷◌, codes}
+use Rattle.std.specs.Prelude.{[], ◌∷◌, codes}
 use Rattle.bser_base.specs.Content.{Content, Meaning}
 use Rattle.bser_base.specs.ReadsHolders.{reads_vec}
 use Rattle.serde_bser.specs.HoldsLists.{HoldsList, HoldsTuple}

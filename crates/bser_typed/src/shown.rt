@@ -2,10 +2,11 @@
 //!
 //! `i` and decimal digits is an integer, `t` and `f` are the truth values, `u` is `()`, `_` what is
 //! ignored, `x` and hexadecimal digits the bytes of a string or of a character in UTF-8; `-` is no
-//! value and `+` comes before one; `[..]` is a list, `(..)` a pair, `{key=value}` a map in its order, `<field=value>` a
-//! struct.
+//! value and `+` comes before one; `[..]` is a list, `(..)` a pair, `{key=value}` a map in its
+//! order, `<field=value>` a struct, and `Variant` or `Variant:payload` an enum.
 ghost use Rattle.std.specs.Prelude.{◌≡◌, ◌++◌, ℕ, List, string_bytes, OnOk};
 
+mod enums;
 mod holders;
 mod scalars;
 mod strings;

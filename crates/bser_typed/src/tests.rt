@@ -24,6 +24,8 @@ fn lines_as_they_are(rt: HostRuntime) -> Tested {
         "opt_i64\t00020000000003010a\tok\t-\t9",
         "tup2\t000200000000030700030203010302\tok\t(i1,i2)\t15",
         "map_String_i64\t000200000000030901030102030161037f\tok\t{x61=i127}\t17",
+        "opt_TestEnum\t000200000000030f0103010d030854657374556e69740a\tok\t+TestUnit\t23",
+        "vec_EnumRow\t0002000000000303000200\terr\tE1 integer 2\t9",
     ] {
         check_line(&rt, rt.alloc(), line, None)?;
     }
@@ -38,6 +40,7 @@ fn a_wrong_answer_is_reported(rt: HostRuntime) -> Tested {
         "i8\t0002000000000302797f\terr\tE1 next item 120\t8",
         "i8\t0002000000000302797f\tok\ti121\t8",
         "str\t00020000000003070d040300626172\tok\tx626171\t15",
+        "TestEnum\t000200000000030b02030854657374556e6974\tok\tTestNewtype:x\t19",
     ] {
         check_line(&rt, rt.alloc(), line, Some(Way::Slice))?;
     }

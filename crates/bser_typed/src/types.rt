@@ -2,19 +2,12 @@
 //! `BTreeMap`, `unit` is `()`, `tup2` a pair of `i64`, `str` is `&str`, and `bytes` is `&[u8]`, but
 //! `ByteString` as the key of a map, where `raw` is `&[u8]`.
 use crate::ways::{Compared, Sample};
+use bser_vectors::enums::{EnumRow, TestEnum};
 use bser_vectors::structs::{Files, TemplateRow};
 use serde_bser::bytestring::ByteString;
 use serde_bser::de::Ignored;
 use std::alloc::Global;
 use std::collections::BTreeMap;
-
-/// Whether the type of this name is not compared.
-pub fn is_left_out(kind: &str) -> bool {
-    matches!(
-        kind,
-        "TestEnum" | "opt_TestEnum" | "vec_TestEnum" | "vec_EnumRow"
-    )
-}
 
 /// Reads the message as the type of this name, and compares the answers, where there is one.
 pub fn compare(alloc: Global, kind: &str, sample: &Sample<'_>) -> Option<Compared> {
@@ -22,6 +15,7 @@ pub fn compare(alloc: Global, kind: &str, sample: &Sample<'_>) -> Option<Compare
         .or_else(|| lists(alloc, kind, sample))
         .or_else(|| maps(alloc, kind, sample))
         .or_else(|| structs(alloc, kind, sample))
+        .or_else(|| enums(alloc, kind, sample))
 }
 
 fn scalars(alloc: Global, kind: &str, sample: &Sample<'_>) -> Option<Compared> {
@@ -83,6 +77,16 @@ fn structs(alloc: Global, kind: &str, sample: &Sample<'_>) -> Option<Compared> {
         "vec_TemplateRow" => sample.owned_mismatch::<Vec<TemplateRow<String>>>(alloc),
         "vec_opt_TemplateRow" => sample.owned_mismatch::<Vec<Option<TemplateRow<String>>>>(alloc),
         "Files" => sample.owned_mismatch::<Files<String>>(alloc),
+        _ => return None,
+    })
+}
+
+fn enums(alloc: Global, kind: &str, sample: &Sample<'_>) -> Option<Compared> {
+    Some(match kind {
+        "TestEnum" => sample.owned_mismatch::<TestEnum<String>>(alloc),
+        "opt_TestEnum" => sample.owned_mismatch::<Option<TestEnum<String>>>(alloc),
+        "vec_TestEnum" => sample.owned_mismatch::<Vec<TestEnum<String>>>(alloc),
+        "vec_EnumRow" => sample.owned_mismatch::<Vec<EnumRow<String>>>(alloc),
         _ => return None,
     })
 }

@@ -1,5 +1,5 @@
 //! Recorded answers of a Watchman server: how many files each holds.
-ghost use Rattle.std.specs.Prelude.{[], ◌∷◌};
+ghost use Rattle.std.specs.Prelude.{[], ◌∷◌, None};
 ghost use Rattle.serde_bser.specs.Slots.{struct_needs};
 ghost use Rattle.bser_typed.specs.Watchman.{reads_name, HoldsName, reads_names, HoldsNames};
 
@@ -22,6 +22,8 @@ impl<S: Shape> Shape for FileName<S> {
     ghost holds = { HoldsName S.holds };
 
     ghost needs = { struct_needs (S.needs ∷ []) };
+
+    ghost plain = { None };
 }
 
 impl<L: LendsText, S: Deserialize<L>> Deserialize<L> for FileName<S> {
@@ -46,6 +48,8 @@ impl<S: Shape> Shape for FileNames<S> {
     ghost holds = { HoldsNames S.holds };
 
     ghost needs = { struct_needs (struct_needs (S.needs ∷ []) ∷ []) };
+
+    ghost plain = { None };
 }
 
 impl<L: LendsText, S: Deserialize<L>> Deserialize<L> for FileNames<S> {

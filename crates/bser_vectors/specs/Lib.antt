@@ -7,3 +7,4 @@ pub mod Notation
 pub mod Planned
 pub mod Ways
 pub mod Structs
+pub mod Enums

@@ -1,6 +1,6 @@
 //! Structs that worked messages are read as. Their fields come in any order, and a name that no
 //! field has is passed over.
-ghost use Rattle.std.specs.Prelude.{false, ◌||◌, [], ◌∷◌};
+ghost use Rattle.std.specs.Prelude.{false, ◌||◌, [], ◌∷◌, None};
 ghost use Rattle.std.proofs.Common.{ap};
 ghost use Rattle.serde_bser.specs.Reading.{bare};
 ghost use Rattle.serde_bser.specs.Slots.{struct_needs};
@@ -24,6 +24,8 @@ impl<S: Shape> Shape for FileInfo<S> {
     ghost holds = { HoldsFile S.holds };
 
     ghost needs = { struct_needs (S.needs ∷ bare ∷ []) };
+
+    ghost plain = { None };
 }
 
 impl<L: LendsText, S: Deserialize<L>> Deserialize<L> for FileInfo<S> {
@@ -55,6 +57,8 @@ impl<S: Shape> Shape for Files<S> {
     ghost holds = { HoldsFiles S.holds };
 
     ghost needs = { struct_needs (struct_needs (S.needs ∷ bare ∷ []) ∷ []) };
+
+    ghost plain = { None };
 }
 
 impl<L: LendsText, S: Deserialize<L>> Deserialize<L> for Files<S> {
@@ -85,6 +89,8 @@ impl<S: Shape> Shape for TemplateRow<S> {
     ghost holds = { HoldsRow S.holds };
 
     ghost needs = { struct_needs (bare ∷ S.needs ∷ bare ∷ []) };
+
+    ghost plain = { None };
 }
 
 impl<L: LendsText, S: Deserialize<L>> Deserialize<L> for TemplateRow<S> {

@@ -1,5 +1,5 @@
 -- An array or a template that is read item by item.
-use Rattle.std.proofs.Common.{◌≡◌, ℕ, ◌-◌, ◌<◌, Bool, true, false, List, [], ◌∷◌, ◌++◌, length, append_assoc, Option, Some, None, refl, sym, ap, subst, ◌∙◌, arith}
+use Rattle.std.proofs.Common.{◌≡◌, ℕ, ◌-◌, ◌<◌, Bool, true, false, List, [], ◌∷◌, ◌++◌, length, append_assoc, Option, Some, None, inl, refl, sym, ap, subst, ◌∙◌, arith}
 use Rattle.std.proofs.lemmas.List.{append-nil}
 use Rattle.bser_base.specs.Tree.{Tree, array, Items, no_items, item, items}
 use Rattle.bser_base.specs.Grammar.{Format}
@@ -11,7 +11,7 @@ use Rattle.bser_base.specs.declared.errors.Error.{Error}
 use Rattle.bser_base.specs.declared.errors.Error.TheVariants.{DeReaderError, OutOfMemory}
 use Rattle.bser_base.specs.declared.errors.ReadCause.TheVariants.{Failed}
 use Rattle.serde_bser.specs.State.{State, past, refused, awaiting}
-use Rattle.serde_bser.specs.Reading.{Answers, Refuses, RefusesFront, FillsReadably, IsRefusal}
+use Rattle.serde_bser.specs.Reading.{TakesMemory, Answers, Refuses, RefusesFront, FillsReadably, IsRefusal}
 use Rattle.serde_bser.specs.Scalar.{owned}
 use Rattle.serde_bser.specs.Parts.{items_left, item_due, items_after, wanted_items}
 use Rattle.serde_bser.specs.Access.{OpenItems, OpensItems, IsItemsHead, inside_items, IsNext, RefusesItem, ClosesItems, KeysOutside, LeavesItems, closed}
@@ -224,7 +224,7 @@ opening_refused reads k needs e o z by memory u =
     first_part needs (IsItemsHead o) (FillsReadably reads o) e o.source z.source (λ text f.
     let p = by.only f.tree f.content f.read in
     items_begin o.levels o.due p.0 text (subst (λ t. Fills o.levels o.due t text) p.1 f.filled))
-    (wider_needs owned needs (IsItemsHead o) e o.source z.source (λ lent. absurd cc) (λ m. memory) u)
+    (wider_needs owned needs (IsItemsHead o) e o.source z.source (λ lent. absurd cc) (λ m. memory) (λ t. inl memory) u)
 
 -- after what was taken, a whole goes on by the items that are left
 goes_on : (reads : Meaning) (k : List Tree → Option Content) (o : State) (u : OpenItems) → (h : Inside reads o k u) → (text rest ys : List ℕ) → FillsReadably reads o text → text ++ rest ≡ h.taken ++ ys
@@ -233,8 +233,8 @@ goes_on reads k o u h text rest ys f e = let p = h.within.only f.content text re
 
 -- a refusal of an item
 pub item_refused : (T : Meaning) (some : Needs) (reads : Meaning) (k : List Tree → Option Content) (after : Content → List Tree → Option Content) (needs : Needs) (e : Error) (o z : State) (u : OpenItems)
-    → ReadsNext T k after → (some.lent ≡ true → needs.lent ≡ true) → (some.memory ≡ true → needs.memory ≡ true) → Inside reads o k u → RefusesItem T some e u z → Refuses reads needs e o z
-item_refused T some reads k after needs e o z u by lent memory h refuses =
+    → ReadsNext T k after → (some.lent ≡ true → needs.lent ≡ true) → (some.memory ≡ true → needs.memory ≡ true) → (TakesMemory some → TakesMemory needs) → Inside reads o k u → RefusesItem T some e u z → Refuses reads needs e o z
+item_refused T some reads k after needs e o z u by lent memory takes h refuses =
     let level : o.levels - 1 ≡ u.state.levels = sym (ap (λ s. s.levels) h.state ∙ levels_inside u.wanted o u.state.source) in
     let left = refuses.counted h.took.failed in
     let V : Format = FillsReadably T (awaiting (item_due u.wanted) u.state) in
@@ -245,7 +245,7 @@ item_refused T some reads k after needs e o z u by lent memory h refuses =
     let read : k (f.first ∷ items f.others) ≡ Some v.0 = ap (λ us. k (items us)) (sym f.parts) ∙ v.1.read in
     let d = by.some f.first (items f.others) v.0 read in
     (f.front, f.rest, f.whole, record { tree = f.first; content = d.0; filled = subst (λ n. Fills n (item_due u.wanted) f.first f.front) level f.filled; read = d.1 }))
-    (wider_needs some needs V e u.state.source z.source lent memory refuses.refuses))
+    (wider_needs some needs V e u.state.source z.source lent memory takes refuses.refuses))
 
 -- a refusal where what is left cannot be as is wanted
 never_left : (reads : Meaning) (k : List Tree → Option Content) (needs : Needs) (e : Error) (o z : State) (u : OpenItems) → Inside reads o k u → ((c : Content) (text : List ℕ) → ItemsLeft k (o.levels - 1) u.wanted c text → ⊥)

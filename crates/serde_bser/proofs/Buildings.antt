@@ -148,14 +148,14 @@ waits_refused (Items vs h) e o s z w u =
     let item : RefusesItem reads_value owned e entered (refused z) = record { counted = λ working. omega (arith, left, w.awaits.counted); refuses = there; failed = refl } in
     let done : List Tree = map tree_of vs.items in
     fails_before e o z (due_refuses reads_array owned e o (refused z) w.only
-    (arrays.item_refused reads_value owned reads_array (array_outlook done) (λ c. array_outlook (done ++ content_tree c ∷ [])) owned e o (refused z) entered (array_next done) (λ l. l) (λ m. m) w.inside item))
+    (arrays.item_refused reads_value owned reads_array (array_outlook done) (λ c. array_outlook (done ++ content_tree c ∷ [])) owned e o (refused z) entered (array_next done) (λ l. l) (λ m. m) (λ t. t) w.inside item))
 waits_refused (Pairs es key h) e o s z w u =
     let entered : OpenPairs = after_key h w.outside in
     let there : Refuses reads_value owned e (awaiting (pair_value entered.wanted) w.outside) (refused z) = subst (λ (y : State). Refuses reads_value owned e y (refused z)) w.due (fails_too e s z u) in
     let value : RefusesValue reads_value owned e entered (refused z) = record { refuses = λ p. there; turn = λ p. absurd cc; failed = refl } in
     let done = entry_trees es.entries in
     fails_before e o z (due_refuses reads_object owned e o (refused z) w.only
-    (objects.value_refused reads_value owned owned reads_object (object_outlook done) (string_bytes w.name) e o (refused z) entered (λ l. l) (λ m. m) (object_values done (string_bytes w.name)) w.inside refl value))
+    (objects.value_refused reads_value owned owned reads_object (object_outlook done) (string_bytes w.name) e o (refused z) entered (λ l. l) (λ m. m) (λ t. t) (object_values done (string_bytes w.name)) w.inside refl value))
 
 -- a key that is refused
 pub fills_refused : (b : Building) (e : Error) (o s z : State) → Filling b o s → RefusesNext e b s z → Refuses reads_value owned e o z
@@ -166,7 +166,7 @@ fills_refused (Pairs es key h) e o s z f u =
     let name : RefusesKey reads_string owned e entered (refused z) = record { counted = λ working read. u.counted; refuses = λ p. refuses; turn = λ p. absurd cc; failed = refl } in
     let done = entry_trees es.entries in
     fails_before e o z (due_refuses reads_object owned e o (refused z) f.only
-    (objects.key_refused reads_string owned owned reads_object (object_outlook done) e o (refused z) entered (λ l. l) (λ m. m) (object_keys done) f.inside refl name))
+    (objects.key_refused reads_string owned owned reads_object (object_outlook done) e o (refused z) entered (λ l. l) (λ m. m) (λ t. t) (object_keys done) f.inside refl name))
 
 -- want of memory after a value was read
 pub room_after : (s t : State) (v : Value) → Answers reads_value HoldsTree s t v → Refuses reads_value owned OutOfMemory s t

@@ -4,6 +4,10 @@ pub mod Steps
 pub mod Seen
 pub mod KindTags
 pub mod Pulls
+pub mod FieldNames
+pub mod AtHand
+pub mod AtFront
+pub mod StringsAtHand
 pub mod Looks
 pub mod Options
 pub mod Ranges
@@ -27,6 +31,7 @@ pub mod Within
 pub mod Items
 pub mod Arrays
 pub mod Lists
+pub mod Tuples
 pub mod TemplateKeys
 pub mod ContainerHeads
 pub mod Openings
@@ -40,6 +45,7 @@ pub mod Objects
 pub mod Structs
 pub mod Slots
 pub mod ValueScalars
+pub mod ValuesAtHand
 pub mod Maps
 pub mod HashMaps
 pub mod Buildings

@@ -1,5 +1,5 @@
 -- Lists and tuples that are read item by item.
-use Rattle.std.proofs.Common.{◌≡◌, true, List, [], ◌∷◌, ◌++◌, append_assoc, Option, Some, None, inl, inr, refl, sym, ap, subst, ◌∙◌}
+use Rattle.std.proofs.Common.{◌≡◌, true, false, List, [], ◌∷◌, ◌++◌, append_assoc, Option, Some, None, inl, refl, sym, ap, subst, ◌∙◌}
 use Rattle.std.proofs.lemmas.List.{append-nil}
 use Rattle.std.specs.Prelude.{option_map, option_and_then}
 use Rattle.bser_base.specs.Tree.{Tree, null, boolean, integer, real, bytes, text, array, object, template, Items}
@@ -9,11 +9,9 @@ use Rattle.bser_base.specs.declared.errors.Error.{Error}
 use Rattle.bser_base.specs.declared.errors.Error.TheVariants.{OutOfMemory}
 use Rattle.serde_bser.specs.State.{State}
 use Rattle.serde_bser.specs.Reading.{Answers, Refuses}
-use Rattle.serde_bser.specs.Scalar.{owned}
-use Rattle.serde_bser.specs.Access.{OpenItems, OpensItems, IsItemsHead, RefusesOpening, IsNext, IsOver, RefusesItem, ClosesItems, LeavesItems}
-use Rattle.serde_bser.specs.Required.{RefusesRequired}
+use Rattle.serde_bser.specs.Access.{OpenItems, OpensItems, RefusesItems, IsNext, IsOver, RefusesItem, ClosesItems}
 use Rattle.serde_bser.specs.HoldsLists.{HoldsAll, HoldsList, HoldsEach, HoldsTuple}
-use Rattle.serde_bser.proofs.Arrays.{ReadsArrays, ReadsNext, Inside, inside_start, inside_next, inside_end, opening_refused, item_refused, leaves_refused, over_refused, room_refused}
+use Rattle.serde_bser.proofs.Arrays.{ReadsArrays, ReadsNext, Inside, inside_start, inside_next, inside_end, opening_refused, item_refused, room_refused}
 
 -- ---- what is made of the items that are left
 
@@ -45,7 +43,7 @@ list_next T cs = record {
   some = λ t ts c e. first_some cs (T t) (each_some T ts) c e;
 }
 
-tuple_next : (T : Meaning) (Ts : List Meaning) (cs : List Content) → ReadsNext T (rest_of_tuple (T ∷ Ts) cs) (λ c. rest_of_tuple Ts (cs ++ c ∷ []))
+pub tuple_next : (T : Meaning) (Ts : List Meaning) (cs : List Content) → ReadsNext T (rest_of_tuple (T ∷ Ts) cs) (λ c. rest_of_tuple Ts (cs ++ c ∷ []))
 tuple_next T Ts cs = record {
   next = λ t c ts read. ap (λ o. more_of cs (before (reads_each Ts ts) o)) read ∙ one_more cs c (reads_each Ts ts);
   some = λ t ts c e. first_some cs (T t) (reads_each Ts ts) c e;
@@ -62,7 +60,7 @@ list_only T (array us) c e = (us, refl)
 list_only T (object es) c e = absurd cc
 list_only T (template ks rs) c e = absurd cc
 
-tuple_only : (Ts : List Meaning) (t : Tree) (c : Content) → reads_tuple Ts t ≡ Some c → (us : Items) × (t ≡ array us)
+pub tuple_only : (Ts : List Meaning) (t : Tree) (c : Content) → reads_tuple Ts t ≡ Some c → (us : Items) × (t ≡ array us)
 tuple_only Ts null c e = absurd cc
 tuple_only Ts (boolean v) c e = absurd cc
 tuple_only Ts (integer v) c e = absurd cc
@@ -76,10 +74,10 @@ tuple_only Ts (template ks rs) c e = absurd cc
 reads_list : (T : Meaning) → ReadsArrays (reads_vec T) (rest_of_list T [])
 reads_list T = record { same = λ us. refl; only = list_only T }
 
-reads_parts : (Ts : List Meaning) → ReadsArrays (reads_tuple Ts) (rest_of_tuple Ts [])
+pub reads_parts : (Ts : List Meaning) → ReadsArrays (reads_tuple Ts) (rest_of_tuple Ts [])
 reads_parts Ts = record { same = λ us. refl; only = tuple_only Ts }
 
-no_part : (cs : List Content) (ts : List Tree) (c : Content) → rest_of_tuple [] cs ts ≡ Some c → ts ≡ []
+pub no_part : (cs : List Content) (ts : List Tree) (c : Content) → rest_of_tuple [] cs ts ≡ Some c → ts ≡ []
 no_part cs [] c e = refl
 no_part cs (t ∷ ts) c e = absurd cc
 
@@ -115,14 +113,14 @@ items_end T holds items_of o z u t v h over closes =
 
 -- what a list needs of its items' needs
 abbrev pub with_memory : Needs → Needs
-with_memory needs = record { lent = needs.lent; memory = true }
+with_memory needs = record { lent = needs.lent; memory = true; keys = false }
 
-pub list_refused : (T : Meaning) (needs : Needs) (e : Error) (o z : State) → RefusesOpening owned (IsItemsHead o) e o z → Refuses (reads_vec T) (with_memory needs) e o z
-list_refused T needs e o z u = opening_refused (reads_vec T) (rest_of_list T []) (with_memory needs) e o z (reads_list T) refl u.0
+pub list_refused : (T : Meaning) (needs : Needs) (e : Error) (o z : State) → RefusesItems e o z → Refuses (reads_vec T) (with_memory needs) e o z
+list_refused T needs e o z u = opening_refused (reads_vec T) (rest_of_list T []) (with_memory needs) e o z (reads_list T) refl u.refuses
 
 pub items_refused : {A : Type 0} (T : Meaning) (needs : Needs) (holds : A → Content → Type 0) (e : Error) (o z : State) (vs : List A) (u : OpenItems) → ReadsItems T holds o vs u → RefusesItem T needs e u z → Refuses (reads_vec T) (with_memory needs) e o z
 items_refused T needs holds e o z vs u h refuses =
-    item_refused T needs (reads_vec T) (rest_of_list T h.contents) (λ c. rest_of_list T (h.contents ++ c ∷ [])) (with_memory needs) e o z u (list_next T h.contents) (λ lent. lent) (λ m. refl) h.inside refuses
+    item_refused T needs (reads_vec T) (rest_of_list T h.contents) (λ c. rest_of_list T (h.contents ++ c ∷ [])) (with_memory needs) e o z u (list_next T h.contents) (λ lent. lent) (λ m. refl) (λ t. inl refl) h.inside refuses
 
 pub items_room : {A : Type 0} (T : Meaning) (needs : Needs) (holds : A → Content → Type 0) (o : State) (vs : List A) (u t : OpenItems) (v : A) → ReadsItems T holds o vs u → IsNext T holds u t v → Refuses (reads_vec T) (with_memory needs) OutOfMemory o t.state
 items_room T needs holds o vs u t v h next =
@@ -158,17 +156,3 @@ pub parts_end : {B : Type 0} (all : List Meaning) (parts_of : B → List (Conten
 parts_end all parts_of o z u v h closes =
     inside_end (λ w c. HoldsTuple (parts_of w) c) (reads_tuple all) (rest_of_tuple [] h.contents) o z u (list_of (h.contents ++ [])) v h.inside closes refl
     (record { contents = h.contents; list = ap list_of (append-nil h.contents); held = h.held })
-
-pub tuple_refused : (all : List Meaning) (needs : Needs) (e : Error) (o z : State) → needs.memory ≡ true → RefusesOpening owned (IsItemsHead o) e o z → Refuses (reads_tuple all) needs e o z
-tuple_refused all needs e o z memory u = opening_refused (reads_tuple all) (rest_of_tuple all []) needs e o z (reads_parts all) memory u.0
-
--- a part that is refused, or that is not there
-pub parts_refused : (T : Meaning) (some : Needs) (all Ts : List Meaning) (hs : List (Content → Type 0)) (needs : Needs) (e : Error) (o z : State) (u : OpenItems) → (some.lent ≡ true → needs.lent ≡ true) → needs.memory ≡ true
-    → ReadsParts all (T ∷ Ts) hs o u → RefusesRequired T some e u z → Refuses (reads_tuple all) needs e o z
-parts_refused T some all Ts hs needs e o z u lent memory h (inl refuses) =
-    item_refused T some (reads_tuple all) (rest_of_tuple (T ∷ Ts) h.contents) (λ c. rest_of_tuple Ts (h.contents ++ c ∷ [])) needs e o z u (tuple_next T Ts h.contents) lent (λ m. memory) h.inside refuses
-parts_refused T some all Ts hs needs e o z u lent memory h (inr lacks) = over_refused (reads_tuple all) (rest_of_tuple (T ∷ Ts) h.contents) needs e o z u refl h.inside lacks.counted lacks.kind lacks.state
-
--- more items than parts
-pub parts_many : (all : List Meaning) (hs : List (Content → Type 0)) (needs : Needs) (e : Error) (o z : State) (u : OpenItems) → ReadsParts all [] hs o u → LeavesItems e u z → Refuses (reads_tuple all) needs e o z
-parts_many all hs needs e o z u h leaves = leaves_refused (reads_tuple all) (rest_of_tuple [] h.contents) needs e o z u (no_part h.contents) h.inside leaves

@@ -105,7 +105,7 @@ holds_insert name_of cmp by_name holds (x ∷ es) (p ∷ ps) k v name d e h (nam
 
 -- what a map of these keys and values needs
 abbrev pub map_needs : Needs → Needs → Needs
-map_needs key some = record { lent = key.lent || some.lent; memory = true }
+map_needs key some = record { lent = key.lent || some.lent; memory = true; keys = false }
 
 -- the types of a map's keys and of its values, and by which bytes keys are read
 pub record MapOf : Type 1 where
@@ -176,11 +176,11 @@ module _ (T : MapOf) where
 
   pub entry_refused : (e : Error) (o z : State) (Held : HoldsPairs) (u : OpenPairs) → AtEntry o Held u → RefusesEntry T.keys T.vals T.holds_key T.key_needs T.val_needs e u z → Refuses (reads_map T.keys T.vals) (map_needs T.key_needs T.val_needs) e o z
   entry_refused e o z Held u h (inl refuses) =
-      key_refused T.keys T.key_needs (map_needs T.key_needs T.val_needs) (reads_map T.keys T.vals) (map_outlook T.keys T.vals h.pairs) e o z u (or_left T.key_needs.lent T.val_needs.lent) (λ memory. refl) (map_keys T.keys T.vals h.pairs) h.inside h.pending refuses
+      key_refused T.keys T.key_needs (map_needs T.key_needs T.val_needs) (reads_map T.keys T.vals) (map_outlook T.keys T.vals h.pairs) e o z u (or_left T.key_needs.lent T.val_needs.lent) (λ memory. refl) (λ takes. inl refl) (map_keys T.keys T.vals h.pairs) h.inside h.pending refuses
   entry_refused e o z Held u h (inr later) =
       let name = key_name T.keys T.holds_key u later.between later.name later.key in
       let at = inside_key T.keys T.holds_key (reads_map T.keys T.vals) (map_outlook T.keys T.vals h.pairs) o u later.between later.name h.inside later.key in
-      value_refused T.vals T.val_needs (map_needs T.key_needs T.val_needs) (reads_map T.keys T.vals) (map_outlook T.keys T.vals h.pairs) name e o z later.between (or_right T.key_needs.lent T.val_needs.lent) (λ memory. refl)
+      value_refused T.vals T.val_needs (map_needs T.key_needs T.val_needs) (reads_map T.keys T.vals) (map_outlook T.keys T.vals h.pairs) name e o z later.between (or_right T.key_needs.lent T.val_needs.lent) (λ memory. refl) (λ takes. inl refl)
       (map_values T.keys T.vals h.pairs name) at (ap (λ p. p.pending) later.key.after) later.value
 
   entry_room : (o : State) (Held : HoldsPairs) (u : OpenPairs) → AtEntry o Held u → Refuses (reads_map T.keys T.vals) (map_needs T.key_needs T.val_needs) OutOfMemory o u.state

@@ -11,7 +11,7 @@ use Rattle.bser_base.specs.Source.{Took, sight_after}
 use Rattle.bser_base.specs.declared.errors.Error.{Error}
 use Rattle.bser_base.specs.declared.errors.Error.TheVariants.{OutOfMemory}
 use Rattle.serde_bser.specs.State.{State, past, awaiting}
-use Rattle.serde_bser.specs.Reading.{Answers, Refuses, RefusesFront, FillsReadably, IsRefusal, bare}
+use Rattle.serde_bser.specs.Reading.{TakesMemory, Answers, Refuses, RefusesFront, FillsReadably, IsRefusal, bare}
 use Rattle.serde_bser.specs.Parts.{pairs_left, pair_key, pair_value, pairs_after}
 use Rattle.serde_bser.specs.Access.{OpenPairs, OpensPairs, IsPairsHead, inside_pairs, IsKey, NoEntry, RefusesKey, IsValue, RefusesValue, ClosesPairs, closed}
 use Rattle.serde_bser.proofs.Refusals.{passed_by, first_part, sequel, rest_of, may_refuse, no_failure}
@@ -324,9 +324,9 @@ abbrev pub ReadsValues : Meaning → Outlook → List ℕ → Type 0
 ReadsValues V k name = (t : Tree) (es : List (List ℕ × Tree)) (c : Content) → k ((name, t) ∷ es) ≡ Some c → (d : Content) × (V t ≡ Some d)
 
 -- a refusal of a key
-pub key_refused : (K : Meaning) (some needs : Needs) (reads : Meaning) (k : Outlook) (e : Error) (o z : State) (u : OpenPairs) → (some.lent ≡ true → needs.lent ≡ true) → (some.memory ≡ true → needs.memory ≡ true)
+pub key_refused : (K : Meaning) (some needs : Needs) (reads : Meaning) (k : Outlook) (e : Error) (o z : State) (u : OpenPairs) → (some.lent ≡ true → needs.lent ≡ true) → (some.memory ≡ true → needs.memory ≡ true) → (TakesMemory some → TakesMemory needs)
     → ReadsKeys K k → AtKey reads o k u → u.pending ≡ false → RefusesKey K some e u z → Refuses reads needs e o z
-key_refused K some needs reads k e o z u lent memory by h read refuses =
+key_refused K some needs reads k e o z u lent memory takes by h read refuses =
     let left = refuses.counted h.took.failed read in
     let W : Format = FillsReadably K (awaiting (pair_key u.wanted) u.state) in
     part_refused needs reads (PairsLeft k u.state.levels u.wanted) W e o z u h
@@ -334,18 +334,18 @@ key_refused K some needs reads k e o z u lent memory by h read refuses =
     let p = first_key u.state.levels u.wanted v.parts text left v.filled in
     let d = by p.name p.value (entries p.others) c (ap (λ us. k (entries us)) (sym p.parts) ∙ v.read) in
     (p.front, p.rest, p.whole, record { tree = key_tree p.name; content = d.0; filled = p.filled; read = d.1 }))
-    (wider_needs some needs W e u.state.source z.source lent memory (refuses.refuses read))
+    (wider_needs some needs W e u.state.source z.source lent memory takes (refuses.refuses read))
 
 -- a refusal of a value
-pub value_refused : (V : Meaning) (some needs : Needs) (reads : Meaning) (k : Outlook) (name : List ℕ) (e : Error) (o z : State) (u : OpenPairs) → (some.lent ≡ true → needs.lent ≡ true) → (some.memory ≡ true → needs.memory ≡ true)
+pub value_refused : (V : Meaning) (some needs : Needs) (reads : Meaning) (k : Outlook) (name : List ℕ) (e : Error) (o z : State) (u : OpenPairs) → (some.lent ≡ true → needs.lent ≡ true) → (some.memory ≡ true → needs.memory ≡ true) → (TakesMemory some → TakesMemory needs)
     → ReadsValues V k name → AtValue reads o k name u → u.pending ≡ true → RefusesValue V some e u z → Refuses reads needs e o z
-value_refused V some needs reads k name e o z u lent memory by h key refuses =
+value_refused V some needs reads k name e o z u lent memory takes by h key refuses =
     let W : Format = FillsReadably V (awaiting (pair_value u.wanted) u.state) in
     part_refused needs reads (ValueLeft k name u.state.levels u.wanted) W e o z u h
     (λ c text v.
     let d = by v.value (entries v.parts) c v.read in
     (v.filled.front, v.filled.rest, v.filled.whole, record { tree = v.value; content = d.0; filled = v.filled.first; read = d.1 }))
-    (wider_needs some needs W e u.state.source z.source lent memory (refuses.refuses key))
+    (wider_needs some needs W e u.state.source z.source lent memory takes (refuses.refuses key))
 
 -- nothing was taken, and no failure counted
 pub record Stays (a b : source.State) : Type 0 where

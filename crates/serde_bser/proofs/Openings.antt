@@ -1,19 +1,19 @@
 -- Containers that were opened, and those that were refused.
-use Rattle.std.proofs.Common.{◌≡◌, ℕ, ◌+◌, ◌-◌, ◌≤◌, List, [], ◌∷◌, ◌++◌, Option, Some, None, true, false, length, refl, sym, ap, subst, ◌∙◌, arith}
+use Rattle.std.proofs.Common.{◌≡◌, ℕ, ◌+◌, ◌-◌, ◌≤◌, List, [], ◌∷◌, ◌++◌, Option, Some, None, true, false, length, inr, refl, sym, ap, subst, ◌∙◌, arith}
 use Rattle.std.specs.Prelude.{if◌then◌else◌}
 use Rattle.bser_base.specs.Content.{Needs}
 use Rattle.bser_base.specs.Device.{one_more}
-use Rattle.bser_base.specs.Grammar.{Bytes, SpellsCount, ◌then◌}
+use Rattle.bser_base.specs.Grammar.{Format, Bytes, SpellsCount, ◌then◌}
 use Rattle.bser_base.specs.Expected.{nothing_due, WantedItems, nodes, rows_over, WantedPairs, entries_of_object, fields_of_row}
 use Rattle.bser_base.specs.Source as source
 use Rattle.bser_base.specs.Source.{Took, IsNext, sight_after, bytes_in_sight}
 use Rattle.bser_base.specs.Tagged.{IsLength, with_failure}
 use Rattle.bser_base.specs.declared.errors.Error.{Error}
 use Rattle.serde_bser.specs.State.{State, with_source, refused}
-use Rattle.serde_bser.specs.Reading.{RefusesFront, IsRefusal, bare}
+use Rattle.serde_bser.specs.Reading.{RefusesFront, IsRefusal, bare, only_keys}
 use Rattle.serde_bser.specs.Scalar.{owned}
 use Rattle.serde_bser.specs.Parts.{ItemsHead, BeginsPairs, ObjectHead}
-use Rattle.serde_bser.specs.Access.{OpenItems, OpenPairs, OpensItems, OpensPairs, IsItemsHead, IsPairsHead, inside_items, inside_pairs}
+use Rattle.serde_bser.specs.Access.{OpenItems, OpenPairs, OpensItems, OpensPairs, IsItemsHead, IsArrayHead, IsPairsHead, inside_items, inside_pairs}
 use Rattle.serde_bser.specs.Nodes.{BeginsKind, StandsAs}
 use Rattle.serde_bser.specs.declared.de.node.Node.TheVariants as kinds
 use Rattle.serde_bser.specs.declared.de.cursor.Head.{Head}
@@ -22,6 +22,7 @@ use Rattle.serde_bser.specs.Openings.{IsBefore, IsValue}
 use Rattle.serde_bser.specs.Tables.{TookPart, SpellsTable, IsTable}
 use Rattle.serde_bser.proofs.Refusals.{passed_by, first_part, sequel}
 use Rattle.serde_bser.proofs.Steps.{with_needs, narrower, unfit, unfit_here}
+use Rattle.serde_bser.proofs.Within.{wider_may}
 use Rattle.serde_bser.proofs.Strings.{after_tag, took_tag}
 use Rattle.bser_base.proofs.Taken.{took_then}
 use Rattle.serde_bser.proofs.TemplateKeys.{by_next, looked}
@@ -48,6 +49,29 @@ table_refused needs e s c before u =
 pub object_refused : (needs : Needs) (e : Error) (s : State) (c : source.State) → IsBefore 0x01 s → RefusesFront needs (Counted 0x01) e s.source c → RefusesFront needs (IsPairsHead s) e s.source c
 object_refused needs e s c before u =
     narrower needs (Counted 0x01) (IsPairsHead s) e s.source c (λ text h. let o = object_head s.levels s.due h.0 text before.due h.1 in counted 0x01 s.levels o.0 text o.1) u
+
+nothing_fits : (e : Error) (W : Format) (a b : source.State) → RefusesFront owned W e a b → RefusesFront only_keys (λ text. ⊥) e a b
+nothing_fits e W a b u = record {
+  excuse = λ text rest wanted left. absurd wanted;
+  may = wider_may owned only_keys a (λ lent. absurd cc) (λ takes. inr refl) e u.may;
+  lends = u.lends;
+  through = u.through;
+  failures = u.failures;
+}
+
+-- where a template's tag is in sight no array stands, and memory is taken for keys alone
+pub table_alone : (e : Error) (s : State) (c : source.State) → IsBefore 0x0b s → RefusesFront owned (IsItemsHead s) e s.source c → RefusesFront only_keys (IsArrayHead s) e s.source c
+table_alone e s c before u =
+    by_next only_keys (λ text. ⊥) (IsArrayHead s) 0x0b e s.source c before.next (λ h. some_items s.levels (nodes h.0) (items_head s.levels s.due (nodes h.0) [] h.1))
+    (λ text more same h. (
+    let t = counted 0x00 s.levels h.0 text (items_head s.levels s.due (nodes h.0) text h.1) in
+    let no : 0x0b ∷ more ≡ 0x00 ∷ t.rest = sym same ∙ t.whole ∙ ap (λ l. l ++ t.rest) t.first in
+    absurd cc))
+    (nothing_fits e (IsItemsHead s) s.source c u)
+
+-- what refuses arrays and templates alike refuses arrays
+pub arrays_too : (needs : Needs) (e : Error) (s : State) (c : source.State) → RefusesFront needs (IsItemsHead s) e s.source c → RefusesFront needs (IsArrayHead s) e s.source c
+arrays_too needs e s c u = narrower needs (IsItemsHead s) (IsArrayHead s) e s.source c (λ text h. (nodes h.0, h.1)) u
 
 -- no level is left
 pub no_level : (needs : Needs) (e : Error) (s t : State) → IsRefusal e → s.levels ≡ 0 → t ≡ refused s → RefusesFront needs (IsItemsHead s) e s.source t.source
@@ -168,6 +192,11 @@ pub refused_items : (needs : Needs) (e : Error) (s m : State) (c : source.State)
 refused_items needs e s m c h is u =
     let look = items_look s m h is in
     looked needs (IsItemsHead s) e s.source m.source c (Some look.0) look.1 (subst (λ (z : State). RefusesFront needs (IsItemsHead z) e m.source c) look.2 u)
+
+pub refused_array : (needs : Needs) (e : Error) (s m : State) (c : source.State) (h : Head) → StandsAs kinds.Array s m h → RefusesFront needs (IsArrayHead m) e m.source c → RefusesFront needs (IsArrayHead s) e s.source c
+refused_array needs e s m c h is u =
+    let look = items_look s m h is in
+    looked needs (IsArrayHead s) e s.source m.source c (Some look.0) look.1 (subst (λ (z : State). RefusesFront needs (IsArrayHead z) e m.source c) look.2 u)
 
 object_look : (s m : State) (h : Head) → IsValue s.due → StandsAs kinds.Object s m h → (tag : ℕ) × Took s.source m.source [] (Some tag) × (m ≡ with_source s m.source)
 object_look s m (Tag b) v is = (b, is.stands.took, is.stands.state)

@@ -18,7 +18,7 @@ use Rattle.serde_bser.proofs.KindTags.{begins, stand_kind, taken_kind}
 
 -- ---- what is not null is read by the type inside
 
-some_option : (reads : Meaning) (u : Tree) → (u ≡ null → ⊥) → reads_option reads u ≡ option_map just (reads u)
+pub some_option : (reads : Meaning) (u : Tree) → (u ≡ null → ⊥) → reads_option reads u ≡ option_map just (reads u)
 some_option reads null some = absurd (some refl)
 some_option reads (boolean v) some = refl
 some_option reads (integer v) some = refl

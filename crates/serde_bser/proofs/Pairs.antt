@@ -15,7 +15,7 @@ use Rattle.serde_bser.proofs.Steps.{failed_before}
 
 -- ---- what is due
 
-name_of : (at : ℕ) (ks : List (List ℕ)) → name_at at ks ≡ pair_key (fields_of_row (drop at ks))
+pub name_of : (at : ℕ) (ks : List (List ℕ)) → name_at at ks ≡ pair_key (fields_of_row (drop at ks))
 name_of zero [] = refl
 name_of (suc at) [] = refl
 name_of zero (k ∷ ks) = refl

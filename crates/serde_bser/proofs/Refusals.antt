@@ -16,24 +16,24 @@ use Rattle.bser_base.specs.declared.errors.ReadCause.TheVariants.{Eof, Utf8, Rea
 use Rattle.serde_bser.specs.Reading.{Outside, MayRefuse, IsRefusal, RefusesFront}
 
 -- what the bytes are not to blame for stays so where more was wanted
-outside_more : (s : State) (n m : ℕ) → n ≤ m → (e : Error) → Outside e s n → Outside e s m
-outside_more s n m le (DeInvalidStartByte kind byte) h = absurd h
-outside_more s n m le (DeCustom (Fixed complaints.BorrowedFromCopying)) h = h
-outside_more s n m le (DeReaderError (Reader fault)) h = h
-outside_more s n m le (DeReaderError Failed) (inl h) = inl h
-outside_more s n m le (DeReaderError Failed) (inr (l, k)) = inr (l, omega (arith, le, k))
-outside_more s n m le OutOfMemory h = h
-outside_more s n m le _ h = absurd h
+outside_more : (needs : Needs) (s : State) (n m : ℕ) → n ≤ m → (e : Error) → Outside needs e s n → Outside needs e s m
+outside_more needs s n m le (DeInvalidStartByte kind byte) h = absurd h
+outside_more needs s n m le (DeCustom (Fixed complaints.BorrowedFromCopying)) h = h
+outside_more needs s n m le (DeReaderError (Reader fault)) h = h
+outside_more needs s n m le (DeReaderError Failed) (inl h) = inl h
+outside_more needs s n m le (DeReaderError Failed) (inr (l, k)) = inr (l, omega (arith, le, k))
+outside_more needs s n m le OutOfMemory h = h
+outside_more needs s n m le _ h = absurd h
 
 -- a source's cause as a refusal
-outside_of : (s : State) (n : ℕ) (e : Error) → IsSomeAnd (cause_of e) (λ c. tagged.Outside c s n) → Outside e s n
-outside_of s n (DeReaderError Eof) h = absurd h
-outside_of s n (DeReaderError Utf8) h = absurd h
-outside_of s n (DeReaderError (Reader fault)) h = tt
-outside_of s n (DeReaderError Memory) h = absurd h
-outside_of s n (DeReaderError Failed) h = h
-outside_of s n OutOfMemory h = tt
-outside_of s n _ h = absurd h
+outside_of : (needs : Needs) (s : State) (n : ℕ) (e : Error) → MayAnswer e s.lends → IsSomeAnd (cause_of e) (λ c. tagged.Outside c s n) → Outside needs e s n
+outside_of needs s n (DeReaderError Eof) may h = absurd h
+outside_of needs s n (DeReaderError Utf8) may h = absurd h
+outside_of needs s n (DeReaderError (Reader fault)) may h = tt
+outside_of needs s n (DeReaderError Memory) may h = absurd h
+outside_of needs s n (DeReaderError Failed) may h = h
+outside_of needs s n OutOfMemory may h = inl may
+outside_of needs s n _ may h = absurd h
 
 may_of : (needs : Needs) (s : State) (e : Error) → MayAnswer e s.lends → MayRefuse needs e s
 may_of needs s OutOfMemory h = inl h
@@ -44,7 +44,7 @@ may_of needs s _ h = tt
 -- a refusal by the reader of tagged values
 pub unwanted_front : (needs : Needs) (W : Format) (e : Error) (a b : State) → Unwanted W e a b → RefusesFront needs W e a b
 unwanted_front needs W e a b u = record {
-  excuse = λ text rest wanted left. outside_of a (length text) e (u.excuse text rest wanted left);
+  excuse = λ text rest wanted left. outside_of needs a (length text) e u.may (u.excuse text rest wanted left);
   may = may_of needs a e u.may;
   lends = u.fails.lends;
   through = u.fails.through;
@@ -59,7 +59,7 @@ first_part needs V W e a b split u = record {
   excuse = λ text rest wanted left.
       let p = split text wanted in
       let at : a.left ≡ Some (p.0 ++ (p.1 ++ rest)) = left ∙ ap Some (ap (λ l. l ++ rest) p.2 ∙ append_assoc p.0 p.1 rest) in
-      outside_more a (length p.0) (length text) (omega (arith, ap length p.2, length-append p.0 p.1)) e (u.excuse p.0 (p.1 ++ rest) p.3 at);
+      outside_more needs a (length p.0) (length text) (omega (arith, ap length p.2, length-append p.0 p.1)) e (u.excuse p.0 (p.1 ++ rest) p.3 at);
   may = u.may;
   lends = u.lends;
   through = u.through;
@@ -82,13 +82,14 @@ passed_by a b taken seen took = record { bytes = took.bytes; count = took.count;
 pub passed_head : (a b : State) (l : ℕ) (taken : List ℕ) (seen : Option ℕ) → Took a (with_limit l b) taken seen → Passed a b taken
 passed_head a b l taken seen took = record { bytes = took.bytes; count = took.count; lends = took.lends; working = took.failed; failures = took.failures; through = took.through }
 
-outside_before : (a b : State) (taken : List ℕ) (n m : ℕ) → Passed a b taken → m ≡ length taken + n → (e : Error) → Outside e b n → Outside e a m
-outside_before a b taken n m took k (DeCustom (Fixed complaints.BorrowedFromCopying)) h = h
-outside_before a b taken n m took k (DeReaderError (Reader fault)) h = h
-outside_before a b taken n m took k (DeReaderError Failed) (inl h) = let f = took.working in absurd cc
-outside_before a b taken n m took k (DeReaderError Failed) (inr (l, o)) = inr (sym took.lends ∙ l, omega (arith, took.count, k, o))
-outside_before a b taken n m took k OutOfMemory h = h
-outside_before a b taken n m took k _ h = absurd h
+outside_before : (needs : Needs) (a b : State) (taken : List ℕ) (n m : ℕ) → Passed a b taken → m ≡ length taken + n → (e : Error) → Outside needs e b n → Outside needs e a m
+outside_before needs a b taken n m took k (DeCustom (Fixed complaints.BorrowedFromCopying)) h = h
+outside_before needs a b taken n m took k (DeReaderError (Reader fault)) h = h
+outside_before needs a b taken n m took k (DeReaderError Failed) (inl h) = let f = took.working in absurd cc
+outside_before needs a b taken n m took k (DeReaderError Failed) (inr (l, o)) = inr (sym took.lends ∙ l, omega (arith, took.count, k, o))
+outside_before needs a b taken n m took k OutOfMemory (inl h) = inl (sym took.lends ∙ h)
+outside_before needs a b taken n m took k OutOfMemory (inr h) = inr h
+outside_before needs a b taken n m took k _ h = absurd h
 
 may_before : (needs : Needs) (a b : State) → b.lends ≡ a.lends → (e : Error) → MayRefuse needs e b → MayRefuse needs e a
 may_before needs a b same OutOfMemory (inl h) = inl (sym same ∙ h)
@@ -112,7 +113,7 @@ sequel needs V W e a b c taken took split u = record {
       let r = rest_of a.left b.left taken (text ++ rest) left took.bytes in
       let p = split text rest r.0 wanted r.2 in
       let same : p.0 ++ rest ≡ r.0 = append_cancel_left taken _ _ (sym (append_assoc taken p.0 rest) ∙ sym (ap (λ l. l ++ rest) p.1) ∙ r.2) in
-      outside_before a b taken (length p.0) (length text) took (omega (arith, ap length p.1, length-append taken p.0)) e (u.excuse p.0 rest p.2 (r.1 ∙ ap Some (sym same)));
+      outside_before needs a b taken (length p.0) (length text) took (omega (arith, ap length p.1, length-append taken p.0)) e (u.excuse p.0 rest p.2 (r.1 ∙ ap Some (sym same)));
   may = may_before needs a b took.lends e u.may;
   lends = u.lends ∙ took.lends;
   through = u.through ∙ took.through;

@@ -1,5 +1,5 @@
 -- Steps over the stack of open containers.
-use Rattle.std.proofs.Common.{◌≡◌, ℕ, List, [], ◌∷◌, ◌++◌, Option, Some, None, length, refl, sym, ap, subst, ◌∙◌, arith, inr}
+use Rattle.std.proofs.Common.{◌≡◌, ℕ, List, [], ◌∷◌, ◌++◌, Option, Some, None, length, refl, sym, ap, subst, ◌∙◌, arith, inl, inr}
 use Rattle.bser_base.specs.Grammar.{Format, Bytes, ◌then◌}
 use Rattle.bser_base.specs.Source as source
 use Rattle.bser_base.specs.Source.{Took}
@@ -42,7 +42,7 @@ start W = same_form _ _ (λ b h. record { front = b; rest = []; whole = refl_end
     refl_end (x ∷ b) = ap (λ l. x ∷ l) (refl_end b)
 
 pub no_memory : (V : Format) (a b : source.State) → b.lends ≡ a.lends → b.through ≡ a.through → b.failures ≡ a.failures → RefusesFront owned V OutOfMemory a b
-no_memory V a b lends through failures = record { excuse = λ body rest w left. tt; may = inr refl; lends = lends; through = through; failures = failures }
+no_memory V a b lends through failures = record { excuse = λ body rest w left. inr refl; may = inr (inl refl); lends = lends; through = through; failures = failures }
 
 -- ---- the stack
 

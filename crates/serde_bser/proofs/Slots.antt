@@ -1,20 +1,26 @@
 -- The fields of a struct, each read at most once.
-use Rattle.std.proofs.Common.{◌≡◌, ℕ, suc, List, [], ◌∷◌, Option, Some, None, Bool, true, false, option_and_then, option_map, refl, sym, ap, subst, ◌∙◌}
-use Rattle.std.specs.Prelude.{◌||◌}
+use Rattle.std.proofs.Common.{◌≡◌, ℕ, suc, List, [], ◌∷◌, Option, Some, None, Bool, true, false, option_and_then, option_map, inl, refl, sym, ap, subst, ◌∙◌}
+use Rattle.std.specs.Prelude.{◌||◌, MatchOption}
 use Rattle.bser_base.specs.Tree.{Tree}
 use Rattle.bser_base.specs.Content.{Content, Meaning, Needs, each_some}
 use Rattle.bser_base.specs.ReadsAny.{reads_ignored}
 use Rattle.bser_base.specs.declared.errors.Error.{Error}
 use Rattle.serde_bser.specs.State.{State, awaiting}
-use Rattle.serde_bser.specs.Reading.{Answers, FillsReadably}
+use Rattle.serde_bser.specs.Reading.{TakesMemory, Answers, FillsReadably}
 use Rattle.serde_bser.specs.Parts.{pair_value}
 use Rattle.serde_bser.specs.Access.{OpenPairs, IsValue, RefusesValue}
 use Rattle.serde_bser.specs.Scalar.{owned}
-use Rattle.serde_bser.specs.Slots.{StructField, with_found, fill, fill_at, at_end, any_lent, struct_needs, fill_field, Keeps, KeepsField, KeepsBoth, Finishes, FinishesEach, TookValue, Steps, FillsStep, RefusesStep, ReadsOnce, RefusesOnce}
+use Rattle.serde_bser.specs.Slots.{StructField, with_found, fill, fill_at, at_end, any_lent, struct_needs, fill_field, Keeps, KeepsField, KeepsBoth, Finishes, FinishesEach, TookValue, Passes, Steps, FillsStep, RefusesStep, ReadsOnce, RefusesOnce}
 use Rattle.serde_bser.specs.declared.de.field.Field.TheVariants.{Unknown}
 use Rattle.serde_bser.proofs.Steps.{narrower, unfit_here}
 use Rattle.serde_bser.proofs.Structs.{was_read, read_again}
 use Rattle.serde_bser.proofs.Within.{wider_needs}
+
+-- ---- the reason of a refusal
+
+pub reason_of : {A : Type 0} (o : Option A) (P Q : A → Type 0) → ((x : A) → P x → Q x) → MatchOption o ⊥ P → MatchOption o ⊥ Q
+reason_of None P Q f h = h
+reason_of (Some x) P Q f h = f x h
 
 -- ---- one value
 
@@ -82,24 +88,36 @@ slot_refused field holds needs e (Some v) s u z refuses keeps = λ key.
 
 -- ---- a value of no field
 
-pub passed_by_name : {V : Type 0} (holds : V → Content → Type 0) (ss : List StructField) (u t : OpenPairs) (v : V) → IsValue reads_ignored holds u t v → Steps (λ b. fill_field b Unknown) (λ z. z ≡ ss) ss u t
-passed_by_name holds ss u t v value = record {
-  tree = value.answers.tree;
+pub passed : {V : Type 0} (holds : V → Content → Type 0) (u t : OpenPairs) (v : V) → IsValue reads_ignored holds u t v → Passes u t
+passed holds u t v value = (value.answers.tree, value.answers.content, value.answers.read, took_value reads_ignored holds u t v value)
+
+pub passed_by_name : (ss : List StructField) (keeps : List StructField → Type 0) (u t : OpenPairs) → Passes u t → keeps ss → Steps (λ b. fill_field b Unknown) keeps ss u t
+passed_by_name ss keeps u t p kept = record {
+  tree = p.0;
   next = ss;
-  made = ap (option_map (λ c. ss)) value.answers.read;
-  kept = refl;
-  taken = took_value reads_ignored holds u t v value;
+  made = ap (option_map (λ c. ss)) p.2;
+  kept = kept;
+  taken = p.3;
 }
 
 pub unnamed_refused : (ns : List Needs) (e : Error) (ss : List StructField) (u : OpenPairs) (z : State) → RefusesValue reads_ignored owned e u z → RefusesStep (λ b. fill_field b Unknown) (struct_needs ns) e ss u z
 unnamed_refused ns e ss u z refuses key =
     let s = awaiting (pair_value u.wanted) u.state in
-    wider_needs owned (struct_needs ns) (FillsStep (λ b. fill_field b Unknown) ss s) e u.state.source z.source (λ h. absurd cc) (λ h. refl)
+    wider_needs owned (struct_needs ns) (FillsStep (λ b. fill_field b Unknown) ss s) e u.state.source z.source (λ h. absurd cc) (λ h. refl) (λ h. inl refl)
     (value_unread (λ b. fill_field b Unknown) reads_ignored owned e ss u z (λ t b made. part_made (λ c. ss) (reads_ignored t) b made) refuses key)
 
 -- ---- the fields after one another
 
 -- what no field has the place of
+pub none_passed : (place : ℕ) (ss : List StructField) (u t : OpenPairs) → Passes u t → ss ≡ [] → Steps (fill_at place) (λ z. z ≡ []) ss u t
+none_passed place ss u t p same = record {
+  tree = p.0;
+  next = [];
+  made = ap (λ z. fill_at place z p.0) same ∙ ap (option_map (λ c. [])) p.2;
+  kept = refl;
+  taken = p.3;
+}
+
 pub none_refused : (needs : Needs) (e : Error) (place : ℕ) (ss : List StructField) (u : OpenPairs) (z : State) → ss ≡ [] → RefusesValue reads_ignored needs e u z → RefusesStep (fill_at place) needs e ss u z
 none_refused needs e place ss u z same = value_unread (fill_at place) reads_ignored needs e ss u z (λ t b made. part_made (λ c. []) (reads_ignored t) b (ap (λ y. fill_at place y t) (sym same) ∙ made))
 
@@ -131,13 +149,13 @@ read_later P F G u t place before later by (s ∷ ss) keeps =
 
 -- where a part of the step is refused, the step is
 part_refuses : {A B : Type 0} (part : A → Tree → Option A) (whole : B → Tree → Option B) (some needs : Needs) (e : Error) (a : A) (b : B) (u : OpenPairs) (z : State)
-    → (some.lent ≡ true → needs.lent ≡ true) → (some.memory ≡ true → needs.memory ≡ true) → ((t : Tree) (c : B) → whole b t ≡ Some c → (d : A) × (part a t ≡ Some d))
+    → (some.lent ≡ true → needs.lent ≡ true) → (some.memory ≡ true → needs.memory ≡ true) → (TakesMemory some → TakesMemory needs) → ((t : Tree) (c : B) → whole b t ≡ Some c → (d : A) × (part a t ≡ Some d))
     → RefusesStep part some e a u z → RefusesStep whole needs e b u z
-part_refuses part whole some needs e a b u z lent memory by refuses key =
+part_refuses part whole some needs e a b u z lent memory takes by refuses key =
     let s = awaiting (pair_value u.wanted) u.state in
     narrower needs (FillsStep part a s) (FillsStep whole b s) e u.state.source z.source
     (λ text f. let p = by f.tree f.next f.made in record { tree = f.tree; next = p.0; made = p.1; filled = f.filled })
-    (wider_needs some needs (FillsStep part a s) e u.state.source z.source lent memory (refuses key))
+    (wider_needs some needs (FillsStep part a s) e u.state.source z.source lent memory takes (refuses key))
 
 or_first : (a b : Bool) → a ≡ true → (a || b) ≡ true
 or_first true b e = refl
@@ -151,7 +169,7 @@ pub first_refused : (P : StructField → Type 0) (F : List StructField → Type 
     → (ss : List StructField) → KeepsBoth P F ss → RefusesStep (fill_at place) (struct_needs (some ∷ others)) e ss u z
 first_refused P F some others e u z place first by [] keeps = absurd keeps
 first_refused P F some others e u z place first by (s ∷ ss) keeps =
-    part_refuses fill (fill_at place) some (struct_needs (some ∷ others)) e s (s ∷ ss) u z (or_first some.lent (any_lent others)) (λ h. refl)
+    part_refuses fill (fill_at place) some (struct_needs (some ∷ others)) e s (s ∷ ss) u z (or_first some.lent (any_lent others)) (λ h. refl) (λ h. inl refl)
     (λ t c made. part_made (λ z. z ∷ ss) (fill s t) c (ap (λ n. fill_at n (s ∷ ss) t) (sym first) ∙ made))
     (by s keeps.0)
 
@@ -159,7 +177,7 @@ pub later_refused : (P : StructField → Type 0) (F : List StructField → Type 
     → ((ss : List StructField) → F ss → RefusesStep (fill_at before) (struct_needs others) e ss u z) → (ss : List StructField) → KeepsBoth P F ss → RefusesStep (fill_at place) (struct_needs (some ∷ others)) e ss u z
 later_refused P F some others e u z place before later by [] keeps = absurd keeps
 later_refused P F some others e u z place before later by (s ∷ ss) keeps =
-    part_refuses (fill_at before) (fill_at place) (struct_needs others) (struct_needs (some ∷ others)) e ss (s ∷ ss) u z (or_second some.lent (any_lent others)) (λ h. refl)
+    part_refuses (fill_at before) (fill_at place) (struct_needs others) (struct_needs (some ∷ others)) e ss (s ∷ ss) u z (or_second some.lent (any_lent others)) (λ h. refl) (λ h. inl refl)
     (λ t c made. part_made (λ z. s ∷ z) (fill_at before ss t) c (ap (λ n. fill_at n (s ∷ ss) t) (sym later) ∙ made))
     (by ss keeps.1)
 

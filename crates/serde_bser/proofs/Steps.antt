@@ -1,5 +1,5 @@
 -- Refusals that other refusals follow from.
-use Rattle.std.proofs.Common.{◌≡◌, ℕ, List, ◌++◌, Option, Some, true, sym, ap, ◌∙◌, inl, inr}
+use Rattle.std.proofs.Common.{◌≡◌, ℕ, List, ◌++◌, length, Option, Some, true, sym, ap, ◌∙◌, inl, inr}
 use Rattle.bser_base.specs.Grammar.{Format}
 use Rattle.bser_base.specs.Content.{Needs}
 use Rattle.bser_base.specs.Source.{State, Took}
@@ -9,19 +9,33 @@ use Rattle.bser_base.specs.declared.errors.Error.TheVariants.{DeCustom, DeReader
 use Rattle.bser_base.specs.declared.errors.Message.TheVariants.{Fixed}
 use Rattle.bser_base.specs.declared.errors.Complaint.TheVariants as complaints
 use Rattle.bser_base.specs.declared.errors.ReadCause.TheVariants.{Reader, Failed}
-use Rattle.serde_bser.specs.Reading.{MayRefuse, IsRefusal, RefusesFront, bare}
+use Rattle.serde_bser.specs.Reading.{TakesMemory, Outside, MayRefuse, IsRefusal, RefusesFront, bare}
 use Rattle.serde_bser.proofs.Refusals.{may_refuse, no_failure}
+
+-- nothing that needs no memory takes it
+pub takes_nothing : (needs : Needs) → TakesMemory bare → TakesMemory needs
+takes_nothing needs (inl m) = absurd cc
+takes_nothing needs (inr k) = absurd cc
 
 may_by : (needs : Needs) (s : State) (e : Error) → MayRefuse bare e s → MayRefuse needs e s
 may_by needs s OutOfMemory (inl h) = inl h
-may_by needs s OutOfMemory (inr h) = absurd cc
+may_by needs s OutOfMemory (inr (inl h)) = absurd cc
+may_by needs s OutOfMemory (inr (inr h)) = absurd cc
 may_by needs s (DeReaderError (Reader fault)) h = h
 may_by needs s (DeCustom (Fixed complaints.BorrowedFromCopying)) h = (h.0, (let f = h.1 in absurd cc))
 may_by needs s _ h = tt
 
+outside_by : (needs : Needs) (s : State) (n : ℕ) (e : Error) → Outside bare e s n → Outside needs e s n
+outside_by needs s n OutOfMemory (inl h) = inl h
+outside_by needs s n OutOfMemory (inr h) = absurd cc
+outside_by needs s n (DeReaderError (Reader fault)) h = h
+outside_by needs s n (DeReaderError Failed) h = h
+outside_by needs s n (DeCustom (Fixed complaints.BorrowedFromCopying)) h = h
+outside_by needs s n _ h = absurd h
+
 -- what refuses without needs refuses with any
 pub with_needs : (needs : Needs) (W : Format) (e : Error) (a b : State) → RefusesFront bare W e a b → RefusesFront needs W e a b
-with_needs needs W e a b u = record { excuse = u.excuse; may = may_by needs a e u.may; lends = u.lends; through = u.through; failures = u.failures }
+with_needs needs W e a b u = record { excuse = λ text rest wanted left. outside_by needs a (length text) e (u.excuse text rest wanted left); may = may_by needs a e u.may; lends = u.lends; through = u.through; failures = u.failures }
 
 -- what refuses a wider format refuses a narrower one
 pub narrower : (needs : Needs) (V W : Format) (e : Error) (a b : State) → ((text : List ℕ) → W text → V text) → RefusesFront needs V e a b → RefusesFront needs W e a b

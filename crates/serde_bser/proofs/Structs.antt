@@ -1,5 +1,5 @@
 -- A struct that is read field by field.
-use Rattle.std.proofs.Common.{◌≡◌, ℕ, Bool, true, false, List, [], ◌∷◌, zero, suc, Option, Some, None, option_and_then, option_map, is_some, refl, sym, ap, subst, ◌∙◌, ◌<◌, arith}
+use Rattle.std.proofs.Common.{◌≡◌, ℕ, Bool, true, false, List, [], ◌∷◌, zero, suc, Option, Some, None, option_and_then, option_map, is_some, inl, inr, refl, sym, ap, subst, ◌∙◌, ◌<◌, arith}
 use Rattle.std.specs.Prelude.{if◌then◌else◌}
 use Rattle.std.specs.Str.{is_utf8}
 use Rattle.bser_base.specs.Tree.{Tree, null, boolean, integer, real, bytes, text, array, object, template, Entries, entries}
@@ -8,14 +8,15 @@ use Rattle.bser_base.specs.ReadsScalars.{reads_string, utf8_of}
 use Rattle.bser_base.specs.Expected.{WantedPairs, entries_of_object, fields_of_row}
 use Rattle.bser_base.specs.declared.errors.Error.{Error}
 use Rattle.serde_bser.specs.State.{State, awaiting, refused}
-use Rattle.serde_bser.specs.Reading.{Answers, Refuses, IsRefusal, bare}
+use Rattle.serde_bser.specs.Reading.{TakesMemory, Answers, Refuses, IsRefusal, bare}
 use Rattle.serde_bser.specs.Parts.{pairs_left, pair_value, pairs_after}
 use Rattle.serde_bser.specs.Access.{OpenPairs, OpensPairs, IsPairsHead, RefusesOpening, IsKey, NoEntry, RefusesKey, IsValue, RefusesValue, ClosesPairs, LeavesPairs}
 use Rattle.serde_bser.specs.Fields.{field_of, HoldsField}
 use Rattle.bser_base.specs.Source as source
-use Rattle.serde_bser.specs.Fold.{folds, comes_to, by_name, struct_of, read_once}
+use Rattle.serde_bser.specs.Fold.{folds, comes_to, by_name, struct_of, read_once, either}
 use Rattle.serde_bser.specs.Slots.{Keeps, Steps, FillsStep, RefusesStep}
 use Rattle.serde_bser.specs.declared.de.field.Field.{Field}
+use Rattle.serde_bser.proofs.Steps.{takes_nothing}
 use Rattle.serde_bser.proofs.Objects.{Outlook, ReadsObjects, AtKey, AtValue, Stays, ReadsKeys, key_name, key_read, inside_start, inside_key, inside_value, inside_same, inside_end, opening_refused, key_refused, value_refused, key_unread, end_unread, part_refused, ValueLeft}
 
 -- ---- steps that may refuse
@@ -131,13 +132,13 @@ module _ {A : Type 0} (names : List (List ℕ)) (step : A → Field → Tree →
 
   pub name_refused : (needs : Needs) (e : Error) (o z : State) (a : A) (u : OpenPairs) → AtField o a u → RefusesKey reads_string bare e u z → Refuses (struct_of names step start finish) needs e o z
   name_refused needs e o z a u h refuses =
-      key_refused reads_string bare needs (struct_of names step start finish) (outlook a) e o z u (λ b. absurd cc) (λ b. absurd cc) (reads_names a) h.inside h.pending refuses
+      key_refused reads_string bare needs (struct_of names step start finish) (outlook a) e o z u (λ b. absurd cc) (λ b. absurd cc) (takes_nothing needs) (reads_names a) h.inside h.pending refuses
 
   -- the value of a field is refused, where each step reads it by T
-  pub field_refused : (T : Meaning) (some needs : Needs) (e : Error) (o z : State) (a : A) (f : Field) (u : OpenPairs) → (some.lent ≡ true → needs.lent ≡ true) → (some.memory ≡ true → needs.memory ≡ true)
+  pub field_refused : (T : Meaning) (some needs : Needs) (e : Error) (o z : State) (a : A) (f : Field) (u : OpenPairs) → (some.lent ≡ true → needs.lent ≡ true) → (some.memory ≡ true → needs.memory ≡ true) → (TakesMemory some → TakesMemory needs)
       → ((t : Tree) (b : A) → step a f t ≡ Some b → (d : Content) × (T t ≡ Some d)) → AtFieldValue o a f u → RefusesValue T some e u z → Refuses (struct_of names step start finish) needs e o z
-  field_refused T some needs e o z a f u lent memory by h refuses =
-      value_refused T some needs (struct_of names step start finish) (outlook a) h.name e o z u lent memory
+  field_refused T some needs e o z a f u lent memory takes by h refuses =
+      value_refused T some needs (struct_of names step start finish) (outlook a) h.name e o z u lent memory takes
       (λ t es c read.
       let p = and_then_some finish (option_and_then (λ b. folds (by_name names step) b es) (step a f t)) c (sym (made a f h.name t es h.utf8 h.found) ∙ read) in
       let q = and_then_some (λ b. folds (by_name names step) b es) (step a f t) p.0 p.1 in
@@ -224,6 +225,14 @@ either_left false b e = absurd cc
 pub either_right : (a b : Bool) → b ≡ true → (if a then true else b) ≡ true
 either_right true b e = refl
 either_right false b e = e
+
+pub takes_left : (a b : Needs) → TakesMemory a → TakesMemory (either a b)
+takes_left a b (inl m) = inl (either_left a.memory b.memory m)
+takes_left a b (inr k) = inr (either_left a.keys b.keys k)
+
+pub takes_right : (a b : Needs) → TakesMemory b → TakesMemory (either a b)
+takes_right a b (inl m) = inl (either_right a.memory b.memory m)
+takes_right a b (inr k) = inr (either_right a.keys b.keys k)
 
 -- a refusal that leaves the source as it is, or fails it
 pub stays_here : (a : source.State) → Stays a a

@@ -1,10 +1,12 @@
 -- Counts, keys and tables: what was taken, and what was refused.
-use Rattle.std.proofs.Common.{◌≡◌, inl, inr, ◌⊎◌, ℕ, ◌+◌, ◌<◌, List, [], ◌∷◌, ◌++◌, Option, Some, None, true, length, map, length-append, append_assoc, refl, sym, ap, subst, ◌∙◌, arith, IsUtf8}
+use Rattle.std.proofs.Common.{◌≡◌, inl, inr, ◌⊎◌, ℕ, Bool, ◌+◌, ◌<◌, List, [], ◌∷◌, ◌++◌, Option, Some, None, true, length, map, length-append, append_assoc, refl, sym, ap, subst, ◌∙◌, arith, IsUtf8}
 use Rattle.std.proofs.lemmas.List.{append_cancel_left, append_cancel_right, append-nil}
 use Rattle.std.proofs.lemmas.Option.{some_pair_parts}
 use Rattle.std.proofs.lemmas.Int.{ints}
-use Rattle.std.specs.Prelude.{ℤ, pos, negsuc, ◌<ℤ◌, Result, Ok, Err, is_err, MatchResult}
+use Rattle.std.specs.Prelude.{ℤ, pos, negsuc, ◌<ℤ◌}
 use Rattle.bser_base.specs.Content.{Needs}
+use Rattle.bser_base.specs.Errors.{error_of}
+use Rattle.bser_base.specs.Refs.{RefusesKept}
 use Rattle.bser_base.specs.Grammar.{Format, Bytes, SpellsInteger, SpellsCount, SpellsKey, Each, ◌then◌}
 use Rattle.bser_base.specs.Plain.{Reader, ◌>>=◌, next, string, key, count, many}
 use Rattle.bser_base.specs.Source.{State, Took, IsNext, sight_after, bytes_in_sight}
@@ -171,9 +173,16 @@ one_key k l b c x y = one_front key (SpellsKey k) (SpellsKey l) k l b c x y (key
 pub one_count : (k l : ℕ) (b c x y : List ℕ) → SpellsCount k b → SpellsCount l c → b ++ x ≡ c ++ y → (b ≡ c) × (k ≡ l)
 one_count k l b c x y = one_front count (SpellsCount k) (SpellsCount l) k l b c x y (count_reads k) (count_reads l)
 
-pub bad_of : {T E U : Type 0} (r : Result T E) (P : T → Type 0) (Q : E → Type 0) → is_err r ≡ true → MatchResult r P (λ e. (¬ U) × Q e) → ¬ U
-bad_of (Ok v) P Q e h = absurd cc
-bad_of (Err f) P Q e h = h.0
+-- the bytes of a key that were taken are not kept
+pub kept_refused : (lends : Bool) (s : List ℕ) (e : Error) (a b c : State) → TookPart (SpellsRaw s) a b → c ≡ with_failure true b → RefusesKept lends s e → RefusesFront owned IsKey e a c
+kept_refused lends s e a b c took state (inl p) = subst (λ x. RefusesFront owned IsKey x a c) (sym p.0) (record {
+  excuse = λ text rest wanted left. inr refl;
+  may = inr (inl refl);
+  lends = ap (λ x. x.lends) state ∙ took.took.lends;
+  through = ap (λ x. x.through) state ∙ took.took.through;
+  failures = ap (λ x. x.failures) state ∙ took.took.failures;
+})
+kept_refused lends s e a b c took state (inr p) = subst (λ x. RefusesFront owned IsKey x a c) (sym p.0) (not_utf8 s (error_of causes.Utf8) a b c tt took p.1 state)
 
 -- ---- keys, one by one
 

@@ -125,9 +125,10 @@ row_refused e a mid b ks stands kind state =
 pub name_refused : (e : Error) (a mid b : State) → mid ≡ a → e ≡ OutOfMemory → mid.source.lends ≡ false → b ≡ refused mid → Refuses reads_slice bare e a b
 name_refused e a mid b same out lends state =
     let source : b.source ≡ with_failure true a.source = ap (λ s. s.source) state ∙ ap (λ s. with_failure true s.source) same in
+    let copies : a.source.lends ≡ false = ap (λ s. s.source.lends) (sym same) ∙ lends in
     rw out (record {
-      excuse = λ text rest f left. tt;
-      may = inl (ap (λ s. s.source.lends) (sym same) ∙ lends);
+      excuse = λ text rest f left. inl copies;
+      may = inl copies;
       lends = ap (λ s. s.lends) source;
       through = ap (λ s. s.through) source;
       failures = ap (λ s. s.failures) source;

@@ -12,6 +12,7 @@ use Rattle.bser_base.specs.Content.{byte_list}
 use Rattle.bser_base.specs.ReadsScalars.{string_bytes_of, utf8_of, reads_slice, reads_string}
 use Rattle.bser_base.specs.Expected.{Due, Fills, FillsNode, nothing_due, node_due, key_due, field_due, name_due, row_due}
 use Rattle.bser_base.proofs.Fronts.{string_reads}
+use Rattle.serde_bser.specs.Front.{string_tree}
 use Rattle.serde_bser.specs.Heads.{IsTagged}
 use Rattle.serde_bser.specs.State.{State}
 use Rattle.serde_bser.specs.Strings.{string_tag, SpellsUnder, StringDue, TookBytes}
@@ -19,15 +20,11 @@ use Rattle.serde_bser.specs.Reading.{Answers}
 
 -- ---- the tree of a string that is due
 
-abbrev node_tree : Bool → List ℕ → Tree
-node_tree true s = text s
-node_tree false s = bytes s
-
 abbrev due_tree : Due → Bool → List ℕ → Tree
 due_tree nothing_due m s = null
-due_tree node_due m s = node_tree m s
+due_tree node_due m s = string_tree m s
 due_tree key_due m s = key_tree s
-due_tree field_due m s = node_tree m s
+due_tree field_due m s = string_tree m s
 due_tree (name_due k) m s = key_tree s
 due_tree (row_due ks) m s = null
 
@@ -35,7 +32,7 @@ spelled_under : (m : Bool) (s b : List ℕ) → SpellsUnder m s b → (m ≡ tru
 spelled_under true s b h good = inr (record { front = h.front; rest = h.rest; whole = h.whole; first = h.first; second = record { front = h.second.front; rest = h.second.rest; whole = h.second.whole; first = h.second.first; second = (good refl, h.second.second) } })
 spelled_under false s b h good = inl h
 
-node_filled : (n : ℕ) (m : Bool) (s b : List ℕ) → SpellsUnder m s b → (m ≡ true → IsUtf8 s) → FillsNode n (node_tree m s) b
+pub node_filled : (n : ℕ) (m : Bool) (s b : List ℕ) → SpellsUnder m s b → (m ≡ true → IsUtf8 s) → FillsNode n (string_tree m s) b
 node_filled n true s b h good = record { tree = text s; stands = refl; spelled = record { front = h.front; rest = h.rest; whole = h.whole; first = h.first; second = record { front = h.second.front; rest = h.second.rest; whole = h.second.whole; first = h.second.first; second = (good refl, h.second.second) } } }
 node_filled n false s b h good = record { tree = bytes s; stands = refl; spelled = h }
 
@@ -57,11 +54,11 @@ key_string s = go (is_utf8 s) refl
 key_text : (s : List ℕ) → IsUtf8 s → utf8_of (key_tree s) ≡ Some s
 key_text s good = rw (is_utf8-from_IsUtf8 s good) refl
 
-node_string : (m : Bool) (s : List ℕ) → string_bytes_of (node_tree m s) ≡ Some s
+pub node_string : (m : Bool) (s : List ℕ) → string_bytes_of (string_tree m s) ≡ Some s
 node_string true s = refl
 node_string false s = refl
 
-node_text : (m : Bool) (s : List ℕ) → IsUtf8 s → utf8_of (node_tree m s) ≡ Some s
+pub node_text : (m : Bool) (s : List ℕ) → IsUtf8 s → utf8_of (string_tree m s) ≡ Some s
 node_text true s good = refl
 node_text false s good = rw (is_utf8-from_IsUtf8 s good) refl
 

@@ -13,7 +13,7 @@ use Rattle.bser_base.specs.Expected.{Due, Fills, FillsPairs, nothing_due, node_d
 use Rattle.bser_base.specs.ReadsScalars.{utf8_of, reads_unit}
 use Rattle.bser_base.specs.declared.errors.Error.{Error}
 use Rattle.serde_bser.specs.State.{State, awaiting}
-use Rattle.serde_bser.specs.Reading.{Answers, Refuses, RefusesFront, FillsReadably, bare}
+use Rattle.serde_bser.specs.Reading.{TakesMemory, Answers, Refuses, RefusesFront, FillsReadably, bare}
 use Rattle.serde_bser.specs.Parts.{BeginsPairs, pairs_left, pair_value, pairs_after}
 use Rattle.serde_bser.specs.Access.{OpenPairs, IsKey, IsValue, ClosesPairs, pairs_in, closed}
 use Rattle.serde_bser.specs.Fields.{field_from, field_of}
@@ -22,7 +22,7 @@ use Rattle.serde_bser.specs.declared.de.field.Field.{Field}
 use Rattle.serde_bser.specs.declared.de.field.Field.TheVariants.{Known, Unknown}
 use Rattle.serde_bser.specs.declared.de.node.Node.TheVariants as kinds
 use Rattle.serde_bser.proofs.Refusals.{first_part, rest_of}
-use Rattle.serde_bser.proofs.Steps.{with_needs, unfit}
+use Rattle.serde_bser.proofs.Steps.{takes_nothing, with_needs, unfit}
 use Rattle.serde_bser.proofs.Seen.{Shown, Skipped, shows, some_due}
 use Rattle.serde_bser.proofs.KindTags.{kind, shown_kind}
 use Rattle.serde_bser.proofs.Within.{one_due, wider_needs}
@@ -390,11 +390,11 @@ object_at n key_due w t head all rest ys h f e = absurd h
 object_at n (name_due k) w t head all rest ys h f e = absurd h
 
 -- the payload of an object is refused
-entry_refused : (vs : List (List ℕ × Payload)) (some needs : Needs) (e : Error) (o z : State) (v : OpenVariant) (place : ℕ) (p : Payload) → (some.lent ≡ true → needs.lent ≡ true) → (some.memory ≡ true → needs.memory ≡ true) → payload_at place vs ≡ Some p
+entry_refused : (vs : List (List ℕ × Payload)) (some needs : Needs) (e : Error) (o z : State) (v : OpenVariant) (place : ℕ) (p : Payload) → (some.lent ≡ true → needs.lent ≡ true) → (some.memory ≡ true → needs.memory ≡ true) → (TakesMemory some → TakesMemory needs) → payload_at place vs ≡ Some p
     → OpensEntry (names_of vs) o v place → Refuses (reading p) some e (before_payload v) z → Refuses (reads_enum vs) needs e o z
-entry_refused vs some needs e o z v place p lent memory there h refuses =
+entry_refused vs some needs e o z v place p lent memory takes there h refuses =
     by_left needs (FillsReadably (of_object vs) o) (FillsReadably (reads_enum vs) o) e o.source z.source fit
-    (part_refused needs (of_object vs) (ValueLeft (one_entry vs) i.name t.state.levels t.wanted) W e o z t i.inside first (wider_needs some needs W e v.state.source z.source lent memory refuses))
+    (part_refused needs (of_object vs) (ValueLeft (one_entry vs) i.name t.state.levels t.wanted) W e o z t i.inside first (wider_needs some needs W e v.state.source z.source lent memory takes refuses))
   where
     i : Entered vs o v place p h.inside
     i = entered vs o v place p there h
@@ -437,14 +437,14 @@ unit_found vs held o z (with_payload v) place y there opens is keeps =
 
 pub unit_refused : (vs : List (List ℕ × Payload)) (needs : Needs) (e : Error) (o z : State) (v : OpenEnum) (place : ℕ) → payload_at place vs ≡ Some unit → OpensVariant (names_of vs) o v place → RefusesUnitVariant e v z → Refuses (reads_enum vs) needs e o z
 unit_refused vs needs e o z (name_alone s) place there opens refuses = absurd refuses
-unit_refused vs needs e o z (with_payload v) place there opens refuses = entry_refused vs bare needs e o z v place unit (λ b. absurd cc) (λ b. absurd cc) there opens refuses
+unit_refused vs needs e o z (with_payload v) place there opens refuses = entry_refused vs bare needs e o z v place unit (λ b. absurd cc) (λ b. absurd cc) (takes_nothing needs) there opens refuses
 
 pub payload_found : {A B : Type 0} (vs : List (List ℕ × Payload)) (T : Meaning) (holding : A → Content → Type 0) (held : B → Content → Type 0) (o z : State) (v : OpenEnum) (place : ℕ) (x : A) (y : B) → payload_at place vs ≡ Some (holds T)
     → OpensVariant (names_of vs) o v place → IsPayload T holding v z x → ((c : Content) → holding x c → held y (variant place c)) → Answers (reads_enum vs) held o z y
 payload_found vs T holding held o z (name_alone s) place x y there opens is keeps = absurd is
 payload_found vs T holding held o z (with_payload v) place x y there opens is keeps = entry_found vs holding held o z v place (holds T) x y there opens is keeps
 
-pub payload_refused : (vs : List (List ℕ × Payload)) (T : Meaning) (some needs : Needs) (e : Error) (o z : State) (v : OpenEnum) (place : ℕ) → (some.lent ≡ true → needs.lent ≡ true) → (some.memory ≡ true → needs.memory ≡ true) → payload_at place vs ≡ Some (holds T)
+pub payload_refused : (vs : List (List ℕ × Payload)) (T : Meaning) (some needs : Needs) (e : Error) (o z : State) (v : OpenEnum) (place : ℕ) → (some.lent ≡ true → needs.lent ≡ true) → (some.memory ≡ true → needs.memory ≡ true) → (TakesMemory some → TakesMemory needs) → payload_at place vs ≡ Some (holds T)
     → OpensVariant (names_of vs) o v place → RefusesPayload T some e v z → Refuses (reads_enum vs) needs e o z
-payload_refused vs T some needs e o z (name_alone s) place lent memory there opens refuses = bare_refused vs T needs e o s z place there opens refuses
-payload_refused vs T some needs e o z (with_payload v) place lent memory there opens refuses = entry_refused vs some needs e o z v place (holds T) lent memory there opens refuses
+payload_refused vs T some needs e o z (name_alone s) place lent memory takes there opens refuses = bare_refused vs T needs e o s z place there opens refuses
+payload_refused vs T some needs e o z (with_payload v) place lent memory takes there opens refuses = entry_refused vs some needs e o z v place (holds T) lent memory takes there opens refuses

@@ -17,7 +17,7 @@ use Rattle.bser_base.specs.declared.errors.Message.TheVariants.{Fixed}
 use Rattle.bser_base.specs.declared.errors.Complaint.TheVariants as complaints
 use Rattle.bser_base.specs.declared.errors.ReadCause.TheVariants as causes
 use Rattle.bser_base.proofs.Fronts.{Reads, value_reads, any_string_reads, field_reads, fields_back, many_all}
-use Rattle.serde_bser.specs.Reading.{MayRefuse, RefusesFront, FillsReadably}
+use Rattle.serde_bser.specs.Reading.{Outside, TakesMemory, MayRefuse, RefusesFront, FillsReadably}
 use Rattle.serde_bser.specs.State.{State}
 use Rattle.serde_bser.proofs.Refusals.{Passed}
 
@@ -123,18 +123,26 @@ one_due n (row_due ks) t u a b x y p q e =
 
 -- ---- what a call refuses
 
-wider_may : (some all : Needs) (s : source.State) → (some.lent ≡ true → all.lent ≡ true) → (some.memory ≡ true → all.memory ≡ true) → (e : Error) → MayRefuse some e s → MayRefuse all e s
-wider_may some all s lent memory OutOfMemory (inl h) = inl h
-wider_may some all s lent memory OutOfMemory (inr h) = inr (memory h)
-wider_may some all s lent memory (DeReaderError (causes.Reader fault)) h = h
-wider_may some all s lent memory (DeCustom (Fixed complaints.BorrowedFromCopying)) h = (h.0, lent h.1)
-wider_may some all s lent memory _ h = tt
+wider_outside : (some all : Needs) (s : source.State) (n : ℕ) → (some.memory ≡ true → all.memory ≡ true) → (e : Error) → Outside some e s n → Outside all e s n
+wider_outside some all s n memory OutOfMemory (inl h) = inl h
+wider_outside some all s n memory OutOfMemory (inr h) = inr (memory h)
+wider_outside some all s n memory (DeReaderError (causes.Reader fault)) h = h
+wider_outside some all s n memory (DeReaderError causes.Failed) h = h
+wider_outside some all s n memory (DeCustom (Fixed complaints.BorrowedFromCopying)) h = h
+wider_outside some all s n memory _ h = absurd h
+
+pub wider_may : (some all : Needs) (s : source.State) → (some.lent ≡ true → all.lent ≡ true) → (TakesMemory some → TakesMemory all) → (e : Error) → MayRefuse some e s → MayRefuse all e s
+wider_may some all s lent takes OutOfMemory (inl h) = inl h
+wider_may some all s lent takes OutOfMemory (inr h) = inr (takes h)
+wider_may some all s lent takes (DeReaderError (causes.Reader fault)) h = h
+wider_may some all s lent takes (DeCustom (Fixed complaints.BorrowedFromCopying)) h = (h.0, lent h.1)
+wider_may some all s lent takes _ h = tt
 
 -- a type that needs more may refuse the same
-pub wider_needs : (some all : Needs) (W : Format) (e : Error) (a b : source.State) → (some.lent ≡ true → all.lent ≡ true) → (some.memory ≡ true → all.memory ≡ true) → RefusesFront some W e a b → RefusesFront all W e a b
-wider_needs some all W e a b lent memory u = record {
-  excuse = u.excuse;
-  may = wider_may some all a lent memory e u.may;
+pub wider_needs : (some all : Needs) (W : Format) (e : Error) (a b : source.State) → (some.lent ≡ true → all.lent ≡ true) → (some.memory ≡ true → all.memory ≡ true) → (TakesMemory some → TakesMemory all) → RefusesFront some W e a b → RefusesFront all W e a b
+wider_needs some all W e a b lent memory takes u = record {
+  excuse = λ text rest wanted left. wider_outside some all a (length text) memory e (u.excuse text rest wanted left);
+  may = wider_may some all a lent takes e u.may;
   lends = u.lends;
   through = u.through;
   failures = u.failures;
@@ -143,8 +151,8 @@ wider_needs some all W e a b lent memory u = record {
 -- want of memory after some bytes were taken
 pub no_room : (needs : Needs) (W : Format) (a b : source.State) (taken : List ℕ) → needs.memory ≡ true → Passed a b taken → RefusesFront needs W OutOfMemory a b
 no_room needs W a b taken memory passed = record {
-  excuse = λ text rest wanted left. tt;
-  may = inr memory;
+  excuse = λ text rest wanted left. inr memory;
+  may = inr (inl memory);
   lends = passed.lends;
   through = passed.through;
   failures = passed.failures;

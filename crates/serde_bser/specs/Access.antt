@@ -10,7 +10,8 @@ use Rattle.bser_base.specs.declared.errors.Error.{Error}
 use Rattle.bser_base.specs.declared.errors.ReadCause.TheVariants.{Failed}
 use Rattle.bser_base.specs.declared.errors.Error.TheVariants.{DeReaderError}
 use Rattle.serde_bser.specs.State.{State, awaiting, refused}
-use Rattle.serde_bser.specs.Reading.{Answers, Refuses, RefusesFront, IsRefusal}
+use Rattle.serde_bser.specs.Reading.{Answers, Refuses, RefusesFront, IsRefusal, only_keys}
+use Rattle.serde_bser.specs.Scalar.{owned}
 use Rattle.serde_bser.specs.Parts.{BeginsItems, BeginsPairs, items_left, item_due, items_after, pairs_left, pair_key, pair_value, pairs_after}
 
 -- an open array: what it wants, and the levels and the number of open containers outside
@@ -63,6 +64,10 @@ pub record OpensPairs (old : State) (new : OpenPairs) : Type 0 where
 abbrev pub IsItemsHead : State → Format
 IsItemsHead s text = (w : WantedItems) × BeginsItems s.levels s.due w text
 
+-- the head of some array
+abbrev pub IsArrayHead : State → Format
+IsArrayHead s text = (k : ℕ) × BeginsItems s.levels s.due (nodes k) text
+
 -- the head of some object or row
 abbrev pub IsPairsHead : State → Format
 IsPairsHead s text = (w : WantedPairs) × BeginsPairs s.levels s.due w text
@@ -70,6 +75,12 @@ IsPairsHead s text = (w : WantedPairs) × BeginsPairs s.levels s.due w text
 -- no container is opened, and each later call is refused
 abbrev pub RefusesOpening : Needs → Format → Error → State → State → Type 0
 RefusesOpening needs W e old new = RefusesFront needs W e old.source new.source × (new.source.failed ≡ true)
+
+-- neither an array nor a template is opened, and each later call is refused; where an array stands, want of memory is not the reason
+pub record RefusesItems (e : Error) (old new : State) : Type 0 where
+  pub refuses : RefusesFront owned (IsItemsHead old) e old.source new.source
+  pub array : RefusesFront only_keys (IsArrayHead old) e old.source new.source
+  pub failed : new.source.failed ≡ true
 
 -- ---- items
 

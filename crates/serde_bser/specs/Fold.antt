@@ -35,4 +35,4 @@ read_once T (Some c) t = None
 
 -- what two types need together
 abbrev pub either : Needs → Needs → Needs
-either a b = record { lent = if a.lent then true else b.lent; memory = if a.memory then true else b.memory }
+either a b = record { lent = if a.lent then true else b.lent; memory = if a.memory then true else b.memory; keys = if a.keys then true else b.keys }

@@ -8,7 +8,9 @@ pub mod Files
 pub mod HoldsMaps
 pub mod Fold
 pub mod Slots
+pub mod Tuples
 pub mod Heads
+pub mod Front
 pub mod Nodes
 pub mod Messages
 pub mod View
@@ -26,6 +28,6 @@ pub mod Required
 pub mod ScalarAnswer
 pub mod Building
 pub mod BuildingSteps
+pub mod StepsAtHand
 pub mod Variants
 pub mod EnumAccess
-pub mod TestVariants

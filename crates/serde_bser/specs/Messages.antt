@@ -9,7 +9,7 @@ use Rattle.bser_base.specs.Device.{Blamed}
 use Rattle.bser_base.specs.Source as source
 use Rattle.bser_base.specs.Source.{Took, with_limit}
 use Rattle.bser_base.specs.Grammar.{Format}
-use Rattle.serde_bser.specs.Reading.{RefusesFront}
+use Rattle.serde_bser.specs.Reading.{TakesMemory, RefusesFront}
 use Rattle.bser_base.specs.declared.errors.Error.{Error}
 use Rattle.bser_base.specs.declared.errors.Error.TheVariants.{DeReaderError, OutOfMemory}
 use Rattle.bser_base.specs.declared.errors.ReadCause.TheVariants.{Reader}
@@ -55,15 +55,15 @@ IsReadable n reads text = (c : Content) × ReadsAs n reads text c
 abbrev pub RefusesMessage : ℕ → Meaning → Needs → Error → source.State → source.State → Type 0
 RefusesMessage n reads needs = RefusesFront needs (IsReadable n reads)
 
--- want of memory, of a type that takes some
+-- want of memory, of a type that takes some to read a value
 pub record IsMemory (needs : Needs) (e : Error) : Type 0 where
   pub memory : e ≡ OutOfMemory
   pub needed : needs.memory ≡ true
 
--- a refusal of a slice: no front of it is a message that the type reads, or memory was refused to a type that takes some
+-- a refusal of a slice: no front of it is a message that the type reads, or memory was refused to a type that takes some to read a value; want of memory is named only by a type that may take some
 pub record RefusesSlice (n : ℕ) (reads : Meaning) (needs : Needs) (e : Error) (bytes : List ℕ) : Type 0 where
   pub excuse : (text rest : List ℕ) (c : Content) → ReadsAs n reads text c → bytes ≡ text ++ rest → IsMemory needs e
-  pub memory : e ≡ OutOfMemory → needs.memory ≡ true
+  pub memory : e ≡ OutOfMemory → TakesMemory needs
 
 -- want of memory, or a failure that the reader counted
 abbrev pub IsFault : ℕ → ℕ → Error → Type 0

@@ -26,17 +26,29 @@ pub record Answers {A : Type 0} (reads : Meaning) (holds : A → Content → Typ
   pub took : Took old.source new.source text (sight_after (length text) old.source.sight)
   pub state : new ≡ past old new.source
 
--- a refusal that the bytes left are not to blame for: want of memory, a reader's fault, a refusal before, and what cannot be lent
-abbrev pub Outside : Error → source.State → ℕ → Type 0
-Outside OutOfMemory s n = Unit {0}
-Outside (DeReaderError (Reader fault)) s n = Unit {0}
-Outside (DeReaderError Failed) s n = (s.failed ≡ true) ⊎ ((s.lends ≡ false) × (2 ^ 64 ≤ s.count + n))
-Outside (DeCustom (Fixed BorrowedFromCopying)) s n = Unit {0}
-Outside _ s n = ⊥
+-- reading holds nothing lent and takes no memory
+abbrev pub bare : Needs
+bare = record { lent = false; memory = false; keys = false }
+
+-- the same, but for the keys of a template that is refused
+abbrev pub only_keys : Needs
+only_keys = record { lent = false; memory = false; keys = true }
+
+-- memory may be taken, to read a value or for the keys of a template that is refused
+abbrev pub TakesMemory : Needs → Type 0
+TakesMemory needs = (needs.memory ≡ true) ⊎ (needs.keys ≡ true)
+
+-- a refusal that the bytes left are not to blame for: want of the memory that reading a value takes, a reader's fault, a refusal before, and what cannot be lent
+abbrev pub Outside : Needs → Error → source.State → ℕ → Type 0
+Outside needs OutOfMemory s n = (s.lends ≡ false) ⊎ (needs.memory ≡ true)
+Outside needs (DeReaderError (Reader fault)) s n = Unit {0}
+Outside needs (DeReaderError Failed) s n = (s.failed ≡ true) ⊎ ((s.lends ≡ false) × (2 ^ 64 ≤ s.count + n))
+Outside needs (DeCustom (Fixed BorrowedFromCopying)) s n = Unit {0}
+Outside needs _ s n = ⊥
 
 -- the refusals of this kind that a type can answer by its needs, over this source
 abbrev pub MayRefuse : Needs → Error → source.State → Type 0
-MayRefuse needs OutOfMemory s = (s.lends ≡ false) ⊎ (needs.memory ≡ true)
+MayRefuse needs OutOfMemory s = (s.lends ≡ false) ⊎ TakesMemory needs
 MayRefuse needs (DeReaderError (Reader fault)) s = s.lends ≡ false
 MayRefuse needs (DeCustom (Fixed BorrowedFromCopying)) s = (s.lends ≡ false) × (needs.lent ≡ true)
 MayRefuse needs _ s = Unit {0}
@@ -50,7 +62,7 @@ IsRefusal _ = Unit {0}
 
 -- a call refuses though the bytes left begin as it wants, only for a reason outside them
 pub record RefusesFront (needs : Needs) (Wanted : Format) (e : Error) (old new : source.State) : Type 0 where
-  pub excuse : (text rest : List ℕ) → Wanted text → old.left ≡ Some (text ++ rest) → Outside e old (length text)
+  pub excuse : (text rest : List ℕ) → Wanted text → old.left ≡ Some (text ++ rest) → Outside needs e old (length text)
   pub may : MayRefuse needs e old
   pub lends : new.lends ≡ old.lends
   pub through : new.through ≡ old.through
@@ -71,15 +83,11 @@ Refuses reads needs e old new = RefusesFront needs (FillsReadably reads old) e o
 abbrev pub IsDue : State → Format
 IsDue s text = (u : Tree) × Fills s.levels s.due u text
 
--- reading holds nothing lent and takes no memory
-abbrev pub bare : Needs
-bare = record { lent = false; memory = false }
-
 -- nothing that is due begins here, or the refusal is not to blame on the bytes left
 abbrev pub RefusesDue : Error → State → State → Type 0
 RefusesDue e old new = RefusesFront bare (IsDue old) e old.source new.source
 
 -- no front of the bytes left is the head of a message, or the refusal is not to blame on them
 pub record RefusesHead (old : source.State) (e : Error) : Type 0 where
-  pub excuse : (text rest : List ℕ) → IsHead text → old.left ≡ Some (text ++ rest) → Outside e old (length text)
+  pub excuse : (text rest : List ℕ) → IsHead text → old.left ≡ Some (text ++ rest) → Outside bare e old (length text)
   pub may : MayAnswer e old.lends

@@ -23,11 +23,11 @@ reads_scalar t = option_map value (scalar t)
 
 -- a value that owns its bytes
 abbrev pub owned : Needs
-owned = record { lent = false; memory = true }
+owned = record { lent = false; memory = true; keys = false }
 
 -- a value that holds lent bytes
 abbrev pub lending : Needs
-lending = record { lent = true; memory = false }
+lending = record { lent = true; memory = false; keys = false }
 
 -- a scalar or string
 pub record IsScalar (b : List ℕ) : Type 0 where

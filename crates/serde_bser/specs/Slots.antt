@@ -76,7 +76,7 @@ any_lent (n ∷ ns) = n.lent || any_lent ns
 
 -- what these types need together, and memory for what is skipped
 abbrev pub struct_needs : List Needs → Needs
-struct_needs ns = record { lent = any_lent ns; memory = true }
+struct_needs ns = record { lent = any_lent ns; memory = true; keys = false }
 
 -- ---- what is kept of a field
 
@@ -133,6 +133,10 @@ pub record FillsStep {A : Type 0} (step : A → Tree → Option A) (a : A) (s : 
 -- the value of the key that was read is refused: by no front of the bytes left the step leads on from a, or they are not to blame
 abbrev pub RefusesStep : {A : Type 0} → (A → Tree → Option A) → Needs → Error → A → OpenPairs → State → Type 0
 RefusesStep step needs e a old new = old.pending ≡ true → RefusesFront needs (FillsStep step a (awaiting (pair_value old.wanted) old.state)) e old.state.source new.source
+
+-- the value of the key that was read was taken, whatever it is
+abbrev pub Passes : OpenPairs → OpenPairs → Type 0
+Passes old new = (tree : Tree) × (c : Content) × (reads_ignored tree ≡ Some c) × TookValue tree old new
 
 -- ---- a value that is read once
 

@@ -1,10 +1,12 @@
 //! Reading.
+mod at_hand;
 mod building;
 mod cursor;
 mod deserializer;
 mod entry;
 mod field;
 mod fields;
+mod front;
 mod impls;
 mod map;
 mod node;
@@ -18,6 +20,7 @@ mod strings;
 mod table;
 #[cfg(test)]
 mod tests;
+mod value_at_hand;
 mod values;
 mod variant;
 
@@ -25,6 +28,7 @@ pub use crate::de::deserializer::Deserializer;
 pub use crate::de::entry::{from_reader, from_reader_within, from_slice, from_slice_within};
 pub use crate::de::field::Field;
 pub use crate::de::fields::{Optional, Required, Slot, Slots};
+pub use crate::de::front::Front;
 pub use crate::de::impls::{Ignored, MapKey, RealBits};
 pub use crate::de::map::MapAccess;
 pub use crate::de::node::Node;

@@ -57,6 +57,26 @@ impl Block {
         self.start += 1;
     }
 
+    /// Gives up the first `n` bytes.
+    #[inline(always)]
+    pub(crate) fn skip_some(&mut self, n: usize)
+        requires sound { IsSound self.old }
+        requires some { n ≤ length (block_bytes self.old) }
+        ensures sound { IsSound self.new }
+        ensures block_bytes { block_bytes self.new ≡ drop n (block_bytes self.old) }
+    {
+        self.start += n;
+    }
+
+    /// The bytes that it holds.
+    #[inline(always)]
+    pub(crate) fn held<'s>(&'s self) -> &'s [u8]
+        requires { IsSound self.now }
+        ensures { result.now ≡ block_bytes self.now }
+    {
+        &self.bytes[self.start..self.end]
+    }
+
     /// Moves the first `n` bytes to the end of `scratch`. Where it does not grow, all are given up.
     pub(crate) fn move_to(&mut self, scratch: &mut Vec<u8>, n: usize) -> Result<(), ReadCause>
         requires sound { IsSound self.old }

@@ -1,16 +1,19 @@
 //! Tagged values over a byte source.
-ghost use Rattle.std.specs.Prelude.{◌≡◌, ◌≢◌, ◌≤◌, ◌<◌, ◌+◌, ◌-◌, ◌^◌, ◌∷◌, [], ◌++◌, ℕ, ℤ, pos, negsuc, ◌<ℤ◌, ◌≤ℤ◌, List, Bool, true, false, length, drop, take, Option, Some, None, IfOk, IfErr, OnOk, OnErr, IsSome, is_err, MatchResult, vec_len, min};
+ghost use Rattle.std.specs.Prelude.{◌≡◌, ◌≢◌, ◌≤◌, ◌<◌, ◌+◌, ◌-◌, ◌^◌, ◌∷◌, [], ◌++◌, ℕ, ℤ, pos, negsuc, ◌<ℤ◌, ◌≤ℤ◌, MatchOption, List, Bool, true, false, length, drop, take, Option, Some, None, IfOk, IfErr, OnOk, OnErr, IsSome, is_err, MatchResult, vec_len, min};
 ghost use Rattle.std.specs.Int.{w8, w16, w32, w64, to_le_bytes};
 ghost use Rattle.std.specs.Borrow.{sem};
 ghost use Rattle.std.specs.Io.BufRead.{Rests};
 ghost use Rattle.bser_base.specs.Source.{State, Took, Expects, IsNext, sight_after, bytes_in_sight};
+ghost use Rattle.bser_base.specs.Hand.{bunser_hand, StringFront};
 ghost use Rattle.bser_base.specs.Refs.{bytes_of, is_lent};
 ghost use Rattle.bser_base.specs.Errors.{error_of, copying};
 ghost use Rattle.bser_base.specs.Tagged.{bunser_state, has_refused, bunser_source, with_failure, TookNumber, TookBits, TookInt, TookLength, TookHead, IsInteger, IsLength, IsMagic, IsCapabilities, IsHead, EndsAt};
 ghost use Rattle.bser_base.specs.TaggedRefusal.{ShortOf, BytesRefused, Unwanted, NamesTag, end_refusal};
 ghost use Rattle.bser_base.specs.contracts.de.bunser.Bunser.{the_row};
 
-use crate::de::read::{DeRead, Reference};
+use crate::de::hand::integer_after;
+pub use crate::de::hand::{SeenInt, StringPlace, integer_front, string_front};
+use crate::de::read::{DeRead, Lending, Reference};
 use crate::errors::{Complaint, Error, Kind, ReadCause, Result};
 use crate::header::{BSER_INT8, BSER_INT16, BSER_INT32, BSER_INT64};
 use byteorder::{ByteOrder, LittleEndian};
@@ -251,10 +254,96 @@ impl<R: DeRead> Bunser<R> {
         Ok(LittleEndian::read_u64(&bytes))
     }
 
+    /// The bytes at hand: the first of those left, which are taken without a call that may be
+    /// refused. None where a call was refused.
+    #[inline(always)]
+    pub fn at_hand<'s>(&'s self) -> &'s [u8]
+        ensures { result.now ≡ bunser_hand R.hand self.now }
+    {
+        if self.failed {
+            return &[];
+        }
+        self.read.at_hand()
+    }
+
+    /// Takes the first `n` bytes at hand.
+    #[inline(always)]
+    pub fn advance(&mut self, n: usize)
+        requires some { 0 < n }
+        requires within { n ≤ length (bunser_hand R.hand self.old) }
+        ensures { Took (bunser_state R.state self.old) (bunser_state R.state self.new) (take n (bunser_hand R.hand self.old)) None }
+    {
+        self.read.advance(n);
+    }
+
+    /// Brings the first byte at hand in sight, and takes none.
+    #[inline(always)]
+    pub fn glance(&mut self) -> u8
+        requires { 0 < length (bunser_hand R.hand self.old) }
+        ensures first { bunser_hand R.hand self.old ≡ result ∷ drop 1 (bunser_hand R.hand self.old) }
+        ensures byte { IsNext (bunser_state R.state self.new).left result }
+        ensures took { Took (bunser_state R.state self.old) (bunser_state R.state self.new) [] (Some result) }
+    {
+        self.read.glance()
+    }
+
+    /// Lends `n` bytes at hand from place `at` on, and takes none. None where the source copies.
+    #[inline(always)]
+    pub fn lend_at_hand(&self, at: usize, n: usize) -> Option<R::Lent>
+        requires { at + n ≤ length (bunser_hand R.hand self.now) }
+        ensures { MatchOption result (Unit {0}) (λ r. (R.Lent.bytes r ≡ take n (drop at (bunser_hand R.hand self.now))) × (R.Lent.lends ≡ true)) }
+    {
+        if self.failed {
+            return None;
+        }
+        self.read.lend_at_hand(at, n)
+    }
+
+    /// Where the bytes of the string stand that is at hand whole, from the first byte at hand on.
+    #[inline(always)]
+    pub fn string_at_hand(&self) -> Option<StringPlace>
+        ensures { MatchOption result (Unit {0}) (StringFront (bunser_hand R.hand self.now)) }
+    {
+        string_front(self.at_hand())
+    }
+
+    /// Takes an integer that is at hand whole. Where none is, nothing changes.
+    #[inline(always)]
+    pub fn int_at_hand(&mut self) -> Option<i64>
+        ensures { MatchOption result (self.new ≡ self.old) (λ v. TookInt (bunser_state R.state self.old) (bunser_state R.state self.new) v) }
+    {
+        let bytes = self.at_hand();
+        if bytes.is_empty() {
+            return None;
+        }
+        match integer_after(bytes[0], &bytes[1..]) {
+            Some((number, size)) => {
+                self.advance(1 + size);
+                Some(number)
+            }
+            None => None,
+        }
+    }
+
     /// Takes an integer of any width.
     ///
     /// Another tag is [`Error::DeInvalidStartByte`] of kind [`Kind::Integer`], with that tag.
+    #[inline(always)]
     pub fn check_next_int(&mut self) -> Result<i64>
+        ensures ok { IfOk result (λ v. TookInt (bunser_state R.state self.old) (bunser_state R.state self.new) v) }
+        ensures err { IfErr result (λ e. Unwanted IsInteger e (bunser_state R.state self.old) (bunser_state R.state self.new)) }
+        ensures after { OnErr result (has_refused self.new ≡ true) }
+        ensures tag { IfErr result (λ e. NamesTag e (bunser_state R.state self.old)) }
+        ensures through { (bunser_state R.state self.new).through ≡ (bunser_state R.state self.old).through }
+    {
+        if let Some(number) = self.int_at_hand() {
+            return Ok(number);
+        }
+        self.next_int()
+    }
+
+    /// Takes an integer of any width, at hand or not.
+    fn next_int(&mut self) -> Result<i64>
         ensures ok { IfOk result (λ v. TookInt (bunser_state R.state self.old) (bunser_state R.state self.new) v) }
         ensures err { IfErr result (λ e. Unwanted IsInteger e (bunser_state R.state self.old) (bunser_state R.state self.new)) }
         ensures after { OnErr result (has_refused self.new ≡ true) }

@@ -188,6 +188,8 @@ impl<S: Source> DeRead for IoRead<S> {
 
     ghost state = { io_at S.remaining S.failures S.through };
 
+    ghost hand = { λ r. block_bytes r.block };
+
     ghost lending = { λ _. refl };
 
     ghost holding = { λ r _. Prim.omega (arith, r.limited, sight_of_held (block_bytes r.block) r.peeked r.seen) };
@@ -216,6 +218,28 @@ impl<S: Source> DeRead for IoRead<S> {
     fn discard(&mut self) {
         self.peeked = false;
         self.block.skip();
+    }
+
+    #[inline(always)]
+    fn at_hand<'s>(&'s self) -> &'s [u8] {
+        self.block.held()
+    }
+
+    #[inline(always)]
+    fn advance(&mut self, n: usize) {
+        self.peeked = false;
+        self.block.skip_some(n);
+    }
+
+    #[inline(always)]
+    fn glance(&mut self) -> u8 {
+        self.peeked = true;
+        self.block.first()
+    }
+
+    #[inline(always)]
+    fn lend_at_hand(&self, _at: usize, _n: usize) -> Option<NoLoan> {
+        None
     }
 
     fn expect(&mut self, n: usize) {

@@ -1,11 +1,10 @@
 //! What a byte source lends.
-ghost use Rattle.std.specs.Prelude.{◌≡◌, ℕ, Bool, true, false, List, [], IfOk, IfErr, OnErr, MatchOption};
+ghost use Rattle.std.specs.Prelude.{◌≡◌, ℕ, Bool, true, false, List, [], string_bytes, IfOk, IfErr, OnOk, OnErr, MatchOption};
 ghost use Rattle.std.specs.Str.{IsUtf8};
 ghost use Rattle.bser_base.specs.declared.errors.ReadCause.TheVariants.{Utf8};
 ghost use Rattle.bser_base.specs.declared.errors.Error.TheVariants.{OutOfMemory};
-ghost use Rattle.bser_base.specs.Refs.{bytes_of, is_lent, text_of, is_lent_text};
+ghost use Rattle.bser_base.specs.Refs.{bytes_of, is_lent, text_of, is_lent_text, RefusesKept};
 
-use crate::bytestring::ByteString;
 use crate::de::read::{Reference, TextReference};
 use crate::errors::{Error, ReadCause, Result};
 use std::alloc::Global;
@@ -26,7 +25,7 @@ pub trait Lending: Copy {
     // whether a source that lends this lends what is read
     ghost lends: { Bool };
 
-    /// What is kept of bytes that are wanted again later: the loan itself, or else a copy.
+    /// What is kept of a text that is wanted again later: the loan itself, or else a copy.
     type Kept: Drop;
 
     ghost kept: { Self.Kept → List ℕ };
@@ -35,12 +34,21 @@ pub trait Lending: Copy {
     fn as_bytes<'a>(&'a self) -> &'a [u8]
         ensures { result.now ≡ bytes self.now };
 
-    /// Keeps bytes that a source gave. Where they were copied it takes memory, and a refused growth
-    /// is [`Error::OutOfMemory`].
+    /// The text that was kept.
+    fn kept_text<'k>(key: &'k Self::Kept) -> &'k str
+        ensures { result.now ≡ kept key.now };
+
+    /// The bytes that were kept.
+    fn kept_bytes<'k>(key: &'k Self::Kept) -> &'k [u8]
+        ensures { result.now ≡ kept key.now };
+
+    /// Keeps bytes that a source gave, which have to be UTF-8. Others are [`ReadCause::Utf8`]. Where
+    /// they were copied it takes memory, and a refused growth is [`Error::OutOfMemory`].
     fn keep(alloc: Global, given: Reference<'_, Self>) -> Result<Self::Kept>
         requires { is_lent given ≡ lends }
         ensures ok { IfOk result (λ k. kept k ≡ bytes_of bytes given.entry) }
-        ensures err { IfErr result (λ e. (e ≡ OutOfMemory) × (lends ≡ false)) };
+        ensures utf8 { OnOk result (IsUtf8 (bytes_of bytes given.entry)) }
+        ensures err { IfErr result (λ e. RefusesKept lends (bytes_of bytes given.entry) e) };
 
     /// Lends kept bytes, or else copies them to `scratch` in place of what it held. A refused growth
     /// is [`Error::OutOfMemory`].
@@ -90,37 +98,57 @@ impl<'a> Lending for &'a [u8] {
 
     ghost lends = { true };
 
-    type Kept = &'a [u8];
+    type Kept = &'a str;
 
     ghost kept = { λ s. s.now };
 
+    #[inline(always)]
     fn as_bytes<'b>(&'b self) -> &'b [u8] {
         *self
     }
 
-    fn keep(_alloc: Global, given: Reference<'_, &'a [u8]>) -> Result<&'a [u8]>
+    #[inline(always)]
+    fn kept_text<'k>(key: &'k &'a str) -> &'k str
+        ensures { result.now ≡ key.now.now }
+    {
+        *key
+    }
+
+    #[inline(always)]
+    fn kept_bytes<'k>(key: &'k &'a str) -> &'k [u8]
+        ensures { result.now ≡ key.now.now }
+    {
+        key.as_bytes()
+    }
+
+    fn keep(_alloc: Global, given: Reference<'_, &'a [u8]>) -> Result<&'a str>
         requires { is_lent given ≡ true }
         ensures ok { IfOk result (λ k. k.now ≡ bytes_of (λ s. s.now) given.entry) }
-        ensures err { IfErr result (λ e. (e ≡ OutOfMemory) × (true ≡ false)) }
+        ensures utf8 { OnOk result (IsUtf8 (bytes_of (λ s. s.now) given.entry)) }
+        ensures err { IfErr result (λ e. RefusesKept true (bytes_of (λ s. s.now) given.entry) e) }
     {
         match given {
-            Reference::Borrowed(bytes) => Ok(bytes),
+            Reference::Borrowed(bytes) => match str::from_utf8(bytes) {
+                Ok(text) => Ok(text),
+                Err(_) => Err(Error::de_reader_error(ReadCause::Utf8)),
+            },
             Reference::Copied(_) => Err(Error::OutOfMemory),
         }
     }
 
-    fn lend<'s>(key: &&'a [u8], _scratch: &'s mut Vec<u8>) -> Result<Reference<'s, &'a [u8]>>
+    fn lend<'s>(key: &&'a str, _scratch: &'s mut Vec<u8>) -> Result<Reference<'s, &'a [u8]>>
         ensures ok { IfOk result (λ r. bytes_of (λ s. s.now) r ≡ key.now.now) }
         ensures lent { IfOk result (λ r. is_lent r ≡ true) }
         ensures err { IfErr result (λ e. (e ≡ OutOfMemory) × (true ≡ false)) }
     {
-        Ok(Reference::Borrowed(*key))
+        Ok(Reference::Borrowed(key.as_bytes()))
     }
 }
 
 impl<'a> LendsText for &'a [u8] {
     type Text = &'a str;
 
+    #[inline(always)]
     fn to_text(self) -> std::result::Result<&'a str, ReadCause> {
         match str::from_utf8(self) {
             Ok(text) => Ok(text),
@@ -149,27 +177,45 @@ impl Lending for NoLoan {
 
     ghost lends = { false };
 
-    type Kept = ByteString;
+    type Kept = String;
 
-    ghost kept = { λ s. s };
+    ghost kept = { λ s. string_bytes s };
 
     fn as_bytes<'b>(&'b self) -> &'b [u8] {
         &[]
     }
 
-    fn keep(alloc: Global, given: Reference<'_, NoLoan>) -> Result<ByteString>
+    #[inline(always)]
+    fn kept_text<'k>(key: &'k String) -> &'k str
+        ensures { result.now ≡ string_bytes key.now }
+    {
+        key.as_str()
+    }
+
+    #[inline(always)]
+    fn kept_bytes<'k>(key: &'k String) -> &'k [u8]
+        ensures { result.now ≡ string_bytes key.now }
+    {
+        key.as_bytes()
+    }
+
+    fn keep(alloc: Global, given: Reference<'_, NoLoan>) -> Result<String>
         requires { is_lent given ≡ false }
-        ensures ok { IfOk result (λ k. k ≡ bytes_of (λ _. []) given.entry) }
-        ensures err { IfErr result (λ e. (e ≡ OutOfMemory) × (false ≡ false)) }
+        ensures ok { IfOk result (λ k. string_bytes k ≡ bytes_of (λ _. []) given.entry) }
+        ensures utf8 { OnOk result (IsUtf8 (bytes_of (λ _. []) given.entry)) }
+        ensures err { IfErr result (λ e. RefusesKept false (bytes_of (λ _. []) given.entry) e) }
     {
         match given {
-            Reference::Borrowed(_) => Ok(ByteString::from_vec(Vec::new(alloc))),
-            Reference::Copied(bytes) => Ok(ByteString::from_vec(bytes.to_vec(alloc)?)),
+            Reference::Borrowed(_) => Err(Error::OutOfMemory),
+            Reference::Copied(bytes) => match str::from_utf8(bytes) {
+                Ok(text) => Ok(String::from_str(alloc, text)?),
+                Err(_) => Err(Error::de_reader_error(ReadCause::Utf8)),
+            },
         }
     }
 
-    fn lend<'s>(key: &ByteString, scratch: &'s mut Vec<u8>) -> Result<Reference<'s, NoLoan>>
-        ensures ok { IfOk result (λ r. bytes_of (λ _. []) r ≡ key.now) }
+    fn lend<'s>(key: &String, scratch: &'s mut Vec<u8>) -> Result<Reference<'s, NoLoan>>
+        ensures ok { IfOk result (λ r. bytes_of (λ _. []) r ≡ string_bytes key.now) }
         ensures lent { IfOk result (λ r. is_lent r ≡ false) }
         ensures err { IfErr result (λ e. (e ≡ OutOfMemory) × (false ≡ false)) }
     {

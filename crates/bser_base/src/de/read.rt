@@ -1,5 +1,5 @@
 //! Byte sources.
-ghost use Rattle.std.specs.Prelude.{refl, ◌≡◌, ◌≤◌, ◌<◌, ◌+◌, ◌-◌, ◌^◌, ◌∷◌, [], ◌++◌, ℕ, List, Bool, true, false, length, drop, take, Option, Some, None, IfOk, IfErr, OnOk, IsSome, is_some, MatchResult, vec_len, OnErr};
+ghost use Rattle.std.specs.Prelude.{refl, ◌≡◌, ◌≤◌, ◌<◌, ◌+◌, ◌-◌, ◌^◌, ◌∷◌, [], ◌++◌, ℕ, List, Bool, true, false, length, drop, take, Option, Some, None, MatchOption, IfOk, IfErr, OnOk, IsSome, is_some, MatchResult, vec_len, OnErr};
 ghost use Rattle.bser_base.specs.Source.{State, Took, Expects, IsNext, sight_after, in_sight, bytes_in_sight, slice_state};
 ghost use Rattle.bser_base.specs.Held.{HoldsWithin};
 ghost use Rattle.bser_base.specs.Refusal.{Refused};
@@ -100,6 +100,9 @@ pub trait DeRead {
 
     ghost state: { Self → State };
 
+    // the bytes at hand
+    ghost hand: { Self → List ℕ };
+
     /// Takes the next byte, the one in sight first.
     ///
     /// Refusals are those of `next_bytes` for one byte.
@@ -147,6 +150,29 @@ pub trait DeRead {
         ensures lent { IfOk result (λ r. is_lent r ≡ (Self.state self.old).lends) }
         ensures ok { IfOk result (λ r. Took (Self.state self.old) (Self.state self.new) (bytes_of Self.Lent.bytes r) (sight_after len (Self.state self.old).sight)) }
         ensures err { IfErr result (λ e. Refused e (Self.state self.old) (Self.state self.new) len) };
+
+    /// The bytes at hand: the first of those left, which are taken without a call that may be
+    /// refused. The crate has no such call.
+    fn at_hand<'s>(&'s self) -> &'s [u8]
+        ensures { result.now ≡ hand self.now };
+
+    /// Takes the first `n` bytes at hand.
+    fn advance(&mut self, n: usize)
+        requires some { 0 < n }
+        requires within { n ≤ length (hand self.old) }
+        ensures { Took (state self.old) (state self.new) (take n (hand self.old)) None };
+
+    /// Brings the first byte at hand in sight, and takes none.
+    fn glance(&mut self) -> u8
+        requires { 0 < length (hand self.old) }
+        ensures first { hand self.old ≡ result ∷ drop 1 (hand self.old) }
+        ensures byte { IsNext (state self.new).left result }
+        ensures took { Took (state self.old) (state self.new) [] (Some result) };
+
+    /// Lends `n` bytes at hand from place `at` on, and takes none. None where the source copies.
+    fn lend_at_hand(&self, at: usize, n: usize) -> Option<Self::Lent>
+        requires { at + n ≤ length (Self.hand self.now) }
+        ensures { MatchOption result (Unit {0}) (λ r. (Self.Lent.bytes r ≡ take n (drop at (Self.hand self.now))) × (Self.Lent.lends ≡ true)) };
 
     /// Announces that `n` bytes follow: the source may take as many from its device ahead of the
     /// calls.
@@ -204,6 +230,8 @@ impl<'a> DeRead for SliceRead<'a> {
 
     ghost state = { slice_at };
 
+    ghost hand = { λ r. drop r.index r.slice.now };
+
     ghost lending = { λ _. refl };
 
     ghost holding = { λ _ _. Prim.omega arith };
@@ -240,6 +268,31 @@ impl<'a> DeRead for SliceRead<'a> {
     }
 
     fn expect(&mut self, _n: usize) {}
+
+    #[inline(always)]
+    fn at_hand<'s>(&'s self) -> &'s [u8] {
+        &self.slice[self.index..]
+    }
+
+    #[inline(always)]
+    fn advance(&mut self, n: usize) {
+        self.peeked = false;
+        self.index += n;
+    }
+
+    #[inline(always)]
+    fn glance(&mut self) -> u8 {
+        self.peeked = true;
+        self.slice[self.index]
+    }
+
+    #[inline(always)]
+    fn lend_at_hand(&self, at: usize, n: usize) -> Option<&'a [u8]> {
+        let start = self.index + at;
+        let end = start + n;
+        let all: &'a [u8] = self.slice;
+        Some(&all[start..end])
+    }
 
     fn next_bytes<'s>(
         &mut self,

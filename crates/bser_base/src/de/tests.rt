@@ -1,4 +1,6 @@
 //! Tests of the byte sources and of the reader of tagged values.
+mod at_hand;
+
 use crate::de::bunser::{Bunser, PduInfo};
 use crate::de::read::{DeRead, IoRead, SliceRead};
 use crate::device::Watched;

@@ -1,7 +1,6 @@
 //! Heads and ends of messages.
-use super::{Case, Tested, check_cases};
+use super::{Case, Tested, check_alike, check_cases, check_taken};
 use crate::devices::{Plan, PlannedReader};
-use crate::ways::first_mismatch;
 use serde_bser::de::{Deserializer, IoRead, SliceRead};
 use serde_bser::device::Watched;
 
@@ -77,8 +76,7 @@ fn ends(rt: HostRuntime) -> Tested {
 #[test]
 fn what_follows_a_message_is_left(rt: HostRuntime) -> Tested {
     let bytes = b"\x00\x02\0\0\0\0\x03\x01\x0a\xff";
-    assert!(rt; first_mismatch(rt.alloc(), bytes, "n", 9)?.is_none());
-    Ok(())
+    check_taken(&rt, rt.alloc(), "null and a byte", bytes, "n", 9)
 }
 
 #[test]
@@ -94,7 +92,7 @@ fn capabilities_are_told(rt: HostRuntime) -> Tested {
 
 #[test]
 fn containers(rt: HostRuntime) -> Tested {
-    let cases: [Case; 19] = [
+    let cases: [Case; 20] = [
         (
             "rows of a template",
             b"\x00\x02\x00\x00\x00\x00\x05\x28\x00\x00\x00\x0b\x00\x03\x03\x02\x03\x03abc\x02\x03\x03def\x02\x03\x03ghi\x03\x02\x03\x7b\x02\x03\x03bar\x0a\x04\xc8\x01\x0c\x04\x15\x03",
@@ -119,6 +117,11 @@ fn containers(rt: HostRuntime) -> Tested {
             "the last of equal keys",
             b"\x00\x02\x00\x00\x00\x00\x03\x0f\x01\x03\x02\x0d\x03\x01a\x03\x01\x0d\x03\x01a\x03\x02",
             "{61:i2}",
+        ),
+        (
+            "two keys in rising order",
+            b"\x00\x02\x00\x00\x00\x00\x03\x0f\x01\x03\x02\x0d\x03\x01a\x03\x02\x0d\x03\x01b\x03\x01",
+            "{61:i2,62:i1}",
         ),
         (
             "a key that is not UTF-8",
@@ -208,7 +211,5 @@ fn arrays_as_deep_as_the_limit(rt: HostRuntime) -> Tested {
     for _ in 0..128 {
         answer.push(']')?;
     }
-    let taken = message.len();
-    assert!(rt; first_mismatch(alloc, &message, answer.as_str(), taken)?.is_none());
-    Ok(())
+    check_alike(&rt, alloc, "128 arrays", &message, answer.as_str())
 }

@@ -1,8 +1,8 @@
 //! Messages of containers in one another, read within a limit of levels.
 ghost use Rattle.std.specs.Prelude.{◌≤◌};
 
-use super::Tested;
-use super::values::{check_alike, repeated, repeated_text};
+use super::values::{repeated, repeated_text};
+use super::{Tested, check_alike};
 use crate::devices::{Plan, PlannedReader};
 use crate::notation::is_answer;
 use serde_bser::de::{from_reader_within, from_slice_within};

@@ -1,5 +1,5 @@
 //! Readers that stop, and messages one after another.
-use super::Tested;
+use super::{Tested, check_ignored};
 use crate::devices::{Plan, PlannedReader, Then};
 use crate::notation::is_answer;
 use crate::ways::read_by_plan;
@@ -15,14 +15,32 @@ const ROWS: &[u8] =
 
 const REAL: &[u8] = b"\x00\x02\0\0\0\0\x03\x09\x07\x18\x2d\x44\x54\xfb\x21\x09\x40";
 
+/// A null and an integer, each as a message.
+const TWO: &[u8] = b"\x00\x02\0\0\0\0\x03\x01\x0a\x00\x02\0\0\0\0\x03\x03\x04\x80\x00";
+
+/// What is read of the two and of what follows them, and how many bytes are left then.
+const ANSWERS: [(&str, usize); 3] = [("n", 11), ("i128", 0), ("E6 Eof", 0)];
+
 #[test]
 fn messages_are_read_one_after_another(rt: HostRuntime) -> Tested {
-    let bytes = b"\x00\x02\0\0\0\0\x03\x01\x0a\x00\x02\0\0\0\0\x03\x03\x04\x80\x00";
     for plan in [Plan::pieces(1), Plan::whole()] {
-        let mut reader = Watched::new(PlannedReader::new(bytes, plan));
-        for (expected, left) in [("n", 11), ("i128", 0), ("E6 Eof", 0)] {
+        let mut reader = Watched::new(PlannedReader::new(TWO, plan));
+        for (expected, left) in ANSWERS {
             let answer = from_reader(rt.alloc(), &mut reader);
             assert!(rt; is_answer(rt.alloc(), &answer, expected)?, "{expected}");
+            assert_eq!(rt; reader.get_ref().left().len(), left, "{expected}");
+        }
+    }
+    Ok(())
+}
+
+#[test]
+fn messages_are_ignored_one_after_another(rt: HostRuntime) -> Tested {
+    for plan in [Plan::pieces(1), Plan::whole()] {
+        let mut reader = Watched::new(PlannedReader::new(TWO, plan));
+        for (expected, left) in ANSWERS {
+            let answer = from_reader(rt.alloc(), &mut reader);
+            check_ignored(&rt, rt.alloc(), "one of two", &answer, expected)?;
             assert_eq!(rt; reader.get_ref().left().len(), left, "{expected}");
         }
     }

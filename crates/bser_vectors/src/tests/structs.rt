@@ -10,6 +10,14 @@ use std::alloc::Global;
 const ROWS: &[u8] =
     b"\x00\x02\0\0\0\0\x05(\x00\x00\x00\x0b\x00\x03\x03\x02\x03\x03abc\x02\x03\x03def\x02\x03\x03ghi\x03\x02\x03{\x02\x03\x03bar\x0a\x04\xc8\x01\x0c\x04\x15\x03";
 
+/// The same rows as an array of objects.
+const ROWS_WRITTEN_OUT: &[u8] =
+    b"\x00\x02\0\0\0\0\x03\x3d\x00\x03\x02\x01\x03\x03\x02\x03\x03abc\x03\x7b\x02\x03\x03def\x02\x03\x03bar\x02\x03\x03ghi\x0a\x01\x03\x03\x02\x03\x03abc\x04\xc8\x01\x02\x03\x03def\x0a\x02\x03\x03ghi\x04\x15\x03";
+
+/// An answer with four fields, of which the first is a template of two files.
+const FILES_IN_TEMPLATE: &[u8] =
+    b"\x00\x02\0\0\0\0\x04\xeb\x00\x01\x03\x04\x02\x03\x05files\x0b\x00\x03\x02\x0d\x03\x04name\x0d\x03\x04size\x03\x02\x02\x03\x38fbcode/scm/hg/lib/hg_watchman_client/tester/target/debug\x04\x80\x01\x02\x03\x3dfbcode/scm/hg/lib/hg_watchman_client/tester/target/debug/deps\x04\x80\x0c\x02\x03\x05clock\x0d\x03\x19c:1525428959:45796:2:7717\x02\x03\x11is_fresh_instance\x09\x02\x03\x07version\x0d\x03\x054.9.1";
+
 /// An answer with four fields, of which the last is an array of two files.
 const FILES: &[u8] =
     b"\x00\x02\0\0\0\0\x04\xea\x00\x01\x03\x04\x02\x03\x07version\x02\x03\x054.9.1\x02\x03\x11is_fresh_instance\x09\x02\x03\x05clock\x02\x03\x19c:1525428959:45796:2:9642\x02\x03\x05files\x00\x03\x02\x01\x03\x02\x02\x03\x04size\x04\x80\x01\x02\x03\x04name\x02\x038fbcode/scm/hg/lib/hg_watchman_client/tester/target/debug\x01\x03\x02\x02\x03\x04size\x04\xe0\x00\x02\x03\x04name\x02\x03+fbcode/scm/hg/lib/hg_watchman_client/tester";
@@ -49,35 +57,71 @@ fn rows_of_a_template_with_a_null_and_a_skipped_field(rt: HostRuntime) -> Tested
         ghi: Some(789),
     })?;
     check_value(&rt, alloc, ROWS, &expected);
+    check_value(&rt, alloc, ROWS_WRITTEN_OUT, &expected);
     Ok(())
 }
 
 #[test]
-fn texts_and_bytes_are_lent_from_a_slice(rt: HostRuntime) -> Tested {
-    let alloc = rt.alloc();
-    let rows = from_slice::<Vec<TemplateRow<&str>>>(alloc, ROWS)?;
-    assert!(rt; matches!(rows.first(), Some(row) if row.def == Some("bar")));
-    let answer = from_slice::<Files<&[u8]>>(alloc, FILES)?;
-    assert!(rt;
-        matches!(
-            answer.files.last(),
-            Some(file) if file.name == b"fbcode/scm/hg/lib/hg_watchman_client/tester".as_slice()
-        )
-    );
+fn rows_are_lent_from_a_slice(rt: HostRuntime) -> Tested {
+    let expected = [
+        TemplateRow {
+            abc: 123,
+            def: Some(b"bar".as_slice()),
+            ghi: None,
+        },
+        TemplateRow {
+            abc: 456,
+            def: None,
+            ghi: Some(789),
+        },
+    ];
+    for message in [ROWS, ROWS_WRITTEN_OUT] {
+        let rows = from_slice::<Vec<TemplateRow<&[u8]>>>(rt.alloc(), message)?;
+        assert_eq!(rt; rows.as_slice(), expected.as_slice());
+        let rows = from_slice::<Vec<TemplateRow<&str>>>(rt.alloc(), message)?;
+        assert!(rt; matches!(rows.first(), Some(row) if row.def == Some("bar")));
+    }
+    Ok(())
+}
+
+/// The files' names.
+const DEBUG: &str = "fbcode/scm/hg/lib/hg_watchman_client/tester/target/debug";
+
+const DEPS: &str = "fbcode/scm/hg/lib/hg_watchman_client/tester/target/debug/deps";
+
+const TESTER: &str = "fbcode/scm/hg/lib/hg_watchman_client/tester";
+
+/// An answer, and the name and the size of its second file.
+const ANSWERS: [(&[u8], &str, u32); 2] = [(FILES, TESTER, 224), (FILES_IN_TEMPLATE, DEPS, 3200)];
+
+#[test]
+fn files_of_an_answer_are_lent_from_a_slice(rt: HostRuntime) -> Tested {
+    for (message, name, size) in ANSWERS {
+        let answer = from_slice::<Files<&[u8]>>(rt.alloc(), message)?;
+        let expected = [
+            FileInfo {
+                name: DEBUG.as_bytes(),
+                size: 384,
+            },
+            FileInfo {
+                name: name.as_bytes(),
+                size,
+            },
+        ];
+        assert_eq!(rt; answer.files.as_slice(), expected.as_slice());
+    }
     Ok(())
 }
 
 #[test]
 fn fields_that_the_struct_does_not_have_are_passed_over(rt: HostRuntime) -> Tested {
     let alloc = rt.alloc();
-    let mut files = Vec::new(alloc);
-    files.push(file(
-        alloc,
-        "fbcode/scm/hg/lib/hg_watchman_client/tester/target/debug",
-        384,
-    )?)?;
-    files.push(file(alloc, "fbcode/scm/hg/lib/hg_watchman_client/tester", 224)?)?;
-    check_value(&rt, alloc, FILES, &Files { files });
+    for (message, name, size) in ANSWERS {
+        let mut files = Vec::new(alloc);
+        files.push(file(alloc, DEBUG, 384)?)?;
+        files.push(file(alloc, name, size)?)?;
+        check_value(&rt, alloc, message, &Files { files });
+    }
     Ok(())
 }
 

@@ -1,7 +1,9 @@
 //! The printed texts of refusals.
 use super::Tested;
 use serde_bser::errors::{Collection, Complaint, EnumName, Error, Kind, Message, ReadCause};
+use serde_bser::from_slice;
 use serde_bser::header::{HeaderByte, header_byte_desc};
+use serde_bser::value::Value;
 use std::alloc::Global;
 use std::fmt::Display;
 use std::io;
@@ -100,28 +102,29 @@ fn causes(rt: HostRuntime) -> Tested {
 }
 
 #[test]
-fn refused_bytes(rt: HostRuntime) -> Tested {
-    let alloc = rt.alloc();
-    let unknown = Error::DeInvalidStartByte {
-        kind: Kind::NextItem,
-        byte: 14,
-    };
-    let text = "while deserializing BSER: invalid start byte for next item: unknown byte '14'";
-    check_text(&rt, alloc, &unknown, text)?;
-    let skip = Error::DeInvalidStartByte {
-        kind: Kind::NextItem,
-        byte: 12,
-    };
-    let text = "while deserializing BSER: invalid start byte for next item: BSER_SKIP";
-    check_text(&rt, alloc, &skip, text)?;
-    let magic = Error::DeInvalidMagic { magic: [0, 1] };
-    check_text(&rt, alloc, &magic, "Invalid magic header: [0, 1]")?;
-    let end = Error::DeEof {
-        expected: 10,
-        read: 9,
-    };
-    let text = "Expected 10 bytes read, but only read 9 bytes";
-    check_text(&rt, alloc, &end, text)
+fn refused_messages(rt: HostRuntime) -> Tested {
+    let cases: [(&[u8], &str); 4] = [
+        (
+            b"\x00\x02\0\0\0\0\x03\x01\x0e",
+            "while deserializing BSER: invalid start byte for next item: unknown byte '14'",
+        ),
+        (
+            b"\x00\x02\0\0\0\0\x03\x01\x0c",
+            "while deserializing BSER: invalid start byte for next item: BSER_SKIP",
+        ),
+        (b"\x00\x01\x03\x01\x0a", "Invalid magic header: [0, 1]"),
+        (
+            b"\x00\x02\0\0\0\0\x03\x02\x0a",
+            "Expected 10 bytes read, but only read 9 bytes",
+        ),
+    ];
+    for (message, text) in cases {
+        match from_slice::<Value>(rt.alloc(), message) {
+            Ok(_) => assert!(rt; false, "{text}"),
+            Err(refusal) => check_text(&rt, rt.alloc(), &refusal, text)?,
+        }
+    }
+    Ok(())
 }
 
 #[test]

@@ -1,8 +1,7 @@
 //! Containers read as a `Value`, and skipped.
-use super::checks::{check_refusal, check_value};
-use super::{Case, Tested};
-use crate::ways::first_mismatch;
-use serde_bser::de::Ignored;
+use super::{Case, Tested, check_alike, check_cases};
+use crate::devices::Plan;
+use crate::ways::read_by_plan;
 use serde_bser::device::Watched;
 use serde_bser::from_slice;
 use serde_bser::ser::serialize_to;
@@ -10,31 +9,6 @@ use serde_bser::value::Value;
 use std::alloc::{AllocError, Global};
 use std::process::Abort;
 use std::result::Result;
-
-/// Checks that the message is answered so as a `Value` on each way, with no bytes after it, and that
-/// what ignores it accepts it, or refuses it with the same answer.
-pub(super) fn check_alike(
-    rt: &impl Abort,
-    alloc: Global,
-    name: &str,
-    bytes: &[u8],
-    expected: &str,
-) -> Tested {
-    let mismatch = first_mismatch(alloc, bytes, expected, bytes.len())?;
-    assert!(rt; mismatch.is_none(), "{name}, {}", mismatch.unwrap_or(""));
-    if expected.starts_with("E") || expected.starts_with("C") {
-        return check_refusal::<Ignored>(rt, alloc, bytes, expected);
-    }
-    check_value(rt, alloc, bytes, &Ignored);
-    Ok(())
-}
-
-fn check_cases_alike(rt: &impl Abort, alloc: Global, cases: &[Case]) -> Tested {
-    for (name, bytes, expected) in cases {
-        check_alike(rt, alloc, name, bytes, expected)?;
-    }
-    Ok(())
-}
 
 /// `front`, then `part` so many times, then `end`.
 pub(super) fn repeated(
@@ -68,21 +42,64 @@ pub(super) fn repeated_text(
     Ok(text)
 }
 
+/// An answer of a server with its files in a template.
+const FILES_IN_TEMPLATE: Case = (
+    "files in a template",
+    b"\x00\x02\0\0\0\0\x04\xeb\x00\x01\x03\x04\x02\x03\x05files\x0b\x00\x03\x02\x0d\x03\x04name\x0d\x03\x04size\x03\x02\x02\x03\x38fbcode/scm/hg/lib/hg_watchman_client/tester/target/debug\x04\x80\x01\x02\x03\x3dfbcode/scm/hg/lib/hg_watchman_client/tester/target/debug/deps\x04\x80\x0c\x02\x03\x05clock\x0d\x03\x19c:1525428959:45796:2:7717\x02\x03\x11is_fresh_instance\x09\x02\x03\x07version\x0d\x03\x054.9.1",
+    "{636c6f636b:s633a313532353432383935393a34353739363a323a37373137,66696c6573:[{6e616d65:b6662636f64652f73636d2f68672f6c69622f68675f77617463686d616e5f636c69656e742f7465737465722f7461726765742f6465627567,73697a65:i384},{6e616d65:b6662636f64652f73636d2f68672f6c69622f68675f77617463686d616e5f636c69656e742f7465737465722f7461726765742f64656275672f64657073,73697a65:i3200}],69735f66726573685f696e7374616e6365:f,76657273696f6e:s342e392e31}",
+);
+
+/// An answer with its files in an array.
+const FILES_IN_ARRAY: Case = (
+    "files in an array",
+    b"\x00\x02\0\0\0\0\x04\xea\x00\x01\x03\x04\x02\x03\x07version\x02\x03\x054.9.1\x02\x03\x11is_fresh_instance\x09\x02\x03\x05clock\x02\x03\x19c:1525428959:45796:2:9642\x02\x03\x05files\x00\x03\x02\x01\x03\x02\x02\x03\x04size\x04\x80\x01\x02\x03\x04name\x02\x03\x38fbcode/scm/hg/lib/hg_watchman_client/tester/target/debug\x01\x03\x02\x02\x03\x04size\x04\xe0\x00\x02\x03\x04name\x02\x03\x2bfbcode/scm/hg/lib/hg_watchman_client/tester",
+    "{636c6f636b:b633a313532353432383935393a34353739363a323a39363432,66696c6573:[{6e616d65:b6662636f64652f73636d2f68672f6c69622f68675f77617463686d616e5f636c69656e742f7465737465722f7461726765742f6465627567,73697a65:i384},{6e616d65:b6662636f64652f73636d2f68672f6c69622f68675f77617463686d616e5f636c69656e742f746573746572,73697a65:i224}],69735f66726573685f696e7374616e6365:f,76657273696f6e:b342e392e31}",
+);
+
 #[test]
 fn answers_of_a_server(rt: HostRuntime) -> Tested {
-    let cases: [Case; 2] = [
-        (
-            "an answer with its files in a template",
-            b"\x00\x02\0\0\0\0\x04\xeb\x00\x01\x03\x04\x02\x03\x05files\x0b\x00\x03\x02\x0d\x03\x04name\x0d\x03\x04size\x03\x02\x02\x03\x38fbcode/scm/hg/lib/hg_watchman_client/tester/target/debug\x04\x80\x01\x02\x03\x3dfbcode/scm/hg/lib/hg_watchman_client/tester/target/debug/deps\x04\x80\x0c\x02\x03\x05clock\x0d\x03\x19c:1525428959:45796:2:7717\x02\x03\x11is_fresh_instance\x09\x02\x03\x07version\x0d\x03\x054.9.1",
-            "{636c6f636b:s633a313532353432383935393a34353739363a323a37373137,66696c6573:[{6e616d65:b6662636f64652f73636d2f68672f6c69622f68675f77617463686d616e5f636c69656e742f7465737465722f7461726765742f6465627567,73697a65:i384},{6e616d65:b6662636f64652f73636d2f68672f6c69622f68675f77617463686d616e5f636c69656e742f7465737465722f7461726765742f64656275672f64657073,73697a65:i3200}],69735f66726573685f696e7374616e6365:f,76657273696f6e:s342e392e31}",
-        ),
-        (
-            "an answer with its files in an array",
-            b"\x00\x02\0\0\0\0\x04\xea\x00\x01\x03\x04\x02\x03\x07version\x02\x03\x054.9.1\x02\x03\x11is_fresh_instance\x09\x02\x03\x05clock\x02\x03\x19c:1525428959:45796:2:9642\x02\x03\x05files\x00\x03\x02\x01\x03\x02\x02\x03\x04size\x04\x80\x01\x02\x03\x04name\x02\x03\x38fbcode/scm/hg/lib/hg_watchman_client/tester/target/debug\x01\x03\x02\x02\x03\x04size\x04\xe0\x00\x02\x03\x04name\x02\x03\x2bfbcode/scm/hg/lib/hg_watchman_client/tester",
-            "{636c6f636b:b633a313532353432383935393a34353739363a323a39363432,66696c6573:[{6e616d65:b6662636f64652f73636d2f68672f6c69622f68675f77617463686d616e5f636c69656e742f7465737465722f7461726765742f6465627567,73697a65:i384},{6e616d65:b6662636f64652f73636d2f68672f6c69622f68675f77617463686d616e5f636c69656e742f746573746572,73697a65:i224}],69735f66726573685f696e7374616e6365:f,76657273696f6e:b342e392e31}",
-        ),
+    check_cases(&rt, rt.alloc(), &[FILES_IN_TEMPLATE, FILES_IN_ARRAY])
+}
+
+/// The last entry of the list of files, where the value is an answer that has one.
+fn last_file(value: &Value) -> Option<&Value> {
+    match value {
+        Value::Object(entries) => match entries.get("files") {
+            Some(Value::Array(files)) => files.last(),
+            _ => None,
+        },
+        _ => None,
+    }
+}
+
+/// Checks which size the last file has, where the message is an answer with files.
+fn check_last_size(rt: &impl Abort, value: &Value, size: Option<i64>) {
+    let found = match last_file(value) {
+        Some(Value::Object(file)) => match file.get("size") {
+            Some(Value::Integer(size)) => Some(*size),
+            _ => None,
+        },
+        _ => None,
+    };
+    assert_eq!(rt; found, size);
+}
+
+#[test]
+fn an_answer_is_told_from_others_by_its_files(rt: HostRuntime) -> Tested {
+    let alloc = rt.alloc();
+    let error = b"\x00\x02\0\0\0\0\x03\x0f\x01\x03\x01\x02\x03\x05error\x0d\x03\x01x";
+    let cases = [
+        (FILES_IN_TEMPLATE.1, Some(3200)),
+        (FILES_IN_ARRAY.1, Some(224)),
+        (error.as_slice(), None),
     ];
-    check_cases_alike(&rt, rt.alloc(), &cases)
+    for (message, size) in cases {
+        check_last_size(&rt, &from_slice(alloc, message)?, size);
+        for plan in [Plan::pieces(1), Plan::whole()] {
+            check_last_size(&rt, &read_by_plan(alloc, message, plan).0?, size);
+        }
+    }
+    Ok(())
 }
 
 #[test]
@@ -119,7 +136,7 @@ fn objects_and_variants(rt: HostRuntime) -> Tested {
             "{54657374537472756374:{616263:b666f6f,646566:b626172}}",
         ),
     ];
-    check_cases_alike(&rt, rt.alloc(), &cases)
+    check_cases(&rt, rt.alloc(), &cases)
 }
 
 #[test]
@@ -136,7 +153,7 @@ fn counts_that_no_input_has(rt: HostRuntime) -> Tested {
             "E6 Eof",
         ),
     ];
-    check_cases_alike(&rt, rt.alloc(), &cases)
+    check_cases(&rt, rt.alloc(), &cases)
 }
 
 #[test]
@@ -168,7 +185,7 @@ fn keys_are_checked_where_they_are_skipped_too(rt: HostRuntime) -> Tested {
             "E6 Utf8",
         ),
     ];
-    check_cases_alike(&rt, rt.alloc(), &cases)
+    check_cases(&rt, rt.alloc(), &cases)
 }
 
 #[test]

@@ -11,7 +11,7 @@ use crate::de::deserializer::{Deserializer, Due};
 use crate::de::open::{MapHead, SeqHead};
 use crate::value::Value;
 use bser_base::de::read::{DeRead, LendsText};
-use bser_base::errors::Result;
+use bser_base::errors::{Error, Result};
 use std::alloc::Global;
 use std::collections::BTreeMap;
 use std::marker::Model;
@@ -54,24 +54,35 @@ impl Building {
         }
     }
 
-    /// Puts in the value that was due. The last of equal keys stays.
-    pub(crate) fn put(&mut self, value: Value) -> Result<()>
-        ensures put { OnOk result (Puts value self.old self.new) }
-        ensures err { IfErr result (λ e. e ≡ OutOfMemory) }
+    /// Puts in the value that was due. The last of equal keys stays. Answers whether there was
+    /// memory for it.
+    #[inline(always)]
+    pub(crate) fn put_in(&mut self, value: Value) -> bool
+        ensures { result ≡ true → Puts value self.old self.new }
     {
         match self {
-            Building::Items { items, head: _ } => items.push(value)?,
+            Building::Items { items, head: _ } => items.push(value).is_ok(),
             Building::Pairs {
                 entries,
                 key,
                 head: _,
-            } => {
-                if let Some(name) = key.take() {
-                    drop(entries.insert(name, value)?);
-                }
-            }
+            } => match key.take() {
+                Some(name) => entries.insert(name, value).is_ok(),
+                None => true,
+            },
         }
-        Ok(())
+    }
+
+    /// Puts in the value that was due, as [`Building::put_in`] does.
+    pub(crate) fn put(&mut self, value: Value) -> Result<()>
+        ensures put { OnOk result (Puts value self.old self.new) }
+        ensures err { IfErr result (λ e. e ≡ OutOfMemory) }
+    {
+        if self.put_in(value) {
+            Ok(())
+        } else {
+            Err(Error::OutOfMemory)
+        }
     }
 }
 
@@ -157,7 +168,9 @@ where
         self.due = Due::Field;
         Ok(Some(name))
     }
+}
 
+impl<R: DeRead> Deserializer<R> {
     /// Closes a container of which all was read, and makes its value.
     pub(crate) fn close(&mut self, building: Building) -> Value
         ensures value { tree_of result ≡ built building }

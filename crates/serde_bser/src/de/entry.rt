@@ -15,7 +15,8 @@ use std::alloc::Global;
 ///
 /// Answers a value exactly where a front of `bytes` is a well-formed message whose tree, templates
 /// written out, the type reads as that value. Refused for want of memory only of a type that takes
-/// memory. The crate takes no allocator.
+/// memory, and where such a message stands only of a type that takes memory to read it. The crate
+/// takes no allocator.
 pub fn from_slice<'de, T: Deserialize<&'de [u8]>>(alloc: Global, bytes: &'de [u8]) -> Result<T>
     ensures found { IfOk result (BeginsWith 128 T.reads T.holds bytes.now) }
     ensures refused { IfErr result (λ e. RefusesSlice 128 T.reads T.needs e bytes.now) }

@@ -1,6 +1,8 @@
 //! The names of a struct's fields.
-ghost use Rattle.std.specs.Prelude.{◌≡◌, map};
+ghost use Rattle.std.specs.Prelude.{◌≡◌, map, MatchOption, IsUtf8};
+ghost use Rattle.std.specs.Str.{bytes_eq};
 ghost use Rattle.serde_bser.specs.Fields.{field_of};
+ghost use Rattle.serde_bser.specs.declared.de.field.Field.TheVariants.{Known};
 
 /// A field's place among the names that were asked for.
 #[derive(Debug, Clone, Copy, PartialEq, Eq)]
@@ -9,6 +11,35 @@ pub enum Field {
     Known(usize),
     /// The name is none of them.
     Unknown,
+}
+
+/// The first place at which these bytes stand, if they are one of the names.
+#[inline(always)]
+pub(crate) fn find_known(names: &[&str], name: &[u8]) -> Option<usize>
+    ensures { MatchOption result (Unit {0}) (λ p. IsUtf8 name.now × (Known p ≡ field_of (map (λ r. r.now) names.now) name.now)) }
+{
+    for (place, known) in names.iter().enumerate() {
+        if is_same(known.as_bytes(), name) {
+            return Some(place);
+        }
+    }
+    None
+}
+
+/// Whether these are the same bytes. Names are short: byte by byte they differ soon.
+#[inline(always)]
+fn is_same(known: &[u8], name: &[u8]) -> bool
+    ensures { result ≡ bytes_eq known.now name.now }
+{
+    if known.len() != name.len() {
+        return false;
+    }
+    for place in 0..known.len() {
+        if known[place] != name[place] {
+            return false;
+        }
+    }
+    true
 }
 
 /// The first place at which the name stands.

@@ -1,12 +1,15 @@
 //! Reading the fields of a struct.
-ghost use Rattle.std.specs.Prelude.{◌≡◌, ℕ, List, [], ◌∷◌, map, IfOk, IfErr, OnOk};
+ghost use Rattle.std.specs.Prelude.{◌≡◌, true, false, List, [], ◌∷◌, Some, IsSome, map, IfOk, IfErr, MatchOption};
 ghost use Rattle.bser_base.specs.Content.{Content, Needs};
+ghost use Rattle.bser_base.specs.ReadsAny.{reads_ignored};
 ghost use Rattle.bser_base.specs.ReadsHolders.{reads_option};
+ghost use Rattle.serde_bser.specs.Access.{RefusesValue};
 ghost use Rattle.serde_bser.specs.Accesses.{open_pairs};
 ghost use Rattle.serde_bser.specs.Holds.{HoldsOption};
 ghost use Rattle.serde_bser.specs.HoldsLists.{HoldsTuple};
 ghost use Rattle.serde_bser.specs.Reading.{Answers, Refuses};
-ghost use Rattle.serde_bser.specs.Slots.{StructField, required, optional, fill, fill_at, reads_struct, struct_needs, KeepsField, KeepsBoth, Finishes, FinishesEach, Steps, RefusesStep};
+ghost use Rattle.serde_bser.specs.Slots.{StructField, required, optional, fill, fill_at, fill_field, reads_struct, struct_needs, KeepsField, KeepsBoth, Finishes, FinishesEach, Passes, Steps, RefusesStep};
+ghost use Rattle.serde_bser.specs.Scalar.{owned};
 ghost use Rattle.serde_bser.specs.View.{state};
 
 use crate::de::deserializer::Deserializer;
@@ -15,7 +18,7 @@ use crate::de::impls::Ignored;
 use crate::de::map::MapAccess;
 use crate::de::reading::{Deserialize, Shape};
 use bser_base::de::read::{DeRead, LendsText};
-use bser_base::errors::{Complaint, Result};
+use bser_base::errors::{Complaint, Error, Result};
 use std::alloc::Global;
 
 /// A field of a struct, and what was read of it.
@@ -39,17 +42,19 @@ pub trait Slot<L: LendsText>: Drop {
     fn empty() -> Self
         ensures { Self.keeps result Self.field };
 
-    /// Reads the field as the value of the key that was read.
+    /// Reads the field as the value of the key that was read, and tells whether it did. Where it
+    /// did not, `refusal` has the reason.
     ///
     /// A field that was read before is refused by [`Complaint::ItemsLeft`].
     fn fill<'a, R: DeRead<Lent = L>>(
         &mut self,
         alloc: Global,
         map: &mut MapAccess<'a, R>,
-    ) -> Result<()>
+        refusal: &mut Option<Error>,
+    ) -> bool
         ensures same_reference { map.new.from.ghost_name ≡ map.old.from.ghost_name }
-        ensures found { OnOk result ((s : StructField) → Self.keeps self.old s → Steps fill (Self.keeps self.new) s (open_pairs R.state L.kept map.old) (open_pairs R.state L.kept map.new)) }
-        ensures refused { IfErr result (λ e. (s : StructField) → Self.keeps self.old s → RefusesStep fill Self.needs e s (open_pairs R.state L.kept map.old) (state R.state L.kept map.new.from.now)) };
+        ensures found { result ≡ true → (s : StructField) → Self.keeps self.old s → Steps fill (Self.keeps self.new) s (open_pairs R.state L.kept map.old) (open_pairs R.state L.kept map.new) }
+        ensures refused { result ≡ false → MatchOption refusal.new ⊥ (λ e. (s : StructField) → Self.keeps self.old s → RefusesStep fill Self.needs e s (open_pairs R.state L.kept map.old) (state R.state L.kept map.new.from.now)) };
 
     /// The field's value, or None where it is required and absent.
     fn finish(self) -> Option<Self::Value>
@@ -77,12 +82,14 @@ impl<L: LendsText, T: Deserialize<L>> Slot<L> for Required<T> {
         Required { value: None }
     }
 
+    #[inline(always)]
     fn fill<'a, R: DeRead<Lent = L>>(
         &mut self,
         alloc: Global,
         map: &mut MapAccess<'a, R>,
-    ) -> Result<()> {
-        map.next_value_once(alloc, &mut self.value)
+        refusal: &mut Option<Error>,
+    ) -> bool {
+        map.read_once(alloc, &mut self.value, refusal)
     }
 
     fn finish(self) -> Option<T> {
@@ -111,12 +118,14 @@ impl<L: LendsText, T: Deserialize<L>> Slot<L> for Optional<T> {
         Optional { value: None }
     }
 
+    #[inline(always)]
     fn fill<'a, R: DeRead<Lent = L>>(
         &mut self,
         alloc: Global,
         map: &mut MapAccess<'a, R>,
-    ) -> Result<()> {
-        map.next_value_once(alloc, &mut self.value)
+        refusal: &mut Option<Error>,
+    ) -> bool {
+        map.read_once(alloc, &mut self.value, refusal)
     }
 
     fn finish(self) -> Option<Option<T>> {
@@ -148,8 +157,9 @@ pub trait Slots<L: LendsText>: Drop {
     fn empty() -> Self
         ensures { Self.keeps result Self.fields };
 
-    /// Reads the field at this place as the value of the key that was read. Where no field has the
-    /// place, the value is read as [`Ignored`].
+    /// Reads the field at this place as the value of the key that was read, and tells whether it
+    /// did. Where it did not, `refusal` has the reason. Where no field has the place, the value is
+    /// read as [`Ignored`].
     ///
     /// A field that was read before is refused by [`Complaint::ItemsLeft`].
     fn fill_at<'a, R: DeRead<Lent = L>>(
@@ -157,10 +167,11 @@ pub trait Slots<L: LendsText>: Drop {
         alloc: Global,
         place: usize,
         map: &mut MapAccess<'a, R>,
-    ) -> Result<()>
+        refusal: &mut Option<Error>,
+    ) -> bool
         ensures same_reference { map.new.from.ghost_name ≡ map.old.from.ghost_name }
-        ensures found { OnOk result ((ss : List StructField) → Self.keeps self.old ss → Steps (fill_at place) (Self.keeps self.new) ss (open_pairs R.state L.kept map.old) (open_pairs R.state L.kept map.new)) }
-        ensures refused { IfErr result (λ e. (ss : List StructField) → Self.keeps self.old ss → RefusesStep (fill_at place) (struct_needs Self.needs) e ss (open_pairs R.state L.kept map.old) (state R.state L.kept map.new.from.now)) };
+        ensures found { result ≡ true → (ss : List StructField) → Self.keeps self.old ss → Steps (fill_at place) (Self.keeps self.new) ss (open_pairs R.state L.kept map.old) (open_pairs R.state L.kept map.new) }
+        ensures refused { result ≡ false → MatchOption refusal.new ⊥ (λ e. (ss : List StructField) → Self.keeps self.old ss → RefusesStep (fill_at place) (struct_needs Self.needs) e ss (open_pairs R.state L.kept map.old) (state R.state L.kept map.new.from.now)) };
 
     /// The fields' values, or None where one is required and absent.
     fn finish(self) -> Option<Self::Values>
@@ -180,14 +191,15 @@ impl<L: LendsText> Slots<L> for () {
 
     fn empty() -> Self {}
 
+    #[inline(always)]
     fn fill_at<'a, R: DeRead<Lent = L>>(
         &mut self,
         alloc: Global,
         _place: usize,
         map: &mut MapAccess<'a, R>,
-    ) -> Result<()> {
-        map.next_value::<Ignored>(alloc)?;
-        Ok(())
+        refusal: &mut Option<Error>,
+    ) -> bool {
+        map.pass_value(alloc, refusal)
     }
 
     fn finish(self) -> Option<()> {
@@ -210,16 +222,18 @@ impl<L: LendsText, A: Slot<L>, F: Slots<L>> Slots<L> for (A, F) {
         (A::empty(), F::empty())
     }
 
+    #[inline(always)]
     fn fill_at<'a, R: DeRead<Lent = L>>(
         &mut self,
         alloc: Global,
         place: usize,
         map: &mut MapAccess<'a, R>,
-    ) -> Result<()> {
+        refusal: &mut Option<Error>,
+    ) -> bool {
         if place == 0 {
-            self.0.fill(alloc, map)
+            self.0.fill(alloc, map, refusal)
         } else {
-            self.1.fill_at(alloc, place - 1, map)
+            self.1.fill_at(alloc, place - 1, map, refusal)
         }
     }
 
@@ -229,6 +243,59 @@ impl<L: LendsText, A: Slot<L>, F: Slots<L>> Slots<L> for (A, F) {
             (Some(first), Some(others)) => Some((first, others)),
             _ => None,
         }
+    }
+}
+
+impl<'a, R: DeRead> MapAccess<'a, R>
+where
+    R::Lent: LendsText,
+{
+    /// Passes over the value of the key that was read, and tells whether it did. Where it did not,
+    /// `refusal` has the reason.
+    #[inline(never)]
+    pub(crate) fn pass_value(&mut self, alloc: Global, refusal: &mut Option<Error>) -> bool
+        ensures same_reference { self.new.from.ghost_name ≡ self.old.from.ghost_name }
+        ensures found { result ≡ true → Passes (open_pairs R.state R.Lent.kept self.old) (open_pairs R.state R.Lent.kept self.new) }
+        ensures refused { result ≡ false → MatchOption refusal.new ⊥ (λ e. RefusesValue reads_ignored owned e (open_pairs R.state R.Lent.kept self.old) (state R.state R.Lent.kept self.new.from.now)) }
+    {
+        match self.next_value::<Ignored>(alloc) {
+            Ok(_) => true,
+            Err(error) => {
+                *refusal = Some(error);
+                false
+            }
+        }
+    }
+
+    /// Reads the value of the key that was read as the field that it names, and tells whether it
+    /// did. Where it did not, `refusal` has the reason. What no field is named is passed over.
+    #[inline(always)]
+    fn read_field<F: Slots<R::Lent>>(
+        &mut self,
+        alloc: Global,
+        field: Field,
+        fields: &mut F,
+        refusal: &mut Option<Error>,
+    ) -> bool
+        ensures same_reference { self.new.from.ghost_name ≡ self.old.from.ghost_name }
+        ensures found { result ≡ true → (ss : List StructField) → F.keeps fields.old ss → Steps (λ fs. fill_field fs field) (F.keeps fields.new) ss (open_pairs R.state R.Lent.kept self.old) (open_pairs R.state R.Lent.kept self.new) }
+        ensures refused { result ≡ false → MatchOption refusal.new ⊥ (λ e. (ss : List StructField) → F.keeps fields.old ss → RefusesStep (λ fs. fill_field fs field) (struct_needs F.needs) e ss (open_pairs R.state R.Lent.kept self.old) (state R.state R.Lent.kept self.new.from.now)) }
+    {
+        match field {
+            Field::Known(place) => fields.fill_at(alloc, place, self, refusal),
+            Field::Unknown => self.pass_value(alloc, refusal),
+        }
+    }
+}
+
+/// The reason that was given.
+fn given(refusal: Option<Error>) -> Error
+    requires { IsSome refusal }
+    ensures { refusal ≡ Some result }
+{
+    match refusal {
+        Some(error) => error,
+        None => unreachable!(),
     }
 }
 
@@ -251,13 +318,11 @@ where
         ensures refused { IfErr result (λ e. Refuses (reads_struct (map (λ r. r.now) names.now) F.fields) (struct_needs F.needs) e (state R.state R.Lent.kept self.old) (state R.state R.Lent.kept self.new)) }
     {
         let mut fields = F::empty();
+        let mut refusal = None;
         let mut map = self.read_map()?;
         while let Some(field) = map.next_field(alloc, names)? {
-            match field {
-                Field::Known(place) => fields.fill_at(alloc, place, &mut map)?,
-                Field::Unknown => {
-                    map.next_value::<Ignored>(alloc)?;
-                }
+            if !map.read_field(alloc, field, &mut fields, &mut refusal) {
+                return Err(given(refusal));
             }
         }
         map.end()?;

@@ -1,5 +1,5 @@
 //! Reading the entries of an object.
-ghost use Rattle.std.specs.Prelude.{◌≡◌, ◌<◌, true, false, map, IfOk, IfErr, OnOk};
+ghost use Rattle.std.specs.Prelude.{◌≡◌, ◌<◌, true, false, map, IfOk, IfErr, OnOk, MatchOption};
 ghost use Rattle.std.specs.Borrow.{sem, RestsIfErr};
 ghost use Rattle.bser_base.specs.ReadsScalars.{reads_string};
 ghost use Rattle.serde_bser.specs.Access.{OpensPairs, IsPairsHead, RefusesOpening, AwaitsKey, AwaitsValue, OutOfTurn, NextKey, RefusesKey, NoEntry, IsValue, RefusesValue, NextEntry, RefusesEntry, ClosesPairs, LeavesPairs, pairs_in};
@@ -14,7 +14,7 @@ use crate::de::field::{Field, find_field};
 use crate::de::open::MapHead;
 use crate::de::reading::Deserialize;
 use bser_base::de::read::{DeRead, LendsText};
-use bser_base::errors::{Complaint, Result};
+use bser_base::errors::{Complaint, Error, Result};
 use std::alloc::Global;
 
 /// The entries of an open object, or the fields of a template's row.
@@ -229,6 +229,54 @@ where
         Ok(())
     }
 
+    /// Reads the value of the key that was read into a variable that has none, and tells whether it
+    /// did. Where it did not, `refusal` has the reason, which is that of
+    /// [`MapAccess::next_value_once`].
+    #[inline(always)]
+    pub(crate) fn read_once<V: Deserialize<R::Lent>>(
+        &mut self,
+        alloc: Global,
+        value: &mut Option<V>,
+        refusal: &mut Option<Error>,
+    ) -> bool
+        ensures same_reference { self.new.from.ghost_name ≡ self.old.from.ghost_name }
+        ensures found { result ≡ true → ReadsOnce V.reads V.holds value.old value.new (open_pairs R.state R.Lent.kept self.old) (open_pairs R.state R.Lent.kept self.new) }
+        ensures refused { result ≡ false → MatchOption refusal.new ⊥ (λ e. RefusesOnce V.reads V.needs e value.old (open_pairs R.state R.Lent.kept self.old) (state R.state R.Lent.kept self.new.from.now)) }
+    {
+        if value.is_some() || !self.pending {
+            return self.pull_once(alloc, value, refusal);
+        }
+        match self.from.typed_at_hand::<V>(alloc, self.row) {
+            Some(read) => {
+                self.pending = false;
+                *value = Some(read);
+                true
+            }
+            None => self.pull_once(alloc, value, refusal),
+        }
+    }
+
+    /// Reads the value of the key that was read into a variable that has none, at hand or not.
+    #[inline(never)]
+    fn pull_once<V: Deserialize<R::Lent>>(
+        &mut self,
+        alloc: Global,
+        value: &mut Option<V>,
+        refusal: &mut Option<Error>,
+    ) -> bool
+        ensures same_reference { self.new.from.ghost_name ≡ self.old.from.ghost_name }
+        ensures found { result ≡ true → ReadsOnce V.reads V.holds value.old value.new (open_pairs R.state R.Lent.kept self.old) (open_pairs R.state R.Lent.kept self.new) }
+        ensures refused { result ≡ false → MatchOption refusal.new ⊥ (λ e. RefusesOnce V.reads V.needs e value.old (open_pairs R.state R.Lent.kept self.old) (state R.state R.Lent.kept self.new.from.now)) }
+    {
+        match self.next_value_once(alloc, value) {
+            Ok(()) => true,
+            Err(error) => {
+                *refusal = Some(error);
+                false
+            }
+        }
+    }
+
     /// Reads the next key and its value, if an entry is left.
     ///
     /// Refused as [`MapAccess::next_key`] and [`MapAccess::next_value`] are.
@@ -255,7 +303,26 @@ where
     /// A name takes memory only where the source copies. Refused where the key is not UTF-8, as
     /// [`Deserializer::read_text`] is, and by [`Complaint::ValueOpen`] where a value is due; the
     /// deserializer then refuses each later call.
+    #[inline(always)]
     pub fn next_field(&mut self, alloc: Global, names: &[&str]) -> Result<Option<Field>>
+        ensures same_reference { self.new.from.ghost_name ≡ self.old.from.ghost_name }
+        ensures found { IfOk result (NextKey reads_string (HoldsField (map (λ r. r.now) names.now)) (open_pairs R.state R.Lent.kept self.old) (open_pairs R.state R.Lent.kept self.new)) }
+        ensures refused { IfErr result (λ e. RefusesKey reads_string bare e (open_pairs R.state R.Lent.kept self.old) (state R.state R.Lent.kept self.new.from.now)) }
+    {
+        match self.field_at_hand(names) {
+            Some(field) => Ok(Some(field)),
+            None => {
+                if self.is_over() {
+                    return Ok(None);
+                }
+                self.pull_field(alloc, names)
+            }
+        }
+    }
+
+    /// Reads the next key, if one is left, whatever it is.
+    #[inline(never)]
+    fn pull_field(&mut self, alloc: Global, names: &[&str]) -> Result<Option<Field>>
         ensures same_reference { self.new.from.ghost_name ≡ self.old.from.ghost_name }
         ensures found { IfOk result (NextKey reads_string (HoldsField (map (λ r. r.now) names.now)) (open_pairs R.state R.Lent.kept self.old) (open_pairs R.state R.Lent.kept self.new)) }
         ensures refused { IfErr result (λ e. RefusesKey reads_string bare e (open_pairs R.state R.Lent.kept self.old) (state R.state R.Lent.kept self.new.from.now)) }

@@ -36,6 +36,7 @@ pub enum Node {
 
 impl Node {
     /// The kind of what stands where this is due. None where such a tag may not stand there.
+    #[inline(always)]
     pub(crate) fn at(due: Due, head: Head) -> Option<Node>
         ensures { (ks : List (List ℕ)) → result ≡ node_at (due_of ks due) head }
     {
@@ -58,6 +59,7 @@ impl Node {
     }
 
     /// The kind of what has this tag where this is due.
+    #[inline(always)]
     fn of_due_tag(due: Due, tag: u8) -> Option<Node>
         ensures { (ks : List (List ℕ)) → result ≡ node_at (due_of ks due) (Tag tag) }
     {
@@ -70,6 +72,7 @@ impl Node {
     }
 
     /// The kind of a value with this tag.
+    #[inline(always)]
     fn of_tag(tag: u8) -> Option<Node>
         ensures { result ≡ tag_node tag }
     {

@@ -5,11 +5,11 @@ ghost use Rattle.bser_base.specs.Expected.{nothing_due, row_due};
 ghost use Rattle.bser_base.specs.Tagged.{with_failure};
 ghost use Rattle.serde_bser.specs.Parts.{wanted_items};
 ghost use Rattle.serde_bser.specs.Openings.{IsBefore};
-ghost use Rattle.serde_bser.specs.Access.{OpensItems, IsItemsHead, RefusesOpening, OpensPairs, IsPairsHead, KeysOutside, closed};
+ghost use Rattle.serde_bser.specs.Access.{OpensItems, IsItemsHead, IsArrayHead, RefusesItems, OpensPairs, IsPairsHead, KeysOutside, closed};
 ghost use Rattle.serde_bser.specs.Accesses.{open_items, items_head, pairs_head};
 ghost use Rattle.serde_bser.specs.Scalar.{owned};
 ghost use Rattle.serde_bser.specs.State.{refused};
-ghost use Rattle.serde_bser.specs.Reading.{RefusesFront, IsRefusal, bare};
+ghost use Rattle.serde_bser.specs.Reading.{RefusesFront, IsRefusal, bare, only_keys};
 ghost use Rattle.std.specs.Borrow.{sem, RestsIfErr};
 ghost use Rattle.serde_bser.specs.contracts.de.deserializer.Deserializer.{the_row};
 ghost use Rattle.serde_bser.specs.View.{state};
@@ -66,6 +66,7 @@ impl<R: DeRead> Deserializer<R> {
     }
 
     /// Goes into a container, with so many levels inside.
+    #[inline(always)]
     fn enter(&mut self, levels: usize)
         ensures { state R.state R.Lent.kept self.new ≡ record (state R.state R.Lent.kept self.old) { due = nothing_due; levels = levels; opened = one_more (state R.state R.Lent.kept self.old).opened } }
     {
@@ -160,7 +161,8 @@ impl<R: DeRead> Deserializer<R> {
     }
 
     /// Opens the row that is due.
-    fn open_row(&mut self) -> MapHead
+    #[inline(always)]
+    pub(crate) fn open_row(&mut self) -> MapHead
         requires due { (state R.state R.Lent.kept self.old).due ≡ row_due (state R.state R.Lent.kept self.old).keys }
         requires working { (state R.state R.Lent.kept self.old).source.failed ≡ false }
         ensures { OpensPairs (state R.state R.Lent.kept self.old) (pairs_head result (state R.state R.Lent.kept self.new)) }
@@ -179,6 +181,7 @@ impl<R: DeRead> Deserializer<R> {
     pub(crate) fn open_items(&mut self, alloc: Global) -> Result<SeqHead>
         ensures found { IfOk result (λ h. OpensItems (state R.state R.Lent.kept self.old) (items_head h (state R.state R.Lent.kept self.new))) }
         ensures refused { IfErr result (λ e. RefusesFront owned (IsItemsHead (state R.state R.Lent.kept self.old)) e (state R.state R.Lent.kept self.old).source (state R.state R.Lent.kept self.new).source) }
+        ensures array { IfErr result (λ e. RefusesFront only_keys (IsArrayHead (state R.state R.Lent.kept self.old)) e (state R.state R.Lent.kept self.old).source (state R.state R.Lent.kept self.new).source) }
         ensures failed { OnErr result ((state R.state R.Lent.kept self.new).source.failed ≡ true) }
     {
         match self.expect(Node::Array)? {
@@ -188,7 +191,21 @@ impl<R: DeRead> Deserializer<R> {
     }
 
     /// Opens the object or the row that is due.
+    #[inline(always)]
     pub(crate) fn open_pairs(&mut self) -> Result<MapHead>
+        ensures found { IfOk result (λ h. OpensPairs (state R.state R.Lent.kept self.old) (pairs_head h (state R.state R.Lent.kept self.new))) }
+        ensures refused { IfErr result (λ e. RefusesFront bare (IsPairsHead (state R.state R.Lent.kept self.old)) e (state R.state R.Lent.kept self.old).source (state R.state R.Lent.kept self.new).source) }
+        ensures failed { OnErr result ((state R.state R.Lent.kept self.new).source.failed ≡ true) }
+    {
+        if self.due == Due::Row && !self.is_failed() {
+            return Ok(self.open_row());
+        }
+        self.pull_pairs()
+    }
+
+    /// Opens the object or the row that is due, at hand or not.
+    #[inline(never)]
+    fn pull_pairs(&mut self) -> Result<MapHead>
         ensures found { IfOk result (λ h. OpensPairs (state R.state R.Lent.kept self.old) (pairs_head h (state R.state R.Lent.kept self.new))) }
         ensures refused { IfErr result (λ e. RefusesFront bare (IsPairsHead (state R.state R.Lent.kept self.old)) e (state R.state R.Lent.kept self.old).source (state R.state R.Lent.kept self.new).source) }
         ensures failed { OnErr result ((state R.state R.Lent.kept self.new).source.failed ≡ true) }
@@ -207,10 +224,11 @@ impl<R: DeRead> Deserializer<R> {
     /// keys too; a template without that list, or with a key of another kind, is
     /// [`Error::DeInvalidStartByte`]; and a count below 0, and rows without keys, are
     /// [`Error::DeCustom`]. A template takes memory for its keys, as they are read, and a refused
-    /// growth is [`Error::OutOfMemory`]. After a refusal each later call is refused.
+    /// growth is [`Error::OutOfMemory`]; an array takes none. After a refusal each later call is
+    /// refused.
     pub fn read_seq<'a>(&'a mut self, alloc: Global) -> Result<SeqAccess<'a, R>>
         ensures* rests { sem 𝓛 (RestsIfErr (the_row R.row R.Lent.row R.Lent.Kept.row) self.entry (λ a. a.from.ghost_name) result
-            (λ d. IfErr result (λ e. RefusesOpening owned (IsItemsHead (state R.state R.Lent.kept self.old)) e (state R.state R.Lent.kept self.old) (state R.state R.Lent.kept d)))) }
+            (λ d. IfErr result (λ e. RefusesItems e (state R.state R.Lent.kept self.old) (state R.state R.Lent.kept d)))) }
         ensures same_reference { IfOk result (λ a. a.from.ghost_name ≡ self.entry.ghost_name) }
         ensures found { IfOk result (λ a. OpensItems (state R.state R.Lent.kept self.old) (open_items R.state R.Lent.kept a)) }
     {

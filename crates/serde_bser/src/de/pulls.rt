@@ -19,7 +19,21 @@ impl<R: DeRead> Deserializer<R> {
     /// A template is an array, its row an object, and a skipped field null. The key of an object or
     /// of a row's field is [`Node::Key`]. Refused where nothing is due, and where a byte is next
     /// that may not stand there.
+    #[inline(always)]
     pub fn node(&mut self) -> Result<Node>
+        ensures found { IfOk result (SeesNode (state R.state R.Lent.kept self.old) (state R.state R.Lent.kept self.new)) }
+        ensures refused { IfErr result (λ e. RefusesFront bare (BeginsNode (state R.state R.Lent.kept self.old).due) e (state R.state R.Lent.kept self.old).source (state R.state R.Lent.kept self.new).source) }
+        ensures failed { OnErr result ((state R.state R.Lent.kept self.new).source.failed ≡ true) }
+    {
+        match self.node_at_hand() {
+            Some(node) => Ok(node),
+            None => self.pull_node(),
+        }
+    }
+
+    /// What kind of value is due, at hand or not.
+    #[inline(never)]
+    fn pull_node(&mut self) -> Result<Node>
         ensures found { IfOk result (SeesNode (state R.state R.Lent.kept self.old) (state R.state R.Lent.kept self.new)) }
         ensures refused { IfErr result (λ e. RefusesFront bare (BeginsNode (state R.state R.Lent.kept self.old).due) e (state R.state R.Lent.kept self.old).source (state R.state R.Lent.kept self.new).source) }
         ensures failed { OnErr result ((state R.state R.Lent.kept self.new).source.failed ≡ true) }
@@ -32,7 +46,21 @@ impl<R: DeRead> Deserializer<R> {
     }
 
     /// Reads a truth value. Another kind of value is [`Complaint::WrongType`].
+    #[inline(always)]
     pub fn read_bool(&mut self) -> Result<bool>
+        ensures found { IfOk result (Answers reads_bool (λ v c. c ≡ truth v) (state R.state R.Lent.kept self.old) (state R.state R.Lent.kept self.new)) }
+        ensures refused { IfErr result (λ e. Refuses reads_bool bare e (state R.state R.Lent.kept self.old) (state R.state R.Lent.kept self.new)) }
+        ensures failed { OnErr result ((state R.state R.Lent.kept self.new).source.failed ≡ true) }
+    {
+        match self.bool_at_hand() {
+            Some(value) => Ok(value),
+            None => self.pull_bool(),
+        }
+    }
+
+    /// Reads a truth value, at hand or not.
+    #[inline(never)]
+    fn pull_bool(&mut self) -> Result<bool>
         ensures found { IfOk result (Answers reads_bool (λ v c. c ≡ truth v) (state R.state R.Lent.kept self.old) (state R.state R.Lent.kept self.new)) }
         ensures refused { IfErr result (λ e. Refuses reads_bool bare e (state R.state R.Lent.kept self.old) (state R.state R.Lent.kept self.new)) }
         ensures failed { OnErr result ((state R.state R.Lent.kept self.new).source.failed ≡ true) }
@@ -44,7 +72,21 @@ impl<R: DeRead> Deserializer<R> {
     }
 
     /// Reads an integer of any width. Another kind of value is [`Complaint::WrongType`].
+    #[inline(always)]
     pub fn read_i64(&mut self) -> Result<i64>
+        ensures found { IfOk result (Answers (reads_signed 64) (λ v c. c ≡ number v) (state R.state R.Lent.kept self.old) (state R.state R.Lent.kept self.new)) }
+        ensures refused { IfErr result (λ e. Refuses (reads_signed 64) bare e (state R.state R.Lent.kept self.old) (state R.state R.Lent.kept self.new)) }
+        ensures failed { OnErr result ((state R.state R.Lent.kept self.new).source.failed ≡ true) }
+    {
+        match self.i64_at_hand() {
+            Some(number) => Ok(number),
+            None => self.pull_i64(),
+        }
+    }
+
+    /// Reads an integer, at hand or not.
+    #[inline(never)]
+    fn pull_i64(&mut self) -> Result<i64>
         ensures found { IfOk result (Answers (reads_signed 64) (λ v c. c ≡ number v) (state R.state R.Lent.kept self.old) (state R.state R.Lent.kept self.new)) }
         ensures refused { IfErr result (λ e. Refuses (reads_signed 64) bare e (state R.state R.Lent.kept self.old) (state R.state R.Lent.kept self.new)) }
         ensures failed { OnErr result ((state R.state R.Lent.kept self.new).source.failed ≡ true) }
@@ -83,7 +125,21 @@ impl<R: DeRead> Deserializer<R> {
     /// what is read next is no null.
     ///
     /// Refused as [`Deserializer::node`] is.
+    #[inline(always)]
     pub fn read_none(&mut self) -> Result<bool>
+        ensures found { IfOk result (λ b. MatchBool b (TookNull (state R.state R.Lent.kept self.old) (state R.state R.Lent.kept self.new)) (IsOther (state R.state R.Lent.kept self.old) (state R.state R.Lent.kept self.new))) }
+        ensures refused { IfErr result (λ e. RefusesFront bare (BeginsNode (state R.state R.Lent.kept self.old).due) e (state R.state R.Lent.kept self.old).source (state R.state R.Lent.kept self.new).source) }
+        ensures failed { OnErr result ((state R.state R.Lent.kept self.new).source.failed ≡ true) }
+    {
+        match self.none_at_hand() {
+            Some(null) => Ok(null),
+            None => self.pull_none(),
+        }
+    }
+
+    /// Whether a null or a skipped field is due, at hand or not.
+    #[inline(never)]
+    fn pull_none(&mut self) -> Result<bool>
         ensures found { IfOk result (λ b. MatchBool b (TookNull (state R.state R.Lent.kept self.old) (state R.state R.Lent.kept self.new)) (IsOther (state R.state R.Lent.kept self.old) (state R.state R.Lent.kept self.new))) }
         ensures refused { IfErr result (λ e. RefusesFront bare (BeginsNode (state R.state R.Lent.kept self.old).due) e (state R.state R.Lent.kept self.old).source (state R.state R.Lent.kept self.new).source) }
         ensures failed { OnErr result ((state R.state R.Lent.kept self.new).source.failed ≡ true) }

@@ -1,10 +1,12 @@
 //! Types that are read.
-ghost use Rattle.std.specs.Prelude.{◌≡◌, false, IfOk, IfErr};
-ghost use Rattle.bser_base.specs.Content.{Content, Meaning, Needs};
+ghost use Rattle.std.specs.Prelude.{◌≡◌, true, false, Option, IfOk, IfErr, MatchOption};
+ghost use Rattle.bser_base.specs.Content.{Content, Meaning, Needs, ReadsNoObject};
+ghost use Rattle.serde_bser.specs.Front.{FrontReads, StringReads};
 ghost use Rattle.serde_bser.specs.Reading.{Answers, Refuses};
 ghost use Rattle.serde_bser.specs.View.{state};
 
 use crate::de::deserializer::Deserializer;
+use crate::de::front::Front;
 use bser_base::de::read::{DeRead, LendsText, NoLoan};
 use bser_base::errors::Result;
 use std::alloc::Global;
@@ -19,8 +21,13 @@ pub trait Shape {
     // what a value holds
     ghost holds: { Self → Content → Type 0 };
 
-    // whether a value may hold lent bytes, and whether reading one may take memory
+    // whether a value may hold lent bytes, whether reading one may take memory, and whether a
+    // refusal may
     ghost needs: { Needs };
+
+    // that the type reads no object, where that is known; then a tuple that has such a part is
+    // never read of a template, and takes no memory for one
+    ghost plain: { Option (ReadsNoObject Self.reads) };
 }
 
 /// A type that is read from a source that lends `L`.
@@ -37,6 +44,33 @@ pub trait Deserialize<L: LendsText>: Shape + Drop {
     fn deserialize<R: DeRead<Lent = L>>(alloc: Global, from: &mut Deserializer<R>) -> Result<Self>
         ensures found { IfOk result (Answers Self.reads Self.holds (state R.state L.kept from.old) (state R.state L.kept from.new)) }
         ensures refused { IfErr result (λ e. Refuses Self.reads Self.needs e (state R.state L.kept from.old) (state R.state L.kept from.new)) };
+
+    /// Reads the value that these bytes begin with, as a field of a template's row or elsewhere.
+    ///
+    /// It is a short way for values that are at hand whole, without an answer that has room for an
+    /// error. None says nothing: the value is then read by `deserialize`. A type with nothing to gain
+    /// answers None always, as here.
+    fn front(alloc: Global, in_row: bool, hand: &[u8]) -> Option<Front<Self>>
+        ensures { MatchOption result (Unit {0}) (FrontReads Self.reads Self.holds in_row hand.now) }
+    {
+        let _ = alloc;
+        let _ = in_row;
+        let _ = hand;
+        None
+    }
+
+    /// Reads the value from the bytes of a string, which a text's tag stood before or not. They are
+    /// lent.
+    ///
+    /// It is a short way as [`Deserialize::front`] is, for what holds lent bytes.
+    fn of_lent(bytes: L, is_text: bool) -> Option<Self>
+        requires { L.lends ≡ true }
+        ensures { MatchOption result (Unit {0}) (StringReads Self.reads Self.holds is_text (L.bytes bytes)) }
+    {
+        drop(bytes);
+        let _ = is_text;
+        None
+    }
 }
 
 /// A meaning whose values hold nothing that is lent.

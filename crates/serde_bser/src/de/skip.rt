@@ -20,6 +20,7 @@ use bser_base::header::{
     BSER_NULL, BSER_OBJECT, BSER_REAL, BSER_SKIP, BSER_TEMPLATE, BSER_TRUE, BSER_UTF8STRING,
 };
 
+mod ready;
 mod tables;
 #[cfg(test)]
 mod tests;
@@ -132,6 +133,7 @@ impl<R: DeRead> Deserializer<R> {
         self.frames.clear();
         let mut frame = whole;
         for _ in 0..u64::MAX {
+            self.skip_ready(&mut frame);
             match self.skip_step(frame)? {
                 Some(next) => frame = next,
                 None => return Ok(()),

@@ -1,5 +1,5 @@
 //! Reading strings, and keys as strings.
-ghost use Rattle.std.specs.Prelude.{◌≡◌, ◌<◌, ℕ, Some, true, false, length, string_bytes, IfOk, IfErr, OnOk, OnErr};
+ghost use Rattle.std.specs.Prelude.{◌≡◌, ◌<◌, ℕ, Some, true, false, length, string_bytes, IsUtf8, IfOk, IfErr, OnOk, OnErr};
 ghost use Rattle.bser_base.specs.Content.{byte_list};
 ghost use Rattle.bser_base.specs.Errors.{copying};
 ghost use Rattle.bser_base.specs.Expected.{name_due};
@@ -20,6 +20,18 @@ use bser_base::de::read::{DeRead, Lending, LendsText, Reference, TextReference};
 use bser_base::errors::{Complaint, Error, ReadCause, Result};
 use bser_base::header::{BSER_BYTESTRING, BSER_UTF8STRING};
 use std::alloc::Global;
+
+/// Whether these are the bytes of a string: those of a text have to be UTF-8.
+#[inline(always)]
+pub(crate) fn may_stand(is_text: bool, bytes: &[u8]) -> bool
+    ensures good { result ≡ true → is_text ≡ true → IsUtf8 bytes.now }
+    ensures bad { result ≡ false → (is_text ≡ true) × (¬ (IsUtf8 bytes.now)) }
+{
+    if !is_text {
+        return true;
+    }
+    str::from_utf8(bytes).is_ok()
+}
 
 impl<R: DeRead> Deserializer<R> {
     /// Reads the bytes of a string under either tag, or of a key. They are lent where the source
@@ -42,7 +54,22 @@ impl<R: DeRead> Deserializer<R> {
 
     /// Takes the bytes of the string or key that is due, UTF-8 or not, and tells whether they stood
     /// under the text's tag.
+    #[inline(always)]
     fn take_bytes<'s>(&mut self, scratch: &'s mut Vec<u8>) -> Result<(Reference<'s, R::Lent>, bool)>
+        ensures found { IfOk result (λ p. TookBytes (state R.state R.Lent.kept self.old) (state R.state R.Lent.kept self.new) p.1 (bytes_of R.Lent.bytes p.0)) }
+        ensures lent { IfOk result (λ p. is_lent p.0 ≡ (state R.state R.Lent.kept self.old).source.lends) }
+        ensures refused { IfErr result (λ e. Refuses reads_slice bare e (state R.state R.Lent.kept self.old) (state R.state R.Lent.kept self.new)) }
+        ensures failed { OnErr result ((state R.state R.Lent.kept self.new).source.failed ≡ true) }
+    {
+        match self.lent_at_hand() {
+            Some((bytes, is_text)) => Ok((Reference::Borrowed(bytes), is_text)),
+            None => self.pull_bytes(scratch),
+        }
+    }
+
+    /// Takes the bytes of the string or key that is due, at hand or not.
+    #[inline(never)]
+    fn pull_bytes<'s>(&mut self, scratch: &'s mut Vec<u8>) -> Result<(Reference<'s, R::Lent>, bool)>
         ensures found { IfOk result (λ p. TookBytes (state R.state R.Lent.kept self.old) (state R.state R.Lent.kept self.new) p.1 (bytes_of R.Lent.bytes p.0)) }
         ensures lent { IfOk result (λ p. is_lent p.0 ≡ (state R.state R.Lent.kept self.old).source.lends) }
         ensures refused { IfErr result (λ e. Refuses reads_slice bare e (state R.state R.Lent.kept self.old) (state R.state R.Lent.kept self.new)) }
@@ -147,6 +174,25 @@ where
         ensures refused { IfErr result (λ e. Refuses reads_string owned e (state R.state R.Lent.kept self.old) (state R.state R.Lent.kept self.new)) }
         ensures failed { OnErr result ((state R.state R.Lent.kept self.new).source.failed ≡ true) }
     {
+        match self.copy_at_hand(alloc) {
+            Some((bytes, _)) => match String::from_utf8(bytes) {
+                Ok(string) => {
+                    let _text = string.as_str();
+                    Ok(string)
+                }
+                Err(_) => Err(self.refuse_text(ReadCause::Utf8)),
+            },
+            None => self.pull_string(alloc),
+        }
+    }
+
+    /// Reads a text and copies it, at hand or not.
+    #[inline(never)]
+    fn pull_string(&mut self, alloc: Global) -> Result<String>
+        ensures found { IfOk result (Answers reads_string (λ s c. c ≡ byte_list (string_bytes s)) (state R.state R.Lent.kept self.old) (state R.state R.Lent.kept self.new)) }
+        ensures refused { IfErr result (λ e. Refuses reads_string owned e (state R.state R.Lent.kept self.old) (state R.state R.Lent.kept self.new)) }
+        ensures failed { OnErr result ((state R.state R.Lent.kept self.new).source.failed ≡ true) }
+    {
         let mut scratch = Vec::new(alloc);
         let text = self.read_text(&mut scratch)?;
         match String::from_str(alloc, text.get_ref()) {
@@ -161,6 +207,24 @@ impl<R: DeRead> Deserializer<R> {
     ///
     /// A refused growth is [`Error::OutOfMemory`].
     pub fn read_byte_string(&mut self, alloc: Global) -> Result<ByteString>
+        ensures found { IfOk result (Answers reads_slice (λ s c. c ≡ byte_list s) (state R.state R.Lent.kept self.old) (state R.state R.Lent.kept self.new)) }
+        ensures refused { IfErr result (λ e. Refuses reads_slice owned e (state R.state R.Lent.kept self.old) (state R.state R.Lent.kept self.new)) }
+        ensures failed { OnErr result ((state R.state R.Lent.kept self.new).source.failed ≡ true) }
+    {
+        match self.copy_at_hand(alloc) {
+            Some((bytes, is_text)) => {
+                if !may_stand(is_text, &bytes) {
+                    return Err(self.refuse_text(ReadCause::Utf8));
+                }
+                Ok(ByteString::from_vec(bytes))
+            }
+            None => self.pull_byte_string(alloc),
+        }
+    }
+
+    /// Reads the bytes of a string and copies them, at hand or not.
+    #[inline(never)]
+    fn pull_byte_string(&mut self, alloc: Global) -> Result<ByteString>
         ensures found { IfOk result (Answers reads_slice (λ s c. c ≡ byte_list s) (state R.state R.Lent.kept self.old) (state R.state R.Lent.kept self.new)) }
         ensures refused { IfErr result (λ e. Refuses reads_slice owned e (state R.state R.Lent.kept self.old) (state R.state R.Lent.kept self.new)) }
         ensures failed { OnErr result ((state R.state R.Lent.kept self.new).source.failed ≡ true) }

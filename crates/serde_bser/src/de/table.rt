@@ -10,7 +10,7 @@ ghost use Rattle.serde_bser.specs.Tables.{TookPart, SpellsRaw, IsRaw, IsKey, Spe
 
 use bser_base::de::bunser::Bunser;
 use bser_base::de::read::{DeRead, Lending, Reference};
-use bser_base::errors::{Complaint, Error, Kind, ReadCause, Result};
+use bser_base::errors::{Complaint, Error, Kind, Result};
 use bser_base::header::{BSER_ARRAY, BSER_BYTESTRING, BSER_UTF8STRING};
 use std::alloc::Global;
 
@@ -62,10 +62,6 @@ fn take_key<R: DeRead>(
     ensures failed { OnErr result ((bunser_state R.state bunser.new).failed ≡ true) }
 {
     let bytes = take_raw(bunser, scratch)?;
-    if str::from_utf8(bytes.get_ref()).is_err() {
-        bunser.fail();
-        return Err(Error::de_reader_error(ReadCause::Utf8));
-    }
     match <R::Lent as Lending>::keep(alloc, bytes) {
         Ok(key) => Ok(key),
         Err(refusal) => {

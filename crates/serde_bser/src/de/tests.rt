@@ -1,6 +1,5 @@
 mod enums;
 mod files;
-mod variants;
 
 use self::files::FileInfo;
 use crate::de::entry::from_slice;

@@ -1,5 +1,5 @@
 //! Reading a `Value`.
-ghost use Rattle.std.specs.Prelude.{refl, ◌≡◌, Some, true, false, IfOk, IfErr, OnOk};
+ghost use Rattle.std.specs.Prelude.{refl, ◌≡◌, Some, true, false, IfOk, IfErr, OnOk, None};
 ghost use Rattle.bser_base.specs.ReadsAny.{reads_value};
 ghost use Rattle.bser_base.specs.Source.{IsNext};
 ghost use Rattle.serde_bser.specs.Scalar.{reads_scalar, owned, IsNoValue, IsValue};
@@ -17,6 +17,7 @@ use crate::de::deserializer::{Deserializer, Due};
 use crate::de::node::Node;
 use crate::de::reading::{Deserialize, OwnedShape, Shape};
 use crate::de::scalar;
+use crate::de::value_at_hand::Step;
 use crate::value::Value;
 use bser_base::de::read::{DeRead, LendsText};
 use bser_base::errors::{Error, Result};
@@ -104,6 +105,18 @@ where
         };
         let mut around = Vec::new(alloc);
         for _ in 0..u64::MAX {
+            match self.step_at_hand(alloc, &mut around, &mut inner) {
+                Step::Taken => continue,
+                Step::Due => {
+                    self.read_into(alloc, &mut around, &mut inner)?;
+                    continue;
+                }
+                Step::Refused => {
+                    self.fail();
+                    return Err(Error::OutOfMemory);
+                }
+                Step::Absent => {}
+            }
             if self.await_next(alloc, &mut inner)? {
                 self.read_into(alloc, &mut around, &mut inner)?;
                 continue;
@@ -171,6 +184,8 @@ impl Shape for Value {
     ghost holds = { HoldsTree };
 
     ghost needs = { owned };
+
+    ghost plain = { None };
 }
 
 impl<L: LendsText> Deserialize<L> for Value {

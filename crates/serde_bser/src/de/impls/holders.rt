@@ -1,12 +1,17 @@
 //! Reading types that hold another.
-ghost use Rattle.std.specs.Prelude.{true};
+ghost use Rattle.std.specs.Prelude.{◌≡◌, true, false, option_map};
+ghost use Rattle.serde_bser.specs.Front.{IsNullTag};
 ghost use Rattle.serde_bser.specs.Holds.{HoldsBox, HoldsOption};
+ghost use Rattle.bser_base.specs.Content.{just};
 ghost use Rattle.bser_base.specs.ReadsHolders.{reads_option};
+ghost use Rattle.std.proofs.Common.{ap};
 
 use crate::de::deserializer::Deserializer;
+use crate::de::front::Front;
 use crate::de::reading::{Deserialize, OwnedShape, Shape};
 use bser_base::de::read::{DeRead, LendsText};
 use bser_base::errors::Result;
+use bser_base::header::{BSER_NULL, BSER_SKIP};
 use std::alloc::Global;
 
 /// A null or a skipped field is `None`.
@@ -16,9 +21,12 @@ impl<T: Shape> Shape for Option<T> {
     ghost holds = { HoldsOption T.holds };
 
     ghost needs = { T.needs };
+
+    ghost plain = { option_map (λ none es. ap (option_map just) (none es)) T.plain };
 }
 
 impl<L: LendsText, T: Deserialize<L>> Deserialize<L> for Option<T> {
+    #[inline(always)]
     fn deserialize<R: DeRead<Lent = L>>(
         alloc: Global,
         from: &mut Deserializer<R>,
@@ -27,6 +35,34 @@ impl<L: LendsText, T: Deserialize<L>> Deserialize<L> for Option<T> {
             return Ok(None);
         }
         Ok(Some(T::deserialize(alloc, from)?))
+    }
+
+    #[inline(always)]
+    fn front(alloc: Global, in_row: bool, hand: &[u8]) -> Option<Front<Option<T>>> {
+        if hand.is_empty() {
+            return None;
+        }
+        if is_null(in_row, hand[0]) {
+            return Some(Front {
+                value: None,
+                len: 1,
+            });
+        }
+        match T::front(alloc, in_row, hand) {
+            Some(front) => Some(Front {
+                value: Some(front.value),
+                len: front.len,
+            }),
+            None => None,
+        }
+    }
+
+    #[inline(always)]
+    fn of_lent(bytes: L, is_text: bool) -> Option<Option<T>> {
+        match T::of_lent(bytes, is_text) {
+            Some(value) => Some(Some(value)),
+            None => None,
+        }
     }
 }
 
@@ -40,10 +76,13 @@ impl<T: Shape> Shape for Box<T> {
 
     ghost holds = { HoldsBox T.holds };
 
-    ghost needs = { record { lent = T.needs.lent; memory = true } };
+    ghost needs = { record { lent = T.needs.lent; memory = true; keys = false } };
+
+    ghost plain = { T.plain };
 }
 
 impl<L: LendsText, T: Deserialize<L>> Deserialize<L> for Box<T> {
+    #[inline(always)]
     fn deserialize<R: DeRead<Lent = L>>(
         alloc: Global,
         from: &mut Deserializer<R>,
@@ -55,4 +94,13 @@ impl<L: LendsText, T: Deserialize<L>> Deserialize<L> for Box<T> {
 
 impl<T: OwnedShape> OwnedShape for Box<T> {
     ghost owned = { T.owned };
+}
+
+/// Whether this is the tag of a null, or of a skipped field where it may stand.
+#[inline(always)]
+fn is_null(in_row: bool, tag: u8) -> bool
+    ensures null { result ≡ true → IsNullTag in_row tag }
+    ensures other { result ≡ false → IsNullTag in_row tag → ⊥ }
+{
+    tag == BSER_NULL || (in_row && tag == BSER_SKIP)
 }

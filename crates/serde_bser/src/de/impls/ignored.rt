@@ -1,5 +1,5 @@
 //! What is read and not kept.
-ghost use Rattle.std.specs.Prelude.{◌≡◌, refl};
+ghost use Rattle.std.specs.Prelude.{◌≡◌, refl, None};
 ghost use Rattle.bser_base.specs.Content.{one};
 ghost use Rattle.bser_base.specs.ReadsAny.{reads_ignored};
 ghost use Rattle.serde_bser.specs.Scalar.{owned};
@@ -23,6 +23,8 @@ impl Shape for Ignored {
     ghost holds = { λ _ c. c ≡ one };
 
     ghost needs = { owned };
+
+    ghost plain = { None };
 }
 
 impl<L: LendsText> Deserialize<L> for Ignored {

@@ -1,7 +1,11 @@
 //! Lists and tuples. A template is read as the array of its rows.
-ghost use Rattle.std.specs.Prelude.{◌||◌, true, [], ◌∷◌};
+//!
+//! A tuple takes memory for a template's keys alone, besides what its parts take. Where a part reads
+//! no object no template is read, so that memory is taken only where the tuple is refused.
+ghost use Rattle.std.specs.Prelude.{◌||◌, true, false, refl, Some, [], ◌∷◌};
 ghost use Rattle.bser_base.specs.ReadsHolders.{reads_vec, reads_tuple};
 ghost use Rattle.serde_bser.specs.HoldsLists.{HoldsList, HoldsTuple};
+ghost use Rattle.serde_bser.specs.Tuples.{tuple_needs};
 ghost use Rattle.std.proofs.Common.{ap, ◌∙◌};
 
 #[cfg(test)]
@@ -21,7 +25,9 @@ impl<T: Shape> Shape for Vec<T> {
 
     ghost holds = { λ v c. HoldsList T.holds v.items c };
 
-    ghost needs = { record { lent = T.needs.lent; memory = true } };
+    ghost needs = { record { lent = T.needs.lent; memory = true; keys = false } };
+
+    ghost plain = { Some (λ _. refl) };
 }
 
 impl<L: LendsText, T: Deserialize<L>> Deserialize<L> for Vec<T> {
@@ -53,7 +59,9 @@ impl<A: Shape, B: Shape> Shape for (A, B) {
 
     ghost holds = { λ v c. HoldsTuple (A.holds v.0 ∷ B.holds v.1 ∷ []) c };
 
-    ghost needs = { record { lent = A.needs.lent || B.needs.lent; memory = true } };
+    ghost needs = { tuple_needs (A.needs ∷ B.needs ∷ []) (A.reads ∷ B.reads ∷ []) (A.plain, (B.plain, tt)) };
+
+    ghost plain = { Some (λ _. refl) };
 }
 
 impl<L: LendsText, A: Deserialize<L>, B: Deserialize<L>> Deserialize<L> for (A, B) {
@@ -70,7 +78,7 @@ impl<L: LendsText, A: Deserialize<L>, B: Deserialize<L>> Deserialize<L> for (A, 
 }
 
 impl<A: OwnedShape, B: OwnedShape> OwnedShape for (A, B) {
-    ghost owned = { ap (λ a. a || B.needs.lent) A.owned ∙ B.owned };
+    ghost owned = { ap (λ a. a || (B.needs.lent || false)) A.owned ∙ ap (λ b. b || false) B.owned };
 }
 
 /// An array of three items. Fewer are refused by [`Complaint::TooFewItems`], more by
@@ -83,7 +91,9 @@ impl<A: Shape, B: Shape, C: Shape> Shape for (A, B, C) {
 
     ghost holds = { λ v c. HoldsTuple (A.holds v.0 ∷ B.holds v.1 ∷ C.holds v.2 ∷ []) c };
 
-    ghost needs = { record { lent = A.needs.lent || B.needs.lent || C.needs.lent; memory = true } };
+    ghost needs = { tuple_needs (A.needs ∷ B.needs ∷ C.needs ∷ []) (A.reads ∷ B.reads ∷ C.reads ∷ []) (A.plain, (B.plain, (C.plain, tt))) };
+
+    ghost plain = { Some (λ _. refl) };
 }
 
 impl<L: LendsText, A: Deserialize<L>, B: Deserialize<L>, C: Deserialize<L>> Deserialize<L>
@@ -102,7 +112,7 @@ impl<L: LendsText, A: Deserialize<L>, B: Deserialize<L>, C: Deserialize<L>> Dese
 }
 
 impl<A: OwnedShape, B: OwnedShape, C: OwnedShape> OwnedShape for (A, B, C) {
-    ghost owned = { ap (λ a. a || B.needs.lent || C.needs.lent) A.owned ∙ ap (λ b. b || C.needs.lent) B.owned ∙ C.owned };
+    ghost owned = { ap (λ a. a || (B.needs.lent || (C.needs.lent || false))) A.owned ∙ ap (λ b. b || (C.needs.lent || false)) B.owned ∙ ap (λ c. c || false) C.owned };
 }
 
 /// An array of four items. Fewer are refused by [`Complaint::TooFewItems`], more by
@@ -115,7 +125,9 @@ impl<A: Shape, B: Shape, C: Shape, D: Shape> Shape for (A, B, C, D) {
 
     ghost holds = { λ v c. HoldsTuple (A.holds v.0 ∷ B.holds v.1 ∷ C.holds v.2 ∷ D.holds v.3 ∷ []) c };
 
-    ghost needs = { record { lent = A.needs.lent || B.needs.lent || C.needs.lent || D.needs.lent; memory = true } };
+    ghost needs = { tuple_needs (A.needs ∷ B.needs ∷ C.needs ∷ D.needs ∷ []) (A.reads ∷ B.reads ∷ C.reads ∷ D.reads ∷ []) (A.plain, (B.plain, (C.plain, (D.plain, tt)))) };
+
+    ghost plain = { Some (λ _. refl) };
 }
 
 impl<
@@ -140,5 +152,5 @@ impl<
 }
 
 impl<A: OwnedShape, B: OwnedShape, C: OwnedShape, D: OwnedShape> OwnedShape for (A, B, C, D) {
-    ghost owned = { ap (λ a. a || B.needs.lent || C.needs.lent || D.needs.lent) A.owned ∙ ap (λ b. b || C.needs.lent || D.needs.lent) B.owned ∙ ap (λ c. c || D.needs.lent) C.owned ∙ D.owned };
+    ghost owned = { ap (λ a. a || (B.needs.lent || (C.needs.lent || (D.needs.lent || false)))) A.owned ∙ ap (λ b. b || (C.needs.lent || (D.needs.lent || false))) B.owned ∙ ap (λ c. c || (D.needs.lent || false)) C.owned ∙ ap (λ d. d || false) D.owned };
 }

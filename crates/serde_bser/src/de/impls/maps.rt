@@ -1,5 +1,5 @@
 //! Maps in the order of their keys.
-ghost use Rattle.std.specs.Prelude.{◌||◌, true};
+ghost use Rattle.std.specs.Prelude.{◌||◌, None, true, false};
 ghost use Rattle.std.proofs.Common.{ap, ◌∙◌};
 ghost use Rattle.bser_base.specs.ReadsHolders.{reads_map};
 ghost use Rattle.serde_bser.specs.HoldsMaps.{HoldsMap};
@@ -22,7 +22,9 @@ impl<K: MapKey, V: Shape> Shape for BTreeMap<K, V> {
 
     ghost holds = { λ m. HoldsMap K.name V.holds m.entries };
 
-    ghost needs = { record { lent = K.needs.lent || V.needs.lent; memory = true } };
+    ghost needs = { record { lent = K.needs.lent || V.needs.lent; memory = true; keys = false } };
+
+    ghost plain = { None };
 }
 
 impl<L: LendsText, K: MapKey + Deserialize<L>, V: Deserialize<L>> Deserialize<L>

@@ -6,10 +6,13 @@ ghost use Rattle.serde_bser.specs.Reading.{bare};
 ghost use Rattle.serde_bser.specs.Holds.{HoldsTruth, HoldsNumber, HoldsSize, HoldsReal, HoldsOne};
 
 use crate::de::deserializer::Deserializer;
+use crate::de::front::Front;
 use crate::de::reading::{Deserialize, OwnedShape, Shape};
+use bser_base::de::bunser::integer_front;
 use bser_base::de::read::{DeRead, LendsText};
 use bser_base::device::Sink;
 use bser_base::errors::{Complaint, Result};
+use bser_base::header::{BSER_FALSE, BSER_TRUE};
 use bser_ser::{Serialize, Serializer};
 use std::alloc::Global;
 
@@ -25,14 +28,32 @@ impl Shape for bool {
     ghost holds = { HoldsTruth };
 
     ghost needs = { bare };
+
+    ghost plain = { Some (λ _. refl) };
 }
 
 impl<L: LendsText> Deserialize<L> for bool {
+    #[inline(always)]
     fn deserialize<R: DeRead<Lent = L>>(
         _alloc: Global,
         from: &mut Deserializer<R>,
     ) -> Result<bool> {
         from.read_bool()
+    }
+
+    #[inline(always)]
+    fn front(_alloc: Global, _in_row: bool, hand: &[u8]) -> Option<Front<bool>> {
+        if hand.is_empty() {
+            return None;
+        }
+        let tag = hand[0];
+        if tag != BSER_TRUE && tag != BSER_FALSE {
+            return None;
+        }
+        Some(Front {
+            value: tag == BSER_TRUE,
+            len: 1,
+        })
     }
 }
 
@@ -56,9 +77,12 @@ impl Shape for () {
     ghost holds = { HoldsOne };
 
     ghost needs = { bare };
+
+    ghost plain = { Some (λ _. refl) };
 }
 
 impl<L: LendsText> Deserialize<L> for () {
+    #[inline(always)]
     fn deserialize<R: DeRead<Lent = L>>(_alloc: Global, from: &mut Deserializer<R>) -> Result<()> {
         from.read_unit()
     }
@@ -74,9 +98,12 @@ impl Shape for RealBits {
     ghost holds = { HoldsReal };
 
     ghost needs = { bare };
+
+    ghost plain = { Some (λ _. refl) };
 }
 
 impl<L: LendsText> Deserialize<L> for RealBits {
+    #[inline(always)]
     fn deserialize<R: DeRead<Lent = L>>(
         _alloc: Global,
         from: &mut Deserializer<R>,
@@ -95,11 +122,25 @@ impl Shape for i64 {
     ghost holds = { HoldsNumber };
 
     ghost needs = { bare };
+
+    ghost plain = { Some (λ _. refl) };
 }
 
 impl<L: LendsText> Deserialize<L> for i64 {
+    #[inline(always)]
     fn deserialize<R: DeRead<Lent = L>>(_alloc: Global, from: &mut Deserializer<R>) -> Result<i64> {
         from.read_i64()
+    }
+
+    #[inline(always)]
+    fn front(_alloc: Global, _in_row: bool, hand: &[u8]) -> Option<Front<i64>> {
+        match integer_front(hand) {
+            Some(seen) => Some(Front {
+                value: seen.number,
+                len: seen.len,
+            }),
+            None => None,
+        }
     }
 }
 
@@ -114,13 +155,30 @@ impl Shape for i8 {
     ghost holds = { HoldsNumber };
 
     ghost needs = { bare };
+
+    ghost plain = { Some (λ _. refl) };
 }
 
 impl<L: LendsText> Deserialize<L> for i8 {
+    #[inline(always)]
     fn deserialize<R: DeRead<Lent = L>>(_alloc: Global, from: &mut Deserializer<R>) -> Result<i8> {
         match i8::try_from(from.read_i64()?) {
             Ok(number) => Ok(number),
             Err(_) => Err(from.refuse(Complaint::IntegerOutOfRange)),
+        }
+    }
+
+    #[inline(always)]
+    fn front(_alloc: Global, _in_row: bool, hand: &[u8]) -> Option<Front<i8>> {
+        match integer_front(hand) {
+            Some(seen) => match i8::try_from(seen.number) {
+                Ok(value) => Some(Front {
+                    value,
+                    len: seen.len,
+                }),
+                Err(_) => None,
+            },
+            None => None,
         }
     }
 }
@@ -135,13 +193,30 @@ impl Shape for i16 {
     ghost holds = { HoldsNumber };
 
     ghost needs = { bare };
+
+    ghost plain = { Some (λ _. refl) };
 }
 
 impl<L: LendsText> Deserialize<L> for i16 {
+    #[inline(always)]
     fn deserialize<R: DeRead<Lent = L>>(_alloc: Global, from: &mut Deserializer<R>) -> Result<i16> {
         match i16::try_from(from.read_i64()?) {
             Ok(number) => Ok(number),
             Err(_) => Err(from.refuse(Complaint::IntegerOutOfRange)),
+        }
+    }
+
+    #[inline(always)]
+    fn front(_alloc: Global, _in_row: bool, hand: &[u8]) -> Option<Front<i16>> {
+        match integer_front(hand) {
+            Some(seen) => match i16::try_from(seen.number) {
+                Ok(value) => Some(Front {
+                    value,
+                    len: seen.len,
+                }),
+                Err(_) => None,
+            },
+            None => None,
         }
     }
 }
@@ -156,13 +231,30 @@ impl Shape for i32 {
     ghost holds = { HoldsNumber };
 
     ghost needs = { bare };
+
+    ghost plain = { Some (λ _. refl) };
 }
 
 impl<L: LendsText> Deserialize<L> for i32 {
+    #[inline(always)]
     fn deserialize<R: DeRead<Lent = L>>(_alloc: Global, from: &mut Deserializer<R>) -> Result<i32> {
         match i32::try_from(from.read_i64()?) {
             Ok(number) => Ok(number),
             Err(_) => Err(from.refuse(Complaint::IntegerOutOfRange)),
+        }
+    }
+
+    #[inline(always)]
+    fn front(_alloc: Global, _in_row: bool, hand: &[u8]) -> Option<Front<i32>> {
+        match integer_front(hand) {
+            Some(seen) => match i32::try_from(seen.number) {
+                Ok(value) => Some(Front {
+                    value,
+                    len: seen.len,
+                }),
+                Err(_) => None,
+            },
+            None => None,
         }
     }
 }
@@ -177,13 +269,30 @@ impl Shape for u8 {
     ghost holds = { HoldsSize };
 
     ghost needs = { bare };
+
+    ghost plain = { Some (λ _. refl) };
 }
 
 impl<L: LendsText> Deserialize<L> for u8 {
+    #[inline(always)]
     fn deserialize<R: DeRead<Lent = L>>(_alloc: Global, from: &mut Deserializer<R>) -> Result<u8> {
         match u8::try_from(from.read_i64()?) {
             Ok(number) => Ok(number),
             Err(_) => Err(from.refuse(Complaint::IntegerOutOfRange)),
+        }
+    }
+
+    #[inline(always)]
+    fn front(_alloc: Global, _in_row: bool, hand: &[u8]) -> Option<Front<u8>> {
+        match integer_front(hand) {
+            Some(seen) => match u8::try_from(seen.number) {
+                Ok(value) => Some(Front {
+                    value,
+                    len: seen.len,
+                }),
+                Err(_) => None,
+            },
+            None => None,
         }
     }
 }
@@ -198,13 +307,30 @@ impl Shape for u16 {
     ghost holds = { HoldsSize };
 
     ghost needs = { bare };
+
+    ghost plain = { Some (λ _. refl) };
 }
 
 impl<L: LendsText> Deserialize<L> for u16 {
+    #[inline(always)]
     fn deserialize<R: DeRead<Lent = L>>(_alloc: Global, from: &mut Deserializer<R>) -> Result<u16> {
         match u16::try_from(from.read_i64()?) {
             Ok(number) => Ok(number),
             Err(_) => Err(from.refuse(Complaint::IntegerOutOfRange)),
+        }
+    }
+
+    #[inline(always)]
+    fn front(_alloc: Global, _in_row: bool, hand: &[u8]) -> Option<Front<u16>> {
+        match integer_front(hand) {
+            Some(seen) => match u16::try_from(seen.number) {
+                Ok(value) => Some(Front {
+                    value,
+                    len: seen.len,
+                }),
+                Err(_) => None,
+            },
+            None => None,
         }
     }
 }
@@ -219,13 +345,30 @@ impl Shape for u32 {
     ghost holds = { HoldsSize };
 
     ghost needs = { bare };
+
+    ghost plain = { Some (λ _. refl) };
 }
 
 impl<L: LendsText> Deserialize<L> for u32 {
+    #[inline(always)]
     fn deserialize<R: DeRead<Lent = L>>(_alloc: Global, from: &mut Deserializer<R>) -> Result<u32> {
         match u32::try_from(from.read_i64()?) {
             Ok(number) => Ok(number),
             Err(_) => Err(from.refuse(Complaint::IntegerOutOfRange)),
+        }
+    }
+
+    #[inline(always)]
+    fn front(_alloc: Global, _in_row: bool, hand: &[u8]) -> Option<Front<u32>> {
+        match integer_front(hand) {
+            Some(seen) => match u32::try_from(seen.number) {
+                Ok(value) => Some(Front {
+                    value,
+                    len: seen.len,
+                }),
+                Err(_) => None,
+            },
+            None => None,
         }
     }
 }
@@ -240,13 +383,30 @@ impl Shape for u64 {
     ghost holds = { HoldsSize };
 
     ghost needs = { bare };
+
+    ghost plain = { Some (λ _. refl) };
 }
 
 impl<L: LendsText> Deserialize<L> for u64 {
+    #[inline(always)]
     fn deserialize<R: DeRead<Lent = L>>(_alloc: Global, from: &mut Deserializer<R>) -> Result<u64> {
         match u64::try_from(from.read_i64()?) {
             Ok(number) => Ok(number),
             Err(_) => Err(from.refuse(Complaint::IntegerOutOfRange)),
+        }
+    }
+
+    #[inline(always)]
+    fn front(_alloc: Global, _in_row: bool, hand: &[u8]) -> Option<Front<u64>> {
+        match integer_front(hand) {
+            Some(seen) => match u64::try_from(seen.number) {
+                Ok(value) => Some(Front {
+                    value,
+                    len: seen.len,
+                }),
+                Err(_) => None,
+            },
+            None => None,
         }
     }
 }
@@ -262,9 +422,12 @@ impl Shape for usize {
     ghost holds = { HoldsSize };
 
     ghost needs = { bare };
+
+    ghost plain = { Some (λ _. refl) };
 }
 
 impl<L: LendsText> Deserialize<L> for usize {
+    #[inline(always)]
     fn deserialize<R: DeRead<Lent = L>>(
         _alloc: Global,
         from: &mut Deserializer<R>,
@@ -272,6 +435,20 @@ impl<L: LendsText> Deserialize<L> for usize {
         match usize::try_from(from.read_i64()?) {
             Ok(number) => Ok(number),
             Err(_) => Err(from.refuse(Complaint::IntegerOutOfRange)),
+        }
+    }
+
+    #[inline(always)]
+    fn front(_alloc: Global, _in_row: bool, hand: &[u8]) -> Option<Front<usize>> {
+        match integer_front(hand) {
+            Some(seen) => match usize::try_from(seen.number) {
+                Ok(value) => Some(Front {
+                    value,
+                    len: seen.len,
+                }),
+                Err(_) => None,
+            },
+            None => None,
         }
     }
 }

@@ -1,15 +1,18 @@
 //! Strings and characters.
-ghost use Rattle.std.specs.Prelude.{◌≡◌, refl, chars, string_bytes};
+ghost use Rattle.std.specs.Prelude.{◌≡◌, refl, Some, chars, string_bytes};
 ghost use Rattle.bser_base.specs.ReadsScalars.{reads_slice, reads_string, reads_byte_string, reads_char, one_char};
 ghost use Rattle.serde_bser.specs.HoldsTexts.{HoldsBytes, HoldsChar, char_content};
 ghost use Rattle.serde_bser.specs.Reading.{bare};
 ghost use Rattle.serde_bser.specs.Scalar.{owned, lending};
 
 use crate::de::deserializer::Deserializer;
+use crate::de::front::Front;
 use crate::de::node::Node;
 use crate::de::reading::{Deserialize, OwnedShape, Shape};
+use crate::de::strings::may_stand;
 use bser_base::bytestring::ByteString;
-use bser_base::de::read::{DeRead, LendsFrom, LendsText};
+use bser_base::de::bunser::string_front;
+use bser_base::de::read::{DeRead, LendsFrom, LendsText, Reference, TextReference};
 use bser_base::errors::{Complaint, Result};
 use std::alloc::Global;
 
@@ -20,14 +23,34 @@ impl Shape for String {
     ghost holds = { λ s. HoldsBytes (string_bytes s) };
 
     ghost needs = { owned };
+
+    ghost plain = { Some (λ _. refl) };
 }
 
 impl<L: LendsText> Deserialize<L> for String {
+    #[inline(always)]
     fn deserialize<R: DeRead<Lent = L>>(
         alloc: Global,
         from: &mut Deserializer<R>,
     ) -> Result<String> {
         from.read_string(alloc)
+    }
+
+    #[inline(always)]
+    fn front(alloc: Global, _in_row: bool, hand: &[u8]) -> Option<Front<String>> {
+        match string_front(hand) {
+            Some(place) => match str::from_utf8(&hand[place.at..place.end]) {
+                Ok(text) => match String::from_str(alloc, text) {
+                    Ok(value) => Some(Front {
+                        value,
+                        len: place.end,
+                    }),
+                    Err(_) => None,
+                },
+                Err(_) => None,
+            },
+            None => None,
+        }
     }
 }
 
@@ -42,9 +65,12 @@ impl<'de> Shape for &'de str {
     ghost holds = { λ s. HoldsBytes s.now };
 
     ghost needs = { lending };
+
+    ghost plain = { Some (λ _. refl) };
 }
 
 impl<'de, L: LendsFrom<'de>> Deserialize<L> for &'de str {
+    #[inline(always)]
     fn deserialize<R: DeRead<Lent = L>>(
         alloc: Global,
         from: &mut Deserializer<R>,
@@ -53,6 +79,14 @@ impl<'de, L: LendsFrom<'de>> Deserialize<L> for &'de str {
         match L::lent_text(from.read_text(&mut scratch)?) {
             Some(text) => Ok(text),
             None => Err(from.refuse_loan()),
+        }
+    }
+
+    #[inline(always)]
+    fn of_lent(bytes: L, _is_text: bool) -> Option<&'de str> {
+        match bytes.to_text() {
+            Ok(text) => L::lent_text(TextReference::Borrowed(text)),
+            Err(_) => None,
         }
     }
 }
@@ -64,9 +98,12 @@ impl<'de> Shape for &'de [u8] {
     ghost holds = { λ s. HoldsBytes s.now };
 
     ghost needs = { lending };
+
+    ghost plain = { Some (λ _. refl) };
 }
 
 impl<'de, L: LendsFrom<'de>> Deserialize<L> for &'de [u8] {
+    #[inline(always)]
     fn deserialize<R: DeRead<Lent = L>>(
         alloc: Global,
         from: &mut Deserializer<R>,
@@ -76,6 +113,14 @@ impl<'de, L: LendsFrom<'de>> Deserialize<L> for &'de [u8] {
             Some(bytes) => Ok(bytes),
             None => Err(from.refuse_loan()),
         }
+    }
+
+    #[inline(always)]
+    fn of_lent(bytes: L, is_text: bool) -> Option<&'de [u8]> {
+        if !may_stand(is_text, bytes.as_bytes()) {
+            return None;
+        }
+        L::lent_bytes(Reference::Borrowed(bytes))
     }
 }
 
@@ -91,9 +136,12 @@ impl Shape for ByteString {
     ghost holds = { HoldsBytes };
 
     ghost needs = { owned };
+
+    ghost plain = { Some (λ _. refl) };
 }
 
 impl<L: LendsText> Deserialize<L> for ByteString {
+    #[inline(always)]
     fn deserialize<R: DeRead<Lent = L>>(
         alloc: Global,
         from: &mut Deserializer<R>,
@@ -101,6 +149,26 @@ impl<L: LendsText> Deserialize<L> for ByteString {
         match from.node()? {
             Node::Array => Ok(ByteString::from_vec(Vec::<u8>::deserialize(alloc, from)?)),
             _ => from.read_byte_string(alloc),
+        }
+    }
+
+    #[inline(always)]
+    fn front(alloc: Global, _in_row: bool, hand: &[u8]) -> Option<Front<ByteString>> {
+        match string_front(hand) {
+            Some(place) => {
+                let bytes = &hand[place.at..place.end];
+                if !may_stand(place.is_text, bytes) {
+                    return None;
+                }
+                match Vec::from_slice(alloc, bytes) {
+                    Ok(copy) => Some(Front {
+                        value: ByteString::from_vec(copy),
+                        len: place.end,
+                    }),
+                    Err(_) => None,
+                }
+            }
+            None => None,
         }
     }
 }
@@ -116,9 +184,12 @@ impl Shape for char {
     ghost holds = { HoldsChar };
 
     ghost needs = { bare };
+
+    ghost plain = { Some (λ _. refl) };
 }
 
 impl<L: LendsText> Deserialize<L> for char {
+    #[inline(always)]
     fn deserialize<R: DeRead<Lent = L>>(alloc: Global, from: &mut Deserializer<R>) -> Result<char> {
         let mut scratch = Vec::new(alloc);
         let text = from.read_text(&mut scratch)?;

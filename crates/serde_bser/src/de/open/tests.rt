@@ -74,11 +74,11 @@ fn keys_are_lent_from_a_slice_and_copied_from_a_reader(rt: HostRuntime) -> Resul
     let mut lent = Deserializer::new(alloc, SliceRead::new(message))?;
     assert!(rt; lent.open_items(alloc)?.remaining == 7);
     assert!(rt; lent.keys.len() == 2);
-    assert!(rt; lent.keys.last() == Some(&b"bc".as_slice()));
+    assert!(rt; matches!(lent.keys.last(), Some(key) if *key == "bc"));
     let mut copied = Deserializer::new(alloc, IoRead::new(Watched::new(message)))?;
     assert!(rt; copied.open_items(alloc)?.remaining == 7);
     assert!(rt; copied.keys.len() == 2);
-    assert!(rt; matches!(copied.keys.last(), Some(key) if key.as_bytes() == b"bc".as_slice()));
+    assert!(rt; matches!(copied.keys.last(), Some(key) if key.as_str() == "bc"));
     Ok(())
 }
 

@@ -1,4 +1,5 @@
 //! A struct, read field by field.
+ghost use Rattle.std.specs.Prelude.{None};
 ghost use Rattle.serde_bser.specs.Files.{file_of, HoldsFile};
 ghost use Rattle.serde_bser.specs.Fold.{either};
 
@@ -22,6 +23,8 @@ impl<S: Shape, N: Shape> Shape for FileInfo<S, N> {
     ghost holds = { λ v c. HoldsFile S.holds N.holds v.name v.size c };
 
     ghost needs = { either S.needs N.needs };
+
+    ghost plain = { None };
 }
 
 impl<L: LendsText, S: Deserialize<L>, N: Deserialize<L>> Deserialize<L> for FileInfo<S, N> {

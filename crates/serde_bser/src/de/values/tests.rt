@@ -153,3 +153,33 @@ fn as_many_levels_as_the_limit_are_read(rt: HostRuntime) -> Result<()> {
     );
     Ok(())
 }
+
+#[test]
+fn a_field_that_is_a_container_is_read_after_its_key(rt: HostRuntime) -> Result<()> {
+    // one row over the keys "a" and "b": [true], and 5
+    let value = from_slice::<Value>(
+        rt.alloc(),
+        b"\x00\x02\x00\x00\x00\x00\x03\x14\x0b\x00\x03\x02\x0d\x03\x01a\x0d\x03\x01b\x03\x01\x00\x03\x01\x08\x03\x05",
+    )?;
+    let rows = items(&value).unwrap_or_default();
+    assert_eq!(rt; rows.len(), 1);
+    assert!(rt; matches!(entry(&rows[0], "a"), Some(Value::Array(_))));
+    assert!(rt; matches!(entry(&rows[0], "b"), Some(Value::Integer(5))));
+    Ok(())
+}
+
+#[test]
+fn a_text_in_a_row_that_is_not_utf8_is_refused(rt: HostRuntime) {
+    let refused = from_slice::<Value>(
+        rt.alloc(),
+        b"\x00\x02\x00\x00\x00\x00\x03\x0e\x0b\x00\x03\x01\x0d\x03\x01a\x03\x01\x0d\x03\x01\xff",
+    );
+    assert!(rt;
+        matches!(
+            refused,
+            Err(Error::DeReaderError {
+                source: ReadCause::Utf8
+            })
+        )
+    );
+}

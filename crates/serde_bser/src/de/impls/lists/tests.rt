@@ -1,4 +1,10 @@
 //! Tests of lists and tuples that are read from whole messages.
+ghost use Rattle.std.specs.Prelude.{◌≡◌, ℕ, List, [], ◌∷◌, ◌++◌, IsOk};
+ghost use Rattle.bser_base.specs.Content.{Content};
+ghost use Rattle.bser_base.specs.ReadsHolders.{reads_tuple};
+ghost use Rattle.bser_base.specs.ReadsScalars.{reads_signed, reads_string};
+ghost use Rattle.serde_bser.specs.Messages.{ReadsAs};
+
 use crate::de::{from_reader, from_slice};
 use bser_base::device::Watched;
 use bser_base::errors::{Complaint, Error, Message, ReadCause, Result};
@@ -57,6 +63,20 @@ fn arrays_are_tuples_of_as_many_items(rt: HostRuntime) -> Result<()> {
             (1, true, false, ())
         )
     );
+    Ok(())
+}
+
+/// Reads a number and a text: wherever they stand they are answered, whatever memory there is.
+fn number_and_text<'de>(alloc: Global, bytes: &'de [u8]) -> Result<(i64, &'de str)>
+    ensures { (text rest : List ℕ) (c : Content) → ReadsAs 128 (reads_tuple (reads_signed 64 ∷ reads_string ∷ [])) text c → bytes.now ≡ text ++ rest → IsOk result }
+{
+    from_slice(alloc, bytes)
+}
+
+#[test]
+fn a_number_and_a_text_take_no_memory(rt: HostRuntime) -> Result<()> {
+    let message = b"\x00\x02\x00\x00\x00\x00\x03\x09\x00\x03\x02\x03\x07\x0d\x03\x01x";
+    assert!(rt; matches!(number_and_text(rt.alloc(), message)?, (7, "x")));
     Ok(())
 }
 

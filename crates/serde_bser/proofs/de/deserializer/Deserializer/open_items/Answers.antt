@@ -2,11 +2,13 @@
 use Rattle.std.proofs.Common.{rules}
 use Rattle.std.proofs.lemmas.Result.{err_from_is_err_and}
 use Rattle.serde_bser.specs.Scalar.{owned}
+use Rattle.serde_bser.specs.Reading.{only_keys}
 use Rattle.serde_bser.specs.State.{State}
 use Rattle.serde_bser.specs.View.{state}
+use Rattle.serde_bser.specs.Openings.{IsBefore}
 use Rattle.serde_bser.proofs.Steps.{with_needs}
 use Rattle.serde_bser.proofs.Strings.{if_ok, if_err}
-use Rattle.serde_bser.proofs.Openings.{no_items_kind, opened_items, refused_items}
+use Rattle.serde_bser.proofs.Openings.{no_items_kind, opened_items, refused_items, refused_array, arrays_too, table_alone}
 use Rattle.serde_bser.proofs.ContainerHeads.{before_template}
 use Rattle.serde_bser.proofs.de.deserializer.Deserializer.open_items.Goals as goal
 use Rattle.serde_bser.proofs.de.deserializer.Deserializer.open_items.Goals.{in_default-via-in-Tag+in_default, in_default-via-in_default}
@@ -42,6 +44,25 @@ returns-in_default-clause-refused g c =
     let old : State = state g.R.DeRead.state g.R.Lent.Lending.kept c.args.self.now in
     let mid : State = state g.R.DeRead.state g.R.Lent.Lending.kept c.expect.new.self in
     if_err c.open_template.result _ _ (λ e u. refused_items owned e old mid _ _ c.in_ok-expect.ensures.found (u)) c.open_template.ensures.refused
+
+pub returns-in_err-expect-clause-array : goal.returns-in_err-expect-clause-array
+returns-in_err-expect-clause-array g c =
+    let p = err_from_is_err_and c.from_residual.result c.from_residual.ensures.1 in
+    let old : State = state g.R.DeRead.state g.R.Lent.Lending.kept c.args.self.now in
+    rw (p.1, p.2) (arrays_too only_keys _ old _ (no_items_kind only_keys _ old _ c.in_err-expect.ensures.refused))
+
+pub returns-in-Tag-eq0-clause-array : goal.returns-in-Tag-eq0-clause-array
+returns-in-Tag-eq0-clause-array g c =
+    let old : State = state g.R.DeRead.state g.R.Lent.Lending.kept c.args.self.now in
+    let mid : State = state g.R.DeRead.state g.R.Lent.Lending.kept c.expect.new.self in
+    if_err c.open_array.result _ _ (λ e u. arrays_too only_keys e old _ (refused_items only_keys e old mid _ _ c.in_ok-expect.ensures.found (with_needs only_keys _ e _ _ u))) c.open_array.ensures.refused
+
+pub returns-in_default-clause-array : goal.returns-in_default-clause-array
+returns-in_default-clause-array g c =
+    let old : State = state g.R.DeRead.state g.R.Lent.Lending.kept c.args.self.now in
+    let mid : State = state g.R.DeRead.state g.R.Lent.Lending.kept c.expect.new.self in
+    let before : IsBefore 0x0b mid = before_template old mid _ c.in_ok-expect.ensures.found (λ e. elim c.in_default.branch [ in_default-via-in-Tag+in_default w ↦ search rules | in_default-via-in_default w ↦ search rules ]) in
+    if_err c.open_template.result _ _ (λ e u. refused_array only_keys e old mid _ _ c.in_ok-expect.ensures.found (table_alone e mid _ before u)) c.open_template.ensures.refused
 
 pub open_template-requires : goal.open_template-requires
 open_template-requires g c =

@@ -7,7 +7,8 @@ use Rattle.serde_bser.specs.Reading.{Refuses}
 use Rattle.serde_bser.specs.Scalar.{owned}
 use Rattle.serde_bser.specs.State.{State}
 use Rattle.serde_bser.specs.View.{state}
-use Rattle.serde_bser.proofs.Buildings.{nested_start, nested_next, nested_into, nested_full, nested_done, nested_closed, nested_room, closed_room, name_refused, value_refused, fills_between}
+use Rattle.serde_bser.proofs.Buildings.{nested_start, nested_next, nested_into, nested_full, nested_done, nested_closed, nested_room, closed_room, name_refused, value_refused, fills_between, fails_too}
+use Rattle.serde_bser.proofs.ValuesAtHand.{nested_same, nested_due, nested_advances, nested_refused}
 use Rattle.serde_bser.proofs.de.deserializer.Deserializer.read_value.Goals as goal
 
 pub loop-init : goal.loop-init
@@ -18,66 +19,112 @@ loop-init g c =
 
 pub await_next-requires : goal.await_next-requires
 await_next-requires g c =
-    let s : State = state g.R.DeRead.state g.R.Lent.Lending.kept c.loop.self in
-    fills_between c.loop.inner c.loop.invariant.outside s c.loop.invariant.filling
+    let o : State = state g.R.DeRead.state g.R.Lent.Lending.kept c.args.self.now in
+    let r : State = state g.R.DeRead.state g.R.Lent.Lending.kept c.loop.self in
+    let s : State = state g.R.DeRead.state g.R.Lent.Lending.kept c.step_at_hand.new.self in
+    let n = nested_same o c.loop.around.items c.step_at_hand.new.around.items c.loop.inner c.step_at_hand.new.inner r s c.loop.invariant c.in-Absent.ensures in
+    fills_between c.step_at_hand.new.inner n.outside s n.filling
 
 pub returns-in_err-await_next-clause-refused : goal.returns-in_err-await_next-clause-refused
 returns-in_err-await_next-clause-refused g c =
     let p = err_from_is_err_and c.from_residual-in_err-await_next.result c.from_residual-in_err-await_next.ensures.1 in
     let o : State = state g.R.DeRead.state g.R.Lent.Lending.kept c.args.self.now in
-    let s : State = state g.R.DeRead.state g.R.Lent.Lending.kept c.loop.self in
+    let r : State = state g.R.DeRead.state g.R.Lent.Lending.kept c.loop.self in
+    let s : State = state g.R.DeRead.state g.R.Lent.Lending.kept c.step_at_hand.new.self in
+    let n = nested_same o c.loop.around.items c.step_at_hand.new.around.items c.loop.inner c.step_at_hand.new.inner r s c.loop.invariant c.in-Absent.ensures in
     let t : State = state g.R.DeRead.state g.R.Lent.Lending.kept c.await_next.new.self in
-    rw (p.1, p.2) (name_refused o c.loop.around.items c.loop.inner _ s t c.loop.invariant c.in_err-await_next.ensures.refused)
+    rw (p.1, p.2) (name_refused o c.step_at_hand.new.around.items c.step_at_hand.new.inner _ s t n c.in_err-await_next.ensures.refused)
 
 pub returns-in_err-read_into-clause-refused : goal.returns-in_err-read_into-clause-refused
 returns-in_err-read_into-clause-refused g c =
     let p = err_from_is_err_and c.from_residual-in_err-read_into.result c.from_residual-in_err-read_into.ensures.1 in
     let o : State = state g.R.DeRead.state g.R.Lent.Lending.kept c.args.self.now in
-    let s : State = state g.R.DeRead.state g.R.Lent.Lending.kept c.loop.self in
+    let r : State = state g.R.DeRead.state g.R.Lent.Lending.kept c.loop.self in
+    let s : State = state g.R.DeRead.state g.R.Lent.Lending.kept c.step_at_hand.new.self in
+    let n = nested_same o c.loop.around.items c.step_at_hand.new.around.items c.loop.inner c.step_at_hand.new.inner r s c.loop.invariant c.in-Absent.ensures in
     let t : State = state g.R.DeRead.state g.R.Lent.Lending.kept c.await_next.new.self in
-    let z : State = state g.R.DeRead.state g.R.Lent.Lending.kept c.read_into.new.self in
-    let next = nested_next o c.loop.around.items c.loop.inner c.await_next.new.building s t c.loop.invariant (c.in_ok-await_next.ensures.some c.if-branch.true) in
-    rw (p.1, p.2) (value_refused o c.loop.around.items c.await_next.new.building _ t z next c.in_err-read_into.ensures.refused)
+    let z : State = state g.R.DeRead.state g.R.Lent.Lending.kept c.read_into-then-branch.new.self in
+    let next = nested_next o c.step_at_hand.new.around.items c.step_at_hand.new.inner c.await_next.new.building s t n (c.in_ok-await_next.ensures.some c.if-branch.true) in
+    rw (p.1, p.2) (value_refused o c.step_at_hand.new.around.items c.await_next.new.building _ t z next c.in_err-read_into.ensures.refused)
 
 pub loop-preserved-then-branch : goal.loop-preserved-then-branch
 loop-preserved-then-branch g c =
     let o : State = state g.R.DeRead.state g.R.Lent.Lending.kept c.args.self.now in
-    let s : State = state g.R.DeRead.state g.R.Lent.Lending.kept c.loop.self in
+    let r : State = state g.R.DeRead.state g.R.Lent.Lending.kept c.loop.self in
+    let s : State = state g.R.DeRead.state g.R.Lent.Lending.kept c.step_at_hand.new.self in
+    let n = nested_same o c.loop.around.items c.step_at_hand.new.around.items c.loop.inner c.step_at_hand.new.inner r s c.loop.invariant c.in-Absent.ensures in
     let t : State = state g.R.DeRead.state g.R.Lent.Lending.kept c.await_next.new.self in
-    let z : State = state g.R.DeRead.state g.R.Lent.Lending.kept c.read_into.new.self in
-    let next = nested_next o c.loop.around.items c.loop.inner c.await_next.new.building s t c.loop.invariant (c.in_ok-await_next.ensures.some c.if-branch.true) in
-    nested_into o c.loop.around.items c.read_into.new.around.items c.await_next.new.building c.read_into.new.inner t z next c.in_ok-read_into.ensures.found
+    let z : State = state g.R.DeRead.state g.R.Lent.Lending.kept c.read_into-then-branch.new.self in
+    let next = nested_next o c.step_at_hand.new.around.items c.step_at_hand.new.inner c.await_next.new.building s t n (c.in_ok-await_next.ensures.some c.if-branch.true) in
+    nested_into o c.step_at_hand.new.around.items c.read_into-then-branch.new.around.items c.await_next.new.building c.read_into-then-branch.new.inner t z next c.in_ok-read_into.ensures.found
 
 pub returns-in_err-value-2-clause-refused : goal.returns-in_err-value-2-clause-refused
 returns-in_err-value-2-clause-refused g c =
     let p = err_from_is_err_and c.from_residual-in_err-value-2.result c.from_residual-in_err-value-2.ensures.1 in
     let o : State = state g.R.DeRead.state g.R.Lent.Lending.kept c.args.self.now in
-    let s : State = state g.R.DeRead.state g.R.Lent.Lending.kept c.loop.self in
+    let r : State = state g.R.DeRead.state g.R.Lent.Lending.kept c.loop.self in
+    let s : State = state g.R.DeRead.state g.R.Lent.Lending.kept c.step_at_hand.new.self in
+    let n = nested_same o c.loop.around.items c.step_at_hand.new.around.items c.loop.inner c.step_at_hand.new.inner r s c.loop.invariant c.in-Absent.ensures in
     let t : State = state g.R.DeRead.state g.R.Lent.Lending.kept c.await_next.new.self in
     let z : State = state g.R.DeRead.state g.R.Lent.Lending.kept c.close_into.new.self in
-    let full = nested_full o c.loop.around.items c.loop.inner c.await_next.new.building s t c.loop.invariant (c.in_ok-await_next.ensures.none c.if-branch.false) in
-    rw (p.1, p.2, c.in_err-value-2.ensures.err) (closed_room o c.loop.around.items c.await_next.new.building t z full c.in_err-value-2.ensures.state)
+    let full = nested_full o c.step_at_hand.new.around.items c.step_at_hand.new.inner c.await_next.new.building s t n (c.in_ok-await_next.ensures.none c.if-branch.false) in
+    rw (p.1, p.2, c.in_err-value-2.ensures.err) (closed_room o c.step_at_hand.new.around.items c.await_next.new.building t z full c.in_err-value-2.ensures.state)
 
 pub returns-in-Whole-2-clause-found : goal.returns-in-Whole-2-clause-found
 returns-in-Whole-2-clause-found g c =
     let o : State = state g.R.DeRead.state g.R.Lent.Lending.kept c.args.self.now in
-    let s : State = state g.R.DeRead.state g.R.Lent.Lending.kept c.loop.self in
+    let r : State = state g.R.DeRead.state g.R.Lent.Lending.kept c.loop.self in
+    let s : State = state g.R.DeRead.state g.R.Lent.Lending.kept c.step_at_hand.new.self in
+    let n = nested_same o c.loop.around.items c.step_at_hand.new.around.items c.loop.inner c.step_at_hand.new.inner r s c.loop.invariant c.in-Absent.ensures in
     let t : State = state g.R.DeRead.state g.R.Lent.Lending.kept c.await_next.new.self in
     let z : State = state g.R.DeRead.state g.R.Lent.Lending.kept c.close_into.new.self in
-    let full = nested_full o c.loop.around.items c.loop.inner c.await_next.new.building s t c.loop.invariant (c.in_ok-await_next.ensures.none c.if-branch.false) in
-    nested_done o c.loop.around.items c.await_next.new.building t z c.in-Whole-2.value full (rw c.in-Whole-2.is at c.in_ok-value-2.ensures.found)
+    let full = nested_full o c.step_at_hand.new.around.items c.step_at_hand.new.inner c.await_next.new.building s t n (c.in_ok-await_next.ensures.none c.if-branch.false) in
+    nested_done o c.step_at_hand.new.around.items c.await_next.new.building t z c.in-Whole-2.value full (rw c.in-Whole-2.is at c.in_ok-value-2.ensures.found)
 
 pub loop-preserved : goal.loop-preserved
 loop-preserved g c =
     let o : State = state g.R.DeRead.state g.R.Lent.Lending.kept c.args.self.now in
-    let s : State = state g.R.DeRead.state g.R.Lent.Lending.kept c.loop.self in
+    let r : State = state g.R.DeRead.state g.R.Lent.Lending.kept c.loop.self in
+    let s : State = state g.R.DeRead.state g.R.Lent.Lending.kept c.step_at_hand.new.self in
+    let n = nested_same o c.loop.around.items c.step_at_hand.new.around.items c.loop.inner c.step_at_hand.new.inner r s c.loop.invariant c.in-Absent.ensures in
     let t : State = state g.R.DeRead.state g.R.Lent.Lending.kept c.await_next.new.self in
     let z : State = state g.R.DeRead.state g.R.Lent.Lending.kept c.close_into.new.self in
-    let full = nested_full o c.loop.around.items c.loop.inner c.await_next.new.building s t c.loop.invariant (c.in_ok-await_next.ensures.none c.if-branch.false) in
-    nested_closed o c.loop.around.items c.close_into.new.around.items c.await_next.new.building c.in-Opened-2.building t z full (rw c.in-Opened-2.is at c.in_ok-value-2.ensures.found)
+    let full = nested_full o c.step_at_hand.new.around.items c.step_at_hand.new.inner c.await_next.new.building s t n (c.in_ok-await_next.ensures.none c.if-branch.false) in
+    nested_closed o c.step_at_hand.new.around.items c.close_into.new.around.items c.await_next.new.building c.in-Opened-2.building t z full (rw c.in-Opened-2.is at c.in_ok-value-2.ensures.found)
 
 pub returns-clause-refused : goal.returns-clause-refused
 returns-clause-refused g c =
     let o : State = state g.R.DeRead.state g.R.Lent.Lending.kept c.args.self.now in
     let s : State = state g.R.DeRead.state g.R.Lent.Lending.kept c.loop.self in
-    subst (λ (z : State). Refuses reads_value owned OutOfMemory o z) (sym c.fail.ensures) (nested_room o c.loop.around.items c.loop.inner s c.loop.invariant)
+    subst (λ (z : State). Refuses reads_value owned OutOfMemory o z) (sym c.fail-2.ensures) (nested_room o c.loop.around.items c.loop.inner s c.loop.invariant)
+
+pub loop-preserved-in-Taken : goal.loop-preserved-in-Taken
+loop-preserved-in-Taken g c =
+    let o : State = state g.R.DeRead.state g.R.Lent.Lending.kept c.args.self.now in
+    nested_advances o _ _ _ _ _ _ c.loop.invariant c.in-Taken.ensures
+
+pub returns-in-Refused-clause-refused : goal.returns-in-Refused-clause-refused
+returns-in-Refused-clause-refused g c =
+    let o : State = state g.R.DeRead.state g.R.Lent.Lending.kept c.args.self.now in
+    let s : State = state g.R.DeRead.state g.R.Lent.Lending.kept c.loop.self in
+    let z : State = state g.R.DeRead.state g.R.Lent.Lending.kept c.step_at_hand.new.self in
+    subst (λ (y : State). Refuses reads_value owned OutOfMemory o y) (sym c.fail.ensures) (fails_too OutOfMemory o z (nested_refused o _ _ s z c.loop.invariant c.in-Refused.ensures))
+
+pub loop-preserved-in-Due : goal.loop-preserved-in-Due
+loop-preserved-in-Due g c =
+    let o : State = state g.R.DeRead.state g.R.Lent.Lending.kept c.args.self.now in
+    let s : State = state g.R.DeRead.state g.R.Lent.Lending.kept c.loop.self in
+    let t : State = state g.R.DeRead.state g.R.Lent.Lending.kept c.step_at_hand.new.self in
+    let z : State = state g.R.DeRead.state g.R.Lent.Lending.kept c.read_into.new.self in
+    let next = nested_due o c.loop.around.items c.step_at_hand.new.around.items c.loop.inner c.step_at_hand.new.inner s t c.loop.invariant c.in-Due.ensures in
+    nested_into o c.step_at_hand.new.around.items c.read_into.new.around.items c.step_at_hand.new.inner c.read_into.new.inner t z next c.in_ok-read_into-in-Due.ensures.found
+
+pub returns-in_err-read_into-in-Due-clause-refused : goal.returns-in_err-read_into-in-Due-clause-refused
+returns-in_err-read_into-in-Due-clause-refused g c =
+    let p = err_from_is_err_and c.from_residual-in_err-read_into-in-Due.result c.from_residual-in_err-read_into-in-Due.ensures.1 in
+    let o : State = state g.R.DeRead.state g.R.Lent.Lending.kept c.args.self.now in
+    let s : State = state g.R.DeRead.state g.R.Lent.Lending.kept c.loop.self in
+    let t : State = state g.R.DeRead.state g.R.Lent.Lending.kept c.step_at_hand.new.self in
+    let z : State = state g.R.DeRead.state g.R.Lent.Lending.kept c.read_into.new.self in
+    let next = nested_due o c.loop.around.items c.step_at_hand.new.around.items c.loop.inner c.step_at_hand.new.inner s t c.loop.invariant c.in-Due.ensures in
+    rw (p.1, p.2) (value_refused o c.step_at_hand.new.around.items c.step_at_hand.new.inner _ t z next c.in_err-read_into-in-Due.ensures.refused)

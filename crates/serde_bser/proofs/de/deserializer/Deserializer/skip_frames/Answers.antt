@@ -10,15 +10,18 @@ use Rattle.serde_bser.proofs.de.deserializer.Deserializer.skip_frames.Goals as g
 pub returns-in_err-next-clause-refused : goal.returns-in_err-next-clause-refused
 returns-in_err-next-clause-refused g c =
     let p = err_from_is_err_and c.from_residual.result c.from_residual.ensures.1 in
-    rw (p.1, p.2) (refused_later owned (SkipsFrame c.args.whole) (SkipsFrame c.loop.frame then SkipsFrames c.loop.self.frames.items) _ _ _ _ c.loop.invariant
-    (refused_first owned (SkipsFrame c.loop.frame) (SkipsFrames c.loop.self.frames.items) _ _ _ c.in_err-next.ensures.refused))
+    let ready = skips_then (SkipsFrame c.args.whole) (SkipsFrame c.loop.frame then SkipsFrames c.loop.self.frames.items) (SkipsFrame c.skip_ready.new.frame then SkipsFrames c.skip_ready.new.self.frames.items) _ _ _ c.loop.invariant c.skip_ready.ensures in
+    rw (p.1, p.2) (refused_later owned (SkipsFrame c.args.whole) (SkipsFrame c.skip_ready.new.frame then SkipsFrames c.skip_ready.new.self.frames.items) _ _ _ _ ready
+    (refused_first owned (SkipsFrame c.skip_ready.new.frame) (SkipsFrames c.skip_ready.new.self.frames.items) _ _ _ c.in_err-next.ensures.refused))
 
 pub returns-in-None-clause-found : goal.returns-in-None-clause-found
 returns-in-None-clause-found g c =
     let over = rw c.in-None.is at c.in_ok-next.ensures.found in
-    skips_then (SkipsFrame c.args.whole) (SkipsFrame c.loop.frame then SkipsFrames c.loop.self.frames.items) (Bytes []) _ _ _ c.loop.invariant over
+    let ready = skips_then (SkipsFrame c.args.whole) (SkipsFrame c.loop.frame then SkipsFrames c.loop.self.frames.items) (SkipsFrame c.skip_ready.new.frame then SkipsFrames c.skip_ready.new.self.frames.items) _ _ _ c.loop.invariant c.skip_ready.ensures in
+    skips_then (SkipsFrame c.args.whole) (SkipsFrame c.skip_ready.new.frame then SkipsFrames c.skip_ready.new.self.frames.items) (Bytes []) _ _ _ ready over
 
 pub loop-preserved : goal.loop-preserved
 loop-preserved g c =
     let more = rw c.in-Some.is at c.in_ok-next.ensures.found in
-    skips_then (SkipsFrame c.args.whole) (SkipsFrame c.loop.frame then SkipsFrames c.loop.self.frames.items) (SkipsFrame c.in-Some.next then SkipsFrames c.skip_step.new.self.frames.items) _ _ _ c.loop.invariant more
+    let ready = skips_then (SkipsFrame c.args.whole) (SkipsFrame c.loop.frame then SkipsFrames c.loop.self.frames.items) (SkipsFrame c.skip_ready.new.frame then SkipsFrames c.skip_ready.new.self.frames.items) _ _ _ c.loop.invariant c.skip_ready.ensures in
+    skips_then (SkipsFrame c.args.whole) (SkipsFrame c.skip_ready.new.frame then SkipsFrames c.skip_ready.new.self.frames.items) (SkipsFrame c.in-Some.next then SkipsFrames c.skip_step.new.self.frames.items) _ _ _ ready more

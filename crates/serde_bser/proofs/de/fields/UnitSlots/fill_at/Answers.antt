@@ -1,16 +1,19 @@
-use Rattle.std.proofs.lemmas.Result.{err_from_is_err_and}
-use Rattle.serde_bser.specs.Access.{OpenPairs}
+use Rattle.std.proofs.Common.{[]}
+use Rattle.bser_base.specs.ReadsAny.{reads_ignored}
+use Rattle.serde_bser.specs.Scalar.{owned}
+use Rattle.serde_bser.specs.Access.{OpenPairs, RefusesValue}
 use Rattle.serde_bser.specs.Accesses.{open_pairs}
 use Rattle.serde_bser.specs.State.{State}
 use Rattle.serde_bser.specs.View.{state}
 use Rattle.serde_bser.specs.Slots.{struct_needs}
-use Rattle.std.proofs.Common.{[]}
-use Rattle.serde_bser.proofs.Slots.{none_refused}
+use Rattle.serde_bser.proofs.Slots.{reason_of, none_passed, none_refused}
 use Rattle.serde_bser.proofs.de.fields.UnitSlots.fill_at.Goals as goal
 
-pub returns-in_err-next_value-clause-refused : goal.returns-in_err-next_value-clause-refused
-returns-in_err-next_value-clause-refused g c =
+pub returns-clause-found : goal.returns-clause-found
+returns-clause-found g c = λ read ss same. none_passed c.args._place ss _ _ (c.pass_value.ensures.found read) same
+
+pub returns-clause-refused : goal.returns-clause-refused
+returns-clause-refused g c =
     let u : OpenPairs = open_pairs g.R.DeRead.state g.L.Lending.kept c.args.map.now in
-    let z : State = state g.R.DeRead.state g.L.Lending.kept c.next_value.new.self.from.now in
-    let p = err_from_is_err_and c.from_residual.result c.from_residual.ensures.1 in
-    rw (p.1, p.2) (λ ss same. none_refused (struct_needs []) _ c.args._place ss u z same c.in_err-next_value.ensures.refused)
+    let z : State = state g.R.DeRead.state g.L.Lending.kept c.pass_value.new.self.from.now in
+    λ refused. reason_of c.pass_value.new.refusal (λ e. RefusesValue reads_ignored owned e u z) _ (λ e refuses ss same. none_refused (struct_needs []) e c.args._place ss u z same refuses) (c.pass_value.ensures.refused refused)

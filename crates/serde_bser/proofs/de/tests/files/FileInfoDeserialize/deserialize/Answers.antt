@@ -10,7 +10,7 @@ use Rattle.serde_bser.specs.Reading.{IsRefusal}
 use Rattle.serde_bser.specs.Fold.{either}
 use Rattle.serde_bser.specs.Files.{Found, file_names, file_field, nothing_found, file_found, both, HoldsFile}
 use Rattle.serde_bser.specs.declared.de.field.Field.TheVariants.{Known, Unknown}
-use Rattle.serde_bser.proofs.Structs.{struct_start, struct_field, struct_value, struct_end, opening, name_refused, field_refused, field_unread, fields_missing, keeps_not, keeps_is, first_read, read_again, was_read, later_place, either_left, either_right, stays_here, closed_stays}
+use Rattle.serde_bser.proofs.Structs.{struct_start, struct_field, struct_value, struct_end, opening, name_refused, field_refused, field_unread, fields_missing, keeps_not, keeps_is, first_read, read_again, was_read, later_place, either_left, either_right, takes_left, takes_right, stays_here, closed_stays}
 use Rattle.serde_bser.proofs.de.tests.files.FileInfoDeserialize.deserialize.Goals as goal
 use Rattle.serde_bser.proofs.de.tests.files.FileInfoDeserialize.deserialize.Goals.{in_default-2-via-in-Some+in_default, in_default-2-via-in_default}
 
@@ -74,7 +74,7 @@ returns-in_err-next_value-in-Known-eq0-clause-refused g c =
     let e = c.in_err-next_value-in-Known-eq0 in
     rw (p.1, p.2, e.from-in-Break-branch-4-1-own.given.1 (sym (e.ensures.same_reference ∙ c.in_ok-field.ensures.same_reference ∙ i.same_reference ∙ c.in_ok-map.ensures.same_reference)))
     (field_refused file_names step nothing_found file_found g.S.Shape.reads g.S.Shape.needs (either g.S.Shape.needs g.N.Shape.needs) e.field-0.0 o (state g.R.DeRead.state g.L.Lending.kept c.next_value.new.self.from.now) i.found c.in-Some.field m
-    (either_left g.S.Shape.needs.lent g.N.Shape.needs.lent) (either_left g.S.Shape.needs.memory g.N.Shape.needs.memory)
+    (either_left g.S.Shape.needs.lent g.N.Shape.needs.lent) (either_left g.S.Shape.needs.memory g.N.Shape.needs.memory) (takes_left g.S.Shape.needs g.N.Shape.needs)
     (λ t b made. was_read (λ z. record i.found { name = z }) g.S.Shape.reads i.found.name t b (ap (λ z. step i.found z t) (sym known) ∙ made)) f e.ensures.refused)
 
 pub loop-size-preserved-in-Known-eq0 : goal.loop-size-preserved-in-Known-eq0
@@ -131,7 +131,7 @@ returns-in_err-next_value-in-Known-clause-refused g c =
     let e = c.in_err-next_value-in-Known in
     rw (p.1, p.2, e.from-in-Break-branch-5-1-own.given.1 (sym (e.ensures.same_reference ∙ c.in_ok-field.ensures.same_reference ∙ i.same_reference ∙ c.in_ok-map.ensures.same_reference)))
     (field_refused file_names step nothing_found file_found g.N.Shape.reads g.N.Shape.needs (either g.S.Shape.needs g.N.Shape.needs) e.field-0.0 o (state g.R.DeRead.state g.L.Lending.kept c.next_value-in-Known.new.self.from.now) i.found c.in-Some.field m
-    (either_right g.S.Shape.needs.lent g.N.Shape.needs.lent) (either_right g.S.Shape.needs.memory g.N.Shape.needs.memory)
+    (either_right g.S.Shape.needs.lent g.N.Shape.needs.lent) (either_right g.S.Shape.needs.memory g.N.Shape.needs.memory) (takes_right g.S.Shape.needs g.N.Shape.needs)
     (λ t b made. was_read (λ z. record i.found { size = z }) g.N.Shape.reads i.found.size t b (ap (λ z. step i.found z t) (sym known) ∙ made)) f e.ensures.refused)
 
 pub loop-size-preserved : goal.loop-size-preserved

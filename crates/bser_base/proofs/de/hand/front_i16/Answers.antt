@@ -1,0 +1,18 @@
+use Rattle.std.proofs.Common.{rules, ℕ, ◌≡◌, ◌≤◌, ◌<◌, length, take, get_or, refl}
+use Rattle.std.specs.Int.{w16}
+use mir.Val.{SFits}
+use Rattle.std.proofs.lemmas.Int.{to_z-of_z}
+use Rattle.byteorder.specs.Endian.{little_number}
+use Rattle.bser_base.proofs.Tagged.{bytes_of_16}
+use Rattle.bser_base.proofs.Hand.{number_front, small_front}
+use Rattle.bser_base.proofs.de.hand.front_i16.Goals as goal
+
+pub returns : goal.returns
+returns c =
+    let bytes = take 2 c.args.rest.now in
+    let enough : 2 ≤ length c.args.rest.now = search rules in
+    let len : length bytes ≡ 2 = search rules in
+    let all : (i : ℕ) → get_or c.args.rest.now i 0 < 256 = search rules in
+    let fits : SFits w16 c.read_i16.result = search rules in
+    rw (to_z-of_z w16 c.read_i16.result fits)
+    (number_front w16 2 (little_number 2 bytes) _ c.args.rest.now enough c.read_i16.ensures (bytes_of_16 bytes _ len (small_front c.args.rest.now 2 all) refl))

@@ -1,0 +1,18 @@
+use Rattle.std.proofs.Common.{rules, ℕ, ◌≡◌, ◌≤◌, ◌<◌, length, take, get_or, refl}
+use Rattle.std.specs.Int.{w32}
+use mir.Val.{SFits}
+use Rattle.std.proofs.lemmas.Int.{to_z-of_z}
+use Rattle.byteorder.specs.Endian.{little_number}
+use Rattle.bser_base.proofs.Tagged.{bytes_of_32}
+use Rattle.bser_base.proofs.Hand.{number_front, small_front}
+use Rattle.bser_base.proofs.de.hand.front_i32.Goals as goal
+
+pub returns : goal.returns
+returns c =
+    let bytes = take 4 c.args.rest.now in
+    let enough : 4 ≤ length c.args.rest.now = search rules in
+    let len : length bytes ≡ 4 = search rules in
+    let all : (i : ℕ) → get_or c.args.rest.now i 0 < 256 = search rules in
+    let fits : SFits w32 c.read_i32.result = search rules in
+    rw (to_z-of_z w32 c.read_i32.result fits)
+    (number_front w32 4 (little_number 4 bytes) _ c.args.rest.now enough c.read_i32.ensures (bytes_of_32 bytes _ len (small_front c.args.rest.now 4 all) refl))

@@ -1,0 +1,37 @@
+-- What the enum of the worked messages, and a row that holds it, are read from, and what they hold.
+use Rattle.std.specs.Prelude.{◌≡◌, ℕ, List, [], ◌∷◌, codes}
+use Rattle.bser_base.specs.Content.{Content, one, variant, Meaning}
+use Rattle.bser_base.specs.Enums.{Payload, unit, holds, reads_enum}
+use Rattle.bser_base.specs.ReadsHolders.{reads_tuple}
+use Rattle.serde_bser.specs.HoldsLists.{HoldsTuple}
+use Rattle.serde_bser.specs.Slots.{required, reads_struct}
+use Rattle.serde_bser.specs.Variants.{HoldsVariant}
+use Rattle.bser_vectors.specs.declared.enums.EnumRow.{EnumRow}
+use Rattle.bser_vectors.specs.declared.enums.TestEnum.{TestEnum}
+use Rattle.bser_vectors.specs.declared.enums.TestEnum.TheVariants.{TestUnit, TestNewtype, TestTuple, TestStruct}
+
+-- an object with two fields
+abbrev pub reads_parts : Meaning → Meaning
+reads_parts S = reads_struct (codes "abc" ∷ codes "def" ∷ []) (required S ∷ required S ∷ [])
+
+-- the names of the variants, each with its payload: none, one value, two values, and an object with two fields
+abbrev pub test_variants : Meaning → List (List ℕ × Payload)
+test_variants S = (codes "TestUnit", unit) ∷ (codes "TestNewtype", holds S) ∷ (codes "TestTuple", holds (reads_tuple (S ∷ S ∷ []))) ∷ (codes "TestStruct", holds (reads_parts S)) ∷ []
+
+-- one of these variants
+abbrev pub reads_test_enum : Meaning → Meaning
+reads_test_enum S = reads_enum (test_variants S)
+
+-- a variant holds its place and what its payload holds
+abbrev pub HoldsTestEnum : {A : Type 0} → (A → Content → Type 0) → TestEnum A → Content → Type 0
+HoldsTestEnum held TestUnit c = c ≡ variant 0 one
+HoldsTestEnum held (TestNewtype x) c = HoldsVariant 1 (held x) c
+HoldsTestEnum held (TestTuple x y) c = HoldsVariant 2 (HoldsTuple (held x ∷ held y ∷ [])) c
+HoldsTestEnum held (TestStruct x y) c = HoldsVariant 3 (HoldsTuple (held x ∷ held y ∷ [])) c
+
+-- an object with an enum
+abbrev pub reads_enum_row : Meaning → Meaning
+reads_enum_row S = reads_struct (codes "abc" ∷ []) (required (reads_test_enum S) ∷ [])
+
+abbrev pub HoldsEnumRow : {A : Type 0} → (A → Content → Type 0) → EnumRow A → Content → Type 0
+HoldsEnumRow held v c = HoldsTuple (HoldsTestEnum held v.abc ∷ []) c

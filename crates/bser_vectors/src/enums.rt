@@ -1,0 +1,126 @@
+//! An enum that worked messages are read as, and a struct that holds it. A variant is read by the
+//! place of its name, and its payload as one value.
+ghost use Rattle.std.specs.Prelude.{false, ◌||◌, [], ◌∷◌, None};
+ghost use Rattle.std.proofs.Common.{ap};
+ghost use Rattle.serde_bser.specs.HoldsLists.{HoldsTuple};
+ghost use Rattle.serde_bser.specs.Slots.{struct_needs};
+ghost use Rattle.bser_vectors.specs.Enums.{reads_parts, reads_test_enum, HoldsTestEnum, reads_enum_row, HoldsEnumRow};
+
+use serde_bser::de::read::LendsText;
+use serde_bser::de::{DeRead, Deserialize, Deserializer, OwnedShape, Required, Shape};
+use serde_bser::errors::Result;
+use std::alloc::Global;
+
+/// A variant of each form.
+#[derive(Debug, PartialEq, Eq, Drop)]
+pub enum TestEnum<S> {
+    TestUnit,
+    TestNewtype(S),
+    TestTuple(S, S),
+    TestStruct { abc: S, def: S },
+}
+
+impl<S: Shape> Shape for TestEnum<S> {
+    ghost reads = { reads_test_enum S.reads };
+
+    ghost holds = { HoldsTestEnum S.holds };
+
+    ghost needs = { struct_needs (S.needs ∷ []) };
+
+    ghost plain = { None };
+}
+
+impl<L: LendsText, S: Deserialize<L>> Deserialize<L> for TestEnum<S> {
+    fn deserialize<R: DeRead<Lent = L>>(
+        alloc: Global,
+        from: &mut Deserializer<R>,
+    ) -> Result<TestEnum<S>> {
+        let variant = from.read_enum(
+            alloc,
+            "TestEnum",
+            &["TestUnit", "TestNewtype", "TestTuple", "TestStruct"],
+        )?;
+        match variant.place() {
+            0 => {
+                variant.unit_variant()?;
+                Ok(TestEnum::TestUnit)
+            }
+            1 => {
+                let value = variant.newtype_variant::<S>(alloc)?;
+                Ok(TestEnum::TestNewtype(value))
+            }
+            2 => {
+                let (first, second) = variant.newtype_variant::<(S, S)>(alloc)?;
+                Ok(TestEnum::TestTuple(first, second))
+            }
+            _ => {
+                let Parts { abc, def } = variant.newtype_variant::<Parts<S>>(alloc)?;
+                Ok(TestEnum::TestStruct { abc, def })
+            }
+        }
+    }
+}
+
+impl<S: OwnedShape> OwnedShape for TestEnum<S> {
+    ghost owned = { ap (λ a. a || false) S.owned };
+}
+
+/// What `TestStruct` holds.
+#[derive(Drop)]
+struct Parts<S> {
+    abc: S,
+    def: S,
+}
+
+impl<S: Shape> Shape for Parts<S> {
+    ghost reads = { reads_parts S.reads };
+
+    ghost holds = { λ v c. HoldsTuple (S.holds v.abc ∷ S.holds v.def ∷ []) c };
+
+    ghost needs = { struct_needs (S.needs ∷ S.needs ∷ []) };
+
+    ghost plain = { None };
+}
+
+impl<L: LendsText, S: Deserialize<L>> Deserialize<L> for Parts<S> {
+    fn deserialize<R: DeRead<Lent = L>>(
+        alloc: Global,
+        from: &mut Deserializer<R>,
+    ) -> Result<Parts<S>> {
+        let (abc, (def, ())) = from.read_fields::<(Required<S>, (Required<S>, ()))>(
+            alloc,
+            &["abc", "def"],
+        )?;
+        Ok(Parts { abc, def })
+    }
+}
+
+/// A row with one field, an enum.
+#[derive(Debug, PartialEq, Eq, Drop)]
+pub struct EnumRow<S> {
+    pub abc: TestEnum<S>,
+}
+
+impl<S: Shape> Shape for EnumRow<S> {
+    ghost reads = { reads_enum_row S.reads };
+
+    ghost holds = { HoldsEnumRow S.holds };
+
+    ghost needs = { struct_needs (struct_needs (S.needs ∷ []) ∷ []) };
+
+    ghost plain = { None };
+}
+
+impl<L: LendsText, S: Deserialize<L>> Deserialize<L> for EnumRow<S> {
+    fn deserialize<R: DeRead<Lent = L>>(
+        alloc: Global,
+        from: &mut Deserializer<R>,
+    ) -> Result<EnumRow<S>> {
+        let (abc, ()) = from.read_fields::<(Required<TestEnum<S>>, ())>(alloc, &["abc"])?;
+        Ok(EnumRow { abc })
+    }
+}
+
+impl<S: OwnedShape> OwnedShape for EnumRow<S> {
+    ghost owned = { ap (λ a. (a || false) || false) S.owned };
+}

@@ -1,0 +1,67 @@
+-- The first of a struct's names that a key is.
+use Rattle.std.proofs.Common.{◌≡◌, ◌≤◌, ◌<◌, ◌+◌, ℕ, zero, suc, List, [], ◌∷◌, length, drop, map, get_or, Bool, true, false, refl, sym, ap, subst, ◌∙◌, arith}
+use Rattle.std.specs.Prelude.{IsUtf8, nat_eq, ◌&&◌, ◌≢◌}
+use Rattle.std.proofs.Math.ListN.{drop_of_length-le}
+use Rattle.std.proofs.lemmas.Bool.{eq-eqb, eqb-true}
+use Rattle.std.proofs.lemmas.List.{drop_more}
+use Rattle.std.specs.Str.{bytes_eq}
+use Rattle.std.proofs.lemmas.Slice.Eq.{bytes_eq-Decides}
+use Rattle.serde_bser.specs.Fields.{field_from}
+use Rattle.serde_bser.specs.declared.de.field.Field.TheVariants.{Known, Unknown}
+
+-- the names from a place on begin with the one there
+pub from_here : {A : Type 0} (f : A → List ℕ) (d : A) (place : ℕ) (names : List A) → place < length names → drop place (map f names) ≡ f (get_or names place d) ∷ drop (place + 1) (map f names)
+from_here f d place names h = let n : place + 1 ≡ suc place = omega arith in at place names h ∙ ap (λ m. f (get_or names place d) ∷ drop m (map f names)) (sym n)
+  where
+    at : (place : ℕ) (names : List _) → place < length names → drop place (map f names) ≡ f (get_or names place d) ∷ drop (suc place) (map f names)
+    at place [] h = absurd (omega arith)
+    at zero (x ∷ names) h = refl
+    at (suc place) (x ∷ names) h = at place names (omega arith)
+
+pub none_left : {A : Type 0} (f : A → List ℕ) (place : ℕ) (names : List A) (name : List ℕ) → length names ≤ place → field_from place (drop place (map f names)) name ≡ Unknown
+none_left f place names name h = ap (λ ns. field_from place ns name) (at place names h)
+  where
+    at : (place : ℕ) (names : List _) → length names ≤ place → drop place (map f names) ≡ []
+    at zero [] h = refl
+    at (suc place) [] h = refl
+    at zero (x ∷ names) h = absurd (omega arith)
+    at (suc place) (x ∷ names) h = at place names (omega arith)
+
+pub known_here : (place : ℕ) (known name : List ℕ) (names : List (List ℕ)) (b : Bool) → b ≡ bytes_eq known name → b ≡ true → field_from place (known ∷ names) name ≡ Known place
+known_here place known name names b e t = rw (sym e ∙ t) refl
+
+pub other_here : (place : ℕ) (known name : List ℕ) (names : List (List ℕ)) (b : Bool) → b ≡ bytes_eq known name → b ≡ false → field_from place (known ∷ names) name ≡ field_from (place + 1) names name
+other_here place known name names b e f = let n : place + 1 ≡ suc place = omega arith in rw (sym e ∙ f, n) refl
+
+-- bytes that are equal to a text are UTF-8
+pub known_utf8 : (known name : List ℕ) (b : Bool) → b ≡ bytes_eq known name → b ≡ true → IsUtf8 known → IsUtf8 name
+known_utf8 known name b e t good = subst IsUtf8 ((bytes_eq-Decides known name).0 (sym e ∙ t)) good
+
+-- ---- the same bytes
+
+both_false : (a : Bool) {b : Bool} → false ≡ b → false ≡ (a && b)
+both_false true e = e
+both_false false e = refl
+
+pub other_lengths : (xs ys : List ℕ) → length xs ≢ length ys → false ≡ bytes_eq xs ys
+other_lengths [] [] h = absurd (h refl)
+other_lengths [] (y ∷ ys) h = refl
+other_lengths (x ∷ xs) [] h = refl
+other_lengths (x ∷ xs) (y ∷ ys) h = both_false (nat_eq x y) (other_lengths xs ys (λ e. h (ap suc e)))
+
+-- from a place on, by the bytes there
+pub from_place : (place : ℕ) (xs ys : List ℕ) → place < length xs → place < length ys → bytes_eq (drop place xs) (drop place ys) ≡ (nat_eq (get_or xs place 0) (get_or ys place 0) && bytes_eq (drop (place + 1) xs) (drop (place + 1) ys))
+from_place place xs ys h k = ap (λ l. bytes_eq l (drop place ys)) (drop_more xs place 0 h) ∙ ap (λ l. bytes_eq (get_or xs place 0 ∷ drop (place + 1) xs) l) (drop_more ys place 0 k)
+
+pub at_the_end : (place : ℕ) (xs ys : List ℕ) → length xs ≤ place → length ys ≤ place → bytes_eq (drop place xs) (drop place ys) ≡ true
+at_the_end place xs ys h k = ap (λ l. bytes_eq l (drop place ys)) (drop_of_length-le xs h) ∙ ap (bytes_eq []) (drop_of_length-le ys k)
+
+pub same_byte : (a b : ℕ) (rest : Bool) → a ≡ b → (nat_eq a b && rest) ≡ rest
+same_byte a b rest e = ap (λ t. t && rest) (eq-eqb a b e)
+
+pub other_byte : (a b : ℕ) (rest : Bool) → a ≢ b → (nat_eq a b && rest) ≡ false
+other_byte a b rest e = at (nat_eq a b) refl
+  where
+    at : (t : Bool) → nat_eq a b ≡ t → (nat_eq a b && rest) ≡ false
+    at true q = absurd (e (eqb-true a b q))
+    at false q = ap (λ t. t && rest) q
