@@ -1,5 +1,5 @@
 -- Numbers, tags and bytes that are at hand.
-use Rattle.std.proofs.Common.{◌≡◌, ℕ, zero, suc, ◌+◌, ◌-◌, ◌≤◌, ◌<◌, Bool, true, false, List, [], ◌∷◌, ◌++◌, Option, None, length, take, drop, slice_range, get_or, refl, sym, ap, subst, ◌∙◌, arith, FitsSigned, inl, inr}
+use Rattle.std.proofs.Common.{◌≡◌, ℕ, zero, suc, ◌+◌, ◌-◌, ◌≤◌, ◌<◌, Bool, true, false, List, [], ◌∷◌, Option, None, length, take, drop, slice_range, get_or, refl, sym, ap, subst, ◌∙◌, arith, FitsSigned, inl, inr}
 use Rattle.std.specs.Int.{Width, to_le_bytes, cast_signed, cast_unsigned}
 use Rattle.std.specs.Prelude.{ℤ, pos, ◌⊎◌, nat_eq}
 use Rattle.std.proofs.Math.Facts.{sfits_to_z, Fits-of_lt}

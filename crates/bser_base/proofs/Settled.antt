@@ -1,5 +1,5 @@
 -- What a spelled tree reads as is the tree of a value.
-use Rattle.std.proofs.Common.{◌≡◌, ℕ, zero, suc, ℤ, Bool, true, false, cond, List, [], ◌∷◌, Option, Some, None, option_map, option_and_then, IsUtf8, FitsSigned, refl, sym, ap, subst, Ordering, Less, Equal, Greater, nat_cmp}
+use Rattle.std.proofs.Common.{◌≡◌, ℕ, zero, suc, ℤ, Bool, true, false, cond, List, [], ◌∷◌, Option, Some, None, option_map, option_and_then, IsUtf8, FitsSigned, refl, sym, ap, subst, ◌∙◌, inl, inr, Ordering, Less, Equal, Greater, nat_cmp}
 use Rattle.std.proofs.lemmas.Option.{same_Some}
 use Rattle.std.proofs.lemmas.Str.{IsUtf8-from_is_utf8}
 use Rattle.std.proofs.Math.Facts.{sfits_widen}
@@ -13,7 +13,8 @@ use Rattle.std.specs.Str.{is_utf8}
 use Rattle.bser_base.specs.Tree.{Tree, null, boolean, integer, real, bytes, text, array, object, template, Items, no_items, item, Entries, no_entries, entry, Rows, no_rows, row, Fields, no_fields, skip, field, items, entries, fields, rows, entries_of}
 use Rattle.bser_base.specs.Grammar.{Format, Each, SpellsInteger, SpellsEntry, SpellsField, Spells, IntSize, int8, int16, int32, int64, width_of}
 use Rattle.bser_base.specs.Message.{IsMessage}
-use Rattle.bser_base.specs.Expand.{expand, expand_items, expand_entries, expand_rows, expand_fields}
+use Rattle.bser_base.specs.Expand.{expand, expand_items, expand_entries, expand_rows, expand_fields, key_tree}
+use Rattle.bser_base.specs.Expected.{Due, nothing_due, node_due, key_due, field_due, name_due, row_due, FillsNode, Fills}
 use Rattle.bser_base.specs.Normal.{last_entries, normal, normal_items, normal_entries}
 use Rattle.bser_base.specs.Compact.{keys}
 use Rattle.bser_base.specs.ValueTree.{IsValueTree, ItemsAreValueTrees, EntriesAreValueTrees}
@@ -126,3 +127,28 @@ settles (suc (suc n)) (template ks rs) b v h e =
 
 pub message_settles : (n c : ℕ) (t v : Tree) (b : List ℕ) → IsMessage n c t b → normal (expand t) ≡ Some v → IsValueTree v
 message_settles n c t v b m e = settles n t m.body v m.value e
+
+-- ---- what is due
+
+-- a key
+key_settles : (k : List ℕ) (v : Tree) → normal (key_tree k) ≡ Some v → IsValueTree v
+key_settles k v e = go (is_utf8 k) refl e
+  where
+    go : (u : Bool) → is_utf8 k ≡ u → normal (cond u (text k) (bytes k)) ≡ Some v → IsValueTree v
+    go true u e = subst IsValueTree (same_Some (text k) v e) (IsUtf8-from_is_utf8 k u)
+    go false u e = subst IsValueTree (same_Some (bytes k) v e) tt
+
+-- a value
+node_settles : (n : ℕ) (t v : Tree) (b : List ℕ) → FillsNode n t b → normal t ≡ Some v → IsValueTree v
+node_settles n t v b h e = settles n h.tree b v h.spelled (sym (ap normal h.stands) ∙ e)
+
+pub filled_settles : (n : ℕ) (d : Due) (t v : Tree) (b : List ℕ) → Fills n d t b → normal t ≡ Some v → IsValueTree v
+filled_settles n nothing_due t v b h e = absurd h
+filled_settles n node_due t v b h e = node_settles n t v b h e
+filled_settles n key_due t v b h e = key_settles h.key v (sym (ap normal h.stands) ∙ e)
+filled_settles n field_due t v b (inl h) e = subst IsValueTree (same_Some null v (sym (ap normal h.0) ∙ e)) tt
+filled_settles n field_due t v b (inr h) e = node_settles n t v b h e
+filled_settles n (name_due k) t v b h e = key_settles k v (sym (ap normal h.0) ∙ e)
+filled_settles n (row_due ks) t v b h e =
+    map_some (λ m. object (entries_of (last_entries m))) (normal_entries (expand_fields ks h.row)) v (sym (ap normal h.stands) ∙ e) λ m some same.
+    subst IsValueTree same (object_settled m (fields_settle (Spells n) (settles n) ks h.row b m h.spelled some))

@@ -1,5 +1,5 @@
 -- Integers and strings at the front of bytes that are at hand.
-use Rattle.std.specs.Prelude.{◌≡◌, ℕ, ℤ, pos, ◌≤◌, ◌<◌, ◌+◌, ◌-◌, Bool, true, false, List, [], ◌∷◌, length, take, drop, FitsSigned, if◌then◌else◌}
+use Rattle.std.specs.Prelude.{◌≡◌, ℕ, ℤ, ◌≤◌, ◌<◌, ◌+◌, ◌-◌, Bool, true, false, List, [], ◌∷◌, length, take, FitsSigned, if◌then◌else◌}
 use Rattle.std.specs.Int.{Width, to_le_bytes, cast_unsigned}
 use Rattle.bser_base.specs.Grammar.{SpellsInteger, SpellsCount}
 use Rattle.bser_base.specs.declared.de.bunser.Bunser.{Bunser}

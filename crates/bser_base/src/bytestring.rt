@@ -113,13 +113,22 @@ impl ByteString {
         Ok(text)
     }
 
-    /// Copies the bytes, where the Rust crate has `Clone`. The error is that there is no memory for them.
+    /// Copies the bytes into memory of this allocator. The error is that there is no memory for them.
     pub fn try_clone(&self, alloc: Global) -> Result<Self, AllocError>
         ensures { IfOk result (λ copy. copy ≡ self.now) }
     {
         Ok(Self {
             bytes: Vec::from_slice(alloc, self.as_bytes())?,
         })
+    }
+}
+
+/// Copies the bytes. The error is that there is no memory for them.
+impl Clone for ByteString {
+    ghost is_clone = { λ s t. t ≡ s };
+
+    fn clone(&self) -> Result<Self, AllocError> {
+        self.try_clone(*self.bytes.allocator())
     }
 }
 
@@ -384,6 +393,7 @@ mod tests {
         copied.as_mut_bytes()[0] = b'g';
         let owned = ByteString::from(String::from_str(alloc, "game")?);
         assert!(rt; copied == owned);
+        assert!(rt; copied.clone()? == owned);
         assert_eq!(rt;
             copied.try_clone(alloc)?.into_bytes().as_slice(),
             b"game".as_slice()

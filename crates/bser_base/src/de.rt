@@ -9,3 +9,4 @@ mod lending;
 pub mod read;
 #[cfg(test)]
 mod tests;
+pub mod text;

@@ -101,7 +101,8 @@ fn repeated(alloc: Global, operation: &str, message: &[u8], count: u32) -> Resul
     }
 }
 
-// Reads the message `count` times, and answers what was read last.
+// Reads the message `count` times, and answers what was read last. What was read before is dropped
+// first.
 fn read_often<'de, T: Deserialize<&'de [u8]>>(
     alloc: Global,
     message: &'de [u8],
@@ -109,16 +110,19 @@ fn read_often<'de, T: Deserialize<&'de [u8]>>(
 ) -> Result<T> {
     let mut last = None;
     for _ in 0..count {
+        last = None;
         let read: T = from_slice(alloc, message)?;
         last = Some(read);
     }
     last.context("COUNT is 0")
 }
 
-// Reads the message `count` times, each time from a reader, and answers what was read last.
+// Reads the message `count` times, each time from a reader, and answers what was read last. What was
+// read before is dropped first.
 fn copied_often<T: DeserializeOwned>(alloc: Global, message: &[u8], count: u32) -> Result<T> {
     let mut last = None;
     for _ in 0..count {
+        last = None;
         let mut reader = Watched::new(message);
         let read: T = from_reader(alloc, &mut reader)?;
         last = Some(read);

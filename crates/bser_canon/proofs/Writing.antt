@@ -5,10 +5,10 @@ use Rattle.bser_base.specs.Content.{Meaning}
 use Rattle.bser_base.specs.declared.errors.Error.{Error}
 use Rattle.bser_ser.specs.Message.{Missed}
 use Rattle.serde_bser.specs.Messages.{TookMessage}
-use Rattle.serde_bser.specs.ValueView.{tree_of, HoldsTree}
+use Rattle.serde_bser.specs.ValueView.{tree_of, HoldsValue}
 use Rattle.serde_bser.specs.declared.value.Value.{Value}
 use Rattle.bser_canon.specs.Canon.{Refuses}
 
-pub writing_refused : {R W A : Type 0} (reads : Meaning) (left : R → Option (List ℕ)) (failures : R → ℕ) (took : W → W → List ℕ → Type 0) (faults : W → ℕ) (old new : R) (before after : W) (value : Value) (r : Result A Error) → TookMessage 128 reads HoldsTree (left old) (left new) value → IfErr r (Missed took faults (Some (tree_of value)) before after) → IfErr r (Refuses reads left failures took faults old new before after)
+pub writing_refused : {R W A : Type 0} (reads : Meaning) (left : R → Option (List ℕ)) (failures : R → ℕ) (took : W → W → List ℕ → Type 0) (faults : W → ℕ) (old new : R) (before after : W) (value : Value) (r : Result A Error) → TookMessage 128 reads HoldsValue (left old) (left new) value → IfErr r (Missed took faults (Some (tree_of value)) before after) → IfErr r (Refuses reads left failures took faults old new before after)
 writing_refused reads left failures took faults old new before after value r read h =
     IfErr-weaker r _ _ (λ e missed. inr (record { value = value; read = read; missed = missed })) h

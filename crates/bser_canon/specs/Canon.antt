@@ -5,13 +5,13 @@ use Rattle.bser_base.specs.Content.{Meaning}
 use Rattle.bser_base.specs.declared.errors.Error.{Error}
 use Rattle.bser_ser.specs.Message.{Missed}
 use Rattle.serde_bser.specs.Messages.{TookMessage, RefusesReader}
-use Rattle.serde_bser.specs.ValueView.{tree_of, HoldsTree}
+use Rattle.serde_bser.specs.ValueView.{tree_of, HoldsValue}
 use Rattle.serde_bser.specs.declared.value.Value.{Value}
 
 -- exactly one message was taken, which reads as a value, and exactly that value's canonical message was written
 pub record Rewrote {R W : Type 0} (reads : Meaning) (left : R → Option (List ℕ)) (took : W → W → List ℕ → Type 0) (old new : R) (before after : W) : Type 0 where
   pub value : Value
-  pub read : TookMessage 128 reads HoldsTree (left old) (left new) value
+  pub read : TookMessage 128 reads HoldsValue (left old) (left new) value
   pub written : took before after (canonical_message (tree_of value))
   pub short : length (canonical_body (tree_of value)) < 2 ^ 63
 
@@ -23,7 +23,7 @@ pub record Unread {R W : Type 0} (reads : Meaning) (left : R → Option (List �
 -- exactly one message was taken, which reads as a value, and the writing of that value was refused
 pub record Unwritten {R W : Type 0} (reads : Meaning) (left : R → Option (List ℕ)) (took : W → W → List ℕ → Type 0) (faults : W → ℕ) (old new : R) (before after : W) (e : Error) : Type 0 where
   pub value : Value
-  pub read : TookMessage 128 reads HoldsTree (left old) (left new) value
+  pub read : TookMessage 128 reads HoldsValue (left old) (left new) value
   pub missed : Missed took faults (Some (tree_of value)) before after e
 
 -- a refusal, of the reading or of the writing

@@ -3,13 +3,13 @@ use Rattle.std.specs.Prelude.{◌≡◌, ℕ, ◌+◌, List, length, Option, Som
 use Rattle.bser_base.specs.Content.{Content, Meaning, Needs}
 use Rattle.bser_base.specs.declared.errors.Error.{Error}
 use Rattle.serde_bser.specs.Messages.{BeginsWith, TookMessage, RefusesSlice, RefusesReader}
-use Rattle.serde_bser.specs.ValueView.{HoldsTree}
+use Rattle.serde_bser.specs.ValueView.{HoldsValue}
 use Rattle.serde_bser.specs.declared.value.Value.{Value}
 use Rattle.bser_vectors.specs.Notation.{answer_notation}
 
 -- an answer of a slice: the value that a front of it reads as, or a refusal of it
 abbrev pub GivenOfSlice : Meaning → Needs → List ℕ → Result Value Error → Type 0
-GivenOfSlice reads needs bytes answer = MatchResult answer (BeginsWith 128 reads HoldsTree bytes) (λ e. RefusesSlice 128 reads needs e bytes)
+GivenOfSlice reads needs bytes answer = MatchResult answer (BeginsWith 128 reads HoldsValue bytes) (λ e. RefusesSlice 128 reads needs e bytes)
 
 -- a slice is answered so, and the notation of the answer is the text expected
 pub record AnswersSlice (reads : Meaning) (needs : Needs) (bytes expected : List ℕ) : Type 0 where
@@ -28,7 +28,7 @@ pub record GivenOfReader {A : Type 0} (reads : Meaning) (holds : A → Content �
 pub record AnswersReader (reads : Meaning) (bytes expected : List ℕ) (taken : ℕ) : Type 0 where
   pub answer : Result Value Error
   pub count : ℕ
-  pub given : GivenOfReader reads HoldsTree bytes answer count
+  pub given : GivenOfReader reads HoldsValue bytes answer count
   pub shown : expected ≡ answer_notation answer
   pub all : IsOk answer → count ≡ taken
 

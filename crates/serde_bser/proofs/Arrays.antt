@@ -8,16 +8,16 @@ use Rattle.bser_base.specs.Expected.{Fills, FillsItems, WantedItems, nodes, rows
 use Rattle.bser_base.specs.Source as source
 use Rattle.bser_base.specs.Source.{Took, sight_after}
 use Rattle.bser_base.specs.declared.errors.Error.{Error}
-use Rattle.bser_base.specs.declared.errors.Error.TheVariants.{DeReaderError, OutOfMemory}
+use Rattle.bser_base.specs.declared.errors.Error.TheVariants.{DeReaderError}
 use Rattle.bser_base.specs.declared.errors.ReadCause.TheVariants.{Failed}
 use Rattle.serde_bser.specs.State.{State, past, refused, awaiting}
 use Rattle.serde_bser.specs.Reading.{TakesMemory, Answers, Refuses, RefusesFront, FillsReadably, IsRefusal}
 use Rattle.serde_bser.specs.Scalar.{owned}
 use Rattle.serde_bser.specs.Parts.{items_left, item_due, items_after, wanted_items}
-use Rattle.serde_bser.specs.Access.{OpenItems, OpensItems, IsItemsHead, inside_items, IsNext, RefusesItem, ClosesItems, KeysOutside, LeavesItems, closed}
+use Rattle.serde_bser.specs.Access.{OpenItems, OpensItems, IsItemsHead, inside_items, items_in, IsNext, RefusesItem, ClosesItems, KeysOutside, LeavesItems, closed}
 use Rattle.serde_bser.proofs.Refusals.{passed_by, first_part, sequel, rest_of}
 use Rattle.serde_bser.proofs.Steps.{unfit, failed_before}
-use Rattle.serde_bser.proofs.Within.{Within, within_then, DueAs, due_as, took_then, one_due, wider_needs, no_room}
+use Rattle.serde_bser.proofs.Within.{Within, within_then, DueAs, due_as, took_then, one_due, wider_needs}
 use Rattle.serde_bser.proofs.Items.{items_whole, items_only, items_begin}
 
 -- ---- the access's own calls
@@ -41,6 +41,35 @@ failed_item reads needs e a t same failed state = record {
   refuses = failed_before needs _ e a.state.source t.source same failed (ap (λ z. z.source) state);
   failed = ap (λ z. z.source.failed) state;
 }
+
+-- an item is made due in a, read from there on to y, and passed
+pub item_read : {A : Type 0} (reads : Meaning) (holds : A → Content → Type 0) (u a t : OpenItems) (rows : Bool) (k : ℕ) (y : State) (v : A) → 0 < items_left u.wanted → a ≡ items_in u (awaiting (item_due u.wanted) u.state) u.wanted
+    → a.wanted ≡ wanted_items a.state.keys rows k → Answers reads holds a.state y v → t ≡ items_in a y (items_after (wanted_items y.keys rows k)) → IsNext reads holds u t v
+item_read reads holds u a t rows k y v some due wanted answers passed =
+    let same : y.keys ≡ a.state.keys = ap (λ z. z.keys) answers.state in
+    let left : wanted_items y.keys rows k ≡ u.wanted = ap (λ ks. wanted_items ks rows k) same ∙ sym wanted ∙ ap (λ z. z.wanted) due in
+    let state : t.state ≡ y = ap (λ z. z.state) passed in
+    record {
+      counted = some;
+      answers = subst (λ x. Answers reads holds x t.state v) (ap (λ z. z.state) due) (subst (λ x. Answers reads holds a.state x v) (sym state) answers);
+      after = passed ∙ ap (λ x. items_in x y (items_after (wanted_items y.keys rows k))) due ∙ ap (λ x. items_in u x (items_after (wanted_items y.keys rows k))) (sym state) ∙ ap (λ w. items_in u t.state (items_after w)) left;
+    }
+
+-- an item is made due in a, and refused in y
+pub item_unread : (reads : Meaning) (needs : Needs) (e : Error) (u a : OpenItems) (y z : State) → 0 < items_left u.wanted → a ≡ items_in u (awaiting (item_due u.wanted) u.state) u.wanted → Refuses reads needs e a.state y → z ≡ refused y → RefusesItem reads needs e u z
+item_unread reads needs e u a y z some due refuses failed =
+    let from : Refuses reads needs e (awaiting (item_due u.wanted) u.state) y = subst (λ x. Refuses reads needs e x y) (ap (λ w. w.state) due) refuses in
+    record {
+      counted = λ _. some;
+      refuses = record {
+        excuse = from.excuse;
+        may = from.may;
+        lends = ap (λ w. w.source.lends) failed ∙ from.lends;
+        through = ap (λ w. w.source.through) failed ∙ from.through;
+        failures = ap (λ w. w.source.failures) failed ∙ from.failures;
+      };
+      failed = ap (λ w. w.source.failed) failed;
+    }
 
 -- ---- the items that are left
 
@@ -274,7 +303,3 @@ over_refused reads k needs e o z u none h left kind state =
     let read : None ≡ Some c = sym none ∙ ap k (sym empty) ∙ v.read in
     absurd cc)
     kind state
-
--- want of memory
-pub room_refused : (reads : Meaning) (k : List Tree → Option Content) (needs : Needs) (o : State) (u : OpenItems) → needs.memory ≡ true → Inside reads o k u → Refuses reads needs OutOfMemory o u.state
-room_refused reads k needs o u memory h = no_room needs (FillsReadably reads o) o.source u.state.source h.taken memory (passed_by o.source u.state.source h.taken _ h.took)

@@ -1,5 +1,5 @@
 -- Values that bytes at hand begin with.
-use Rattle.std.proofs.Common.{◌≡◌, ℕ, ◌+◌, ◌-◌, ◌≤◌, ◌<◌, Bool, true, false, List, [], ◌∷◌, ◌++◌, Option, Some, None, length, take, drop, get_or, refl, sym, ap, subst, ◌∙◌, arith, IsUtf8, inl, inr, ◌⊎◌}
+use Rattle.std.proofs.Common.{◌≡◌, ℕ, ◌+◌, ◌-◌, ◌<◌, Bool, true, false, List, [], ◌∷◌, Option, Some, None, length, take, drop, get_or, refl, sym, ap, subst, ◌∙◌, arith, IsUtf8, inl, inr}
 use Rattle.std.specs.Prelude.{ℤ, pos, negsuc, ◌^◌, nat_abs, option_map, if◌then◌else◌, FitsSigned, MatchOption}
 use Rattle.std.specs.Int.{Width, FitsUnsignedBits}
 use mir.Val.{hbits}
@@ -10,9 +10,9 @@ use Rattle.bser_base.specs.Tree.{Tree, null, boolean, integer, real, bytes, text
 use Rattle.bser_base.specs.Grammar.{Bool_tag, Spells}
 use Rattle.bser_base.specs.Expand.{expand}
 use Rattle.bser_base.proofs.Hand.{first_and_rest}
-use Rattle.bser_base.specs.Content.{Content, truth, number, byte_list, nothing, just, Meaning, Needs}
-use Rattle.bser_base.specs.Expected.{Due, Fills, FillsNode, nothing_due, node_due, key_due, field_due, name_due, row_due}
-use Rattle.bser_base.specs.Hand.{IntFront, StringFront, tag_of_string}
+use Rattle.bser_base.specs.Content.{Content, truth, number, byte_list, nothing, just, Meaning}
+use Rattle.bser_base.specs.Expected.{Fills, FillsNode}
+use Rattle.bser_base.specs.Hand.{IntFront, StringFront}
 use Rattle.bser_base.specs.declared.de.hand.SeenInt.{SeenInt}
 use Rattle.bser_base.specs.declared.de.hand.StringPlace.{StringPlace}
 use Rattle.bser_base.specs.ReadsScalars.{reads_bool, reads_integer, is_signed, is_unsigned, reads_string, reads_slice, reads_byte_string}
@@ -20,14 +20,10 @@ use Rattle.bser_base.specs.ReadsHolders.{reads_option}
 use Rattle.bser_base.specs.Source.{Took}
 use Rattle.serde_bser.specs.Access.{OpenPairs, pairs_in, AwaitsValue}
 use Rattle.serde_bser.specs.Access as access
-use Rattle.serde_bser.specs.Scalar.{IsValue}
 use Rattle.serde_bser.specs.Parts.{pair_value, wanted_pairs}
-use Rattle.serde_bser.specs.Slots.{ReadsOnce, RefusesOnce}
-use Rattle.bser_base.specs.Tagged.{with_failure}
-use Rattle.bser_base.specs.declared.errors.Error.{Error}
 use Rattle.serde_bser.specs.Front.{value_due, IsNullTag, FrontReads, string_tree, StringReads}
 use Rattle.serde_bser.specs.Holds.{HoldsTruth, HoldsNumber, HoldsSize, HoldsOption}
-use Rattle.serde_bser.specs.Reading.{Answers, Refuses}
+use Rattle.serde_bser.specs.Reading.{Answers}
 use Rattle.serde_bser.specs.State.{State, past, awaiting}
 use Rattle.serde_bser.specs.declared.de.front.Front.{Front}
 use Rattle.serde_bser.proofs.AtHand.{taken_at_once, one_taken}
@@ -37,7 +33,7 @@ use Rattle.serde_bser.proofs.Options.{some_option}
 
 -- ---- what is taken
 
-value_node : (in_row : Bool) (n : ℕ) (u : Tree) (b : List ℕ) → FillsNode n u b → Fills n (value_due in_row) u b
+pub value_node : (in_row : Bool) (n : ℕ) (u : Tree) (b : List ℕ) → FillsNode n u b → Fills n (value_due in_row) u b
 value_node true n u b f = inr f
 value_node false n u b f = f
 

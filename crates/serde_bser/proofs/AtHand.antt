@@ -1,5 +1,5 @@
 -- What is at hand, as what is due.
-use Rattle.std.proofs.Common.{◌≡◌, ℕ, zero, suc, ◌<◌, Bool, true, false, List, [], ◌∷◌, Option, Some, None, length, take, drop, get_or, refl, sym, ap, subst, ◌∙◌, arith, inl, inr, ◌⊎◌}
+use Rattle.std.proofs.Common.{◌≡◌, ℕ, zero, suc, ◌<◌, Bool, true, false, List, [], ◌∷◌, Option, Some, None, length, take, drop, get_or, ◌-◌, refl, sym, ap, subst, ◌∙◌, arith, inl, inr, ◌⊎◌}
 use Rattle.std.specs.Prelude.{ℤ, ◌≢◌, if◌then◌else◌, IsUtf8, nat_eq}
 use Rattle.bser_base.specs.Tree.{Tree, null, boolean, integer}
 use Rattle.bser_base.specs.Grammar.{Bool_tag}
@@ -169,3 +169,29 @@ key_at_hand names old at name f wanted read working holds named utf8 is =
       };
       after = refl;
     }
+
+-- an object's key was taken, and is one of the names
+pub name_answer : (names : List (List ℕ)) (s t : State) (is_text : Bool) (name : List ℕ) (f : Field) → TookBytes s t is_text name → IsUtf8 name → f ≡ field_of names name → Answers reads_string (HoldsField names) s t f
+name_answer names s t is_text name f took utf8 is =
+    let answer : Answers reads_string (λ x c. c ≡ byte_list x) s t name = text_answer (λ (x : List ℕ). x) s t is_text name name refl took utf8 in
+    record {
+      tree = answer.tree;
+      content = answer.content;
+      text = answer.text;
+      filled = answer.filled;
+      read = answer.read;
+      held = (name, answer.held, is);
+      took = answer.took;
+      state = answer.state;
+    }
+
+-- an object's key was read, whose value is due then
+pub entry_key_read : {A : Type 0} (reads : Meaning) (holds : A → Content → Type 0) (old : OpenPairs) (row : Bool) (at : ℕ) (t : State) (v : A) → row ≡ false → old.wanted ≡ wanted_pairs old.state.keys row at → old.pending ≡ false → 0 < at
+    → Answers reads holds (awaiting key_due old.state) t v → IsKey reads holds old (record old { state = t; wanted = wanted_pairs t.keys row (at - 1); pending = true }) v
+entry_key_read reads holds old true at t v is wanted read some answers = absurd cc
+entry_key_read reads holds old false at t v is wanted read some answers = record {
+  read = read;
+  counted = subst (λ w. 0 < pairs_left w) (sym wanted) some;
+  answers = subst (λ d. Answers reads holds (awaiting d old.state) t v) (ap pair_key (sym wanted)) answers;
+  after = ap (λ w. record old { state = t; wanted = pairs_after w; pending = true }) (sym wanted);
+}

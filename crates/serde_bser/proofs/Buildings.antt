@@ -16,11 +16,12 @@ use Rattle.serde_bser.specs.State.{State, refused, awaiting}
 use Rattle.serde_bser.specs.Reading.{Answers, Refuses, RefusesFront, FillsReadably}
 use Rattle.serde_bser.specs.Scalar.{owned}
 use Rattle.serde_bser.specs.HoldsTexts.{HoldsBytes}
-use Rattle.serde_bser.specs.ValueView.{tree_of, HoldsTree}
+use Rattle.serde_bser.specs.ValueView.{tree_of, entry_trees, HoldsTree}
 use Rattle.serde_bser.specs.Parts.{item_due, items_after, wanted_items, wanted_pairs, pair_key, pair_value}
 use Rattle.serde_bser.specs.Access.{OpenItems, OpenPairs, items_in, IsNext, RefusesItem, ClosesItems, RefusesKey, IsValue, RefusesValue, ClosesPairs, pairs_in}
 use Rattle.serde_bser.specs.Accesses.{items_head, pairs_head}
 use Rattle.serde_bser.specs.Building.{reads_array, reads_object, IsDueAs, Builds, after_key, AwaitsItem, Awaits, IsFull, RefusesNext, BetweenValues, IsRead, Puts, built, ClosesInto}
+use Rattle.serde_bser.specs.StepsAtHand.{PutsItem}
 use Rattle.serde_bser.specs.BuildingSteps.{ReadsInto, ClosesAs, ClosesInside}
 use Rattle.serde_bser.specs.declared.value.Value.{Value}
 use Rattle.serde_bser.specs.declared.de.open.SeqHead.{SeqHead}
@@ -35,7 +36,7 @@ use Rattle.serde_bser.proofs.Refusals.{passed_by}
 use Rattle.serde_bser.proofs.Within.{no_room}
 use Rattle.serde_bser.proofs.Structs.{utf8_key, same_text}
 use Rattle.serde_bser.proofs.DueKinds.{array_value, object_value, due_answers, due_refuses}
-use Rattle.serde_bser.proofs.ValueOutlooks.{content_tree, array_outlook, object_outlook, entry_trees, array_reads, array_next, object_reads, object_keys, object_values, object_next, entries_of_trees, trees_last, trees_insert}
+use Rattle.serde_bser.proofs.ValueOutlooks.{content_tree, array_outlook, object_outlook, array_reads, array_next, object_reads, object_keys, object_values, object_next, entries_of_trees, trees_last, trees_insert}
 
 -- ---- a container between two of its values
 
@@ -101,14 +102,11 @@ fills_between (Pairs es key h) o s f = f.between
 name_text : (name : List ℕ) (k : String Global) (c : Content) → reads_string (key_tree name) ≡ Some c → c ≡ byte_list (string_bytes k) → name ≡ string_bytes k
 name_text name k c read held = let r = utf8_key _ name c refl read in sym (same_text (string_bytes k) name (sym held ∙ r.1))
 
+items_wait : (vs : List Value) (h i : SeqHead) (o s t : State) → FillingItems vs h o s → AwaitsItem h i s t → WaitingItems vs i o t
+items_wait vs h i o s t f a = record { only = f.only; before = h; outside = s; inside = f.inside; awaits = a }
+
 pub awaits_waits : (b c : Building) (o s t : State) → Filling b o s → Awaits b c s t → Waiting c o t
-awaits_waits (Items vs h) (Items ws i) o s t f a = record {
-  only = f.only;
-  before = h;
-  outside = s;
-  inside = subst (λ l. arrays.Inside reads_array o (array_outlook (map tree_of l.items)) (items_head h s)) (sym a.0) f.inside;
-  awaits = a.1;
-}
+awaits_waits (Items vs h) (Items ws i) o s t f a = subst (λ l. WaitingItems l.items i o t) (sym a.0) (items_wait vs.items h i o s t f a.1)
 awaits_waits (Pairs es key h) (Pairs fs (Some name) i) o s t f a =
     let n = a.1 in
     let key = n.key in
@@ -191,8 +189,8 @@ item_after ks true k = refl
 held_tree : (v : Value) (c : Content) → c ≡ value (tree_of v) → content_tree c ≡ tree_of v
 held_tree v c e = ap content_tree e
 
-pub puts_fills : (b c : Building) (o s t : State) (v : Value) → Waiting b o s → Answers reads_value HoldsTree s t v → Puts v b c → Filling c o t
-puts_fills (Items vs h) (Items ws i) o s t v w a p =
+item_fills : (vs ws : List Value) (h i : SeqHead) (o s t : State) (v : Value) → WaitingItems vs h o s → Answers reads_value HoldsTree s t v → (ws ≡ vs ++ v ∷ []) × (i ≡ h) → FillingItems ws i o t
+item_fills vs ws h i o s t v w a p =
     let entered : OpenItems = items_head w.before w.outside in
     let left = left_items w.outside.keys w.before.rows w.before.remaining in
     let there : Answers reads_value HoldsTree (awaiting (item_due entered.wanted) w.outside) t v = subst (λ (y : State). Answers reads_value HoldsTree y t v) w.awaits.due a in
@@ -202,10 +200,17 @@ puts_fills (Items vs h) (Items ws i) o s t v w a p =
     ap {A = SeqHead} {B = OpenItems} (λ h. items_head h t) head
     ∙ ap {A = WantedItems} {B = OpenItems} (λ x. items_in entered t x) (ap (λ ks. wanted_items ks w.before.rows (w.before.remaining - 1)) keys ∙ item_after w.outside.keys w.before.rows w.before.remaining) in
     let next : IsNext reads_value HoldsTree entered (items_head i t) v = record { counted = omega (arith, left, w.awaits.counted); answers = there; after = after } in
-    let done : List Tree = map tree_of vs.items in
+    let done : List Tree = map tree_of vs in
     let inside = arrays.inside_next reads_value HoldsTree reads_array (array_outlook done) (λ c. array_outlook (done ++ content_tree c ∷ [])) o entered (items_head i t) v (array_next done) w.inside next in
-    let trees : done ++ content_tree there.content ∷ [] ≡ map tree_of ws.items = ap (λ x. done ++ x ∷ []) (held_tree v there.content there.held) ∙ sym (trees_last vs.items v) ∙ ap (map tree_of) (sym p.0) in
+    let trees : done ++ content_tree there.content ∷ [] ≡ map tree_of ws = ap (λ x. done ++ x ∷ []) (held_tree v there.content there.held) ∙ sym (trees_last vs v) ∙ ap (map tree_of) (sym p.0) in
     record { only = w.only; inside = subst (λ l. arrays.Inside reads_array o (array_outlook l) (items_head i t)) trees inside }
+
+-- an item that was read and put in
+pub item_filled : (vs ws : List Value) (h i : SeqHead) (o s t : State) → FillingItems vs h o s → PutsItem vs ws h i s t → FillingItems ws i o t
+item_filled vs ws h i o s t f p = item_fills vs ws i i o p.between t p.value (items_wait vs h i o s p.between f p.awaits) p.answers (p.put, refl)
+
+pub puts_fills : (b c : Building) (o s t : State) (v : Value) → Waiting b o s → Answers reads_value HoldsTree s t v → Puts v b c → Filling c o t
+puts_fills (Items vs h) (Items ws i) o s t v w a p = item_fills vs.items ws.items h i o s t v w a p
 puts_fills (Pairs es (Some k) h) (Pairs fs key i) o s t v w a p =
     let entered : OpenPairs = after_key h w.outside in
     let there : Answers reads_value HoldsTree (awaiting (pair_value entered.wanted) w.outside) t v = subst (λ (y : State). Answers reads_value HoldsTree y t v) w.due a in

@@ -1,9 +1,6 @@
 -- The first of a struct's names that a key is.
 use Rattle.std.proofs.Common.{◌≡◌, ◌≤◌, ◌<◌, ◌+◌, ℕ, zero, suc, List, [], ◌∷◌, length, drop, map, get_or, Bool, true, false, refl, sym, ap, subst, ◌∙◌, arith}
 use Rattle.std.specs.Prelude.{IsUtf8, nat_eq, ◌&&◌, ◌≢◌}
-use Rattle.std.proofs.Math.ListN.{drop_of_length-le}
-use Rattle.std.proofs.lemmas.Bool.{eq-eqb, eqb-true}
-use Rattle.std.proofs.lemmas.List.{drop_more}
 use Rattle.std.specs.Str.{bytes_eq}
 use Rattle.std.proofs.lemmas.Slice.Eq.{bytes_eq-Decides}
 use Rattle.serde_bser.specs.Fields.{field_from}
@@ -48,20 +45,3 @@ other_lengths [] [] h = absurd (h refl)
 other_lengths [] (y ∷ ys) h = refl
 other_lengths (x ∷ xs) [] h = refl
 other_lengths (x ∷ xs) (y ∷ ys) h = both_false (nat_eq x y) (other_lengths xs ys (λ e. h (ap suc e)))
-
--- from a place on, by the bytes there
-pub from_place : (place : ℕ) (xs ys : List ℕ) → place < length xs → place < length ys → bytes_eq (drop place xs) (drop place ys) ≡ (nat_eq (get_or xs place 0) (get_or ys place 0) && bytes_eq (drop (place + 1) xs) (drop (place + 1) ys))
-from_place place xs ys h k = ap (λ l. bytes_eq l (drop place ys)) (drop_more xs place 0 h) ∙ ap (λ l. bytes_eq (get_or xs place 0 ∷ drop (place + 1) xs) l) (drop_more ys place 0 k)
-
-pub at_the_end : (place : ℕ) (xs ys : List ℕ) → length xs ≤ place → length ys ≤ place → bytes_eq (drop place xs) (drop place ys) ≡ true
-at_the_end place xs ys h k = ap (λ l. bytes_eq l (drop place ys)) (drop_of_length-le xs h) ∙ ap (bytes_eq []) (drop_of_length-le ys k)
-
-pub same_byte : (a b : ℕ) (rest : Bool) → a ≡ b → (nat_eq a b && rest) ≡ rest
-same_byte a b rest e = ap (λ t. t && rest) (eq-eqb a b e)
-
-pub other_byte : (a b : ℕ) (rest : Bool) → a ≢ b → (nat_eq a b && rest) ≡ false
-other_byte a b rest e = at (nat_eq a b) refl
-  where
-    at : (t : Bool) → nat_eq a b ≡ t → (nat_eq a b && rest) ≡ false
-    at true q = absurd (e (eqb-true a b q))
-    at false q = ap (λ t. t && rest) q

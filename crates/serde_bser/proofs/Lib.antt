@@ -14,6 +14,7 @@ pub mod Ranges
 pub mod Messages
 pub mod Strings
 pub mod Views
+pub mod Places
 pub mod Scalars
 pub mod Dues
 pub mod Skipping
@@ -44,14 +45,19 @@ pub mod ObjectFills
 pub mod Objects
 pub mod Structs
 pub mod Slots
+pub mod RowsAtHand
 pub mod ValueScalars
 pub mod ValuesAtHand
+pub mod RowsPut
 pub mod Maps
 pub mod HashMaps
 pub mod Buildings
 pub mod ValueParts
 pub mod BuildingNames
 pub mod ValueOutlooks
+pub mod ValuesRead
 pub mod DueKinds
 pub mod VariantHeads
 pub mod Variants
+pub mod ValueFronts
+pub mod RowFields

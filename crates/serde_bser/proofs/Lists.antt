@@ -1,17 +1,16 @@
 -- Lists and tuples that are read item by item.
-use Rattle.std.proofs.Common.{◌≡◌, true, false, List, [], ◌∷◌, ◌++◌, append_assoc, Option, Some, None, inl, refl, sym, ap, subst, ◌∙◌}
+use Rattle.std.proofs.Common.{◌≡◌, true, false, List, [], ◌∷◌, ◌++◌, append_assoc, Option, Some, None, inl, refl, sym, ap, ◌∙◌}
 use Rattle.std.proofs.lemmas.List.{append-nil}
 use Rattle.std.specs.Prelude.{option_map, option_and_then}
 use Rattle.bser_base.specs.Tree.{Tree, null, boolean, integer, real, bytes, text, array, object, template, Items}
 use Rattle.bser_base.specs.Content.{Content, Meaning, Needs, each_some}
 use Rattle.bser_base.specs.ReadsHolders.{list_of, reads_vec, reads_each, reads_tuple}
 use Rattle.bser_base.specs.declared.errors.Error.{Error}
-use Rattle.bser_base.specs.declared.errors.Error.TheVariants.{OutOfMemory}
 use Rattle.serde_bser.specs.State.{State}
 use Rattle.serde_bser.specs.Reading.{Answers, Refuses}
-use Rattle.serde_bser.specs.Access.{OpenItems, OpensItems, RefusesItems, IsNext, IsOver, RefusesItem, ClosesItems}
+use Rattle.serde_bser.specs.Access.{OpenItems, OpensItems, RefusesItems, IsNext, RefusesItem, ClosesItems}
 use Rattle.serde_bser.specs.HoldsLists.{HoldsAll, HoldsList, HoldsEach, HoldsTuple}
-use Rattle.serde_bser.proofs.Arrays.{ReadsArrays, ReadsNext, Inside, inside_start, inside_next, inside_end, opening_refused, item_refused, room_refused}
+use Rattle.serde_bser.proofs.Arrays.{ReadsArrays, ReadsNext, Inside, inside_start, inside_next, inside_end, opening_refused, item_refused}
 
 -- ---- what is made of the items that are left
 
@@ -105,10 +104,10 @@ items_next T holds o vs u t v h next = record {
   inside = inside_next T holds (reads_vec T) (rest_of_list T h.contents) (λ c. rest_of_list T (h.contents ++ c ∷ [])) o u t v (list_next T h.contents) h.inside next;
 }
 
-pub items_end : {A B : Type 0} (T : Meaning) (holds : A → Content → Type 0) (items_of : B → List A) (o z : State) (u t : OpenItems) (v : B) → ReadsItems T holds o (items_of v) u → IsOver u t → ClosesItems t z
+pub items_end : {A B : Type 0} (T : Meaning) (holds : A → Content → Type 0) (items_of : B → List A) (o z : State) (u : OpenItems) (v : B) → ReadsItems T holds o (items_of v) u → ClosesItems u z
     → Answers (reads_vec T) (λ (w : B) c. HoldsList holds (items_of w) c) o z v
-items_end T holds items_of o z u t v h over closes =
-    inside_end (λ w c. HoldsList holds (items_of w) c) (reads_vec T) (rest_of_list T h.contents) o z u (list_of (h.contents ++ [])) v h.inside (subst (λ a. ClosesItems a z) over.same closes) refl
+items_end T holds items_of o z u v h closes =
+    inside_end (λ w c. HoldsList holds (items_of w) c) (reads_vec T) (rest_of_list T h.contents) o z u (list_of (h.contents ++ [])) v h.inside closes refl
     (record { contents = h.contents; list = ap list_of (append-nil h.contents); items = h.held })
 
 -- what a list needs of its items' needs
@@ -121,11 +120,6 @@ list_refused T needs e o z u = opening_refused (reads_vec T) (rest_of_list T [])
 pub items_refused : {A : Type 0} (T : Meaning) (needs : Needs) (holds : A → Content → Type 0) (e : Error) (o z : State) (vs : List A) (u : OpenItems) → ReadsItems T holds o vs u → RefusesItem T needs e u z → Refuses (reads_vec T) (with_memory needs) e o z
 items_refused T needs holds e o z vs u h refuses =
     item_refused T needs (reads_vec T) (rest_of_list T h.contents) (λ c. rest_of_list T (h.contents ++ c ∷ [])) (with_memory needs) e o z u (list_next T h.contents) (λ lent. lent) (λ m. refl) (λ t. inl refl) h.inside refuses
-
-pub items_room : {A : Type 0} (T : Meaning) (needs : Needs) (holds : A → Content → Type 0) (o : State) (vs : List A) (u t : OpenItems) (v : A) → ReadsItems T holds o vs u → IsNext T holds u t v → Refuses (reads_vec T) (with_memory needs) OutOfMemory o t.state
-items_room T needs holds o vs u t v h next =
-    let k = items_next T holds o vs u t v h next in
-    room_refused (reads_vec T) (rest_of_list T k.contents) (with_memory needs) o t refl k.inside
 
 -- ---- a tuple
 

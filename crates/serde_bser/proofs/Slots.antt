@@ -51,11 +51,11 @@ part_made f (Some a) b h = (a, refl)
 
 -- ---- one field
 
-nothing_kept : {A : Type 0} (holds : A → Content → Type 0) (v : Option A) (c : Option Content) → v ≡ None → Keeps holds v c → c ≡ None
+pub nothing_kept : {A : Type 0} (holds : A → Content → Type 0) (v : Option A) (c : Option Content) → v ≡ None → Keeps holds v c → c ≡ None
 nothing_kept holds None c e h = h
 nothing_kept holds (Some v) c e h = absurd cc
 
-filled_first : (field : StructField) (t : Tree) (c : Content) → field.reads t ≡ Some c → fill (with_found field None) t ≡ Some (with_found field (Some c))
+pub filled_first : (field : StructField) (t : Tree) (c : Content) → field.reads t ≡ Some c → fill (with_found field None) t ≡ Some (with_found field (Some c))
 filled_first field t c e = ap (λ o. option_map (with_found field) (option_and_then (λ d. Some (Some d)) o)) e
 
 -- a field was read that was not before

@@ -10,7 +10,7 @@ use Rattle.bser_base.specs.declared.errors.Error.{Error}
 use Rattle.serde_bser.specs.State.{State, awaiting, refused}
 use Rattle.serde_bser.specs.Reading.{TakesMemory, Answers, Refuses, IsRefusal, bare}
 use Rattle.serde_bser.specs.Parts.{pairs_left, pair_value, pairs_after}
-use Rattle.serde_bser.specs.Access.{OpenPairs, OpensPairs, IsPairsHead, RefusesOpening, IsKey, NoEntry, RefusesKey, IsValue, RefusesValue, ClosesPairs, LeavesPairs}
+use Rattle.serde_bser.specs.Access.{OpenPairs, OpensPairs, IsPairsHead, RefusesOpening, IsKey, NoEntry, RefusesKey, IsValue, RefusesValue, ClosesPairs, LeavesPairs, closed}
 use Rattle.serde_bser.specs.Fields.{field_of, HoldsField}
 use Rattle.bser_base.specs.Source as source
 use Rattle.serde_bser.specs.Fold.{folds, comes_to, by_name, struct_of, read_once, either}
@@ -237,6 +237,15 @@ takes_right a b (inr k) = inr (either_right a.keys b.keys k)
 -- a refusal that leaves the source as it is, or fails it
 pub stays_here : (a : source.State) → Stays a a
 stays_here a = record { lends = refl; through = refl; failures = refl }
+
+-- an object of which no entry is left is closed
+pub over_closes : (u t : OpenPairs) (z : State) → NoEntry u t → z ≡ closed t.levels t.opened t.state → ClosesPairs t z
+over_closes u t z none state = record {
+  working = ap (λ a. a.state.source.failed) none.same ∙ none.working;
+  read = ap (λ a. a.pending) none.same ∙ none.read;
+  counted = ap (λ a. pairs_left a.wanted) none.same ∙ none.counted;
+  state = state;
+}
 
 -- closing an object takes nothing
 pub closed_stays : (u : OpenPairs) (z : State) → ClosesPairs u z → Stays u.state.source z.source

@@ -13,7 +13,7 @@ use Rattle.bser_base.specs.Normal.{normal, normal_items, normal_entries}
 use Rattle.bser_base.specs.Content.{Content, byte_list, value, each_some}
 use Rattle.bser_base.specs.ReadsAny.{reads_value}
 use Rattle.bser_base.specs.ReadsScalars.{reads_string}
-use Rattle.serde_bser.specs.ValueView.{tree_of, entries_view}
+use Rattle.serde_bser.specs.ValueView.{tree_of, entries_view, entry_trees}
 use Rattle.serde_bser.specs.Building.{reads_array, reads_object}
 use Rattle.serde_bser.specs.declared.value.Value.{Value}
 use Rattle.serde_bser.proofs.Arrays.{ReadsArrays, ReadsNext}
@@ -174,10 +174,6 @@ object_next done name t c d key read es =
     ∙ one_entry done name (content_tree d) more
 
 -- ---- what was put together
-
--- the entries of a map of `Value`s, with their trees
-abbrev pub entry_trees : List (String Global × Value) → List (List ℕ × Tree)
-entry_trees es = map (λ e. (string_bytes e.0, tree_of e.1)) es
 
 pub entries_of_trees : (es : List (String Global × Value)) → entries_of (entry_trees es) ≡ entries_view es
 entries_of_trees [] = refl

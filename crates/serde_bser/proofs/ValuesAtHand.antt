@@ -180,7 +180,7 @@ node_next : (ks : List (List ℕ)) (rows : Bool) (k : ℕ) → rows ≡ false �
 node_next ks true k e = absurd cc
 node_next ks false k e = refl
 
-row_next : (ks : List (List ℕ)) (rows : Bool) (k : ℕ) → rows ≡ true → row_due ks ≡ item_due (wanted_items ks rows k)
+pub row_next : (ks : List (List ℕ)) (rows : Bool) (k : ℕ) → rows ≡ true → row_due ks ≡ item_due (wanted_items ks rows k)
 row_next ks true k e = refl
 row_next ks false k e = absurd cc
 
@@ -208,7 +208,7 @@ item_whole vs ws h i s t p = record { waiting = Items vs i; between = p.between;
 pub item_room : (vs : Vec Value Global) (h i : SeqHead) (s t : State) → RefusesItem h i s t → RefusesWhole (Items vs h) s t
 item_room vs h i s t p = record { waiting = Items vs i; between = p.between; awaits = (refl, p.awaits); refuses = p.refuses }
 
-same_items : (vs ws : Vec Value Global) (h i : SeqHead) → ws ≡ vs → i ≡ h → Items ws i ≡ Items vs h
+pub same_items : (vs ws : Vec Value Global) (h i : SeqHead) → ws ≡ vs → i ≡ h → Items ws i ≡ Items vs h
 same_items vs ws h i e f = ap (λ x. Items x i) e ∙ ap (Items vs) f
 
 same_pairs : (es fs : BTreeMap (String Global) Value) (key : Option (String Global)) (h i : MapHead) → fs ≡ es → i ≡ h → Pairs fs key i ≡ Pairs es key h

@@ -13,9 +13,9 @@ use Rattle.bser_base.specs.Expected.{Due, Fills, FillsPairs, nothing_due, node_d
 use Rattle.bser_base.specs.ReadsScalars.{utf8_of, reads_unit}
 use Rattle.bser_base.specs.declared.errors.Error.{Error}
 use Rattle.serde_bser.specs.State.{State, awaiting}
-use Rattle.serde_bser.specs.Reading.{TakesMemory, Answers, Refuses, RefusesFront, FillsReadably, bare}
+use Rattle.serde_bser.specs.Reading.{TakesMemory, Answers, Refuses, FillsReadably, bare}
 use Rattle.serde_bser.specs.Parts.{BeginsPairs, pairs_left, pair_value, pairs_after}
-use Rattle.serde_bser.specs.Access.{OpenPairs, IsKey, IsValue, ClosesPairs, pairs_in, closed}
+use Rattle.serde_bser.specs.Access.{OpenPairs, RefusesOpening, IsKey, IsValue, ClosesPairs, pairs_in, closed}
 use Rattle.serde_bser.specs.Fields.{field_from, field_of}
 use Rattle.serde_bser.specs.Variants.{known_place, reads_place, HoldsPlace, BeginsEntry, BeginsVariant, OpenVariant, OpenEnum, name_alone, with_payload, OpensEntry, OpensVariant, before_payload, ReadsPayload, IsPayload, IsUnitVariant, LacksPayload, RefusesPayload, RefusesUnitVariant}
 use Rattle.serde_bser.specs.declared.de.field.Field.{Field}
@@ -173,9 +173,9 @@ entry_begins vs s all k u d filled read =
     )
 
 -- where no variant begins, no enum is due
-pub enum_refused : (vs : List (List ℕ × Payload)) (needs : Needs) (e : Error) (s z : State) → RefusesFront bare (BeginsVariant (names_of vs) s) e s.source z.source → Refuses (reads_enum vs) needs e s z
+pub enum_refused : (vs : List (List ℕ × Payload)) (needs : Needs) (e : Error) (s z : State) → RefusesOpening bare (BeginsVariant (names_of vs) s) e s z → Refuses (reads_enum vs) needs e s z
 enum_refused vs needs e s z u =
-    first_part needs (BeginsVariant (names_of vs) s) (FillsReadably (reads_enum vs) s) e s.source z.source split (with_needs needs (BeginsVariant (names_of vs) s) e s.source z.source u)
+    first_part needs (BeginsVariant (names_of vs) s) (FillsReadably (reads_enum vs) s) e s.source z.source split (with_needs needs (BeginsVariant (names_of vs) s) e s.source z.source u.0)
   where
     split : (all : List ℕ) → FillsReadably (reads_enum vs) s all → (first : List ℕ) × (second : List ℕ) × (all ≡ first ++ second) × BeginsVariant (names_of vs) s first
     split all f = at (forms vs f.tree f.content f.read)
@@ -437,7 +437,7 @@ unit_found vs held o z (with_payload v) place y there opens is keeps =
 
 pub unit_refused : (vs : List (List ℕ × Payload)) (needs : Needs) (e : Error) (o z : State) (v : OpenEnum) (place : ℕ) → payload_at place vs ≡ Some unit → OpensVariant (names_of vs) o v place → RefusesUnitVariant e v z → Refuses (reads_enum vs) needs e o z
 unit_refused vs needs e o z (name_alone s) place there opens refuses = absurd refuses
-unit_refused vs needs e o z (with_payload v) place there opens refuses = entry_refused vs bare needs e o z v place unit (λ b. absurd cc) (λ b. absurd cc) (takes_nothing needs) there opens refuses
+unit_refused vs needs e o z (with_payload v) place there opens refuses = entry_refused vs bare needs e o z v place unit (λ b. absurd cc) (λ b. absurd cc) (takes_nothing needs) there opens refuses.0
 
 pub payload_found : {A B : Type 0} (vs : List (List ℕ × Payload)) (T : Meaning) (holding : A → Content → Type 0) (held : B → Content → Type 0) (o z : State) (v : OpenEnum) (place : ℕ) (x : A) (y : B) → payload_at place vs ≡ Some (holds T)
     → OpensVariant (names_of vs) o v place → IsPayload T holding v z x → ((c : Content) → holding x c → held y (variant place c)) → Answers (reads_enum vs) held o z y
@@ -447,4 +447,4 @@ payload_found vs T holding held o z (with_payload v) place x y there opens is ke
 pub payload_refused : (vs : List (List ℕ × Payload)) (T : Meaning) (some needs : Needs) (e : Error) (o z : State) (v : OpenEnum) (place : ℕ) → (some.lent ≡ true → needs.lent ≡ true) → (some.memory ≡ true → needs.memory ≡ true) → (TakesMemory some → TakesMemory needs) → payload_at place vs ≡ Some (holds T)
     → OpensVariant (names_of vs) o v place → RefusesPayload T some e v z → Refuses (reads_enum vs) needs e o z
 payload_refused vs T some needs e o z (name_alone s) place lent memory takes there opens refuses = bare_refused vs T needs e o s z place there opens refuses
-payload_refused vs T some needs e o z (with_payload v) place lent memory takes there opens refuses = entry_refused vs some needs e o z v place (holds T) lent memory takes there opens refuses
+payload_refused vs T some needs e o z (with_payload v) place lent memory takes there opens refuses = entry_refused vs some needs e o z v place (holds T) lent memory takes there opens refuses.0

@@ -29,5 +29,9 @@ pub mod ScalarAnswer
 pub mod Building
 pub mod BuildingSteps
 pub mod StepsAtHand
+pub mod Places
+pub mod Rows
+pub mod RowSteps
 pub mod Variants
 pub mod EnumAccess
+pub mod RowsAtHand

@@ -1,8 +1,9 @@
 -- The tree of a `Value`.
-use Rattle.std.specs.Prelude.{◌≡◌, List, [], ◌∷◌, map, String, string_bytes}
+use Rattle.std.specs.Prelude.{◌≡◌, ℕ, List, [], ◌∷◌, map, String, string_bytes}
 use Rattle.std.specs.declared.alloc.Global.{Global}
 use Rattle.bser_base.specs.Tree.{Tree, null, boolean, integer, real, bytes, text, array, object, Items, Entries, no_entries, entry, items_of}
 use Rattle.bser_base.specs.Content.{Content, value}
+use Rattle.bser_base.specs.ValueTree.{IsValueTree}
 use Rattle.serde_bser.specs.declared.value.Value.{Value, fold-Value}
 use Rattle.serde_bser.specs.declared.value.Value.TheOpen.{Value-F}
 
@@ -34,6 +35,15 @@ items_view vs = items_of (map tree_of vs)
 abbrev pub entries_view : List (String Global × Value) → Entries
 entries_view es = map_entries (map (λ e. (e.0, tree_of e.1)) es)
 
+-- the same as pairs of a key's bytes and a tree
+abbrev pub entry_trees : List (String Global × Value) → List (List ℕ × Tree)
+entry_trees es = map (λ e. (string_bytes e.0, tree_of e.1)) es
+
 -- the content of a value is its tree
 abbrev pub HoldsTree : Value → Content → Type 0
 HoldsTree v c = c ≡ value (tree_of v)
+
+-- what a `Value` that was read holds: its tree, which has keys in rising order, texts in UTF-8 and numbers in their ranges
+pub record HoldsValue (v : Value) (c : Content) : Type 0 where
+  pub same : HoldsTree v c
+  pub tree : IsValueTree (tree_of v)

@@ -6,10 +6,9 @@ use Rattle.bser_base.specs.Expected.{Due, node_due, field_due, WantedPairs}
 use Rattle.bser_base.specs.ReadsScalars.{utf8_of, reads_unit}
 use Rattle.bser_base.specs.declared.errors.Error.{Error}
 use Rattle.serde_bser.specs.State.{State, awaiting, refused}
-use Rattle.serde_bser.specs.Reading.{Answers, Refuses, RefusesFront, FillsReadably, IsRefusal, bare}
-use Rattle.serde_bser.specs.Scalar.{owned}
+use Rattle.serde_bser.specs.Reading.{Answers, Refuses, FillsReadably, IsRefusal, bare}
 use Rattle.serde_bser.specs.Parts.{BeginsPairs, pairs_left, pair_key, pair_value}
-use Rattle.serde_bser.specs.Access.{OpenItems, OpensItems, IsItemsHead, OpenPairs, OpensPairs, IsPairsHead, closed}
+use Rattle.serde_bser.specs.Access.{OpenItems, OpensItems, RefusesItems, OpenPairs, OpensPairs, IsPairsHead, RefusesOpening, closed}
 use Rattle.serde_bser.specs.Nodes.{BeginsKind, SeesNode}
 use Rattle.serde_bser.specs.Fields.{field_of}
 use Rattle.serde_bser.specs.declared.de.field.Field.{Field}
@@ -120,15 +119,15 @@ pub record LacksPayload (e : Error) (old new : State) : Type 0 where
   pub kind : IsRefusal e
   pub state : new ≡ refused old
 
--- the payload is refused, or there is none
+-- the payload is refused, or there is none; each later call is refused
 abbrev pub RefusesPayload : Meaning → Needs → Error → OpenEnum → State → Type 0
 RefusesPayload reads needs e (name_alone old) new = LacksPayload e old new
-RefusesPayload reads needs e (with_payload old) new = Refuses reads needs e (before_payload old) new
+RefusesPayload reads needs e (with_payload old) new = Refuses reads needs e (before_payload old) new × (new.source.failed ≡ true)
 
--- the payload of a unit variant is refused; a name alone is not
+-- the payload of a unit variant is refused, and so is each later call; a name alone is not refused
 abbrev pub RefusesUnitVariant : Error → OpenEnum → State → Type 0
 RefusesUnitVariant e (name_alone old) new = ⊥
-RefusesUnitVariant e (with_payload old) new = Refuses reads_unit bare e (before_payload old) new
+RefusesUnitVariant e (with_payload old) new = Refuses reads_unit bare e (before_payload old) new × (new.source.failed ≡ true)
 
 -- ---- payloads that are read part by part
 
@@ -155,12 +154,12 @@ IsStructPayload (with_payload old) new = OpensPayloadPairs old new
 -- the payload is no array, or there is none
 abbrev pub RefusesTuple : Error → OpenEnum → State → Type 0
 RefusesTuple e (name_alone old) new = LacksPayload e old new
-RefusesTuple e (with_payload old) new = RefusesFront owned (IsItemsHead (before_payload old)) e old.state.source new.source
+RefusesTuple e (with_payload old) new = RefusesItems e (before_payload old) new
 
 -- the payload is no object, or there is none
 abbrev pub RefusesStruct : Error → OpenEnum → State → Type 0
 RefusesStruct e (name_alone old) new = LacksPayload e old new
-RefusesStruct e (with_payload old) new = RefusesFront bare (IsPairsHead (before_payload old)) e old.state.source new.source
+RefusesStruct e (with_payload old) new = RefusesOpening bare (IsPairsHead (before_payload old)) e (before_payload old) new
 
 -- a variant at this place, with such a payload
 pub record HoldsVariant (place : ℕ) (holding : Content → Type 0) (c : Content) : Type 0 where

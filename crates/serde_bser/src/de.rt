@@ -11,8 +11,11 @@ mod impls;
 mod map;
 mod node;
 mod open;
+mod places;
 mod pulls;
 mod reading;
+mod row_at_hand;
+mod rows_at_hand;
 mod scalar;
 mod seq;
 mod skip;
@@ -21,6 +24,7 @@ mod table;
 #[cfg(test)]
 mod tests;
 mod value_at_hand;
+mod value_front;
 mod values;
 mod variant;
 

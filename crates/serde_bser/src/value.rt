@@ -8,6 +8,7 @@ ghost use Rattle.bser_base.specs.ValueTree.{IsValueTree};
 ghost use Rattle.bser_base.proofs.Same.{same_tree_equiv, same_tree_partial_equiv};
 ghost use Rattle.serde_bser.specs.ValueView.{tree_of, items_view, entries_view};
 
+mod clone;
 #[cfg(test)]
 mod tests;
 mod writing;
@@ -51,22 +52,12 @@ impl Value {
         }
     }
 
-    /// Copies the value with all that it holds. It calls itself once for each level, so the stack has to hold as many
-    /// calls as the value is deep. The error is that there is no memory for the copy.
-    #[cycle(copy)]
-    pub fn try_clone(&self, alloc: Global) -> Result<Self, AllocError>
+    /// Copies the value with all that it holds, as `clone` does. It calls itself once for each level, so the stack has to
+    /// hold as many calls as the value is deep. The error is that there is no memory for the copy.
+    pub fn try_clone(&self, _alloc: Global) -> Result<Self, AllocError>
         ensures { IfOk result (λ copy. tree_of copy ≡ tree_of self.now) }
     {
-        match self {
-            Self::Array(items) => Ok(Self::Array(copy_items(alloc, items)?)),
-            Self::Object(entries) => Ok(Self::Object(copy_entries(alloc, entries)?)),
-            Self::ByteString(bytes) => Ok(Self::ByteString(bytes.try_clone(alloc)?)),
-            Self::Integer(number) => Ok(Self::Integer(*number)),
-            Self::Real(bits) => Ok(Self::Real(*bits)),
-            Self::Bool(truth) => Ok(Self::Bool(*truth)),
-            Self::Null => Ok(Self::Null),
-            Self::Utf8String(string) => Self::from_text(alloc, string.as_str()),
-        }
+        self.clone()
     }
 
     /// Visits all that the value holds and answers nothing: its contract tells a proof what every value's tree is. It
@@ -198,32 +189,6 @@ fn are_same_entries(entries: &BTreeMap<String, Value>, others: &BTreeMap<String,
         }
     }
     rest.next().is_none()
-}
-
-#[cycle(copy)]
-fn copy_items(alloc: Global, items: &Vec<Value>) -> Result<Vec<Value>, AllocError>
-    ensures { IfOk result (λ copies. items_view copies.items ≡ items_view items.now.items) }
-{
-    let mut copies = Vec::with_capacity(alloc, items.len())?;
-    for item in items {
-        copies.push(item.try_clone(alloc)?)?;
-    }
-    Ok(copies)
-}
-
-#[cycle(copy)]
-fn copy_entries(
-    alloc: Global,
-    entries: &BTreeMap<String, Value>,
-) -> Result<BTreeMap<String, Value>, AllocError>
-    ensures { IfOk result (λ copies. entries_view copies.entries ≡ entries_view entries.now.entries) }
-{
-    let mut copies = BTreeMap::new(alloc);
-    for (key, member) in entries.iter() {
-        let name = String::from_str(alloc, key.as_str())?;
-        drop(copies.insert(name, member.try_clone(alloc)?)?);
-    }
-    Ok(copies)
 }
 
 #[cycle(check)]

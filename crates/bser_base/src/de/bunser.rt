@@ -283,6 +283,7 @@ impl<R: DeRead> Bunser<R> {
         ensures first { bunser_hand R.hand self.old ≡ result ∷ drop 1 (bunser_hand R.hand self.old) }
         ensures byte { IsNext (bunser_state R.state self.new).left result }
         ensures took { Took (bunser_state R.state self.old) (bunser_state R.state self.new) [] (Some result) }
+        ensures hand { bunser_hand R.hand self.new ≡ bunser_hand R.hand self.old }
     {
         self.read.glance()
     }

@@ -6,6 +6,7 @@ ghost use Rattle.bser_base.specs.declared.errors.Error.TheVariants.{OutOfMemory}
 ghost use Rattle.bser_base.specs.Refs.{bytes_of, is_lent, text_of, is_lent_text, RefusesKept};
 
 use crate::de::read::{Reference, TextReference};
+use crate::de::text::as_text;
 use crate::errors::{Error, ReadCause, Result};
 use std::alloc::Global;
 
@@ -150,9 +151,9 @@ impl<'a> LendsText for &'a [u8] {
 
     #[inline(always)]
     fn to_text(self) -> std::result::Result<&'a str, ReadCause> {
-        match str::from_utf8(self) {
-            Ok(text) => Ok(text),
-            Err(_) => Err(ReadCause::Utf8),
+        match as_text(self) {
+            Some(text) => Ok(text),
+            None => Err(ReadCause::Utf8),
         }
     }
 }

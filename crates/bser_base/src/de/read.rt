@@ -167,7 +167,8 @@ pub trait DeRead {
         requires { 0 < length (hand self.old) }
         ensures first { hand self.old ≡ result ∷ drop 1 (hand self.old) }
         ensures byte { IsNext (state self.new).left result }
-        ensures took { Took (state self.old) (state self.new) [] (Some result) };
+        ensures took { Took (state self.old) (state self.new) [] (Some result) }
+        ensures hand { hand self.new ≡ hand self.old };
 
     /// Lends `n` bytes at hand from place `at` on, and takes none. None where the source copies.
     fn lend_at_hand(&self, at: usize, n: usize) -> Option<Self::Lent>

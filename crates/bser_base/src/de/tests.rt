@@ -1,5 +1,6 @@
 //! Tests of the byte sources and of the reader of tagged values.
 mod at_hand;
+mod text;
 
 use crate::de::bunser::{Bunser, PduInfo};
 use crate::de::read::{DeRead, IoRead, SliceRead};

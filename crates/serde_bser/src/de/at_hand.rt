@@ -1,6 +1,7 @@
 //! Reading what is at hand, without a call that may be refused.
-ghost use Rattle.std.specs.Prelude.{◌≡◌, true, map, MatchOption, MatchBool};
+ghost use Rattle.std.specs.Prelude.{◌≡◌, true, false, map, MatchOption, MatchBool};
 ghost use Rattle.bser_base.specs.Content.{truth, number};
+ghost use Rattle.bser_base.specs.Expected.{key_due};
 ghost use Rattle.bser_base.specs.ReadsScalars.{reads_bool, reads_signed, reads_string};
 ghost use Rattle.serde_bser.specs.Access.{IsKey, NoEntry};
 ghost use Rattle.serde_bser.specs.Accesses.{open_pairs};
@@ -10,6 +11,7 @@ ghost use Rattle.serde_bser.specs.Nodes.{SeesNode, TookNull, IsOther};
 ghost use Rattle.serde_bser.specs.Reading.{Answers};
 ghost use Rattle.serde_bser.specs.Scalar.{IsValue};
 ghost use Rattle.serde_bser.specs.Strings.{TookBytes};
+ghost use Rattle.serde_bser.specs.State.{awaiting};
 ghost use Rattle.serde_bser.specs.View.{state};
 
 use crate::de::cursor::Head;
@@ -115,6 +117,29 @@ impl<R: DeRead> Deserializer<R> {
         }
     }
 
+    /// Takes the string that is at hand whole as an object's key, where it is one of the names. Else
+    /// nothing changes.
+    #[inline(always)]
+    fn name_at_hand(&mut self, names: &[&str]) -> Option<Field>
+        ensures { MatchOption result (state R.state R.Lent.kept self.new ≡ state R.state R.Lent.kept self.old)
+            (Answers reads_string (HoldsField (map (λ r. r.now) names.now)) (awaiting key_due (state R.state R.Lent.kept self.old)) (state R.state R.Lent.kept self.new)) }
+    {
+        match self.bunser.string_at_hand() {
+            Some(place) => {
+                let bytes = self.bunser.at_hand();
+                match find_known(names, &bytes[place.at..place.end]) {
+                    Some(known) => {
+                        self.bunser.advance(place.end);
+                        self.due = Due::Nothing;
+                        Some(Field::Known(known))
+                    }
+                    None => None,
+                }
+            }
+            None => None,
+        }
+    }
+
     /// Takes the integer that is due, where it is at hand. Else nothing changes.
     #[inline(always)]
     pub(crate) fn i64_at_hand(&mut self) -> Option<i64>
@@ -195,27 +220,66 @@ impl<'a, R: DeRead> MapAccess<'a, R> {
         !self.pending && !self.from.is_failed() && self.remaining() == 0
     }
 
-    /// Takes the key of a row's next field, where it is one of the names. Else nothing changes.
+    /// Takes the next key, a row's or one that is at hand whole, where it is one of the names. Else
+    /// nothing changes.
     #[inline(always)]
     pub(crate) fn field_at_hand(&mut self, names: &[&str]) -> Option<Field>
         ensures same_reference { self.new.from.ghost_name ≡ self.old.from.ghost_name }
         ensures answer { MatchOption result (open_pairs R.state R.Lent.kept self.new ≡ open_pairs R.state R.Lent.kept self.old)
             (IsKey reads_string (HoldsField (map (λ r. r.now) names.now)) (open_pairs R.state R.Lent.kept self.old) (open_pairs R.state R.Lent.kept self.new)) }
     {
-        if !self.row || self.pending || self.from.is_failed() {
-            return None;
+        if self.pending {
+            None
+        } else if self.row {
+            self.row_key_at_hand(names)
+        } else {
+            self.object_key_at_hand(names)
         }
+    }
+
+    /// Takes the key of a row's next field, where it is one of the names. Else nothing changes.
+    #[inline(always)]
+    fn row_key_at_hand(&mut self, names: &[&str]) -> Option<Field>
+        requires row { self.old.row ≡ true }
+        requires read { self.old.pending ≡ false }
+        ensures same_reference { self.new.from.ghost_name ≡ self.old.from.ghost_name }
+        ensures answer { MatchOption result (open_pairs R.state R.Lent.kept self.new ≡ open_pairs R.state R.Lent.kept self.old)
+            (IsKey reads_string (HoldsField (map (λ r. r.now) names.now)) (open_pairs R.state R.Lent.kept self.old) (open_pairs R.state R.Lent.kept self.new)) }
+    {
         let place = self.at;
-        if place >= self.from.keys.len() {
+        if self.from.is_failed() || place >= self.from.keys.len() {
             return None;
         }
         let name = <R::Lent as Lending>::kept_bytes(&self.from.keys[place]);
         match find_known(names, name) {
             Some(known) => {
                 self.from.due = Due::Nothing;
-                self.at = place + 1;
                 self.pending = true;
+                self.at = place + 1;
                 Some(Field::Known(known))
+            }
+            None => None,
+        }
+    }
+
+    /// Takes the key of an object's next entry, where it is at hand whole and one of the names. Else
+    /// nothing changes.
+    #[inline(always)]
+    fn object_key_at_hand(&mut self, names: &[&str]) -> Option<Field>
+        requires row { self.old.row ≡ false }
+        requires read { self.old.pending ≡ false }
+        ensures same_reference { self.new.from.ghost_name ≡ self.old.from.ghost_name }
+        ensures answer { MatchOption result (open_pairs R.state R.Lent.kept self.new ≡ open_pairs R.state R.Lent.kept self.old)
+            (IsKey reads_string (HoldsField (map (λ r. r.now) names.now)) (open_pairs R.state R.Lent.kept self.old) (open_pairs R.state R.Lent.kept self.new)) }
+    {
+        if self.at == 0 {
+            return None;
+        }
+        match self.from.name_at_hand(names) {
+            Some(field) => {
+                self.at -= 1;
+                self.pending = true;
+                Some(field)
             }
             None => None,
         }

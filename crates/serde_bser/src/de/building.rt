@@ -193,7 +193,8 @@ impl<R: DeRead> Deserializer<R> {
     }
 
     /// Closes an object.
-    fn close_pairs(&mut self, levels: usize, opened: usize)
+    #[inline(always)]
+    pub(crate) fn close_pairs(&mut self, levels: usize, opened: usize)
         ensures { state R.state R.Lent.kept self.new ≡ closed levels opened (state R.state R.Lent.kept self.old) }
     {
         self.levels = levels;

@@ -52,6 +52,8 @@ impl<R: DeRead> Deserializer<R> {
     }
 
     /// The refusal after an earlier one.
+    #[cold]
+    #[inline(never)]
     pub(crate) fn refuse_failed(&mut self) -> Error
         ensures kind { IsRefusal result }
         ensures cause { result ≡ error_of ReadCause.Failed }
@@ -62,6 +64,8 @@ impl<R: DeRead> Deserializer<R> {
     }
 
     /// Refuses by this complaint.
+    #[cold]
+    #[inline(never)]
     pub(crate) fn refuse(&mut self, complaint: Complaint) -> Error
         ensures kind { complaint ≢ Complaint.BorrowedFromCopying → IsRefusal result }
         ensures state { state R.state R.Lent.kept self.new ≡ refused (state R.state R.Lent.kept self.old) }
@@ -71,6 +75,8 @@ impl<R: DeRead> Deserializer<R> {
     }
 
     /// The refusal where nothing is due: too few items, or a container is still open.
+    #[cold]
+    #[inline(never)]
     fn refuse_none_due(&mut self) -> Error
         ensures kind { IsRefusal result }
         ensures state { state R.state R.Lent.kept self.new ≡ refused (state R.state R.Lent.kept self.old) }
@@ -118,6 +124,8 @@ impl<R: DeRead> Deserializer<R> {
     }
 
     /// Refuses what stands where another kind of value is asked for.
+    #[cold]
+    #[inline(never)]
     pub(crate) fn refuse_head(&mut self, head: Head) -> Error
         ensures kind { IsRefusal result }
         ensures state { state R.state R.Lent.kept self.new ≡ refused (state R.state R.Lent.kept self.old) }

@@ -26,7 +26,8 @@ pub(crate) fn find_known(names: &[&str], name: &[u8]) -> Option<usize>
     None
 }
 
-/// Whether these are the same bytes. Names are short: byte by byte they differ soon.
+/// Whether these are the same bytes. Each is compared, also after one that differs, so that a name
+/// that is constant is compared by whole words.
 #[inline(always)]
 fn is_same(known: &[u8], name: &[u8]) -> bool
     ensures { result ≡ bytes_eq known.now name.now }
@@ -34,12 +35,13 @@ fn is_same(known: &[u8], name: &[u8]) -> bool
     if known.len() != name.len() {
         return false;
     }
+    let mut same = true;
     for place in 0..known.len() {
         if known[place] != name[place] {
-            return false;
+            same = false;
         }
     }
-    true
+    same
 }
 
 /// The first place at which the name stands.

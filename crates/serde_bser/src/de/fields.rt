@@ -7,9 +7,11 @@ ghost use Rattle.serde_bser.specs.Access.{RefusesValue};
 ghost use Rattle.serde_bser.specs.Accesses.{open_pairs};
 ghost use Rattle.serde_bser.specs.Holds.{HoldsOption};
 ghost use Rattle.serde_bser.specs.HoldsLists.{HoldsTuple};
-ghost use Rattle.serde_bser.specs.Reading.{Answers, Refuses};
+ghost use Rattle.serde_bser.specs.Reading.{Answers, Refuses, IsRefusal};
+ghost use Rattle.serde_bser.specs.RowsAtHand.{FieldSteps};
 ghost use Rattle.serde_bser.specs.Slots.{StructField, required, optional, fill, fill_at, fill_field, reads_struct, struct_needs, KeepsField, KeepsBoth, Finishes, FinishesEach, Passes, Steps, RefusesStep};
 ghost use Rattle.serde_bser.specs.Scalar.{owned};
+ghost use Rattle.serde_bser.specs.State.{refused};
 ghost use Rattle.serde_bser.specs.View.{state};
 
 use crate::de::deserializer::Deserializer;
@@ -56,6 +58,16 @@ pub trait Slot<L: LendsText>: Drop {
         ensures found { result ≡ true → (s : StructField) → Self.keeps self.old s → Steps fill (Self.keeps self.new) s (open_pairs R.state L.kept map.old) (open_pairs R.state L.kept map.new) }
         ensures refused { result ≡ false → MatchOption refusal.new ⊥ (λ e. (s : StructField) → Self.keeps self.old s → RefusesStep fill Self.needs e s (open_pairs R.state L.kept map.old) (state R.state L.kept map.new.from.now)) };
 
+    /// Reads the field from what is at hand, as a row's, where it is there whole and was not read
+    /// before, and tells whether it did. Else nothing changes.
+    fn fill_at_hand<R: DeRead<Lent = L>>(
+        &mut self,
+        alloc: Global,
+        from: &mut Deserializer<R>,
+    ) -> bool
+        ensures taken { result ≡ true → (s : StructField) → Self.keeps self.old s → FieldSteps fill (Self.keeps self.new) s (state R.state L.kept from.old) (state R.state L.kept from.new) }
+        ensures same { result ≡ false → (self.new ≡ self.old) × (state R.state L.kept from.new ≡ state R.state L.kept from.old) };
+
     /// The field's value, or None where it is required and absent.
     fn finish(self) -> Option<Self::Value>
         ensures { (s : StructField) → Self.keeps self s → Finishes Self.holds s result };
@@ -92,6 +104,15 @@ impl<L: LendsText, T: Deserialize<L>> Slot<L> for Required<T> {
         map.read_once(alloc, &mut self.value, refusal)
     }
 
+    #[inline(always)]
+    fn fill_at_hand<R: DeRead<Lent = L>>(
+        &mut self,
+        alloc: Global,
+        from: &mut Deserializer<R>,
+    ) -> bool {
+        from.field_once_at_hand(alloc, &mut self.value)
+    }
+
     fn finish(self) -> Option<T> {
         self.value
     }
@@ -126,6 +147,15 @@ impl<L: LendsText, T: Deserialize<L>> Slot<L> for Optional<T> {
         refusal: &mut Option<Error>,
     ) -> bool {
         map.read_once(alloc, &mut self.value, refusal)
+    }
+
+    #[inline(always)]
+    fn fill_at_hand<R: DeRead<Lent = L>>(
+        &mut self,
+        alloc: Global,
+        from: &mut Deserializer<R>,
+    ) -> bool {
+        from.field_once_at_hand(alloc, &mut self.value)
     }
 
     fn finish(self) -> Option<Option<T>> {
@@ -173,6 +203,17 @@ pub trait Slots<L: LendsText>: Drop {
         ensures found { result ≡ true → (ss : List StructField) → Self.keeps self.old ss → Steps (fill_at place) (Self.keeps self.new) ss (open_pairs R.state L.kept map.old) (open_pairs R.state L.kept map.new) }
         ensures refused { result ≡ false → MatchOption refusal.new ⊥ (λ e. (ss : List StructField) → Self.keeps self.old ss → RefusesStep (fill_at place) (struct_needs Self.needs) e ss (open_pairs R.state L.kept map.old) (state R.state L.kept map.new.from.now)) };
 
+    /// Reads the field at this place from what is at hand, as a row's, where it is there whole and
+    /// was not read before, and tells whether it did. Else nothing changes.
+    fn fill_at_hand<R: DeRead<Lent = L>>(
+        &mut self,
+        alloc: Global,
+        place: usize,
+        from: &mut Deserializer<R>,
+    ) -> bool
+        ensures taken { result ≡ true → (ss : List StructField) → Self.keeps self.old ss → FieldSteps (fill_at place) (Self.keeps self.new) ss (state R.state L.kept from.old) (state R.state L.kept from.new) }
+        ensures same { result ≡ false → (self.new ≡ self.old) × (state R.state L.kept from.new ≡ state R.state L.kept from.old) };
+
     /// The fields' values, or None where one is required and absent.
     fn finish(self) -> Option<Self::Values>
         ensures { (ss : List StructField) → Self.keeps self ss → FinishesEach Self.holds ss result };
@@ -200,6 +241,16 @@ impl<L: LendsText> Slots<L> for () {
         refusal: &mut Option<Error>,
     ) -> bool {
         map.pass_value(alloc, refusal)
+    }
+
+    #[inline(always)]
+    fn fill_at_hand<R: DeRead<Lent = L>>(
+        &mut self,
+        _alloc: Global,
+        _place: usize,
+        _from: &mut Deserializer<R>,
+    ) -> bool {
+        false
     }
 
     fn finish(self) -> Option<()> {
@@ -234,6 +285,20 @@ impl<L: LendsText, A: Slot<L>, F: Slots<L>> Slots<L> for (A, F) {
             self.0.fill(alloc, map, refusal)
         } else {
             self.1.fill_at(alloc, place - 1, map, refusal)
+        }
+    }
+
+    #[inline(always)]
+    fn fill_at_hand<R: DeRead<Lent = L>>(
+        &mut self,
+        alloc: Global,
+        place: usize,
+        from: &mut Deserializer<R>,
+    ) -> bool {
+        if place == 0 {
+            self.0.fill_at_hand(alloc, from)
+        } else {
+            self.1.fill_at_hand(alloc, place - 1, from)
         }
     }
 
@@ -320,15 +385,35 @@ where
         let mut fields = F::empty();
         let mut refusal = None;
         let mut map = self.read_map()?;
-        while let Some(field) = map.next_field(alloc, names)? {
+        loop {
+            map.read_row_at_hand(alloc, names, &mut fields);
+            let field = match map.next_field(alloc, names)? {
+                Some(field) => field,
+                None => break,
+            };
             if !map.read_field(alloc, field, &mut fields, &mut refusal) {
                 return Err(given(refusal));
             }
         }
-        map.end()?;
+        let levels = map.levels;
+        let opened = map.opened;
+        map.from.close_pairs(levels, opened);
         match fields.finish() {
             Some(values) => Ok(values),
-            None => Err(self.refuse(Complaint::TooFewItems)),
+            None => {
+                self.lacks_field(&mut refusal);
+                Err(given(refusal))
+            }
         }
+    }
+
+    /// Refuses for want of a required field, and gives the reason.
+    #[cold]
+    #[inline(never)]
+    fn lacks_field(&mut self, refusal: &mut Option<Error>)
+        ensures kind { MatchOption refusal.new ⊥ IsRefusal }
+        ensures state { state R.state R.Lent.kept self.new ≡ refused (state R.state R.Lent.kept self.old) }
+    {
+        *refusal = Some(self.refuse(Complaint::TooFewItems));
     }
 }

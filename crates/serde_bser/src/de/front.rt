@@ -1,7 +1,8 @@
 //! Reading a value that is at hand whole.
-ghost use Rattle.std.specs.Prelude.{◌≡◌, MatchOption};
+ghost use Rattle.std.specs.Prelude.{◌≡◌, true, false, MatchOption};
 ghost use Rattle.serde_bser.specs.Front.{value_due};
 ghost use Rattle.serde_bser.specs.Reading.{Answers};
+ghost use Rattle.serde_bser.specs.RowsAtHand.{ReadsField};
 ghost use Rattle.serde_bser.specs.State.{awaiting};
 ghost use Rattle.serde_bser.specs.View.{state};
 
@@ -41,6 +42,29 @@ where
                 Some(value)
             }
             None => self.lent_string_at_hand(in_row),
+        }
+    }
+
+    /// Reads a row's field into a variable that has no value, where it is at hand whole, and tells
+    /// whether it did. Else nothing changes.
+    #[inline(always)]
+    pub(crate) fn field_once_at_hand<V: Deserialize<R::Lent>>(
+        &mut self,
+        alloc: Global,
+        value: &mut Option<V>,
+    ) -> bool
+        ensures taken { result ≡ true → ReadsField V.reads V.holds value.old value.new (state R.state R.Lent.kept self.old) (state R.state R.Lent.kept self.new) }
+        ensures same { result ≡ false → (value.new ≡ value.old) × (state R.state R.Lent.kept self.new ≡ state R.state R.Lent.kept self.old) }
+    {
+        if value.is_some() {
+            return false;
+        }
+        match self.typed_at_hand::<V>(alloc, true) {
+            Some(read) => {
+                *value = Some(read);
+                true
+            }
+            None => false,
         }
     }
 

@@ -1,8 +1,9 @@
 //! Reading the items of an array.
-ghost use Rattle.std.specs.Prelude.{◌≡◌, IfOk, IfErr, OnOk};
-ghost use Rattle.serde_bser.specs.Access.{NextItem, IsNext, RefusesItem, ClosesItems, LeavesItems};
-ghost use Rattle.serde_bser.specs.Parts.{items_left};
+ghost use Rattle.std.specs.Prelude.{◌≡◌, ◌<◌, IfOk, IfErr, OnOk};
+ghost use Rattle.serde_bser.specs.Access.{NextItem, IsNext, RefusesItem, ClosesItems, LeavesItems, items_in};
+ghost use Rattle.serde_bser.specs.Parts.{items_left, item_due, items_after};
 ghost use Rattle.serde_bser.specs.Required.{RefusesRequired};
+ghost use Rattle.serde_bser.specs.State.{awaiting};
 
 use crate::de::deserializer::{Deserializer, Due};
 use crate::de::reading::Deserialize;
@@ -33,6 +34,25 @@ impl<'a, R: DeRead> SeqAccess<'a, R> {
         ensures { result ≡ items_left (open_items R.state R.Lent.kept self.now).wanted }
     {
         self.remaining
+    }
+
+    /// Makes the next item due.
+    #[inline(always)]
+    pub(crate) fn await_item(&mut self)
+        ensures same_reference { self.new.from.ghost_name ≡ self.old.from.ghost_name }
+        ensures awaited { open_items R.state R.Lent.kept self.new ≡ items_in (open_items R.state R.Lent.kept self.old) (awaiting (item_due (open_items R.state R.Lent.kept self.old).wanted) (open_items R.state R.Lent.kept self.old).state) (open_items R.state R.Lent.kept self.old).wanted }
+    {
+        self.from.due = if self.rows { Due::Row } else { Due::Node };
+    }
+
+    /// Goes on past the item that was read.
+    #[inline(always)]
+    pub(crate) fn pass_item(&mut self)
+        requires { 0 < items_left (open_items R.state R.Lent.kept self.old).wanted }
+        ensures same_reference { self.new.from.ghost_name ≡ self.old.from.ghost_name }
+        ensures passed { open_items R.state R.Lent.kept self.new ≡ items_in (open_items R.state R.Lent.kept self.old) (open_items R.state R.Lent.kept self.old).state (items_after (open_items R.state R.Lent.kept self.old).wanted) }
+    {
+        self.remaining -= 1;
     }
 
     /// Closes the array.
@@ -78,10 +98,10 @@ where
         if self.remaining == 0 {
             return Ok(None);
         }
-        self.from.due = if self.rows { Due::Row } else { Due::Node };
+        self.await_item();
         match T::deserialize(alloc, self.from) {
             Ok(value) => {
-                self.remaining -= 1;
+                self.pass_item();
                 Ok(Some(value))
             }
             Err(refusal) => {

@@ -17,6 +17,7 @@ use crate::de::cursor::Head;
 use crate::de::deserializer::{Deserializer, Due};
 use bser_base::bytestring::ByteString;
 use bser_base::de::read::{DeRead, Lending, LendsText, Reference, TextReference};
+use bser_base::de::text::as_text;
 use bser_base::errors::{Complaint, Error, ReadCause, Result};
 use bser_base::header::{BSER_BYTESTRING, BSER_UTF8STRING};
 use std::alloc::Global;
@@ -30,7 +31,7 @@ pub(crate) fn may_stand(is_text: bool, bytes: &[u8]) -> bool
     if !is_text {
         return true;
     }
-    str::from_utf8(bytes).is_ok()
+    as_text(bytes).is_some()
 }
 
 impl<R: DeRead> Deserializer<R> {

@@ -2,6 +2,7 @@
 ghost use Rattle.std.specs.Prelude.{◌≡◌, true, MatchOption, string_bytes, IsUtf8};
 ghost use Rattle.bser_base.specs.Tagged.{bunser_state};
 ghost use Rattle.serde_bser.specs.Building.{BetweenValues, Awaits, IsFull};
+ghost use Rattle.serde_bser.specs.RowSteps.{PutsMany, Proceeds};
 ghost use Rattle.serde_bser.specs.Scalar.{TookScalar};
 ghost use Rattle.serde_bser.specs.StepsAtHand.{IsStringValue, TookKey, TookField, MatchStep, PutsEntry, NamesEntry, RefusesEntry, PutsItem, RefusesItem, PutsWhole, RefusesWhole, NextRow, Advances, RefusesStep};
 ghost use Rattle.serde_bser.specs.ValueView.{tree_of};
@@ -14,6 +15,7 @@ use crate::value::Value;
 use bser_base::bytestring::ByteString;
 use bser_base::de::bunser::Bunser;
 use bser_base::de::read::{DeRead, Lending};
+use bser_base::de::text::as_text;
 use bser_base::header::{BSER_FALSE, BSER_NULL, BSER_SKIP, BSER_TRUE};
 use std::alloc::Global;
 use std::collections::BTreeMap;
@@ -34,7 +36,7 @@ pub(crate) enum Step {
 
 /// The `Value` of a string's bytes. None where no memory is left, and of a text that is not UTF-8.
 #[inline(always)]
-fn string_value(alloc: Global, is_text: bool, bytes: &[u8]) -> Option<Value>
+pub(crate) fn string_value(alloc: Global, is_text: bool, bytes: &[u8]) -> Option<Value>
     ensures { MatchOption result (Unit {0}) (IsStringValue is_text bytes.now) }
 {
     if !is_text {
@@ -43,12 +45,12 @@ fn string_value(alloc: Global, is_text: bool, bytes: &[u8]) -> Option<Value>
             Err(_) => None,
         };
     }
-    match str::from_utf8(bytes) {
-        Ok(text) => match String::from_str(alloc, text) {
+    match as_text(bytes) {
+        Some(text) => match String::from_str(alloc, text) {
             Ok(copy) => Some(Value::Utf8String(copy)),
             Err(_) => None,
         },
-        Err(_) => None,
+        None => None,
     }
 }
 
@@ -57,12 +59,12 @@ fn string_value(alloc: Global, is_text: bool, bytes: &[u8]) -> Option<Value>
 fn key_string(alloc: Global, bytes: &[u8]) -> Option<String>
     ensures { MatchOption result (Unit {0}) (λ name. (string_bytes name ≡ bytes.now) × IsUtf8 bytes.now) }
 {
-    match str::from_utf8(bytes) {
-        Ok(text) => match String::from_str(alloc, text) {
+    match as_text(bytes) {
+        Some(text) => match String::from_str(alloc, text) {
             Ok(copy) => Some(copy),
             Err(_) => None,
         },
-        Err(_) => None,
+        None => None,
     }
 }
 
@@ -376,6 +378,47 @@ impl<R: DeRead> Deserializer<R> {
         }
     }
 
+    /// Reads a template's next rows and puts them in, as long as the next one is at hand whole. Where
+    /// not even the first is, nothing changes.
+    #[inline(always)]
+    fn rows_inside(&mut self, alloc: Global, inner: &mut Building) -> Step
+        ensures { MatchStep result
+            (PutsMany inner.old inner.new (state R.state R.Lent.kept self.old) (state R.state R.Lent.kept self.new))
+            ⊥
+            ((inner.new ≡ inner.old) × (state R.state R.Lent.kept self.new ≡ state R.state R.Lent.kept self.old))
+            (RefusesWhole inner.old (state R.state R.Lent.kept self.old) (state R.state R.Lent.kept self.new)) }
+    {
+        match inner {
+            Building::Items { items, head } => self.rows_at_hand(alloc, items, head),
+            Building::Pairs {
+                entries: _,
+                key: _,
+                head: _,
+            } => Step::Absent,
+        }
+    }
+
+    /// Reads a template's next rows where they are at hand whole, or else opens the next one, or
+    /// closes a container of which all was read. Where there is none, nothing changes.
+    fn many_at_hand(
+        &mut self,
+        alloc: Global,
+        around: &mut Vec<Building>,
+        inner: &mut Building,
+    ) -> Step
+        requires { BetweenValues inner.old }
+        ensures { MatchStep result
+            (Proceeds around.old.items around.new.items inner.old inner.new (state R.state R.Lent.kept self.old) (state R.state R.Lent.kept self.new))
+            ⊥
+            ((around.new.items ≡ around.old.items) × (inner.new ≡ inner.old) × (state R.state R.Lent.kept self.new ≡ state R.state R.Lent.kept self.old))
+            (RefusesStep inner.old (state R.state R.Lent.kept self.old) (state R.state R.Lent.kept self.new)) }
+    {
+        match self.rows_inside(alloc, inner) {
+            Step::Absent => self.turn_at_hand(alloc, around, inner),
+            step => step,
+        }
+    }
+
     /// Takes the next step in reading a container, where all that it needs is at hand. Else nothing
     /// changes.
     #[inline(always)]
@@ -387,13 +430,13 @@ impl<R: DeRead> Deserializer<R> {
     ) -> Step
         requires { BetweenValues inner.old }
         ensures { MatchStep result
-            (Advances around.old.items around.new.items inner.old inner.new (state R.state R.Lent.kept self.old) (state R.state R.Lent.kept self.new))
+            (Proceeds around.old.items around.new.items inner.old inner.new (state R.state R.Lent.kept self.old) (state R.state R.Lent.kept self.new))
             ((around.new.items ≡ around.old.items) × Awaits inner.old inner.new (state R.state R.Lent.kept self.old) (state R.state R.Lent.kept self.new))
             ((around.new.items ≡ around.old.items) × (inner.new ≡ inner.old) × (state R.state R.Lent.kept self.new ≡ state R.state R.Lent.kept self.old))
             (RefusesStep inner.old (state R.state R.Lent.kept self.old) (state R.state R.Lent.kept self.new)) }
     {
         match self.value_at_hand(alloc, inner) {
-            Step::Absent => self.turn_at_hand(alloc, around, inner),
+            Step::Absent => self.many_at_hand(alloc, around, inner),
             step => step,
         }
     }

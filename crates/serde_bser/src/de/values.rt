@@ -8,16 +8,18 @@ ghost use Rattle.serde_bser.specs.Building.{ClosesInto};
 ghost use Rattle.serde_bser.specs.BuildingSteps.{ReadsPart, ReadsInto, ClosesPart};
 ghost use Rattle.serde_bser.specs.ScalarAnswer.{TookValue};
 ghost use Rattle.serde_bser.specs.Reading.{Answers, Refuses};
-ghost use Rattle.serde_bser.specs.ValueView.{HoldsTree};
+ghost use Rattle.serde_bser.specs.ValueView.{HoldsTree, HoldsValue};
 ghost use Rattle.serde_bser.specs.View.{state};
 
 use crate::de::building::Building;
 use crate::de::cursor::Head;
 use crate::de::deserializer::{Deserializer, Due};
+use crate::de::front::Front;
 use crate::de::node::Node;
 use crate::de::reading::{Deserialize, OwnedShape, Shape};
 use crate::de::scalar;
 use crate::de::value_at_hand::Step;
+use crate::de::value_front::value_front;
 use crate::value::Value;
 use bser_base::de::read::{DeRead, LendsText};
 use bser_base::errors::{Error, Result};
@@ -181,7 +183,7 @@ where
 impl Shape for Value {
     ghost reads = { reads_value };
 
-    ghost holds = { HoldsTree };
+    ghost holds = { HoldsValue };
 
     ghost needs = { owned };
 
@@ -194,6 +196,11 @@ impl<L: LendsText> Deserialize<L> for Value {
         from: &mut Deserializer<R>,
     ) -> Result<Value> {
         from.read_value(alloc)
+    }
+
+    #[inline(always)]
+    fn front(alloc: Global, in_row: bool, hand: &[u8]) -> Option<Front<Value>> {
+        value_front(alloc, in_row, hand)
     }
 }
 

@@ -5,10 +5,9 @@ ghost use Rattle.serde_bser.specs.Reading.{Answers, Refuses, RefusesFront, IsRef
 ghost use Rattle.serde_bser.specs.contracts.de.deserializer.Deserializer.{the_row};
 ghost use Rattle.serde_bser.specs.View.{state, due_of};
 ghost use Rattle.serde_bser.specs.Variants.{reads_place, HoldsPlace, IsVariantKind, BeginsEntry, BeginsVariant, BeginsVariantKind, SeesVariant, OpensEntry, OpensVariant, payload_due, before_payload, ReadsPayload, IsPayload, IsUnitVariant, RefusesPayload, RefusesUnitVariant, LacksPayload, OpensPayloadItems, OpensPayloadPairs, IsTuplePayload, IsStructPayload, RefusesTuple, RefusesStruct};
-ghost use Rattle.serde_bser.specs.Access.{IsItemsHead, IsPairsHead, closed};
+ghost use Rattle.serde_bser.specs.Access.{RefusesItems, RefusesOpening, IsPairsHead, closed};
 ghost use Rattle.serde_bser.specs.Accesses.{items_head, pairs_head};
 ghost use Rattle.serde_bser.specs.Parts.{pairs_left, pair_key, wanted_pairs};
-ghost use Rattle.serde_bser.specs.Scalar.{owned};
 ghost use Rattle.serde_bser.specs.State.{awaiting, refused};
 ghost use Rattle.bser_base.specs.ReadsScalars.{reads_unit};
 ghost use Rattle.bser_base.specs.Content.{one};
@@ -244,6 +243,7 @@ where
     ) -> Result<(usize, Option<VariantHead>)>
         ensures found { IfOk result (λ p. OpensVariant (map (λ r. r.now) variants.now) (state R.state R.Lent.kept self.old) (enum_head p.1 (state R.state R.Lent.kept self.new)) p.0) }
         ensures refused { IfErr result (λ e. RefusesFront bare (BeginsVariant (map (λ r. r.now) variants.now) (state R.state R.Lent.kept self.old)) e (state R.state R.Lent.kept self.old).source (state R.state R.Lent.kept self.new).source) }
+        ensures failed { OnErr result ((state R.state R.Lent.kept self.new).source.failed ≡ true) }
     {
         match self.variant_kind(name)? {
             Node::Object => {
@@ -272,7 +272,7 @@ where
         variants: &[&str],
     ) -> Result<EnumAccess<'a, R>>
         ensures* rests { sem 𝓛 (RestsIfErr (the_row R.row R.Lent.row R.Lent.Kept.row) self.entry (λ a. a.from.ghost_name) result
-            (λ d. IfErr result (λ e. RefusesFront bare (BeginsVariant (map (λ r. r.now) variants.now) (state R.state R.Lent.kept self.old)) e (state R.state R.Lent.kept self.old).source (state R.state R.Lent.kept d).source))) }
+            (λ d. IfErr result (λ e. RefusesOpening bare (BeginsVariant (map (λ r. r.now) variants.now) (state R.state R.Lent.kept self.old)) e (state R.state R.Lent.kept self.old) (state R.state R.Lent.kept d)))) }
         ensures same_reference { IfOk result (λ a. a.from.ghost_name ≡ self.entry.ghost_name) }
         ensures found { IfOk result (λ a. OpensVariant (map (λ r. r.now) variants.now) (state R.state R.Lent.kept self.old) (open_enum R.state R.Lent.kept a) (place_of a)) }
     {
@@ -379,10 +379,11 @@ impl<'a, R: DeRead> VariantAccess<'a, R> {
 
     /// Reads null as the payload.
     ///
-    /// Another payload is [`Complaint::WrongType`].
+    /// Another payload is [`Complaint::WrongType`]; the deserializer then refuses each later call.
     pub fn unit_variant(self) -> Result<()>
         ensures found { OnOk result (ReadsPayload reads_unit (λ _ c. c ≡ one) (open_variant R.state R.Lent.kept self.entry) (state R.state R.Lent.kept self.exit.0.now) (tt {0})) }
         ensures refused { IfErr result (λ e. Refuses reads_unit bare e (before_payload (open_variant R.state R.Lent.kept self.entry)) (state R.state R.Lent.kept self.exit.0.now)) }
+        ensures failed { OnErr result ((state R.state R.Lent.kept self.exit.0.now).source.failed ≡ true) }
     {
         let head = self.head;
         self.from.await_payload(head);
@@ -396,7 +397,7 @@ impl<'a, R: DeRead> VariantAccess<'a, R> {
     /// Refused as [`Deserializer::read_seq`] is.
     pub fn tuple_variant(self, alloc: Global) -> Result<SeqAccess<'a, R>>
         ensures* rests { sem 𝓛 (RestsIfErr (the_row R.row R.Lent.row R.Lent.Kept.row) self.entry.from (λ a. a.from.ghost_name) result
-            (λ d. IfErr result (λ e. RefusesFront owned (IsItemsHead (before_payload (open_variant R.state R.Lent.kept self.entry))) e (open_variant R.state R.Lent.kept self.entry).state.source (state R.state R.Lent.kept d).source))) }
+            (λ d. IfErr result (λ e. RefusesItems e (before_payload (open_variant R.state R.Lent.kept self.entry)) (state R.state R.Lent.kept d)))) }
         ensures same_reference { IfOk result (λ a. a.from.ghost_name ≡ self.entry.from.ghost_name) }
         ensures found { IfOk result (λ a. OpensPayloadItems (open_variant R.state R.Lent.kept self.entry) (open_items R.state R.Lent.kept a)) }
     {
@@ -417,7 +418,7 @@ impl<'a, R: DeRead> VariantAccess<'a, R> {
     /// Refused as [`Deserializer::read_map`] is.
     pub fn struct_variant(self) -> Result<MapAccess<'a, R>>
         ensures* rests { sem 𝓛 (RestsIfErr (the_row R.row R.Lent.row R.Lent.Kept.row) self.entry.from (λ a. a.from.ghost_name) result
-            (λ d. IfErr result (λ e. RefusesFront bare (IsPairsHead (before_payload (open_variant R.state R.Lent.kept self.entry))) e (open_variant R.state R.Lent.kept self.entry).state.source (state R.state R.Lent.kept d).source))) }
+            (λ d. IfErr result (λ e. RefusesOpening bare (IsPairsHead (before_payload (open_variant R.state R.Lent.kept self.entry))) e (before_payload (open_variant R.state R.Lent.kept self.entry)) (state R.state R.Lent.kept d)))) }
         ensures same_reference { IfOk result (λ a. a.from.ghost_name ≡ self.entry.from.ghost_name) }
         ensures found { IfOk result (λ a. OpensPayloadPairs (open_variant R.state R.Lent.kept self.entry) (open_pairs R.state R.Lent.kept a)) }
     {
@@ -443,10 +444,11 @@ where
 
     /// Reads the payload.
     ///
-    /// Refused as the type's reading is.
+    /// Refused as the type's reading is; the deserializer then refuses each later call.
     pub fn newtype_variant<T: Deserialize<R::Lent>>(self, alloc: Global) -> Result<T>
         ensures found { IfOk result (ReadsPayload T.reads T.holds (open_variant R.state R.Lent.kept self.entry) (state R.state R.Lent.kept self.exit.0.now)) }
         ensures refused { IfErr result (λ e. Refuses T.reads T.needs e (before_payload (open_variant R.state R.Lent.kept self.entry)) (state R.state R.Lent.kept self.exit.0.now)) }
+        ensures failed { OnErr result ((state R.state R.Lent.kept self.exit.0.now).source.failed ≡ true) }
     {
         let head = self.head;
         self.from.await_payload(head);
@@ -492,7 +494,7 @@ impl<'a, R: DeRead> EnumAccess<'a, R> {
 
     /// Reads null as the payload, or nothing where the name stands alone.
     ///
-    /// Another payload is [`Complaint::WrongType`].
+    /// Another payload is [`Complaint::WrongType`]; the deserializer then refuses each later call.
     pub fn unit_variant(self) -> Result<()>
         ensures found { OnOk result (IsUnitVariant (open_enum R.state R.Lent.kept self.entry) (state R.state R.Lent.kept self.exit.0.now)) }
         ensures refused { IfErr result (λ e. RefusesUnitVariant e (open_enum R.state R.Lent.kept self.entry) (state R.state R.Lent.kept self.exit.0.now)) }
@@ -569,7 +571,7 @@ where
     /// Reads the payload.
     ///
     /// Refused as the type's reading is, and by [`Complaint::WrongType`] where the name stands
-    /// alone.
+    /// alone; the deserializer then refuses each later call.
     pub fn newtype_variant<T: Deserialize<R::Lent>>(self, alloc: Global) -> Result<T>
         ensures found { IfOk result (IsPayload T.reads T.holds (open_enum R.state R.Lent.kept self.entry) (state R.state R.Lent.kept self.exit.0.now)) }
         ensures refused { IfErr result (λ e. RefusesPayload T.reads T.needs e (open_enum R.state R.Lent.kept self.entry) (state R.state R.Lent.kept self.exit.0.now)) }

@@ -53,6 +53,15 @@ fn a_copy_is_equal(rt: HostRuntime) -> Result<(), AllocError> {
 }
 
 #[test]
+fn a_clone_is_equal(rt: HostRuntime) -> Result<(), AllocError> {
+    let value = nested(rt.alloc(), 1)?;
+    let clone = value.clone()?;
+    assert!(rt; clone == value);
+    assert!(rt; clone != nested(rt.alloc(), 2)?);
+    Ok(())
+}
+
+#[test]
 fn values_with_different_reals_differ(rt: HostRuntime) -> Result<(), AllocError> {
     let value = nested(rt.alloc(), 1)?;
     assert!(rt; value != nested(rt.alloc(), 2)?);

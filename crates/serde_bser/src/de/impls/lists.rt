@@ -37,8 +37,18 @@ impl<L: LendsText, T: Deserialize<L>> Deserialize<L> for Vec<T> {
     ) -> Result<Vec<T>> {
         let mut items = Vec::new(alloc);
         let mut seq = from.read_seq(alloc)?;
-        while let Some(item) = seq.next_element::<T>(alloc)? {
-            items.push(item)?;
+        while seq.remaining() != 0 {
+            seq.await_item();
+            match T::deserialize(alloc, seq.from) {
+                Ok(item) => {
+                    seq.pass_item();
+                    items.push(item)?;
+                }
+                Err(refusal) => {
+                    seq.from.fail();
+                    return Err(refusal);
+                }
+            }
         }
         seq.end()?;
         Ok(items)

@@ -13,6 +13,7 @@ use crate::de::strings::may_stand;
 use bser_base::bytestring::ByteString;
 use bser_base::de::bunser::string_front;
 use bser_base::de::read::{DeRead, LendsFrom, LendsText, Reference, TextReference};
+use bser_base::de::text::as_text;
 use bser_base::errors::{Complaint, Result};
 use std::alloc::Global;
 
@@ -39,15 +40,15 @@ impl<L: LendsText> Deserialize<L> for String {
     #[inline(always)]
     fn front(alloc: Global, _in_row: bool, hand: &[u8]) -> Option<Front<String>> {
         match string_front(hand) {
-            Some(place) => match str::from_utf8(&hand[place.at..place.end]) {
-                Ok(text) => match String::from_str(alloc, text) {
+            Some(place) => match as_text(&hand[place.at..place.end]) {
+                Some(text) => match String::from_str(alloc, text) {
                     Ok(value) => Some(Front {
                         value,
                         len: place.end,
                     }),
                     Err(_) => None,
                 },
-                Err(_) => None,
+                None => None,
             },
             None => None,
         }

@@ -69,6 +69,48 @@ fn a_reader_gives_the_same_value(rt: HostRuntime) -> Result<()> {
     Ok(())
 }
 
+/// Sixteen rows over the keys "a", "b" and "a": the row's place, the bytes "x", and the place after
+/// it. The sixth row has an array in the place of the bytes.
+fn sixteen_rows(alloc: Global) -> Result<Vec<u8>> {
+    let mut message = Vec::from_slice(
+        alloc,
+        b"\x00\x02\x00\x00\x00\x00\x04\x92\x00\x0b\x00\x03\x03\x02\x03\x01a\x02\x03\x01b\x02\x03\x01a\x03\x10",
+    )?;
+    for place in 0..16u8 {
+        message.extend_from_slice(&[3, place])?;
+        message.extend_from_slice(if place == 5 {
+            b"\x00\x03\x01\x0a"
+        } else {
+            b"\x02\x03\x01x"
+        })?;
+        message.extend_from_slice(&[3, place + 1])?;
+    }
+    Ok(message)
+}
+
+#[test]
+fn each_row_of_many_is_an_object(rt: HostRuntime) -> Result<()> {
+    let alloc = rt.alloc();
+    let message = sixteen_rows(alloc)?;
+    let value = from_slice::<Value>(alloc, &message)?;
+    let rows = items(&value).unwrap_or_default();
+    assert_eq!(rt; rows.len(), 16);
+    for (place, row) in (0..16i64).zip(rows) {
+        let last = entry(row, "a");
+        assert!(rt;
+            matches!(last, Some(Value::Integer(number)) if *number == place.wrapping_add(1))
+        );
+        match entry(row, "b") {
+            Some(Value::ByteString(_)) => assert!(rt; place != 5),
+            Some(Value::Array(_)) => assert!(rt; place == 5),
+            _ => assert!(rt; false),
+        }
+    }
+    let mut reader = Watched::new(message.as_slice());
+    assert!(rt; value == from_reader::<_, Value>(alloc, &mut reader)?);
+    Ok(())
+}
+
 #[test]
 fn the_last_of_equal_keys_stays(rt: HostRuntime) -> Result<()> {
     let value = from_slice::<Value>(
@@ -179,6 +221,65 @@ fn a_text_in_a_row_that_is_not_utf8_is_refused(rt: HostRuntime) {
             refused,
             Err(Error::DeReaderError {
                 source: ReadCause::Utf8
+            })
+        )
+    );
+}
+
+#[test]
+fn a_row_has_a_field_of_each_kind(rt: HostRuntime) -> Result<()> {
+    // one row over the keys "a" to "h": 7, the real 1, true, false, null, nothing, the text "x" and
+    // the bytes "y"
+    let value = from_slice::<Value>(
+        rt.alloc(),
+        b"\x00\x02\x00\x00\x00\x00\x03\x3d\x0b\x00\x03\x08\x02\x03\x01a\x02\x03\x01b\x02\x03\x01c\x02\x03\x01d\x02\x03\x01e\x02\x03\x01f\x02\x03\x01g\x02\x03\x01h\x03\x01\x03\x07\x07\x00\x00\x00\x00\x00\x00\xf0\x3f\x08\x09\x0a\x0c\x0d\x03\x01x\x02\x03\x01y",
+    )?;
+    let rows = items(&value).unwrap_or_default();
+    assert_eq!(rt; rows.len(), 1);
+    assert!(rt; matches!(entry(&rows[0], "a"), Some(Value::Integer(7))));
+    assert!(rt;
+        matches!(
+            entry(&rows[0], "b"),
+            Some(Value::Real(0x3ff0_0000_0000_0000))
+        )
+    );
+    assert!(rt; matches!(entry(&rows[0], "c"), Some(Value::Bool(true))));
+    assert!(rt; matches!(entry(&rows[0], "d"), Some(Value::Bool(false))));
+    assert!(rt; matches!(entry(&rows[0], "e"), Some(Value::Null)));
+    assert!(rt; matches!(entry(&rows[0], "f"), Some(Value::Null)));
+    assert!(rt; matches!(entry(&rows[0], "g"), Some(Value::Utf8String(_))));
+    assert!(rt; matches!(entry(&rows[0], "h"), Some(Value::ByteString(_))));
+    Ok(())
+}
+
+#[test]
+fn values_are_the_items_of_a_list(rt: HostRuntime) -> Result<()> {
+    // [1, the real 1, null, "x", []]
+    let values = from_slice::<Vec<Value>>(
+        rt.alloc(),
+        b"\x00\x02\x00\x00\x00\x00\x03\x16\x00\x03\x05\x03\x01\x07\x00\x00\x00\x00\x00\x00\xf0\x3f\x0a\x0d\x03\x01x\x00\x03\x00",
+    )?;
+    assert_eq!(rt; values.len(), 5);
+    assert!(rt; matches!(values[0], Value::Integer(1)));
+    assert!(rt; matches!(values[1], Value::Real(0x3ff0_0000_0000_0000)));
+    assert!(rt; matches!(values[2], Value::Null));
+    assert!(rt; matches!(values[3], Value::Utf8String(_)));
+    assert!(rt; matches!(values[4], Value::Array(_)));
+    Ok(())
+}
+
+#[test]
+fn a_skip_in_a_list_of_values_is_refused(rt: HostRuntime) {
+    let refused = from_slice::<Vec<Value>>(
+        rt.alloc(),
+        b"\x00\x02\x00\x00\x00\x00\x03\x04\x00\x03\x01\x0c",
+    );
+    assert!(rt;
+        matches!(
+            refused,
+            Err(Error::DeInvalidStartByte {
+                kind: Kind::NextItem,
+                byte: 0x0c
             })
         )
     );

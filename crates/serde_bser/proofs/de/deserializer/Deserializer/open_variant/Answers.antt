@@ -38,6 +38,7 @@ returns-in_err-place-in_default g c =
     record {
       found = rw p.1 tt;
       refused = rw (p.1, p.2) (name_refused _ old mid _ _ _ c.in_ok-variant_kind.ensures.found.sees c.in_default.not-Object c.in_err-place-in_default.ensures.refused);
+      failed = rw p.1 c.in_err-place-in_default.ensures.failed;
     }
 
 pub returns-in_ok-place-in_default : goal.returns-in_ok-place-in_default
@@ -46,4 +47,4 @@ returns-in_ok-place-in_default g c =
     let mid : State = state g.R.DeRead.state g.R.Lent.Lending.kept c.variant_kind.new.self in
     let sees = c.in_ok-variant_kind.ensures.found.sees in
     let a = c.in_ok-place-in_default.ensures.found in
-    record { found = look_answers _ _ HoldsPlace HoldsPlace old mid _ sees.head _ _ a.content sees.stands a a.read a.held; refused = tt }
+    record { found = look_answers _ _ HoldsPlace HoldsPlace old mid _ sees.head _ _ a.content sees.stands a a.read a.held; refused = tt; failed = tt }

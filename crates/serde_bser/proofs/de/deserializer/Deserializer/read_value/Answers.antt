@@ -8,7 +8,8 @@ use Rattle.serde_bser.specs.Scalar.{owned}
 use Rattle.serde_bser.specs.State.{State}
 use Rattle.serde_bser.specs.View.{state}
 use Rattle.serde_bser.proofs.Buildings.{nested_start, nested_next, nested_into, nested_full, nested_done, nested_closed, nested_room, closed_room, name_refused, value_refused, fills_between, fails_too}
-use Rattle.serde_bser.proofs.ValuesAtHand.{nested_same, nested_due, nested_advances, nested_refused}
+use Rattle.serde_bser.proofs.ValuesAtHand.{nested_same, nested_due, nested_refused}
+use Rattle.serde_bser.proofs.RowsPut.{nested_proceeds}
 use Rattle.serde_bser.proofs.de.deserializer.Deserializer.read_value.Goals as goal
 
 pub loop-init : goal.loop-init
@@ -101,7 +102,7 @@ returns-clause-refused g c =
 pub loop-preserved-in-Taken : goal.loop-preserved-in-Taken
 loop-preserved-in-Taken g c =
     let o : State = state g.R.DeRead.state g.R.Lent.Lending.kept c.args.self.now in
-    nested_advances o _ _ _ _ _ _ c.loop.invariant c.in-Taken.ensures
+    nested_proceeds o _ _ _ _ _ _ c.loop.invariant c.in-Taken.ensures
 
 pub returns-in-Refused-clause-refused : goal.returns-in-Refused-clause-refused
 returns-in-Refused-clause-refused g c =

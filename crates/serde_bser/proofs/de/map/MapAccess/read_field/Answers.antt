@@ -1,4 +1,4 @@
-use Rattle.std.proofs.Common.{◌≡◌, List, subst, sym}
+use Rattle.std.proofs.Common.{List, subst, sym}
 use Rattle.std.specs.Prelude.{MatchOption}
 use Rattle.serde_bser.specs.Access.{OpenPairs, RefusesValue}
 use Rattle.bser_base.specs.ReadsAny.{reads_ignored}

@@ -1,4 +1,3 @@
-use Rattle.bser_base.specs.ReadsHolders.{reads_option}
 use Rattle.serde_bser.proofs.AtFront.{something_lent}
 use Rattle.serde_bser.proofs.de.impls.holders.OptionDeserialize.of_lent.Goals as goal
 

@@ -1,4 +1,4 @@
-use Rattle.std.proofs.Common.{rules, ◌<◌, ◌≡◌, ◌∷◌, ◌∙◌, ◌⊎◌, length, get_or, refl, sym, ap, inl, inr}
+use Rattle.std.proofs.Common.{rules, ◌<◌, ◌≡◌, ◌⊎◌, length, get_or, refl, inl, inr}
 use Rattle.serde_bser.proofs.AtHand.{one_taken, truth_tag}
 use Rattle.serde_bser.proofs.AtFront.{truth_front}
 use Rattle.serde_bser.proofs.de.impls.scalars.BoolDeserialize.front.Goals as goal

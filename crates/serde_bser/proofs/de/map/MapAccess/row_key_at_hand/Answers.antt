@@ -10,7 +10,7 @@ use Rattle.serde_bser.specs.declared.de.field.Field.TheVariants.{Known}
 use Rattle.serde_bser.proofs.AtHand.{key_at_hand, row_wanted, holds_refused}
 use Rattle.serde_bser.proofs.Pairs.{field_passed}
 use Rattle.serde_bser.proofs.TextRefusals.{named_at}
-use Rattle.serde_bser.proofs.de.map.MapAccess.field_at_hand.Goals as goal
+use Rattle.serde_bser.proofs.de.map.MapAccess.row_key_at_hand.Goals as goal
 
 pub returns-in-Some-clause-answer : goal.returns-in-Some-clause-answer
 returns-in-Some-clause-answer g c =
@@ -22,5 +22,5 @@ returns-in-Some-clause-answer g c =
     let inside : a.at < length (map kept a.from.now.keys.items) = omega (arith, length-map a.from.now.keys.items kept, c.if-place-len.false, c.len.ensures) in
     let named = named_at kept a.at a.from.now.keys.items c.index.result.now inside c.index.ensures in
     let working = sym c.is_failed.ensures ∙ c.if-is_failed.false in
-    subst (λ w. IsKey reads_string (HoldsField names) old (pairs_in old (past old.state old.state.source) w true) (Known c.in-Some.known)) (sym (field_passed ks a.row a.at c.if-not-self.false))
-    (key_at_hand names old a.at (kept c.index.result.now) (Known c.in-Some.known) (row_wanted ks a.row a.at c.if-not-self.false) c.if-self.false working (holds_refused a.from.now.bunser.failed (g.R.DeRead.state a.from.now.bunser.read) (g.met.R.DeRead.holding a.from.now.bunser.read)) named (subst IsUtf8 c.kept_bytes-name.ensures c.in-Some.ensures.0) (c.in-Some.ensures.1 ∙ ap (field_of names) c.kept_bytes-name.ensures))
+    subst (λ w. IsKey reads_string (HoldsField names) old (pairs_in old (past old.state old.state.source) w true) (Known c.in-Some.known)) (sym (field_passed ks a.row a.at c.requires.row))
+    (key_at_hand names old a.at (kept c.index.result.now) (Known c.in-Some.known) (row_wanted ks a.row a.at c.requires.row) c.requires.read working (holds_refused a.from.now.bunser.failed (g.R.DeRead.state a.from.now.bunser.read) (g.met.R.DeRead.holding a.from.now.bunser.read)) named (subst IsUtf8 c.kept_bytes-name.ensures c.in-Some.ensures.0) (c.in-Some.ensures.1 ∙ ap (field_of names) c.kept_bytes-name.ensures))

@@ -1,7 +1,7 @@
 use Rattle.std.proofs.Common.{◌≡◌, List, ◌++◌, take, map}
 use Rattle.serde_bser.specs.ValueView.{tree_of, entries_view}
 use Rattle.serde_bser.proofs.Views.{Entry}
-use Rattle.serde_bser.proofs.value.+copy.Given as goal
+use Rattle.serde_bser.proofs.value.clone.+copy.Given as goal
 
 abbrev pub invariant-copy_items-loop-item : goal.invariant-copy_items-loop-item
 invariant-copy_items-loop-item l = map tree_of l.copies.items ≡ map tree_of (take l.item-index l.item-items)

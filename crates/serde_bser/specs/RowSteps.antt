@@ -1,0 +1,26 @@
+-- A step in which a template's rows are read, as many as are at hand whole.
+use Rattle.std.specs.Prelude.{◌≡◌, ◌-◌, List, ◌⊎◌}
+use Rattle.serde_bser.specs.State.{State}
+use Rattle.serde_bser.specs.StepsAtHand.{RefusesItem, Advances}
+use Rattle.serde_bser.specs.Rows.{PutsItems}
+use Rattle.serde_bser.specs.declared.de.open.SeqHead.{SeqHead}
+use Rattle.serde_bser.specs.declared.de.building.Building.{Building}
+use Rattle.serde_bser.specs.declared.de.building.Building.TheVariants.{Items}
+
+-- the next item was due, and there is no memory for it or for one after it
+abbrev pub RefusesItems : SeqHead → State → State → Type 0
+RefusesItems before old new = RefusesItem before (record before { remaining = before.remaining - 1 }) old new
+
+-- one or more values of an array were read in turn, and put in
+abbrev pub PutsMany : Building → Building → State → State → Type 0
+PutsMany (Items vs h) (Items ws i) old new = PutsItems vs.items h old ws.items i new
+PutsMany _ _ old new = ⊥
+
+-- the same, and nothing changes around it
+pub record TakesMany (around after : List Building) (b c : Building) (old new : State) : Type 0 where
+  pub many : PutsMany b c old new
+  pub same : after ≡ around
+
+-- a step with one value, or with several
+abbrev pub Proceeds : List Building → List Building → Building → Building → State → State → Type 0
+Proceeds around after b c old new = Advances around after b c old new ⊎ TakesMany around after b c old new
