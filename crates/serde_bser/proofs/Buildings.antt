@@ -17,6 +17,7 @@ use Rattle.serde_bser.specs.Reading.{Answers, Refuses, RefusesFront, FillsReadab
 use Rattle.serde_bser.specs.Scalar.{owned}
 use Rattle.serde_bser.specs.HoldsTexts.{HoldsBytes}
 use Rattle.serde_bser.specs.ValueView.{tree_of, entry_trees, HoldsTree}
+use Rattle.serde_bser.specs.Gathered.{all_items}
 use Rattle.serde_bser.specs.Parts.{item_due, items_after, wanted_items, wanted_pairs, pair_key, pair_value}
 use Rattle.serde_bser.specs.Access.{OpenItems, OpenPairs, items_in, IsNext, RefusesItem, ClosesItems, RefusesKey, IsValue, RefusesValue, ClosesPairs, pairs_in}
 use Rattle.serde_bser.specs.Accesses.{items_head, pairs_head}
@@ -52,7 +53,7 @@ pub record FillingPairs (es : List (String Global × Value)) (key : Option (Stri
   pub inside : AtKey reads_object o (object_outlook (entry_trees es)) (pairs_head h s)
 
 abbrev pub Filling : Building → State → State → Type 0
-Filling (Items vs h) o s = FillingItems vs.items h o s
+Filling (Items vs h) o s = FillingItems (all_items vs) h o s
 Filling (Pairs es key h) o s = FillingPairs es.entries key h o s
 
 -- ---- a container whose next value is due
@@ -76,7 +77,7 @@ pub record WaitingPairs (es : List (String Global × Value)) (key : Option (Stri
   pub due : s ≡ awaiting (pair_value (pairs_head h outside).wanted) outside
 
 abbrev pub Waiting : Building → State → State → Type 0
-Waiting (Items vs h) o s = WaitingItems vs.items h o s
+Waiting (Items vs h) o s = WaitingItems (all_items vs) h o s
 Waiting (Pairs es key h) o s = WaitingPairs es.entries key h o s
 
 -- ---- opening
@@ -106,7 +107,7 @@ items_wait : (vs : List Value) (h i : SeqHead) (o s t : State) → FillingItems 
 items_wait vs h i o s t f a = record { only = f.only; before = h; outside = s; inside = f.inside; awaits = a }
 
 pub awaits_waits : (b c : Building) (o s t : State) → Filling b o s → Awaits b c s t → Waiting c o t
-awaits_waits (Items vs h) (Items ws i) o s t f a = subst (λ l. WaitingItems l.items i o t) (sym a.0) (items_wait vs.items h i o s t f a.1)
+awaits_waits (Items vs h) (Items ws i) o s t f a = subst (λ l. WaitingItems (all_items l) i o t) (sym a.0) (items_wait (all_items vs) h i o s t f a.1)
 awaits_waits (Pairs es key h) (Pairs fs (Some name) i) o s t f a =
     let n = a.1 in
     let key = n.key in
@@ -144,7 +145,7 @@ waits_refused (Items vs h) e o s z w u =
     let left = left_items w.outside.keys w.before.rows w.before.remaining in
     let there : Refuses reads_value owned e (awaiting (item_due entered.wanted) w.outside) (refused z) = subst (λ (y : State). Refuses reads_value owned e y (refused z)) w.awaits.due (fails_too e s z u) in
     let item : RefusesItem reads_value owned e entered (refused z) = record { counted = λ working. omega (arith, left, w.awaits.counted); refuses = there; failed = refl } in
-    let done : List Tree = map tree_of vs.items in
+    let done : List Tree = map tree_of (all_items vs) in
     fails_before e o z (due_refuses reads_array owned e o (refused z) w.only
     (arrays.item_refused reads_value owned reads_array (array_outlook done) (λ c. array_outlook (done ++ content_tree c ∷ [])) owned e o (refused z) entered (array_next done) (λ l. l) (λ m. m) (λ t. t) w.inside item))
 waits_refused (Pairs es key h) e o s z w u =
@@ -210,7 +211,7 @@ pub item_filled : (vs ws : List Value) (h i : SeqHead) (o s t : State) → Filli
 item_filled vs ws h i o s t f p = item_fills vs ws i i o p.between t p.value (items_wait vs h i o s p.between f p.awaits) p.answers (p.put, refl)
 
 pub puts_fills : (b c : Building) (o s t : State) (v : Value) → Waiting b o s → Answers reads_value HoldsTree s t v → Puts v b c → Filling c o t
-puts_fills (Items vs h) (Items ws i) o s t v w a p = item_fills vs.items ws.items h i o s t v w a p
+puts_fills (Items vs h) (Items ws i) o s t v w a p = item_fills (all_items vs) (all_items ws) h i o s t v w a p
 puts_fills (Pairs es (Some k) h) (Pairs fs key i) o s t v w a p =
     let entered : OpenPairs = after_key h w.outside in
     let there : Answers reads_value HoldsTree (awaiting (pair_value entered.wanted) w.outside) t v = subst (λ (y : State). Answers reads_value HoldsTree y t v) w.due a in
@@ -236,7 +237,7 @@ puts_fills (Pairs es (Some k) h) (Items ws i) o s t v w a p = absurd p
 
 pub closes_answers : (b : Building) (o s z : State) (v : Value) → Filling b o s → IsFull b s → ClosesInto b s z → tree_of v ≡ built b → Answers reads_value HoldsTree o z v
 closes_answers (Items vs h) o s z v f full closes tree =
-    let done : List Tree = map tree_of vs.items in
+    let done : List Tree = map tree_of (all_items vs) in
     let closed : ClosesItems (items_head h s) z = record { working = f.inside.took.failed; counted = left_items s.keys h.rows h.remaining ∙ full; keys = closes.0; state = closes.1 } in
     due_answers reads_array HoldsTree o z v array_value
     (arrays.inside_end HoldsTree reads_array (array_outlook done) o z (items_head h s) (value (array (items_of (done ++ [])))) v f.inside closed refl

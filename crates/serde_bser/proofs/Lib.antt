@@ -5,6 +5,7 @@ pub mod Seen
 pub mod KindTags
 pub mod Pulls
 pub mod FieldNames
+pub mod Gathered
 pub mod AtHand
 pub mod AtFront
 pub mod StringsAtHand

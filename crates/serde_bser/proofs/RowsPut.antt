@@ -10,6 +10,8 @@ use Rattle.serde_bser.specs.Scalar.{owned}
 use Rattle.serde_bser.specs.ValueView.{HoldsTree}
 use Rattle.serde_bser.specs.Building.{AwaitsItem}
 use Rattle.serde_bser.specs.StepsAtHand.{MatchStep, PutsItem, RefusesWhole}
+use Rattle.serde_bser.specs.Gathered.{all_items}
+use Rattle.serde_bser.specs.declared.de.gathered.Gathered.{Gathered}
 use Rattle.serde_bser.specs.Rows.{PutsItems, one_item, more_items}
 use Rattle.serde_bser.specs.RowSteps.{RefusesItems, PutsMany, Proceeds}
 use Rattle.serde_bser.specs.declared.value.Value.{Value}
@@ -35,19 +37,19 @@ row_put s t h v vs ws rows some answers put = record {
 -- ---- rows
 
 -- so far rows were read, or nothing changed
-abbrev pub SoFar : Step → Vec Value Global → Vec Value Global → SeqHead → SeqHead → State → State → Type 0
-SoFar r us vs g h o s = MatchStep r (PutsItems us.items g o vs.items h s) ⊥ ((vs ≡ us) × (h ≡ g) × (s ≡ o)) ⊥
+abbrev pub SoFar : Step → Gathered → Gathered → SeqHead → SeqHead → State → State → Type 0
+SoFar r us vs g h o s = MatchStep r (PutsItems (all_items us) g o (all_items vs) h s) ⊥ ((vs ≡ us) × (h ≡ g) × (s ≡ o)) ⊥
 
 -- and another one
-more_put : (r : Step) (us vs : Vec Value Global) (ws : List Value) (g h i : SeqHead) (o s t : State) → SoFar r us vs g h o s → PutsItem vs.items ws h i s t → PutsItems us.items g o ws i t
-more_put Taken us vs ws g h i o s t p q = more_items vs.items ws h i s t p q
+more_put : (r : Step) (us vs : Gathered) (ws : List Value) (g h i : SeqHead) (o s t : State) → SoFar r us vs g h o s → PutsItem (all_items vs) ws h i s t → PutsItems (all_items us) g o ws i t
+more_put Taken us vs ws g h i o s t p q = more_items (all_items vs) ws h i s t p q
 more_put Due us vs ws g h i o s t p q = absurd p
-more_put Absent us vs ws g h i o s t p q = one_item ws i t (subst (λ (y : State). PutsItem us.items ws g i y t) p.2 (subst (λ j. PutsItem us.items ws j i s t) p.1 (subst (λ l. PutsItem l.items ws h i s t) p.0 q)))
+more_put Absent us vs ws g h i o s t p q = one_item ws i t (subst (λ (y : State). PutsItem (all_items us) ws g i y t) p.2 (subst (λ j. PutsItem (all_items us) ws j i s t) p.1 (subst (λ l. PutsItem (all_items l) ws h i s t) p.0 q)))
 more_put Refused us vs ws g h i o s t p q = absurd p
 
-pub rows_put : (r : Step) (us vs : Vec Value Global) (ws : List Value) (g h : SeqHead) (o s t : State) (v : Value) → SoFar r us vs g h o s → h.rows ≡ true → 0 < h.remaining
-    → Answers reads_value HoldsTree (awaiting (row_due s.keys) s) t v → ws ≡ vs.items ++ v ∷ [] → PutsItems us.items g o ws (record h { remaining = h.remaining - 1 }) t
-rows_put r us vs ws g h o s t v p rows some answers put = more_put r us vs ws g h _ o s t p (row_put s t h v vs.items ws rows some answers put)
+pub rows_put : (r : Step) (us vs : Gathered) (ws : List Value) (g h : SeqHead) (o s t : State) (v : Value) → SoFar r us vs g h o s → h.rows ≡ true → 0 < h.remaining
+    → Answers reads_value HoldsTree (awaiting (row_due s.keys) s) t v → ws ≡ all_items vs ++ v ∷ [] → PutsItems (all_items us) g o ws (record h { remaining = h.remaining - 1 }) t
+rows_put r us vs ws g h o s t v p rows some answers put = more_put r us vs ws g h _ o s t p (row_put s t h v (all_items vs) ws rows some answers put)
 
 -- want of memory after a value that was read later
 refused_later : (o s m t : State) (v : Value) → Refuses reads_value owned OutOfMemory o s → m.source ≡ s.source → Answers reads_value HoldsTree m t v → Refuses reads_value owned OutOfMemory o t
@@ -72,7 +74,7 @@ many_refused vs h o xs j t (more_items ws ys i k s new many p) =
 
 -- ---- a container's next values
 
-pub many_step : (r : Step) (vs ws : Vec Value Global) (h i : SeqHead) (s t : State) → MatchStep r (PutsItems vs.items h s ws.items i t) ⊥ ((ws ≡ vs) × (i ≡ h) × (t ≡ s)) (RefusesItems h s t)
+pub many_step : (r : Step) (vs ws : Gathered) (h i : SeqHead) (s t : State) → MatchStep r (PutsItems (all_items vs) h s (all_items ws) i t) ⊥ ((ws ≡ vs) × (i ≡ h) × (t ≡ s)) (RefusesItems h s t)
     → MatchStep r (PutsMany (Items vs h) (Items ws i) s t) ⊥ ((Items ws i ≡ Items vs h) × (t ≡ s)) (RefusesWhole (Items vs h) s t)
 many_step Taken vs ws h i s t p = p
 many_step Due vs ws h i s t p = absurd p
@@ -84,7 +86,7 @@ items_filled o vs h s xs j t f (one_item ws i new p) = item_filled vs xs h j o s
 items_filled o vs h s xs j t f (more_items ws ys i k m new many p) = item_filled ws xs i j o m t (items_filled o vs h s ws i m f many) p
 
 many_filled : (b c : Building) (o s t : State) → Filling b o s → PutsMany b c s t → Filling c o t
-many_filled (Items vs h) (Items ws i) o s t f p = items_filled o vs.items h s ws.items i t f p
+many_filled (Items vs h) (Items ws i) o s t f p = items_filled o (all_items vs) h s (all_items ws) i t f p
 many_filled (Items vs h) (Pairs es key i) o s t f p = absurd p
 many_filled (Pairs es key h) c o s t f p = absurd p
 

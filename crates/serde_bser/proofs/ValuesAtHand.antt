@@ -15,6 +15,8 @@ use Rattle.bser_base.specs.Source.{Took}
 use Rattle.bser_base.specs.Source as source
 use Rattle.bser_base.specs.declared.de.hand.StringPlace.{StringPlace}
 use Rattle.bser_base.specs.declared.errors.Error.TheVariants.{OutOfMemory}
+use Rattle.serde_bser.specs.Gathered.{all_items}
+use Rattle.serde_bser.specs.declared.de.gathered.Gathered.{Gathered}
 use Rattle.serde_bser.specs.State.{State, past, awaiting}
 use Rattle.serde_bser.specs.Reading.{Answers, Refuses}
 use Rattle.serde_bser.specs.Scalar.{reads_scalar, owned, IsValue, TookScalar}
@@ -202,19 +204,19 @@ entry_whole es fs key h i s t none p = record { waiting = Pairs es (Some p.name)
 pub entry_room : (es : BTreeMap (String Global) Value) (key : Option (String Global)) (h i : MapHead) (s t : State) → RefusesEntry h i s t → RefusesWhole (Pairs es key h) s t
 entry_room es key h i s t p = record { waiting = Pairs es (Some p.name) i; between = p.between; awaits = (refl, p.named); refuses = p.refuses }
 
-pub item_whole : (vs ws : Vec Value Global) (h i : SeqHead) (s t : State) → PutsItem vs.items ws.items h i s t → PutsWhole (Items vs h) (Items ws i) s t
+pub item_whole : (vs ws : Gathered) (h i : SeqHead) (s t : State) → PutsItem (all_items vs) (all_items ws) h i s t → PutsWhole (Items vs h) (Items ws i) s t
 item_whole vs ws h i s t p = record { waiting = Items vs i; between = p.between; awaits = (refl, p.awaits); value = p.value; answers = p.answers; put = (p.put, refl) }
 
-pub item_room : (vs : Vec Value Global) (h i : SeqHead) (s t : State) → RefusesItem h i s t → RefusesWhole (Items vs h) s t
+pub item_room : (vs : Gathered) (h i : SeqHead) (s t : State) → RefusesItem h i s t → RefusesWhole (Items vs h) s t
 item_room vs h i s t p = record { waiting = Items vs i; between = p.between; awaits = (refl, p.awaits); refuses = p.refuses }
 
-pub same_items : (vs ws : Vec Value Global) (h i : SeqHead) → ws ≡ vs → i ≡ h → Items ws i ≡ Items vs h
+pub same_items : (vs ws : Gathered) (h i : SeqHead) → ws ≡ vs → i ≡ h → Items ws i ≡ Items vs h
 same_items vs ws h i e f = ap (λ x. Items x i) e ∙ ap (Items vs) f
 
 same_pairs : (es fs : BTreeMap (String Global) Value) (key : Option (String Global)) (h i : MapHead) → fs ≡ es → i ≡ h → Pairs fs key i ≡ Pairs es key h
 same_pairs es fs key h i e f = ap (λ x. Pairs x key i) e ∙ ap (Pairs es key) f
 
-pub items_step : (r : Step) (vs ws : Vec Value Global) (h i : SeqHead) (s t : State) → MatchStep r (PutsItem vs.items ws.items h i s t) ⊥ ((ws ≡ vs) × (i ≡ h) × (t ≡ s)) (RefusesItem h i s t)
+pub items_step : (r : Step) (vs ws : Gathered) (h i : SeqHead) (s t : State) → MatchStep r (PutsItem (all_items vs) (all_items ws) h i s t) ⊥ ((ws ≡ vs) × (i ≡ h) × (t ≡ s)) (RefusesItem h i s t)
     → MatchStep r (PutsWhole (Items vs h) (Items ws i) s t) (Awaits (Items vs h) (Items ws i) s t) ((Items ws i ≡ Items vs h) × (t ≡ s)) (RefusesWhole (Items vs h) s t)
 items_step Taken vs ws h i s t p = item_whole vs ws h i s t p
 items_step Due vs ws h i s t p = absurd p
@@ -241,7 +243,7 @@ object_step Refused es fs key next h i s t none p = entry_room es key h i s t p
 
 -- ---- rows
 
-pub next_row : (vs : Vec Value Global) (h : SeqHead) (m : MapHead) (s t : State) → h.rows ≡ true → 0 < h.remaining → s.source.failed ≡ false → OpensPairs (awaiting (row_due s.keys) s) (pairs_head m t)
+pub next_row : (vs : Gathered) (h : SeqHead) (m : MapHead) (s t : State) → h.rows ≡ true → 0 < h.remaining → s.source.failed ≡ false → OpensPairs (awaiting (row_due s.keys) s) (pairs_head m t)
     → NextRow m (Items vs h) (Items vs (record h { remaining = h.remaining - 1 })) s t
 next_row vs h m s t rows some working opens =
     let due : State = awaiting (row_due s.keys) s in

@@ -14,6 +14,7 @@ use Rattle.serde_bser.specs.Reading.{Refuses}
 use Rattle.serde_bser.specs.Scalar.{owned}
 use Rattle.serde_bser.specs.HoldsTexts.{HoldsBytes}
 use Rattle.serde_bser.specs.ValueView.{items_view, entries_view}
+use Rattle.serde_bser.specs.Gathered.{all_items}
 use Rattle.serde_bser.specs.Parts.{item_due, pairs_left, pair_key, pair_value}
 use Rattle.serde_bser.specs.Access.{OpenPairs, OpensItems, OpensPairs, IsKey, KeysOutside, closed}
 use Rattle.serde_bser.specs.Accesses.{items_head, pairs_head}
@@ -53,12 +54,12 @@ pub record BuildsPairs (es : List (String Global × Value)) (key : Option (Strin
   pub only : IsDueAs reads_object old
 
 abbrev pub Builds : Building → State → State → Type 0
-Builds (Items vs h) old new = BuildsItems vs.items h old new
+Builds (Items vs h) old new = BuildsItems (all_items vs) h old new
 Builds (Pairs es key h) old new = BuildsPairs es.entries key h old new
 
 -- nothing was read of it
 abbrev pub IsNewItems : SeqHead → Building → Type 0
-IsNewItems h (Items vs i) = (vs.items ≡ []) × (i ≡ h)
+IsNewItems h (Items vs i) = (all_items vs ≡ []) × (i ≡ h)
 IsNewItems h _ = ⊥
 
 -- the same of an object or a row
@@ -136,14 +137,14 @@ RefusesNext e (Pairs es key h) old new = RefusesName e h old new
 
 -- the value that was due is put in; the last of equal keys stays
 abbrev pub Puts : Value → Building → Building → Type 0
-Puts v (Items vs h) (Items ws i) = (ws.items ≡ vs.items ++ v ∷ []) × (i ≡ h)
+Puts v (Items vs h) (Items ws i) = (all_items ws ≡ all_items vs ++ v ∷ []) × (i ≡ h)
 Puts v (Pairs es (Some name) h) (Pairs fs key i) = (fs.entries ≡ insert_entry string_cmp es.entries name v) × (key ≡ None) × (i ≡ h)
 Puts v (Pairs es None h) after = after ≡ Pairs es None h
 Puts v _ _ = ⊥
 
 -- the tree of its value
 abbrev pub built : Building → Tree
-built (Items vs h) = array (items_view vs.items)
+built (Items vs h) = array (items_view (all_items vs))
 built (Pairs es key h) = object (entries_view es.entries)
 
 -- the levels and the keys outside are given back

@@ -1,11 +1,13 @@
 -- What callers see of an access to a variant.
 use Rattle.std.specs.Prelude.{ℕ, List, Option, Some, None}
-use Rattle.std.specs.Borrow.{GName}
+use Rattle.std.specs.Borrow.{GName, MutBor}
 use Rattle.bser_base.specs.Source as source
 use Rattle.serde_bser.specs.State.{State}
 use Rattle.serde_bser.specs.View.{state}
 use Rattle.serde_bser.specs.Variants.{OpenVariant, OpenEnum, name_alone, with_payload, payload_due}
+use Rattle.serde_bser.specs.declared.de.deserializer.Deserializer.{Deserializer}
 use Rattle.serde_bser.specs.declared.de.variant.EnumAccess.{EnumAccess}
+use Rattle.serde_bser.specs.declared.de.variant.UnitVariantAccess.{UnitVariantAccess}
 use Rattle.serde_bser.specs.declared.de.variant.VariantAccess.{VariantAccess}
 use Rattle.serde_bser.specs.declared.de.variant.VariantHead.{VariantHead}
 use Rattle.serde_bser.specs.declared.de.variant.VariantForm.{VariantForm}
@@ -38,3 +40,19 @@ open_form at kept (forms.Object a) = with_payload (open_variant at kept a)
 abbrev pub reference : {R L K : Type 0} → VariantForm R L K → GName
 reference (forms.Unit a) = a.from.ghost_name
 reference (forms.Object a) = a.from.ghost_name
+
+-- the deserializer that is lent to an access to an enum
+abbrev pub enum_deserializer : {R L K : Type 0} → EnumAccess R L K → MutBor (Deserializer R L K)
+enum_deserializer a = a.from
+
+-- the same of an access to a payload
+abbrev pub variant_deserializer : {R L K : Type 0} → VariantAccess R L K → MutBor (Deserializer R L K)
+variant_deserializer a = a.from
+
+-- the same of an access to a name alone
+abbrev pub unit_deserializer : {R L K : Type 0} → UnitVariantAccess R L K → MutBor (Deserializer R L K)
+unit_deserializer a = a.from
+
+-- the state in which a name stands alone
+abbrev pub unit_state : {R L K : Type 0} → (R → source.State) → (K → List ℕ) → UnitVariantAccess R L K → State
+unit_state at kept a = state at kept a.from.now

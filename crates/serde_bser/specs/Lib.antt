@@ -8,9 +8,11 @@ pub mod Files
 pub mod HoldsMaps
 pub mod Fold
 pub mod Slots
+pub mod SlotValues
 pub mod Tuples
 pub mod Heads
 pub mod Front
+pub mod Gathered
 pub mod Nodes
 pub mod Messages
 pub mod View

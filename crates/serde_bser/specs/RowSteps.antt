@@ -2,6 +2,7 @@
 use Rattle.std.specs.Prelude.{◌≡◌, ◌-◌, List, ◌⊎◌}
 use Rattle.serde_bser.specs.State.{State}
 use Rattle.serde_bser.specs.StepsAtHand.{RefusesItem, Advances}
+use Rattle.serde_bser.specs.Gathered.{all_items}
 use Rattle.serde_bser.specs.Rows.{PutsItems}
 use Rattle.serde_bser.specs.declared.de.open.SeqHead.{SeqHead}
 use Rattle.serde_bser.specs.declared.de.building.Building.{Building}
@@ -13,7 +14,7 @@ RefusesItems before old new = RefusesItem before (record before { remaining = be
 
 -- one or more values of an array were read in turn, and put in
 abbrev pub PutsMany : Building → Building → State → State → Type 0
-PutsMany (Items vs h) (Items ws i) old new = PutsItems vs.items h old ws.items i new
+PutsMany (Items vs h) (Items ws i) old new = PutsItems (all_items vs) h old (all_items ws) i new
 PutsMany _ _ old new = ⊥
 
 -- the same, and nothing changes around it

@@ -7,6 +7,7 @@ mod entry;
 mod field;
 mod fields;
 mod front;
+mod gathered;
 mod impls;
 mod map;
 mod node;

@@ -2,7 +2,7 @@
 use super::Tested;
 use super::checks::{check_code, check_refusal, check_value};
 use crate::devices::{Plan, PlannedReader};
-use bser_base::de::read::NoLoan;
+use bser_base::de::read::{DeRead, LendsText, NoLoan};
 use serde_bser::bytestring::ByteString;
 use serde_bser::de::{Deserialize, Deserializer, Ignored, IoRead, SliceRead};
 use serde_bser::device::Watched;
@@ -10,6 +10,7 @@ use serde_bser::ser::serialize_to;
 use serde_bser::{from_reader, from_slice};
 use std::alloc::Global;
 use std::collections::BTreeMap;
+use std::process::Abort;
 use std::test::Fail;
 
 #[test]
@@ -192,27 +193,55 @@ fn a_template_of_no_rows_is_an_empty_list(rt: HostRuntime) -> Tested {
     )
 }
 
-#[test]
-fn an_access_that_is_dropped_leaves_its_array_open(rt: HostRuntime) -> Tested {
-    let bytes = b"\x00\x02\0\0\0\0\x03\x09\x00\x03\x03\x03\x01\x03\x02\x03\x03";
-    let alloc = rt.alloc();
-    let mut from = Deserializer::new(alloc, SliceRead::new(bytes))?;
+/// The numbers 1, 2 and 3 in an array.
+const THREE: &[u8] = b"\x00\x02\0\0\0\0\x03\x09\x00\x03\x03\x03\x01\x03\x02\x03\x03";
+
+/// Reads the first of three numbers and drops the access, and checks that the array is open then.
+fn check_dropped<R: DeRead + Drop>(rt: &impl Abort, alloc: Global, source: R) -> Tested
+where
+    R::Lent: LendsText,
+{
+    let mut from = Deserializer::new(alloc, source)?;
     let mut items = from.read_seq(alloc)?;
     assert_eq!(rt; items.next_element::<i64>(alloc)?, Some(1));
     assert_eq!(rt; items.remaining(), 2);
     drop(items);
-    check_code(&rt, alloc, &from.end(), "C11")
+    check_code(rt, alloc, &from.end(), "C11")
+}
+
+#[test]
+fn an_access_that_is_dropped_leaves_its_array_open(rt: HostRuntime) -> Tested {
+    let alloc = rt.alloc();
+    check_dropped(&rt, alloc, SliceRead::new(THREE))?;
+    for plan in [Plan::pieces(1), Plan::whole()] {
+        let reader = Watched::new(PlannedReader::new(THREE, plan));
+        check_dropped(&rt, alloc, IoRead::new(reader))?;
+    }
+    Ok(())
+}
+
+/// Reads the first of three numbers, and checks that the access does not end there, and that later
+/// calls are refused.
+fn check_ended_early<R: DeRead + Drop>(rt: &impl Abort, alloc: Global, source: R) -> Tested
+where
+    R::Lent: LendsText,
+{
+    let mut from = Deserializer::new(alloc, source)?;
+    let mut items = from.read_seq(alloc)?;
+    assert_eq!(rt; items.next_element::<i64>(alloc)?, Some(1));
+    check_code(rt, alloc, &items.end(), "C3")?;
+    check_code(rt, alloc, &from.read_i64(), "E6 Failed")
 }
 
 #[test]
 fn an_access_that_ends_with_items_left_is_refused(rt: HostRuntime) -> Tested {
-    let bytes = b"\x00\x02\0\0\0\0\x03\x09\x00\x03\x03\x03\x01\x03\x02\x03\x03";
     let alloc = rt.alloc();
-    let mut from = Deserializer::new(alloc, SliceRead::new(bytes))?;
-    let mut items = from.read_seq(alloc)?;
-    assert_eq!(rt; items.next_element::<i64>(alloc)?, Some(1));
-    check_code(&rt, alloc, &items.end(), "C3")?;
-    check_code(&rt, alloc, &from.read_i64(), "E6 Failed")
+    check_ended_early(&rt, alloc, SliceRead::new(THREE))?;
+    for plan in [Plan::pieces(1), Plan::whole()] {
+        let reader = Watched::new(PlannedReader::new(THREE, plan));
+        check_ended_early(&rt, alloc, IoRead::new(reader))?;
+    }
+    Ok(())
 }
 
 #[test]

@@ -61,6 +61,44 @@ fn answers_of_a_server(rt: HostRuntime) -> Tested {
     check_cases(&rt, rt.alloc(), &[FILES_IN_TEMPLATE, FILES_IN_ARRAY])
 }
 
+#[test]
+fn names_and_variants_are_values_too(rt: HostRuntime) -> Tested {
+    let cases: [Case; 7] = [
+        (
+            "a list of two names",
+            b"\x00\x02\0\0\0\0\x05\x11\0\0\0\0\x03\x02\x02\x03\x03Tom\x02\x03\x05Jerry",
+            "[b546f6d,b4a65727279]",
+        ),
+        (
+            "a variant whose payload a row skips",
+            b"\x00\x02\0\0\0\0\x03\x12\x0b\x00\x03\x01\x0d\x03\x08TestUnit\x03\x01\x0c",
+            "[{54657374556e6974:n}]",
+        ),
+        (
+            "a unit variant with a payload",
+            b"\x00\x02\0\0\0\0\x03\x0f\x01\x03\x01\x0d\x03\x08TestUnit\x08",
+            "{54657374556e6974:t}",
+        ),
+        (
+            "a variant's name alone",
+            b"\x00\x02\0\0\0\0\x03\x0c\x0d\x03\x09TestTuple",
+            "s546573745475706c65",
+        ),
+        (
+            "a name of no variant",
+            b"\x00\x02\0\0\0\0\x03\x07\x0d\x03\x04Nope",
+            "s4e6f7065",
+        ),
+        ("no entry", b"\x00\x02\0\0\0\0\x03\x03\x01\x03\x00", "{}"),
+        (
+            "entries that are missing",
+            b"\x00\x02\0\0\0\0\x03\x03\x01\x03\x02",
+            "E6 Eof",
+        ),
+    ];
+    check_cases(&rt, rt.alloc(), &cases)
+}
+
 /// The last entry of the list of files, where the value is an answer that has one.
 fn last_file(value: &Value) -> Option<&Value> {
     match value {

@@ -4,7 +4,7 @@ ghost use Rattle.bser_base.specs.Content.{truth, number};
 ghost use Rattle.bser_base.specs.Expected.{key_due};
 ghost use Rattle.bser_base.specs.ReadsScalars.{reads_bool, reads_signed, reads_string};
 ghost use Rattle.serde_bser.specs.Access.{IsKey, NoEntry};
-ghost use Rattle.serde_bser.specs.Accesses.{open_pairs};
+ghost use Rattle.serde_bser.specs.Accesses.{open_pairs, pairs_reference};
 ghost use Rattle.serde_bser.specs.Fields.{HoldsField};
 ghost use Rattle.serde_bser.specs.Heads.{IsTagged};
 ghost use Rattle.serde_bser.specs.Nodes.{SeesNode, TookNull, IsOther};
@@ -224,7 +224,7 @@ impl<'a, R: DeRead> MapAccess<'a, R> {
     /// nothing changes.
     #[inline(always)]
     pub(crate) fn field_at_hand(&mut self, names: &[&str]) -> Option<Field>
-        ensures same_reference { self.new.from.ghost_name ≡ self.old.from.ghost_name }
+        ensures same_reference { pairs_reference self.new ≡ pairs_reference self.old }
         ensures answer { MatchOption result (open_pairs R.state R.Lent.kept self.new ≡ open_pairs R.state R.Lent.kept self.old)
             (IsKey reads_string (HoldsField (map (λ r. r.now) names.now)) (open_pairs R.state R.Lent.kept self.old) (open_pairs R.state R.Lent.kept self.new)) }
     {
@@ -242,7 +242,7 @@ impl<'a, R: DeRead> MapAccess<'a, R> {
     fn row_key_at_hand(&mut self, names: &[&str]) -> Option<Field>
         requires row { self.old.row ≡ true }
         requires read { self.old.pending ≡ false }
-        ensures same_reference { self.new.from.ghost_name ≡ self.old.from.ghost_name }
+        ensures same_reference { pairs_reference self.new ≡ pairs_reference self.old }
         ensures answer { MatchOption result (open_pairs R.state R.Lent.kept self.new ≡ open_pairs R.state R.Lent.kept self.old)
             (IsKey reads_string (HoldsField (map (λ r. r.now) names.now)) (open_pairs R.state R.Lent.kept self.old) (open_pairs R.state R.Lent.kept self.new)) }
     {
@@ -268,7 +268,7 @@ impl<'a, R: DeRead> MapAccess<'a, R> {
     fn object_key_at_hand(&mut self, names: &[&str]) -> Option<Field>
         requires row { self.old.row ≡ false }
         requires read { self.old.pending ≡ false }
-        ensures same_reference { self.new.from.ghost_name ≡ self.old.from.ghost_name }
+        ensures same_reference { pairs_reference self.new ≡ pairs_reference self.old }
         ensures answer { MatchOption result (open_pairs R.state R.Lent.kept self.new ≡ open_pairs R.state R.Lent.kept self.old)
             (IsKey reads_string (HoldsField (map (λ r. r.now) names.now)) (open_pairs R.state R.Lent.kept self.old) (open_pairs R.state R.Lent.kept self.new)) }
     {

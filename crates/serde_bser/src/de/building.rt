@@ -8,6 +8,7 @@ ghost use Rattle.serde_bser.specs.ValueView.{tree_of};
 ghost use Rattle.serde_bser.specs.View.{state};
 
 use crate::de::deserializer::{Deserializer, Due};
+use crate::de::gathered::Gathered;
 use crate::de::open::{MapHead, SeqHead};
 use crate::value::Value;
 use bser_base::de::read::{DeRead, LendsText};
@@ -21,7 +22,7 @@ use std::marker::Model;
 pub(crate) enum Building {
     /// An array or a template, and the items that were read.
     Items {
-        items: Vec<Value>,
+        items: Gathered,
         head: SeqHead,
     },
     /// An object or a row, the entries that were read, and the key whose value is due.
@@ -38,7 +39,7 @@ impl Building {
         ensures { IsNewItems head result }
     {
         Building::Items {
-            items: Vec::new(alloc),
+            items: Gathered::new(alloc, head.remaining),
             head,
         }
     }
@@ -171,15 +172,17 @@ where
 }
 
 impl<R: DeRead> Deserializer<R> {
-    /// Closes a container of which all was read, and makes its value.
-    pub(crate) fn close(&mut self, building: Building) -> Value
-        ensures value { tree_of result ≡ built building }
+    /// Closes a container of which all was read, and makes its value. It is closed too where there is
+    /// no memory for the value.
+    pub(crate) fn close(&mut self, building: Building) -> Result<Value>
+        ensures value { IfOk result (λ v. tree_of v ≡ built building) }
+        ensures err { IfErr result (λ e. e ≡ OutOfMemory) }
         ensures closed { ClosesInto building (state R.state R.Lent.kept self.old) (state R.state R.Lent.kept self.new) }
     {
         match building {
             Building::Items { items, head } => {
                 self.close_items(head.rows, head.levels, head.opened);
-                Value::Array(items)
+                Ok(Value::Array(items.into_list()?))
             }
             Building::Pairs {
                 entries,
@@ -187,7 +190,7 @@ impl<R: DeRead> Deserializer<R> {
                 head,
             } => {
                 self.close_pairs(head.levels, head.opened);
-                Value::Object(entries)
+                Ok(Value::Object(entries))
             }
         }
     }

@@ -4,7 +4,7 @@ ghost use Rattle.bser_base.specs.Content.{Content, Needs};
 ghost use Rattle.bser_base.specs.ReadsAny.{reads_ignored};
 ghost use Rattle.bser_base.specs.ReadsHolders.{reads_option};
 ghost use Rattle.serde_bser.specs.Access.{RefusesValue};
-ghost use Rattle.serde_bser.specs.Accesses.{open_pairs};
+ghost use Rattle.serde_bser.specs.Accesses.{open_pairs, pairs_reference};
 ghost use Rattle.serde_bser.specs.Holds.{HoldsOption};
 ghost use Rattle.serde_bser.specs.HoldsLists.{HoldsTuple};
 ghost use Rattle.serde_bser.specs.Reading.{Answers, Refuses, IsRefusal};
@@ -54,9 +54,9 @@ pub trait Slot<L: LendsText>: Drop {
         map: &mut MapAccess<'a, R>,
         refusal: &mut Option<Error>,
     ) -> bool
-        ensures same_reference { map.new.from.ghost_name ≡ map.old.from.ghost_name }
+        ensures same_reference { pairs_reference map.new ≡ pairs_reference map.old }
         ensures found { result ≡ true → (s : StructField) → Self.keeps self.old s → Steps fill (Self.keeps self.new) s (open_pairs R.state L.kept map.old) (open_pairs R.state L.kept map.new) }
-        ensures refused { result ≡ false → MatchOption refusal.new ⊥ (λ e. (s : StructField) → Self.keeps self.old s → RefusesStep fill Self.needs e s (open_pairs R.state L.kept map.old) (state R.state L.kept map.new.from.now)) };
+        ensures refused { result ≡ false → MatchOption refusal.new ⊥ (λ e. (s : StructField) → Self.keeps self.old s → RefusesStep fill Self.needs e s (open_pairs R.state L.kept map.old) (open_pairs R.state L.kept map.new).state) };
 
     /// Reads the field from what is at hand, as a row's, where it is there whole and was not read
     /// before, and tells whether it did. Else nothing changes.
@@ -80,11 +80,13 @@ pub struct Required<T> {
 }
 
 impl<L: LendsText, T: Deserialize<L>> Slot<L> for Required<T> {
+    ghost use Rattle.serde_bser.specs.SlotValues.{required_value};
+
     type Value = T;
 
     ghost field = { required T.reads };
 
-    ghost keeps = { λ v. KeepsField (required T.reads) T.holds v.value };
+    ghost keeps = { λ v. KeepsField (required T.reads) T.holds (required_value v) };
 
     ghost holds = { T.holds };
 
@@ -125,11 +127,13 @@ pub struct Optional<T> {
 }
 
 impl<L: LendsText, T: Deserialize<L>> Slot<L> for Optional<T> {
+    ghost use Rattle.serde_bser.specs.SlotValues.{optional_value};
+
     type Value = Option<T>;
 
     ghost field = { optional T.reads };
 
-    ghost keeps = { λ v. KeepsField (optional T.reads) (HoldsOption T.holds) v.value };
+    ghost keeps = { λ v. KeepsField (optional T.reads) (HoldsOption T.holds) (optional_value v) };
 
     ghost holds = { HoldsOption T.holds };
 
@@ -199,9 +203,9 @@ pub trait Slots<L: LendsText>: Drop {
         map: &mut MapAccess<'a, R>,
         refusal: &mut Option<Error>,
     ) -> bool
-        ensures same_reference { map.new.from.ghost_name ≡ map.old.from.ghost_name }
+        ensures same_reference { pairs_reference map.new ≡ pairs_reference map.old }
         ensures found { result ≡ true → (ss : List StructField) → Self.keeps self.old ss → Steps (fill_at place) (Self.keeps self.new) ss (open_pairs R.state L.kept map.old) (open_pairs R.state L.kept map.new) }
-        ensures refused { result ≡ false → MatchOption refusal.new ⊥ (λ e. (ss : List StructField) → Self.keeps self.old ss → RefusesStep (fill_at place) (struct_needs Self.needs) e ss (open_pairs R.state L.kept map.old) (state R.state L.kept map.new.from.now)) };
+        ensures refused { result ≡ false → MatchOption refusal.new ⊥ (λ e. (ss : List StructField) → Self.keeps self.old ss → RefusesStep (fill_at place) (struct_needs Self.needs) e ss (open_pairs R.state L.kept map.old) (open_pairs R.state L.kept map.new).state) };
 
     /// Reads the field at this place from what is at hand, as a row's, where it is there whole and
     /// was not read before, and tells whether it did. Else nothing changes.
@@ -319,9 +323,9 @@ where
     /// `refusal` has the reason.
     #[inline(never)]
     pub(crate) fn pass_value(&mut self, alloc: Global, refusal: &mut Option<Error>) -> bool
-        ensures same_reference { self.new.from.ghost_name ≡ self.old.from.ghost_name }
+        ensures same_reference { pairs_reference self.new ≡ pairs_reference self.old }
         ensures found { result ≡ true → Passes (open_pairs R.state R.Lent.kept self.old) (open_pairs R.state R.Lent.kept self.new) }
-        ensures refused { result ≡ false → MatchOption refusal.new ⊥ (λ e. RefusesValue reads_ignored owned e (open_pairs R.state R.Lent.kept self.old) (state R.state R.Lent.kept self.new.from.now)) }
+        ensures refused { result ≡ false → MatchOption refusal.new ⊥ (λ e. RefusesValue reads_ignored owned e (open_pairs R.state R.Lent.kept self.old) (open_pairs R.state R.Lent.kept self.new).state) }
     {
         match self.next_value::<Ignored>(alloc) {
             Ok(_) => true,
@@ -342,9 +346,9 @@ where
         fields: &mut F,
         refusal: &mut Option<Error>,
     ) -> bool
-        ensures same_reference { self.new.from.ghost_name ≡ self.old.from.ghost_name }
+        ensures same_reference { pairs_reference self.new ≡ pairs_reference self.old }
         ensures found { result ≡ true → (ss : List StructField) → F.keeps fields.old ss → Steps (λ fs. fill_field fs field) (F.keeps fields.new) ss (open_pairs R.state R.Lent.kept self.old) (open_pairs R.state R.Lent.kept self.new) }
-        ensures refused { result ≡ false → MatchOption refusal.new ⊥ (λ e. (ss : List StructField) → F.keeps fields.old ss → RefusesStep (λ fs. fill_field fs field) (struct_needs F.needs) e ss (open_pairs R.state R.Lent.kept self.old) (state R.state R.Lent.kept self.new.from.now)) }
+        ensures refused { result ≡ false → MatchOption refusal.new ⊥ (λ e. (ss : List StructField) → F.keeps fields.old ss → RefusesStep (λ fs. fill_field fs field) (struct_needs F.needs) e ss (open_pairs R.state R.Lent.kept self.old) (open_pairs R.state R.Lent.kept self.new).state) }
     {
         match field {
             Field::Known(place) => fields.fill_at(alloc, place, self, refusal),

@@ -35,15 +35,15 @@ pub struct MapAccess<'a, R: DeRead> {
 
 impl<R: DeRead> Deserializer<R> {
     ghost use Rattle.serde_bser.specs.View.{state};
-    ghost use Rattle.serde_bser.specs.Accesses.{open_pairs};
+    ghost use Rattle.serde_bser.specs.Accesses.{open_pairs, pairs_reference};
 
     /// Reads the object or the row that is due, as an access to its entries.
     ///
     /// Another kind of value is [`Complaint::WrongType`]. After a refusal each later call is refused.
     pub fn read_map<'a>(&'a mut self) -> Result<MapAccess<'a, R>>
-        ensures* rests { sem 𝓛 (RestsIfErr (the_row R.row R.Lent.row R.Lent.Kept.row) self.entry (λ a. a.from.ghost_name) result
+        ensures* rests { sem 𝓛 (RestsIfErr (the_row R.row R.Lent.row R.Lent.Kept.row) self.entry pairs_reference result
             (λ d. IfErr result (λ e. RefusesOpening bare (IsPairsHead (state R.state R.Lent.kept self.old)) e (state R.state R.Lent.kept self.old) (state R.state R.Lent.kept d)))) }
-        ensures same_reference { IfOk result (λ a. a.from.ghost_name ≡ self.entry.ghost_name) }
+        ensures same_reference { IfOk result (λ a. pairs_reference a ≡ self.entry.ghost_name) }
         ensures found { IfOk result (λ a. OpensPairs (state R.state R.Lent.kept self.old) (open_pairs R.state R.Lent.kept a)) }
     {
         let MapHead {
@@ -65,7 +65,7 @@ impl<R: DeRead> Deserializer<R> {
 
 impl<'a, R: DeRead> MapAccess<'a, R> {
     ghost use Rattle.serde_bser.specs.View.{state};
-    ghost use Rattle.serde_bser.specs.Accesses.{open_pairs};
+    ghost use Rattle.serde_bser.specs.Accesses.{open_pairs, pairs_reference};
 
     /// How many entries are left, whose keys were not read.
     pub fn remaining(&self) -> usize
@@ -80,7 +80,7 @@ impl<'a, R: DeRead> MapAccess<'a, R> {
 
     /// Makes the next key due, if one is left.
     fn await_key(&mut self) -> Result<bool>
-        ensures same_reference { self.new.from.ghost_name ≡ self.old.from.ghost_name }
+        ensures same_reference { pairs_reference self.new ≡ pairs_reference self.old }
         ensures some { IfOk result (λ b. b ≡ true → AwaitsKey (open_pairs R.state R.Lent.kept self.old) (open_pairs R.state R.Lent.kept self.new)) }
         ensures none { IfOk result (λ b. b ≡ false → NoEntry (open_pairs R.state R.Lent.kept self.old) (open_pairs R.state R.Lent.kept self.new)) }
         ensures refused { IfErr result (λ e. OutOfTurn e true (open_pairs R.state R.Lent.kept self.old) (open_pairs R.state R.Lent.kept self.new)) }
@@ -104,7 +104,7 @@ impl<'a, R: DeRead> MapAccess<'a, R> {
 
     /// Makes the value of the key that was read due.
     fn await_value(&mut self) -> Result<()>
-        ensures same_reference { self.new.from.ghost_name ≡ self.old.from.ghost_name }
+        ensures same_reference { pairs_reference self.new ≡ pairs_reference self.old }
         ensures ok { OnOk result (AwaitsValue (open_pairs R.state R.Lent.kept self.old) (open_pairs R.state R.Lent.kept self.new)) }
         ensures refused { IfErr result (λ e. OutOfTurn e false (open_pairs R.state R.Lent.kept self.old) (open_pairs R.state R.Lent.kept self.new)) }
     {
@@ -121,7 +121,7 @@ impl<'a, R: DeRead> MapAccess<'a, R> {
     /// Goes on to the value of the key that was read.
     fn pass_key(&mut self)
         requires { 0 < pairs_left (open_pairs R.state R.Lent.kept self.old).wanted }
-        ensures same_reference { self.new.from.ghost_name ≡ self.old.from.ghost_name }
+        ensures same_reference { pairs_reference self.new ≡ pairs_reference self.old }
         ensures passed { open_pairs R.state R.Lent.kept self.new ≡ pairs_in (open_pairs R.state R.Lent.kept self.old) (open_pairs R.state R.Lent.kept self.old).state (pairs_after (open_pairs R.state R.Lent.kept self.old).wanted) true }
     {
         if self.row {
@@ -159,17 +159,16 @@ impl<'a, R: DeRead> MapAccess<'a, R>
 where
     R::Lent: LendsText,
 {
-    ghost use Rattle.serde_bser.specs.View.{state};
-    ghost use Rattle.serde_bser.specs.Accesses.{open_pairs};
+    ghost use Rattle.serde_bser.specs.Accesses.{open_pairs, pairs_reference};
 
     /// Reads the next key, if one is left. Its value is due then.
     ///
     /// Refused as the type's reading is, and by [`Complaint::ValueOpen`] where a value is due; the
     /// deserializer then refuses each later call.
     pub fn next_key<K: Deserialize<R::Lent>>(&mut self, alloc: Global) -> Result<Option<K>>
-        ensures same_reference { self.new.from.ghost_name ≡ self.old.from.ghost_name }
+        ensures same_reference { pairs_reference self.new ≡ pairs_reference self.old }
         ensures found { IfOk result (NextKey K.reads K.holds (open_pairs R.state R.Lent.kept self.old) (open_pairs R.state R.Lent.kept self.new)) }
-        ensures refused { IfErr result (λ e. RefusesKey K.reads K.needs e (open_pairs R.state R.Lent.kept self.old) (state R.state R.Lent.kept self.new.from.now)) }
+        ensures refused { IfErr result (λ e. RefusesKey K.reads K.needs e (open_pairs R.state R.Lent.kept self.old) (open_pairs R.state R.Lent.kept self.new).state) }
     {
         if !self.await_key()? {
             return Ok(None);
@@ -191,9 +190,9 @@ where
     /// Refused as the type's reading is, and by [`Complaint::ValueOpen`] where no key was read
     /// before; the deserializer then refuses each later call.
     pub fn next_value<V: Deserialize<R::Lent>>(&mut self, alloc: Global) -> Result<V>
-        ensures same_reference { self.new.from.ghost_name ≡ self.old.from.ghost_name }
+        ensures same_reference { pairs_reference self.new ≡ pairs_reference self.old }
         ensures found { IfOk result (IsValue V.reads V.holds (open_pairs R.state R.Lent.kept self.old) (open_pairs R.state R.Lent.kept self.new)) }
-        ensures refused { IfErr result (λ e. RefusesValue V.reads V.needs e (open_pairs R.state R.Lent.kept self.old) (state R.state R.Lent.kept self.new.from.now)) }
+        ensures refused { IfErr result (λ e. RefusesValue V.reads V.needs e (open_pairs R.state R.Lent.kept self.old) (open_pairs R.state R.Lent.kept self.new).state) }
     {
         self.await_value()?;
         match V::deserialize(alloc, self.from) {
@@ -217,9 +216,9 @@ where
         alloc: Global,
         value: &mut Option<V>,
     ) -> Result<()>
-        ensures same_reference { self.new.from.ghost_name ≡ self.old.from.ghost_name }
+        ensures same_reference { pairs_reference self.new ≡ pairs_reference self.old }
         ensures found { OnOk result (ReadsOnce V.reads V.holds value.old value.new (open_pairs R.state R.Lent.kept self.old) (open_pairs R.state R.Lent.kept self.new)) }
-        ensures refused { IfErr result (λ e. RefusesOnce V.reads V.needs e value.old (open_pairs R.state R.Lent.kept self.old) (state R.state R.Lent.kept self.new.from.now)) }
+        ensures refused { IfErr result (λ e. RefusesOnce V.reads V.needs e value.old (open_pairs R.state R.Lent.kept self.old) (open_pairs R.state R.Lent.kept self.new).state) }
     {
         if value.is_some() {
             self.await_value()?;
@@ -239,9 +238,9 @@ where
         value: &mut Option<V>,
         refusal: &mut Option<Error>,
     ) -> bool
-        ensures same_reference { self.new.from.ghost_name ≡ self.old.from.ghost_name }
+        ensures same_reference { pairs_reference self.new ≡ pairs_reference self.old }
         ensures found { result ≡ true → ReadsOnce V.reads V.holds value.old value.new (open_pairs R.state R.Lent.kept self.old) (open_pairs R.state R.Lent.kept self.new) }
-        ensures refused { result ≡ false → MatchOption refusal.new ⊥ (λ e. RefusesOnce V.reads V.needs e value.old (open_pairs R.state R.Lent.kept self.old) (state R.state R.Lent.kept self.new.from.now)) }
+        ensures refused { result ≡ false → MatchOption refusal.new ⊥ (λ e. RefusesOnce V.reads V.needs e value.old (open_pairs R.state R.Lent.kept self.old) (open_pairs R.state R.Lent.kept self.new).state) }
     {
         if value.is_some() || !self.pending {
             return self.pull_once(alloc, value, refusal);
@@ -264,9 +263,9 @@ where
         value: &mut Option<V>,
         refusal: &mut Option<Error>,
     ) -> bool
-        ensures same_reference { self.new.from.ghost_name ≡ self.old.from.ghost_name }
+        ensures same_reference { pairs_reference self.new ≡ pairs_reference self.old }
         ensures found { result ≡ true → ReadsOnce V.reads V.holds value.old value.new (open_pairs R.state R.Lent.kept self.old) (open_pairs R.state R.Lent.kept self.new) }
-        ensures refused { result ≡ false → MatchOption refusal.new ⊥ (λ e. RefusesOnce V.reads V.needs e value.old (open_pairs R.state R.Lent.kept self.old) (state R.state R.Lent.kept self.new.from.now)) }
+        ensures refused { result ≡ false → MatchOption refusal.new ⊥ (λ e. RefusesOnce V.reads V.needs e value.old (open_pairs R.state R.Lent.kept self.old) (open_pairs R.state R.Lent.kept self.new).state) }
     {
         match self.next_value_once(alloc, value) {
             Ok(()) => true,
@@ -284,9 +283,9 @@ where
         &mut self,
         alloc: Global,
     ) -> Result<Option<(K, V)>>
-        ensures same_reference { self.new.from.ghost_name ≡ self.old.from.ghost_name }
+        ensures same_reference { pairs_reference self.new ≡ pairs_reference self.old }
         ensures found { IfOk result (NextEntry K.reads V.reads K.holds V.holds (open_pairs R.state R.Lent.kept self.old) (open_pairs R.state R.Lent.kept self.new)) }
-        ensures refused { IfErr result (λ e. RefusesEntry K.reads V.reads K.holds K.needs V.needs e (open_pairs R.state R.Lent.kept self.old) (state R.state R.Lent.kept self.new.from.now)) }
+        ensures refused { IfErr result (λ e. RefusesEntry K.reads V.reads K.holds K.needs V.needs e (open_pairs R.state R.Lent.kept self.old) (open_pairs R.state R.Lent.kept self.new).state) }
     {
         match self.next_key::<K>(alloc)? {
             Some(key) => {
@@ -305,9 +304,9 @@ where
     /// deserializer then refuses each later call.
     #[inline(always)]
     pub fn next_field(&mut self, alloc: Global, names: &[&str]) -> Result<Option<Field>>
-        ensures same_reference { self.new.from.ghost_name ≡ self.old.from.ghost_name }
+        ensures same_reference { pairs_reference self.new ≡ pairs_reference self.old }
         ensures found { IfOk result (NextKey reads_string (HoldsField (map (λ r. r.now) names.now)) (open_pairs R.state R.Lent.kept self.old) (open_pairs R.state R.Lent.kept self.new)) }
-        ensures refused { IfErr result (λ e. RefusesKey reads_string bare e (open_pairs R.state R.Lent.kept self.old) (state R.state R.Lent.kept self.new.from.now)) }
+        ensures refused { IfErr result (λ e. RefusesKey reads_string bare e (open_pairs R.state R.Lent.kept self.old) (open_pairs R.state R.Lent.kept self.new).state) }
     {
         match self.field_at_hand(names) {
             Some(field) => Ok(Some(field)),
@@ -323,9 +322,9 @@ where
     /// Reads the next key, if one is left, whatever it is.
     #[inline(never)]
     fn pull_field(&mut self, alloc: Global, names: &[&str]) -> Result<Option<Field>>
-        ensures same_reference { self.new.from.ghost_name ≡ self.old.from.ghost_name }
+        ensures same_reference { pairs_reference self.new ≡ pairs_reference self.old }
         ensures found { IfOk result (NextKey reads_string (HoldsField (map (λ r. r.now) names.now)) (open_pairs R.state R.Lent.kept self.old) (open_pairs R.state R.Lent.kept self.new)) }
-        ensures refused { IfErr result (λ e. RefusesKey reads_string bare e (open_pairs R.state R.Lent.kept self.old) (state R.state R.Lent.kept self.new.from.now)) }
+        ensures refused { IfErr result (λ e. RefusesKey reads_string bare e (open_pairs R.state R.Lent.kept self.old) (open_pairs R.state R.Lent.kept self.new).state) }
     {
         if !self.await_key()? {
             return Ok(None);

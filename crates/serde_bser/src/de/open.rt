@@ -6,7 +6,7 @@ ghost use Rattle.bser_base.specs.Tagged.{with_failure};
 ghost use Rattle.serde_bser.specs.Parts.{wanted_items};
 ghost use Rattle.serde_bser.specs.Openings.{IsBefore};
 ghost use Rattle.serde_bser.specs.Access.{OpensItems, IsItemsHead, IsArrayHead, RefusesItems, OpensPairs, IsPairsHead, KeysOutside, closed};
-ghost use Rattle.serde_bser.specs.Accesses.{open_items, items_head, pairs_head};
+ghost use Rattle.serde_bser.specs.Accesses.{open_items, items_head, pairs_head, items_reference};
 ghost use Rattle.serde_bser.specs.Scalar.{owned};
 ghost use Rattle.serde_bser.specs.State.{refused};
 ghost use Rattle.serde_bser.specs.Reading.{RefusesFront, IsRefusal, bare, only_keys};
@@ -227,9 +227,9 @@ impl<R: DeRead> Deserializer<R> {
     /// growth is [`Error::OutOfMemory`]; an array takes none. After a refusal each later call is
     /// refused.
     pub fn read_seq<'a>(&'a mut self, alloc: Global) -> Result<SeqAccess<'a, R>>
-        ensures* rests { sem 𝓛 (RestsIfErr (the_row R.row R.Lent.row R.Lent.Kept.row) self.entry (λ a. a.from.ghost_name) result
+        ensures* rests { sem 𝓛 (RestsIfErr (the_row R.row R.Lent.row R.Lent.Kept.row) self.entry items_reference result
             (λ d. IfErr result (λ e. RefusesItems e (state R.state R.Lent.kept self.old) (state R.state R.Lent.kept d)))) }
-        ensures same_reference { IfOk result (λ a. a.from.ghost_name ≡ self.entry.ghost_name) }
+        ensures same_reference { IfOk result (λ a. items_reference a ≡ self.entry.ghost_name) }
         ensures found { IfOk result (λ a. OpensItems (state R.state R.Lent.kept self.old) (open_items R.state R.Lent.kept a)) }
     {
         let SeqHead {

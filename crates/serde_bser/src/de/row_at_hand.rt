@@ -1,6 +1,6 @@
 //! Reading the entries of a row by what is at hand.
 ghost use Rattle.std.specs.Prelude.{◌≡◌, true, false, List, map};
-ghost use Rattle.serde_bser.specs.Accesses.{open_pairs};
+ghost use Rattle.serde_bser.specs.Accesses.{open_pairs, pairs_reference};
 ghost use Rattle.serde_bser.specs.RowsAtHand.{TakesField, TakesEntries};
 ghost use Rattle.serde_bser.specs.Slots.{StructField};
 ghost use Rattle.serde_bser.specs.View.{state};
@@ -61,7 +61,7 @@ where
         fields: &mut F,
     )
         requires { (ss : List StructField) × F.keeps fields.old ss }
-        ensures same_reference { self.new.from.ghost_name ≡ self.old.from.ghost_name }
+        ensures same_reference { pairs_reference self.new ≡ pairs_reference self.old }
         ensures taken { (ss : List StructField) → F.keeps fields.old ss → TakesEntries (map (λ r. r.now) names.now) (F.keeps fields.new) ss (open_pairs R.state R.Lent.kept self.old) (open_pairs R.state R.Lent.kept self.new) }
     {
         if !self.row || self.pending || self.from.is_failed() {

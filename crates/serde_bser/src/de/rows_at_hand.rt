@@ -3,6 +3,7 @@ ghost use Rattle.std.specs.Prelude.{◌≡◌, ◌≤◌, true, map, length, Mat
 ghost use Rattle.std.specs.List.{zip};
 ghost use Rattle.bser_base.specs.Expected.{row_due};
 ghost use Rattle.bser_base.specs.Normal.{last_entries};
+ghost use Rattle.serde_bser.specs.Gathered.{all_items};
 ghost use Rattle.serde_bser.specs.Reading.{Answers};
 ghost use Rattle.serde_bser.specs.RowSteps.{RefusesItems};
 ghost use Rattle.serde_bser.specs.Rows.{ArePlaces, PutsField, RowFront, PutsItems};
@@ -13,6 +14,7 @@ ghost use Rattle.serde_bser.specs.View.{state};
 ghost use Rattle.bser_base.specs.ReadsAny.{reads_value};
 
 use crate::de::deserializer::{Deserializer, Due};
+use crate::de::gathered::Gathered;
 use crate::de::open::SeqHead;
 use crate::de::places::{put_place, take_fields};
 use crate::de::value_at_hand::Step;
@@ -26,7 +28,8 @@ use std::mem;
 /// How many rows have to be left for their places to pay.
 const FEWEST_ROWS: usize = 5;
 
-/// Of so many rows one is tried, where rows are not at hand whole.
+/// Of so many rows one is tried, where rows are not at hand whole. A piece of items has a multiple
+/// of it.
 const ROWS_A_TRY: usize = 8;
 
 /// Each key of a template, with the last place at which it stands. None where no memory is left.
@@ -148,16 +151,16 @@ impl<R: DeRead> Deserializer<R> {
     pub(crate) fn rows_at_hand(
         &mut self,
         alloc: Global,
-        items: &mut Vec<Value>,
+        items: &mut Gathered,
         head: &mut SeqHead,
     ) -> Step
         ensures { MatchStep result
-            (PutsItems items.old.items head.old (state R.state R.Lent.kept self.old) items.new.items head.new (state R.state R.Lent.kept self.new))
+            (PutsItems (all_items items.old) head.old (state R.state R.Lent.kept self.old) (all_items items.new) head.new (state R.state R.Lent.kept self.new))
             ⊥
             ((items.new ≡ items.old) × (head.new ≡ head.old) × (state R.state R.Lent.kept self.new ≡ state R.state R.Lent.kept self.old))
             (RefusesItems head.old (state R.state R.Lent.kept self.old) (state R.state R.Lent.kept self.new)) }
     {
-        if !head.rows || head.remaining < FEWEST_ROWS || items.len() % ROWS_A_TRY != 0 {
+        if !head.rows || head.remaining < FEWEST_ROWS || items.last_len() % ROWS_A_TRY != 0 {
             return Step::Absent;
         }
         let mut row = Vec::new(alloc);
@@ -177,13 +180,13 @@ impl<R: DeRead> Deserializer<R> {
         alloc: Global,
         places: &BTreeMap<String, Value>,
         row: &mut Vec<Value>,
-        items: &mut Vec<Value>,
+        items: &mut Gathered,
         head: &mut SeqHead,
     ) -> Step
         requires rows { head.old.rows ≡ true }
         requires places { ArePlaces (state R.state R.Lent.kept self.old).keys places.now.entries }
         ensures { MatchStep result
-            (PutsItems items.old.items head.old (state R.state R.Lent.kept self.old) items.new.items head.new (state R.state R.Lent.kept self.new))
+            (PutsItems (all_items items.old) head.old (state R.state R.Lent.kept self.old) (all_items items.new) head.new (state R.state R.Lent.kept self.new))
             ⊥
             ((items.new ≡ items.old) × (head.new ≡ head.old) × (state R.state R.Lent.kept self.new ≡ state R.state R.Lent.kept self.old))
             (RefusesItems head.old (state R.state R.Lent.kept self.old) (state R.state R.Lent.kept self.new)) }

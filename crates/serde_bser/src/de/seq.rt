@@ -27,7 +27,7 @@ pub struct SeqAccess<'a, R: DeRead> {
 
 impl<'a, R: DeRead> SeqAccess<'a, R> {
     ghost use Rattle.serde_bser.specs.View.{state};
-    ghost use Rattle.serde_bser.specs.Accesses.{open_items};
+    ghost use Rattle.serde_bser.specs.Accesses.{open_items, items_reference};
 
     /// How many items are left.
     pub fn remaining(&self) -> usize
@@ -39,7 +39,7 @@ impl<'a, R: DeRead> SeqAccess<'a, R> {
     /// Makes the next item due.
     #[inline(always)]
     pub(crate) fn await_item(&mut self)
-        ensures same_reference { self.new.from.ghost_name ≡ self.old.from.ghost_name }
+        ensures same_reference { items_reference self.new ≡ items_reference self.old }
         ensures awaited { open_items R.state R.Lent.kept self.new ≡ items_in (open_items R.state R.Lent.kept self.old) (awaiting (item_due (open_items R.state R.Lent.kept self.old).wanted) (open_items R.state R.Lent.kept self.old).state) (open_items R.state R.Lent.kept self.old).wanted }
     {
         self.from.due = if self.rows { Due::Row } else { Due::Node };
@@ -49,7 +49,7 @@ impl<'a, R: DeRead> SeqAccess<'a, R> {
     #[inline(always)]
     pub(crate) fn pass_item(&mut self)
         requires { 0 < items_left (open_items R.state R.Lent.kept self.old).wanted }
-        ensures same_reference { self.new.from.ghost_name ≡ self.old.from.ghost_name }
+        ensures same_reference { items_reference self.new ≡ items_reference self.old }
         ensures passed { open_items R.state R.Lent.kept self.new ≡ items_in (open_items R.state R.Lent.kept self.old) (open_items R.state R.Lent.kept self.old).state (items_after (open_items R.state R.Lent.kept self.old).wanted) }
     {
         self.remaining -= 1;
@@ -81,16 +81,15 @@ impl<'a, R: DeRead> SeqAccess<'a, R>
 where
     R::Lent: LendsText,
 {
-    ghost use Rattle.serde_bser.specs.View.{state};
-    ghost use Rattle.serde_bser.specs.Accesses.{open_items};
+    ghost use Rattle.serde_bser.specs.Accesses.{open_items, items_reference};
 
     /// Reads the next item, if one is left.
     ///
     /// Refused as the type's reading is; the deserializer then refuses each later call.
     pub fn next_element<T: Deserialize<R::Lent>>(&mut self, alloc: Global) -> Result<Option<T>>
-        ensures same_reference { self.new.from.ghost_name ≡ self.old.from.ghost_name }
+        ensures same_reference { items_reference self.new ≡ items_reference self.old }
         ensures found { IfOk result (NextItem T.reads T.holds (open_items R.state R.Lent.kept self.old) (open_items R.state R.Lent.kept self.new)) }
-        ensures refused { IfErr result (λ e. RefusesItem T.reads T.needs e (open_items R.state R.Lent.kept self.old) (state R.state R.Lent.kept self.new.from.now)) }
+        ensures refused { IfErr result (λ e. RefusesItem T.reads T.needs e (open_items R.state R.Lent.kept self.old) (open_items R.state R.Lent.kept self.new).state) }
     {
         if self.from.is_failed() {
             return Err(self.from.refuse_failed());
@@ -116,9 +115,9 @@ where
     ///
     /// Refused else as [`SeqAccess::next_element`] is.
     pub fn required_element<T: Deserialize<R::Lent>>(&mut self, alloc: Global) -> Result<T>
-        ensures same_reference { self.new.from.ghost_name ≡ self.old.from.ghost_name }
+        ensures same_reference { items_reference self.new ≡ items_reference self.old }
         ensures found { IfOk result (IsNext T.reads T.holds (open_items R.state R.Lent.kept self.old) (open_items R.state R.Lent.kept self.new)) }
-        ensures refused { IfErr result (λ e. RefusesRequired T.reads T.needs e (open_items R.state R.Lent.kept self.old) (state R.state R.Lent.kept self.new.from.now)) }
+        ensures refused { IfErr result (λ e. RefusesRequired T.reads T.needs e (open_items R.state R.Lent.kept self.old) (open_items R.state R.Lent.kept self.new).state) }
     {
         match self.next_element(alloc)? {
             Some(item) => Ok(item),

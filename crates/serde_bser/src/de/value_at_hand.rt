@@ -2,6 +2,7 @@
 ghost use Rattle.std.specs.Prelude.{◌≡◌, true, MatchOption, string_bytes, IsUtf8};
 ghost use Rattle.bser_base.specs.Tagged.{bunser_state};
 ghost use Rattle.serde_bser.specs.Building.{BetweenValues, Awaits, IsFull};
+ghost use Rattle.serde_bser.specs.Gathered.{all_items};
 ghost use Rattle.serde_bser.specs.RowSteps.{PutsMany, Proceeds};
 ghost use Rattle.serde_bser.specs.Scalar.{TookScalar};
 ghost use Rattle.serde_bser.specs.StepsAtHand.{IsStringValue, TookKey, TookField, MatchStep, PutsEntry, NamesEntry, RefusesEntry, PutsItem, RefusesItem, PutsWhole, RefusesWhole, NextRow, Advances, RefusesStep};
@@ -10,6 +11,7 @@ ghost use Rattle.serde_bser.specs.View.{state};
 
 use crate::de::building::Building;
 use crate::de::deserializer::{Deserializer, Due};
+use crate::de::gathered::Gathered;
 use crate::de::open::{MapHead, SeqHead};
 use crate::value::Value;
 use bser_base::bytestring::ByteString;
@@ -248,9 +250,9 @@ impl<R: DeRead> Deserializer<R> {
     /// Takes an array's next item and puts it in, where it is a scalar or string at hand. Else
     /// nothing changes.
     #[inline(always)]
-    fn item_at_hand(&mut self, alloc: Global, items: &mut Vec<Value>, head: &mut SeqHead) -> Step
+    fn item_at_hand(&mut self, alloc: Global, items: &mut Gathered, head: &mut SeqHead) -> Step
         ensures { MatchStep result
-            (PutsItem items.old.items items.new.items head.old head.new (state R.state R.Lent.kept self.old) (state R.state R.Lent.kept self.new))
+            (PutsItem (all_items items.old) (all_items items.new) head.old head.new (state R.state R.Lent.kept self.old) (state R.state R.Lent.kept self.new))
             ⊥
             ((items.new ≡ items.old) × (head.new ≡ head.old) × (state R.state R.Lent.kept self.new ≡ state R.state R.Lent.kept self.old))
             (RefusesItem head.old head.new (state R.state R.Lent.kept self.old) (state R.state R.Lent.kept self.new)) }
@@ -367,12 +369,11 @@ impl<R: DeRead> Deserializer<R> {
         }
         match around.pop() {
             Some(outer) => {
-                let value = self.close(mem::replace(inner, outer));
-                if inner.put_in(value) {
-                    Step::Taken
-                } else {
-                    Step::Refused
-                }
+                let put = match self.close(mem::replace(inner, outer)) {
+                    Ok(value) => inner.put_in(value),
+                    Err(_) => false,
+                };
+                if put { Step::Taken } else { Step::Refused }
             }
             None => Step::Absent,
         }

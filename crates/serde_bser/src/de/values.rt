@@ -155,7 +155,7 @@ where
         ensures err { IfErr result (λ e. e ≡ OutOfMemory) }
         ensures state { ClosesInto inner (state R.state R.Lent.kept self.old) (state R.state R.Lent.kept self.new) }
     {
-        let value = self.close(inner);
+        let value = self.close(inner)?;
         match around.pop() {
             None => Ok(Part::Whole(value)),
             Some(mut building) => {

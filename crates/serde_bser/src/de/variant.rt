@@ -232,7 +232,7 @@ impl<R: DeRead> Deserializer<R>
 where
     R::Lent: LendsText,
 {
-    ghost use Rattle.serde_bser.specs.EnumAccess.{open_enum, place_of, variant_head, enum_head};
+    ghost use Rattle.serde_bser.specs.EnumAccess.{open_enum, place_of, variant_head, enum_head, enum_deserializer};
 
     /// Reads the variant's name.
     fn open_variant(
@@ -271,9 +271,9 @@ where
         name: &str,
         variants: &[&str],
     ) -> Result<EnumAccess<'a, R>>
-        ensures* rests { sem 𝓛 (RestsIfErr (the_row R.row R.Lent.row R.Lent.Kept.row) self.entry (λ a. a.from.ghost_name) result
+        ensures* rests { sem 𝓛 (RestsIfErr (the_row R.row R.Lent.row R.Lent.Kept.row) self.entry (λ a. (enum_deserializer a).ghost_name) result
             (λ d. IfErr result (λ e. RefusesOpening bare (BeginsVariant (map (λ r. r.now) variants.now) (state R.state R.Lent.kept self.old)) e (state R.state R.Lent.kept self.old) (state R.state R.Lent.kept d)))) }
-        ensures same_reference { IfOk result (λ a. a.from.ghost_name ≡ self.entry.ghost_name) }
+        ensures same_reference { IfOk result (λ a. (enum_deserializer a).ghost_name ≡ self.entry.ghost_name) }
         ensures found { IfOk result (λ a. OpensVariant (map (λ r. r.now) variants.now) (state R.state R.Lent.kept self.old) (open_enum R.state R.Lent.kept a) (place_of a)) }
     {
         let (place, head) = self.open_variant(alloc, name, variants)?;
@@ -336,10 +336,13 @@ where
 }
 
 impl<'a, R: DeRead> UnitVariantAccess<'a, R> {
+    ghost use Rattle.serde_bser.specs.EnumAccess.{unit_deserializer, unit_state};
+    ghost use Rattle.serde_bser.specs.Accesses.{items_reference, pairs_reference};
+
     /// Answers that nothing is left to read.
     pub fn unit_variant(self) -> Result<()>
         ensures ok { OnErr result ⊥ }
-        ensures same { state R.state R.Lent.kept self.exit.0.now ≡ state R.state R.Lent.kept self.entry.from.now }
+        ensures same { state R.state R.Lent.kept self.exit.0.now ≡ unit_state R.state R.Lent.kept self.entry }
     {
         Ok(())
     }
@@ -347,15 +350,15 @@ impl<'a, R: DeRead> UnitVariantAccess<'a, R> {
     /// Refused by [`Complaint::WrongType`]: a name alone has no payload.
     pub fn newtype_variant<T>(self, _alloc: Global) -> Result<T>
         ensures none { OnOk result ⊥ }
-        ensures refused { IfErr result (λ e. LacksPayload e (state R.state R.Lent.kept self.entry.from.now) (state R.state R.Lent.kept self.exit.0.now)) }
+        ensures refused { IfErr result (λ e. LacksPayload e (unit_state R.state R.Lent.kept self.entry) (state R.state R.Lent.kept self.exit.0.now)) }
     {
         Err(self.from.refuse(Complaint::WrongType))
     }
 
     /// Refused by [`Complaint::WrongType`]: a name alone has no payload.
     pub fn tuple_variant(self, _alloc: Global) -> Result<SeqAccess<'a, R>>
-        ensures* rests { sem 𝓛 (RestsIfErr (the_row R.row R.Lent.row R.Lent.Kept.row) self.entry.from (λ a. a.from.ghost_name) result
-            (λ d. IfErr result (λ e. LacksPayload e (state R.state R.Lent.kept self.entry.from.now) (state R.state R.Lent.kept d)))) }
+        ensures* rests { sem 𝓛 (RestsIfErr (the_row R.row R.Lent.row R.Lent.Kept.row) (unit_deserializer self.entry) items_reference result
+            (λ d. IfErr result (λ e. LacksPayload e (unit_state R.state R.Lent.kept self.entry) (state R.state R.Lent.kept d)))) }
         ensures none { OnOk result ⊥ }
     {
         let UnitVariantAccess { from } = self;
@@ -364,8 +367,8 @@ impl<'a, R: DeRead> UnitVariantAccess<'a, R> {
 
     /// Refused by [`Complaint::WrongType`]: a name alone has no payload.
     pub fn struct_variant(self) -> Result<MapAccess<'a, R>>
-        ensures* rests { sem 𝓛 (RestsIfErr (the_row R.row R.Lent.row R.Lent.Kept.row) self.entry.from (λ a. a.from.ghost_name) result
-            (λ d. IfErr result (λ e. LacksPayload e (state R.state R.Lent.kept self.entry.from.now) (state R.state R.Lent.kept d)))) }
+        ensures* rests { sem 𝓛 (RestsIfErr (the_row R.row R.Lent.row R.Lent.Kept.row) (unit_deserializer self.entry) pairs_reference result
+            (λ d. IfErr result (λ e. LacksPayload e (unit_state R.state R.Lent.kept self.entry) (state R.state R.Lent.kept d)))) }
         ensures none { OnOk result ⊥ }
     {
         let UnitVariantAccess { from } = self;
@@ -374,8 +377,8 @@ impl<'a, R: DeRead> UnitVariantAccess<'a, R> {
 }
 
 impl<'a, R: DeRead> VariantAccess<'a, R> {
-    ghost use Rattle.serde_bser.specs.EnumAccess.{open_variant};
-    ghost use Rattle.serde_bser.specs.Accesses.{open_items, open_pairs};
+    ghost use Rattle.serde_bser.specs.EnumAccess.{open_variant, variant_deserializer};
+    ghost use Rattle.serde_bser.specs.Accesses.{open_items, items_reference, open_pairs, pairs_reference};
 
     /// Reads null as the payload.
     ///
@@ -396,9 +399,9 @@ impl<'a, R: DeRead> VariantAccess<'a, R> {
     ///
     /// Refused as [`Deserializer::read_seq`] is.
     pub fn tuple_variant(self, alloc: Global) -> Result<SeqAccess<'a, R>>
-        ensures* rests { sem 𝓛 (RestsIfErr (the_row R.row R.Lent.row R.Lent.Kept.row) self.entry.from (λ a. a.from.ghost_name) result
+        ensures* rests { sem 𝓛 (RestsIfErr (the_row R.row R.Lent.row R.Lent.Kept.row) (variant_deserializer self.entry) items_reference result
             (λ d. IfErr result (λ e. RefusesItems e (before_payload (open_variant R.state R.Lent.kept self.entry)) (state R.state R.Lent.kept d)))) }
-        ensures same_reference { IfOk result (λ a. a.from.ghost_name ≡ self.entry.from.ghost_name) }
+        ensures same_reference { IfOk result (λ a. items_reference a ≡ (variant_deserializer self.entry).ghost_name) }
         ensures found { IfOk result (λ a. OpensPayloadItems (open_variant R.state R.Lent.kept self.entry) (open_items R.state R.Lent.kept a)) }
     {
         let VariantAccess { from, head } = self;
@@ -417,9 +420,9 @@ impl<'a, R: DeRead> VariantAccess<'a, R> {
     ///
     /// Refused as [`Deserializer::read_map`] is.
     pub fn struct_variant(self) -> Result<MapAccess<'a, R>>
-        ensures* rests { sem 𝓛 (RestsIfErr (the_row R.row R.Lent.row R.Lent.Kept.row) self.entry.from (λ a. a.from.ghost_name) result
+        ensures* rests { sem 𝓛 (RestsIfErr (the_row R.row R.Lent.row R.Lent.Kept.row) (variant_deserializer self.entry) pairs_reference result
             (λ d. IfErr result (λ e. RefusesOpening bare (IsPairsHead (before_payload (open_variant R.state R.Lent.kept self.entry))) e (before_payload (open_variant R.state R.Lent.kept self.entry)) (state R.state R.Lent.kept d)))) }
-        ensures same_reference { IfOk result (λ a. a.from.ghost_name ≡ self.entry.from.ghost_name) }
+        ensures same_reference { IfOk result (λ a. pairs_reference a ≡ (variant_deserializer self.entry).ghost_name) }
         ensures found { IfOk result (λ a. OpensPayloadPairs (open_variant R.state R.Lent.kept self.entry) (open_pairs R.state R.Lent.kept a)) }
     {
         let VariantAccess { from, head } = self;
@@ -466,8 +469,8 @@ where
 }
 
 impl<'a, R: DeRead> EnumAccess<'a, R> {
-    ghost use Rattle.serde_bser.specs.EnumAccess.{open_enum, place_of, open_form, reference};
-    ghost use Rattle.serde_bser.specs.Accesses.{open_items, open_pairs};
+    ghost use Rattle.serde_bser.specs.EnumAccess.{open_enum, place_of, open_form, reference, enum_deserializer};
+    ghost use Rattle.serde_bser.specs.Accesses.{open_items, items_reference, open_pairs, pairs_reference};
 
     /// The first place at which the variant's name stands among the names that were passed.
     pub fn place(&self) -> usize
@@ -478,7 +481,7 @@ impl<'a, R: DeRead> EnumAccess<'a, R> {
 
     /// The form of the variant, as an access of its own.
     pub fn form(self) -> VariantForm<'a, R>
-        ensures same_reference { reference result ≡ self.entry.from.ghost_name }
+        ensures same_reference { reference result ≡ (enum_deserializer self.entry).ghost_name }
         ensures same { open_form R.state R.Lent.kept result ≡ (open_enum R.state R.Lent.kept self.entry) }
     {
         let EnumAccess {
@@ -515,9 +518,9 @@ impl<'a, R: DeRead> EnumAccess<'a, R> {
     /// Refused as [`Deserializer::read_seq`] is, and by [`Complaint::WrongType`] where the name
     /// stands alone.
     pub fn tuple_variant(self, alloc: Global) -> Result<SeqAccess<'a, R>>
-        ensures* rests { sem 𝓛 (RestsIfErr (the_row R.row R.Lent.row R.Lent.Kept.row) self.entry.from (λ a. a.from.ghost_name) result
+        ensures* rests { sem 𝓛 (RestsIfErr (the_row R.row R.Lent.row R.Lent.Kept.row) (enum_deserializer self.entry) items_reference result
             (λ d. IfErr result (λ e. RefusesTuple e (open_enum R.state R.Lent.kept self.entry) (state R.state R.Lent.kept d)))) }
-        ensures same_reference { IfOk result (λ a. a.from.ghost_name ≡ self.entry.from.ghost_name) }
+        ensures same_reference { IfOk result (λ a. items_reference a ≡ (enum_deserializer self.entry).ghost_name) }
         ensures found { IfOk result (λ a. IsTuplePayload (open_enum R.state R.Lent.kept self.entry) (open_items R.state R.Lent.kept a)) }
     {
         let EnumAccess {
@@ -540,9 +543,9 @@ impl<'a, R: DeRead> EnumAccess<'a, R> {
     /// Refused as [`Deserializer::read_map`] is, and by [`Complaint::WrongType`] where the name
     /// stands alone.
     pub fn struct_variant(self) -> Result<MapAccess<'a, R>>
-        ensures* rests { sem 𝓛 (RestsIfErr (the_row R.row R.Lent.row R.Lent.Kept.row) self.entry.from (λ a. a.from.ghost_name) result
+        ensures* rests { sem 𝓛 (RestsIfErr (the_row R.row R.Lent.row R.Lent.Kept.row) (enum_deserializer self.entry) pairs_reference result
             (λ d. IfErr result (λ e. RefusesStruct e (open_enum R.state R.Lent.kept self.entry) (state R.state R.Lent.kept d)))) }
-        ensures same_reference { IfOk result (λ a. a.from.ghost_name ≡ self.entry.from.ghost_name) }
+        ensures same_reference { IfOk result (λ a. pairs_reference a ≡ (enum_deserializer self.entry).ghost_name) }
         ensures found { IfOk result (λ a. IsStructPayload (open_enum R.state R.Lent.kept self.entry) (open_pairs R.state R.Lent.kept a)) }
     {
         let EnumAccess {

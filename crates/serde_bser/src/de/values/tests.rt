@@ -4,6 +4,7 @@ use crate::value::Value;
 use bser_base::device::Watched;
 use bser_base::errors::{Error, Kind, ReadCause, Result};
 use std::alloc::Global;
+use std::process::Abort;
 
 /// Two rows over the keys "abc", "def" and "ghi": 123, the bytes "bar" and null; 456, nothing and 789.
 const TEMPLATE: &[u8] =
@@ -109,6 +110,55 @@ fn each_row_of_many_is_an_object(rt: HostRuntime) -> Result<()> {
     let mut reader = Watched::new(message.as_slice());
     assert!(rt; value == from_reader::<_, Value>(alloc, &mut reader)?);
     Ok(())
+}
+
+/// A message with this head, and an array's items after it: so many numbers, from 0 to 99 again and
+/// again.
+fn numbers(alloc: Global, head: &[u8], count: usize) -> Result<Vec<u8>> {
+    let mut message = Vec::from_slice(alloc, head)?;
+    let mut number = 0u8;
+    for _ in 0..count {
+        message.extend_from_slice(&[3, number])?;
+        number = if number == 99 {
+            0
+        } else {
+            number.wrapping_add(1)
+        };
+    }
+    Ok(message)
+}
+
+/// Checks that the message is read as an array of so many numbers, from 0 to 99 again and again.
+fn check_numbers(rt: &impl Abort, alloc: Global, message: &[u8], count: usize) -> Result<()> {
+    let value = from_slice::<Value>(alloc, message)?;
+    let found = items(&value).unwrap_or_default();
+    assert_eq!(rt; found.len(), count);
+    let mut expected = 0i64;
+    for item in found {
+        assert!(rt; matches!(item, Value::Integer(number) if *number == expected));
+        expected = if expected == 99 {
+            0
+        } else {
+            expected.wrapping_add(1)
+        };
+    }
+    let mut reader = Watched::new(message);
+    assert!(rt; value == from_reader::<_, Value>(alloc, &mut reader)?);
+    Ok(())
+}
+
+#[test]
+fn an_array_of_forty_items_keeps_their_order(rt: HostRuntime) -> Result<()> {
+    let alloc = rt.alloc();
+    let head = b"\x00\x02\x00\x00\x00\x00\x03\x53\x00\x03\x28";
+    check_numbers(&rt, alloc, &numbers(alloc, head, 40)?, 40)
+}
+
+#[test]
+fn an_array_of_five_thousand_items_keeps_their_order(rt: HostRuntime) -> Result<()> {
+    let alloc = rt.alloc();
+    let head = b"\x00\x02\x00\x00\x00\x00\x04\x14\x27\x00\x04\x88\x13";
+    check_numbers(&rt, alloc, &numbers(alloc, head, 5000)?, 5000)
 }
 
 #[test]

@@ -2,14 +2,16 @@
 use Rattle.std.proofs.Common.{◌<◌, refl, arith}
 use Rattle.serde_bser.specs.View.{state}
 use Rattle.serde_bser.proofs.ValuesAtHand.{item_put, item_refused}
-use Rattle.serde_bser.proofs.de.deserializer.Deserializer.item_at_hand.Goals.{in-Ok, in-Err}
 use Rattle.serde_bser.proofs.de.deserializer.Deserializer.item_at_hand.Goals as goal
 
-pub returns-after-push : goal.returns-after-push
-returns-after-push g c =
+pub returns-in-Ok : goal.returns-in-Ok
+returns-in-Ok g c =
     let s = state g.R.DeRead.state g.R.Lent.Lending.kept c.args.self.now in
     let some : 0 < c.args.head.now.remaining = omega (arith, c.if-head-eq0.false) in
-    elim c.match-push.branch [
-      | in-Ok w ↦ rw w.result-is (item_put s _ c.args.head.now c.in-Some.value _ _ c.if-head.false some c.in-Some.ensures refl w.in-Ok.ensures.items)
-      | in-Err w ↦ rw w.result-is (item_refused s _ c.args.head.now c.in-Some.value c.if-head.false some c.in-Some.ensures refl)
-    ]
+    item_put s _ c.args.head.now c.in-Some.value _ _ c.if-head.false some c.in-Some.ensures refl c.in-Ok.ensures.items
+
+pub returns-in-Err : goal.returns-in-Err
+returns-in-Err g c =
+    let s = state g.R.DeRead.state g.R.Lent.Lending.kept c.args.self.now in
+    let some : 0 < c.args.head.now.remaining = omega (arith, c.if-head-eq0.false) in
+    item_refused s _ c.args.head.now c.in-Some.value c.if-head.false some c.in-Some.ensures refl

@@ -1,5 +1,6 @@
 -- Each row that is at hand whole is put in after the rows before it.
 use Rattle.std.proofs.Common.{◌∙◌, ◌<◌, ◌-◌, ◌∷◌, [], ◌++◌, refl, ap, subst, sym, arith}
+use Rattle.serde_bser.specs.Gathered.{all_items}
 use Rattle.serde_bser.specs.Rows.{ArePlaces}
 use Rattle.serde_bser.specs.State.{State}
 use Rattle.serde_bser.specs.View.{state}
@@ -15,9 +16,9 @@ returns-in-Err g c =
     let s : State = state g.R.DeRead.state g.R.Lent.Lending.kept c.loop-head.self in
     let t : State = state g.R.DeRead.state g.R.Lent.Lending.kept c.row_at_hand_whole.new.self in
     let h = c.loop-head.head in
-    let all = c.loop-head.items.items ++ c.in-Some.value ∷ [] in
+    let all = all_items c.loop-head.items ++ c.in-Some.value ∷ [] in
     let some : 0 < h.remaining = omega (arith, c.loop-head-test.true) in
-    many_refused c.args.items.now.items c.args.head.now o all (record h { remaining = h.remaining - 1 }) t
+    many_refused (all_items c.args.items.now) c.args.head.now o all (record h { remaining = h.remaining - 1 }) t
     (rows_put c.loop-head.step c.args.items.now c.loop-head.items all c.args.head.now h o s t c.in-Some.value c.loop-head.invariant.so_far c.loop-head.invariant.rows some c.in-Some.ensures refl)
 
 pub loop-head-preserved : goal.loop-head-preserved
@@ -29,5 +30,5 @@ loop-head-preserved g c =
     record {
       rows = c.loop-head.invariant.rows;
       keys = ap (λ z. z.keys) c.in-Some.ensures.state ∙ c.loop-head.invariant.keys;
-      so_far = rows_put c.loop-head.step c.args.items.now c.loop-head.items c.push.new.self.items c.args.head.now c.loop-head.head o s t c.in-Some.value c.loop-head.invariant.so_far c.loop-head.invariant.rows some c.in-Some.ensures c.in-Ok.ensures.items;
+      so_far = rows_put c.loop-head.step c.args.items.now c.loop-head.items (all_items c.push.new.self) c.args.head.now c.loop-head.head o s t c.in-Some.value c.loop-head.invariant.so_far c.loop-head.invariant.rows some c.in-Some.ensures c.in-Ok.ensures.items;
     }
