@@ -26,10 +26,11 @@ impl Read for ByteByByte<'_> {
     }
 }
 
-/// A reader that fails once its bytes are given.
+/// A reader that gives at most `most` bytes a call, and fails once its bytes are given.
 #[derive(Drop)]
 struct Breaks<'a> {
     bytes: &'a [u8],
+    most: usize,
 }
 
 impl Read for Breaks<'_> {
@@ -37,7 +38,8 @@ impl Read for Breaks<'_> {
         if self.bytes.is_empty() {
             return Err(io::Error::new(ErrorKind::BrokenPipe, "broken"));
         }
-        self.bytes.read(buf)
+        let most = buf.len().min(self.most);
+        self.bytes.read(&mut buf[..most])
     }
 }
 
@@ -290,23 +292,29 @@ fn a_long_byte_string_is_written_as_it_is(rt: HostRuntime) -> Tested {
     check_written(&rt, alloc, &message, &message)
 }
 
+/// Reads the rows from a reader that breaks after so many bytes, and checks that its fault is
+/// answered and nothing is written.
+fn check_broken(rt: &impl Abort, alloc: Global, given: usize, most: usize) -> Tested {
+    let bytes = &ROWS[..given.min(ROWS.len())];
+    let mut reader = Watched::new(Breaks { bytes, most });
+    let mut writer = memory(alloc);
+    match canon(alloc, &mut reader, &mut writer) {
+        Err(
+            Error::DeReaderError {
+                source: ReadCause::Reader(fault),
+            },
+        ) => assert_eq!(rt; fault.kind(), ErrorKind::BrokenPipe, "after {given} bytes"),
+        _ => return Err("not refused for the reader".into()),
+    }
+    assert!(rt; writer.get_ref().is_empty(), "after {given} bytes");
+    Ok(())
+}
+
 #[test]
 fn a_reader_that_breaks_at_any_byte_leaves_the_writer_untouched(rt: HostRuntime) -> Tested {
-    let alloc = rt.alloc();
     for given in 0..ROWS.len() {
-        let mut reader = Watched::new(Breaks {
-            bytes: &ROWS[..given],
-        });
-        let mut writer = memory(alloc);
-        match canon(alloc, &mut reader, &mut writer) {
-            Err(
-                Error::DeReaderError {
-                    source: ReadCause::Reader(fault),
-                },
-            ) => assert_eq!(rt; fault.kind(), ErrorKind::BrokenPipe, "after {given} bytes"),
-            _ => return Err("not refused for the reader".into()),
-        }
-        assert!(rt; writer.get_ref().is_empty(), "after {given} bytes");
+        check_broken(&rt, rt.alloc(), given, 1)?;
+        check_broken(&rt, rt.alloc(), given, usize::MAX)?;
     }
     Ok(())
 }

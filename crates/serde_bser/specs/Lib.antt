@@ -4,7 +4,6 @@ pub mod Parts
 pub mod Access
 pub mod Accesses
 pub mod Fields
-pub mod Files
 pub mod HoldsMaps
 pub mod Fold
 pub mod Slots

@@ -22,8 +22,6 @@ mod seq;
 mod skip;
 mod strings;
 mod table;
-#[cfg(test)]
-mod tests;
 mod value_at_hand;
 mod value_front;
 mod values;

@@ -9,8 +9,6 @@ ghost use Rattle.bser_base.proofs.Same.{same_tree_equiv, same_tree_partial_equiv
 ghost use Rattle.serde_bser.specs.ValueView.{tree_of, items_view, entries_view};
 
 mod clone;
-#[cfg(test)]
-mod tests;
 mod writing;
 
 use bser_base::bytestring::ByteString;

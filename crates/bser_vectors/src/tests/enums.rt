@@ -70,8 +70,19 @@ fn a_payload_is_lent_from_a_slice(rt: HostRuntime) -> Tested {
     let alloc = rt.alloc();
     let text = from_slice::<TestEnum<&str>>(alloc, NEWTYPE)?;
     assert!(rt; text == TestEnum::TestNewtype("foobar"));
-    let bytes = from_slice::<TestEnum<&[u8]>>(alloc, NEWTYPE)?;
-    assert!(rt; bytes == TestEnum::TestNewtype(b"foobar".as_slice()));
+    let foo = b"foo".as_slice();
+    let bar = b"bar".as_slice();
+    let cases = [
+        (NAME, TestEnum::TestUnit),
+        (UNIT, TestEnum::TestUnit),
+        (NEWTYPE, TestEnum::TestNewtype(b"foobar".as_slice())),
+        (TUPLE, TestEnum::TestTuple(foo, bar)),
+        (STRUCT, TestEnum::TestStruct { abc: foo, def: bar }),
+    ];
+    for (message, expected) in &cases {
+        let bytes = from_slice::<TestEnum<&[u8]>>(alloc, message)?;
+        assert!(rt; bytes == *expected);
+    }
     Ok(())
 }
 
@@ -106,7 +117,19 @@ fn an_object_has_exactly_one_entry(rt: HostRuntime) -> Tested {
 #[test]
 fn another_kind_of_value_is_no_enum(rt: HostRuntime) -> Tested {
     let null = b"\x00\x02\x00\x00\x00\x00\x03\x01\x0a";
-    check_refusal::<TestEnum<String>>(&rt, rt.alloc(), null, "E1 enum 'TestEnum' 10")
+    let alloc = rt.alloc();
+    check_refusal::<TestEnum<String>>(&rt, alloc, null, "E1 enum 'TestEnum' 10")?;
+    match from_slice::<TestEnum<&str>>(alloc, null) {
+        Ok(_) => return Err("null is read as an enum".into()),
+        Err(error) => {
+            let printed = format!(in alloc; "{error}")?;
+            assert_eq!(rt;
+                printed.as_str(),
+                "while deserializing BSER: invalid start byte for enum 'TestEnum': BSER_NULL"
+            );
+        }
+    }
+    Ok(())
 }
 
 #[test]
@@ -142,6 +165,28 @@ fn a_field_of_a_row_is_an_enum(rt: HostRuntime) -> Tested {
 fn a_name_is_utf8(rt: HostRuntime) -> Tested {
     let message = b"\x00\x02\x00\x00\x00\x00\x03\x04\x02\x03\x01\xff";
     check_refusal::<TestEnum<String>>(&rt, rt.alloc(), message, "E6 Utf8")
+}
+
+#[test]
+fn a_payload_gives_its_levels_back(rt: HostRuntime) -> Tested {
+    // two tuples, and two structs
+    let tuples =
+        b"\x00\x02\x00\x00\x00\x00\x03\x3f\x00\x03\x02\x01\x03\x01\x02\x03\x09TestTuple\x00\x03\x02\x02\x03\x03foo\x02\x03\x03bar\x01\x03\x01\x02\x03\x09TestTuple\x00\x03\x02\x02\x03\x03foo\x02\x03\x03bar";
+    let alloc = rt.alloc();
+    let mut expected = Vec::new(alloc);
+    for _ in 0..2 {
+        let foo = String::from_str(alloc, "foo")?;
+        expected.push(TestEnum::TestTuple(foo, String::from_str(alloc, "bar")?))?;
+    }
+    check_value_within(&rt, alloc, 3, tuples, &expected);
+    let structs =
+        b"\x00\x02\x00\x00\x00\x00\x03\x59\x00\x03\x02\x01\x03\x01\x02\x03\x0aTestStruct\x01\x03\x02\x02\x03\x03abc\x02\x03\x03foo\x02\x03\x03def\x02\x03\x03bar\x01\x03\x01\x02\x03\x0aTestStruct\x01\x03\x02\x02\x03\x03abc\x02\x03\x03foo\x02\x03\x03def\x02\x03\x03bar";
+    let mut expected = Vec::new(alloc);
+    for _ in 0..2 {
+        expected.push(test_struct(alloc, "foo", "bar")?)?;
+    }
+    check_value_within(&rt, alloc, 3, structs, &expected);
+    Ok(())
 }
 
 #[test]

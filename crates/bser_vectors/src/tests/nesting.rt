@@ -5,7 +5,7 @@ use super::values::{repeated, repeated_text};
 use super::{Tested, check_alike};
 use crate::devices::{Plan, PlannedReader};
 use crate::notation::is_answer;
-use serde_bser::de::{from_reader_within, from_slice_within};
+use serde_bser::de::{Ignored, from_reader_within, from_slice_within};
 use serde_bser::device::Watched;
 use serde_bser::from_reader;
 use serde_bser::value::Value;
@@ -129,6 +129,10 @@ fn a_reader_is_called_rarely_however_deep_the_message(rt: HostRuntime) -> Tested
     let message = repeated(alloc, head, ARRAY.0, 127, EMPTY_ARRAY)?;
     let mut reader = Watched::new(PlannedReader::new(&message, Plan::whole()));
     from_reader::<_, Value>(alloc, &mut reader)?;
+    let calls = reader.get_ref().calls();
+    assert!(rt; calls <= 16, "{calls}");
+    let mut reader = Watched::new(PlannedReader::new(&message, Plan::whole()));
+    from_reader::<_, Ignored>(alloc, &mut reader)?;
     let calls = reader.get_ref().calls();
     assert!(rt; calls <= 16, "{calls}");
     Ok(())

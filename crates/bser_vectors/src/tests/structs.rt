@@ -1,10 +1,12 @@
 //! Structs, read field by field.
 use super::Tested;
-use super::checks::{check_refusal, check_value};
+use super::checks::{check_code, check_refusal, check_value, read_by};
+use crate::devices::{Plan, Then};
 use crate::structs::{FileInfo, Files, TemplateRow};
 use serde_bser::errors::Result;
 use serde_bser::from_slice;
 use std::alloc::Global;
+use std::io::ErrorKind;
 
 /// A template of two rows of three fields, in the second of which one is skipped.
 const ROWS: &[u8] =
@@ -187,4 +189,30 @@ fn a_field_of_another_kind_is_refused(rt: HostRuntime) -> Tested {
     check_refusal::<Vec<FileInfo<String>>>(&rt, alloc, skipped, "C5")?;
     let array = b"\x00\x02\0\0\0\0\x03\x03\x00\x03\x00";
     check_refusal::<FileInfo<String>>(&rt, alloc, array, "C5")
+}
+
+#[test]
+fn an_early_end_at_each_byte_of_rows(rt: HostRuntime) -> Tested {
+    let alloc = rt.alloc();
+    for len in 0..ROWS.len() {
+        let front = &ROWS[..len];
+        check_refusal::<Vec<TemplateRow<String>>>(&rt, alloc, front, "E6 Eof")?;
+        let lent = from_slice::<Vec<TemplateRow<&[u8]>>>(alloc, front);
+        check_code(&rt, alloc, &lent, "E6 Eof")?;
+    }
+    Ok(())
+}
+
+#[test]
+fn a_fault_at_each_byte_of_rows_is_the_reader_s(rt: HostRuntime) -> Tested {
+    let alloc = rt.alloc();
+    for most in [1, usize::MAX] {
+        for whole in 0..ROWS.len() {
+            let plan = Plan::pieces(most).up_to(whole, Then::Faults(ErrorKind::BrokenPipe));
+            let (rows, left) = read_by::<Vec<TemplateRow<String>>>(alloc, ROWS, plan);
+            check_code(&rt, alloc, &rows, "E6 Reader")?;
+            assert_eq!(rt; left, ROWS.len() - whole);
+        }
+    }
+    Ok(())
 }

@@ -109,6 +109,25 @@ fn a_byte_string_is_a_string_or_an_array_of_bytes(rt: HostRuntime) -> Tested {
 }
 
 #[test]
+fn byte_strings_beside_the_length_that_takes_two_bytes(rt: HostRuntime) -> Tested {
+    let alloc = rt.alloc();
+    let cases: [(usize, &[u8]); 2] = [
+        (124, b"\x00\x02\0\0\0\0\x03\x7f\x02\x03\x7c"),
+        (125, b"\x00\x02\0\0\0\0\x04\x80\x00\x02\x03\x7d"),
+    ];
+    for (zeros, front) in cases {
+        let expected = ByteString::from_vec(vec![in alloc; 0u8; zeros]?);
+        let mut message = Vec::from_slice(alloc, front)?;
+        message.extend_from_slice(expected.as_bytes())?;
+        check_value(&rt, alloc, &message, &expected);
+        let mut writer = Watched::new(Vec::new(alloc));
+        serialize_to(alloc, &mut writer, &expected)?;
+        assert_eq!(rt; writer.into_inner().as_slice(), message.as_slice());
+    }
+    Ok(())
+}
+
+#[test]
 fn a_map_with_a_key_that_is_no_text(rt: HostRuntime) -> Tested {
     let alloc = rt.alloc();
     let bytes = b"\x00\x02\0\0\0\0\x03\x08\x01\x03\x01\x02\x03\x01\xff\x0a";
@@ -133,16 +152,22 @@ fn a_list_of_names(rt: HostRuntime) -> Tested {
     owned.push(String::from_str(alloc, "Tom")?)?;
     owned.push(String::from_str(alloc, "Jerry")?)?;
     check_value(&rt, alloc, NAMES, &owned);
-    let reader = Watched::new(PlannedReader::new(NAMES, Plan::whole()));
-    let mut from = Deserializer::new(alloc, IoRead::new(reader))?;
-    let refused = <Vec<&str> as Deserialize<NoLoan>>::deserialize(alloc, &mut from);
-    check_code(&rt, alloc, &refused, "C8")
+    for plan in [Plan::pieces(1), Plan::whole()] {
+        let reader = Watched::new(PlannedReader::new(NAMES, plan));
+        let mut from = Deserializer::new(alloc, IoRead::new(reader))?;
+        let refused = <Vec<&str> as Deserialize<NoLoan>>::deserialize(alloc, &mut from);
+        check_code(&rt, alloc, &refused, "C8")?;
+    }
+    Ok(())
 }
 
 #[test]
 fn an_early_end_at_each_byte_of_a_list(rt: HostRuntime) -> Tested {
+    let alloc = rt.alloc();
     for len in 0..NAMES.len() {
-        check_refusal::<Vec<String>>(&rt, rt.alloc(), &NAMES[..len], "E6 Eof")?;
+        let front = &NAMES[..len];
+        check_refusal::<Vec<String>>(&rt, alloc, front, "E6 Eof")?;
+        check_code(&rt, alloc, &from_slice::<Vec<&str>>(alloc, front), "E6 Eof")?;
     }
     Ok(())
 }
@@ -316,6 +341,8 @@ fn typed_messages_are_read_one_after_another(rt: HostRuntime) -> Tested {
         from_reader::<_, ()>(alloc, &mut reader)?;
         assert_eq!(rt; from_reader::<_, i64>(alloc, &mut reader)?, 128);
         assert_eq!(rt; reader.get_ref().left().len(), 0);
+        let third = from_reader::<_, i64>(alloc, &mut reader);
+        check_code(&rt, alloc, &third, "E6 Eof")?;
     }
     Ok(())
 }

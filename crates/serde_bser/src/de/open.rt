@@ -25,9 +25,6 @@ use bser_base::header::BSER_ARRAY;
 use std::alloc::Global;
 use std::mem;
 
-#[cfg(test)]
-mod tests;
-
 /// An array that was opened: how many items it has, whether they are rows, and how it stood outside.
 #[derive(Clone, Copy)]
 pub(crate) struct SeqHead {

@@ -22,8 +22,6 @@ use bser_base::header::{
 
 mod ready;
 mod tables;
-#[cfg(test)]
-mod tests;
 
 /// A container that is being skipped: the levels that are left inside it, and what it still wants.
 #[derive(Clone, Copy)]

@@ -27,9 +27,6 @@ use bser_base::header::BSER_SKIP;
 use std::alloc::Global;
 use std::mem;
 
-#[cfg(test)]
-mod tests;
-
 /// What is read of a value that is due: the whole, or the head of a container.
 #[derive(Drop)]
 enum Part {

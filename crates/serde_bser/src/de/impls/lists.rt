@@ -8,9 +8,6 @@ ghost use Rattle.serde_bser.specs.HoldsLists.{HoldsList, HoldsTuple};
 ghost use Rattle.serde_bser.specs.Tuples.{tuple_needs};
 ghost use Rattle.std.proofs.Common.{ap, ◌∙◌};
 
-#[cfg(test)]
-mod tests;
-
 use crate::de::deserializer::Deserializer;
 use crate::de::reading::{Deserialize, OwnedShape, Shape};
 use bser_base::de::read::{DeRead, LendsText};

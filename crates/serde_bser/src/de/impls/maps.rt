@@ -4,9 +4,6 @@ ghost use Rattle.std.proofs.Common.{ap, ◌∙◌};
 ghost use Rattle.bser_base.specs.ReadsHolders.{reads_map};
 ghost use Rattle.serde_bser.specs.HoldsMaps.{HoldsMap};
 
-#[cfg(test)]
-mod tests;
-
 use crate::de::deserializer::Deserializer;
 use crate::de::impls::keys::MapKey;
 use crate::de::reading::{Deserialize, OwnedShape, Shape};

@@ -4,10 +4,10 @@ use Rattle.serde_bser.specs.View.{state}
 use Rattle.serde_bser.specs.Access.{OpenPairs}
 use Rattle.serde_bser.specs.Accesses.{open_pairs}
 use Rattle.serde_bser.specs.Parts.{pairs_left}
-use Rattle.serde_bser.specs.Files.{Found, file_names, file_field, nothing_found, file_found}
+use Rattle.bser_reading.specs.Files.{Found, file_names, file_field, nothing_found, file_found}
 use Rattle.serde_bser.proofs.Structs.{AtField}
 use Rattle.serde_bser.specs.Slots.{Keeps}
-use Rattle.serde_bser.proofs.de.tests.files.FileInfoDeserialize.deserialize.Given as goal
+use Rattle.bser_reading.proofs.files.FileInfoDeserialize.deserialize.Given as goal
 
 abbrev pub invariant-loop-size : goal.invariant-loop-size
 invariant-loop-size g l = record {

@@ -1,10 +1,7 @@
-mod enums;
-mod files;
-
-use self::files::FileInfo;
-use crate::de::entry::from_slice;
-use bser_base::errors::Result;
-use std::collections::BTreeMap;
+//! Tests of a struct that is read field by field.
+use crate::files::FileInfo;
+use serde_bser::de::from_slice;
+use serde_bser::errors::Result;
 use std::test::Fail;
 
 type Tested = std::result::Result<(), Fail>;
@@ -33,13 +30,5 @@ fn fields_are_read_in_any_order(rt: HostRuntime) -> Tested {
 fn an_unknown_field_is_refused(rt: HostRuntime) -> Tested {
     let file: Result<FileInfo<String, u64>> = from_slice(rt.alloc(), &TWICE);
     assert!(rt; file.is_err());
-    Ok(())
-}
-
-#[test]
-fn the_last_of_equal_keys_stays(rt: HostRuntime) -> Tested {
-    let entries: BTreeMap<String, u8> = from_slice(rt.alloc(), &TWICE)?;
-    assert_eq!(rt; entries.len(), 1);
-    assert_eq!(rt; entries.get("a").copied(), Some(2));
     Ok(())
 }

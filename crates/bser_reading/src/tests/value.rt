@@ -1,5 +1,6 @@
-use super::Value;
-use bser_base::bytestring::ByteString;
+//! Tests of values that are made, copied and compared.
+use serde_bser::bytestring::ByteString;
+use serde_bser::value::Value;
 use std::alloc::{AllocError, Global};
 use std::collections::BTreeMap;
 

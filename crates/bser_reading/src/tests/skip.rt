@@ -1,7 +1,6 @@
 //! Skipping, in whole messages.
-use crate::de::impls::Ignored;
-use crate::de::{from_slice, from_slice_within};
-use bser_base::errors::{Complaint, Error, Kind, Message, ReadCause, Result};
+use serde_bser::de::{Ignored, from_slice, from_slice_within};
+use serde_bser::errors::{Complaint, Error, Kind, Message, ReadCause, Result};
 use std::alloc::Global;
 
 fn skipped(alloc: Global, body: &[u8]) -> Result<Ignored> {

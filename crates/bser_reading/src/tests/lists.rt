@@ -5,9 +5,9 @@ ghost use Rattle.bser_base.specs.ReadsHolders.{reads_tuple};
 ghost use Rattle.bser_base.specs.ReadsScalars.{reads_signed, reads_string};
 ghost use Rattle.serde_bser.specs.Messages.{ReadsAs};
 
-use crate::de::{from_reader, from_slice};
-use bser_base::device::Watched;
-use bser_base::errors::{Complaint, Error, Message, ReadCause, Result};
+use serde_bser::de::{from_reader, from_slice};
+use serde_bser::device::Watched;
+use serde_bser::errors::{Complaint, Error, Message, ReadCause, Result};
 use std::alloc::Global;
 
 fn is_complaint<T>(answer: &Result<T>, complaint: Complaint) -> bool {

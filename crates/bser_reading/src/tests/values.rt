@@ -1,8 +1,8 @@
 //! Tests of values that are read from whole messages.
-use crate::de::{from_reader, from_slice, from_slice_within};
-use crate::value::Value;
-use bser_base::device::Watched;
-use bser_base::errors::{Error, Kind, ReadCause, Result};
+use serde_bser::de::{from_reader, from_slice, from_slice_within};
+use serde_bser::device::Watched;
+use serde_bser::errors::{Error, Kind, ReadCause, Result};
+use serde_bser::value::Value;
 use std::alloc::Global;
 use std::process::Abort;
 

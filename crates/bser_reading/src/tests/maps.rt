@@ -1,8 +1,8 @@
 //! Tests of maps that are read from whole messages.
-use crate::de::{from_reader, from_slice};
-use bser_base::bytestring::ByteString;
-use bser_base::device::Watched;
-use bser_base::errors::{Complaint, Error, Message, ReadCause, Result};
+use serde_bser::bytestring::ByteString;
+use serde_bser::de::{from_reader, from_slice};
+use serde_bser::device::Watched;
+use serde_bser::errors::{Complaint, Error, Message, ReadCause, Result};
 use std::collections::{BTreeMap, HashMap};
 
 /// An object with the key "b" of 1, and then "a" of 2.

@@ -1,16 +1,14 @@
-//! A struct, read field by field.
+//! A struct that is read field by field, and has no other fields.
 ghost use Rattle.std.specs.Prelude.{None};
-ghost use Rattle.serde_bser.specs.Files.{file_of, HoldsFile};
+ghost use Rattle.bser_reading.specs.Files.{file_of, HoldsFile};
 ghost use Rattle.serde_bser.specs.Fold.{either};
 
-use crate::de::deserializer::Deserializer;
-use crate::de::field::Field;
-use crate::de::reading::{Deserialize, Shape};
-use bser_base::de::read::{DeRead, LendsText};
-use bser_base::errors::{Complaint, Error, Result};
+use serde_bser::de::read::LendsText;
+use serde_bser::de::{DeRead, Deserialize, Deserializer, Field, Shape};
+use serde_bser::errors::{Complaint, Error, Result};
 use std::alloc::Global;
 
-/// A file's name and size.
+/// A file's name and size. Another field, and one that comes twice, is refused.
 #[derive(Drop)]
 pub struct FileInfo<S, N> {
     pub name: S,
