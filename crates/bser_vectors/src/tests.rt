@@ -1,22 +1,13 @@
 //! Tests of the format over the ways of reading and writing.
 mod bytestrings;
-mod checks;
-mod enums;
-mod hostile;
-mod levels;
 mod memory;
 mod messages;
 mod nesting;
 mod notations;
-mod options;
-mod order;
 mod readers;
 mod scalars;
 mod sizes;
-mod structs;
-mod templates;
 mod texts;
-mod typed;
 mod values;
 mod writing;
 

@@ -1,10 +1,8 @@
 //! Tests of a struct that is read field by field.
+use super::Tested;
 use crate::files::FileInfo;
 use serde_bser::de::from_slice;
 use serde_bser::errors::Result;
-use std::test::Fail;
-
-type Tested = std::result::Result<(), Fail>;
 
 /// A name "a" and a size of 3, the size first.
 const FILE: [u8; 31] = [

@@ -1,7 +1,7 @@
 //! Templates, and the same rows written out as objects.
 use super::Tested;
 use super::checks::{check_code, check_refusal, check_value, read_by};
-use crate::devices::{Plan, Then};
+use bser_vectors::devices::{Plan, Then};
 use serde_bser::de::Ignored;
 use serde_bser::from_slice;
 use std::collections::BTreeMap;

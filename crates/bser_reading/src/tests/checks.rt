@@ -2,8 +2,8 @@
 ghost use Rattle.std.specs.Prelude.{◌≤◌};
 
 use super::Tested;
-use crate::devices::{Plan, PlannedReader};
-use crate::notation::code;
+use bser_vectors::devices::{Plan, PlannedReader};
+use bser_vectors::notation::code;
 use serde_bser::de::{Deserialize, DeserializeOwned, from_reader_within, from_slice_within};
 use serde_bser::device::Watched;
 use serde_bser::errors::Result;

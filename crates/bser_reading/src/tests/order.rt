@@ -1,8 +1,8 @@
 //! Which of several refusals is answered: that of the first check that fails.
 use super::Tested;
 use super::checks::{check_code, check_refusal, check_refusal_within};
-use crate::devices::{Plan, PlannedReader};
 use bser_base::de::read::NoLoan;
+use bser_vectors::devices::{Plan, PlannedReader};
 use serde_bser::bytestring::ByteString;
 use serde_bser::de::{Deserialize, Deserializer, Ignored, IoRead, SliceRead};
 use serde_bser::device::Watched;

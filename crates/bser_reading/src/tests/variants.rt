@@ -1,7 +1,7 @@
 //! Enums, read variant by variant.
 use super::Tested;
 use super::checks::{check_refusal, check_refusal_within, check_value, check_value_within};
-use crate::enums::{EnumRow, TestEnum};
+use bser_vectors::enums::{EnumRow, TestEnum};
 use serde_bser::de::{Deserializer, SliceRead};
 use serde_bser::errors::Result;
 use serde_bser::from_slice;

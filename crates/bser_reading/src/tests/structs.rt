@@ -1,8 +1,8 @@
 //! Structs, read field by field.
 use super::Tested;
 use super::checks::{check_code, check_refusal, check_value, read_by};
-use crate::devices::{Plan, Then};
-use crate::structs::{FileInfo, Files, TemplateRow};
+use bser_vectors::devices::{Plan, Then};
+use bser_vectors::structs::{FileInfo, Files, TemplateRow};
 use serde_bser::errors::Result;
 use serde_bser::from_slice;
 use std::alloc::Global;

@@ -1,8 +1,8 @@
 //! Messages read as typed values.
 use super::Tested;
 use super::checks::{check_code, check_refusal, check_value};
-use crate::devices::{Plan, PlannedReader};
 use bser_base::de::read::{DeRead, LendsText, NoLoan};
+use bser_vectors::devices::{Plan, PlannedReader};
 use serde_bser::bytestring::ByteString;
 use serde_bser::de::{Deserialize, Deserializer, Ignored, IoRead, SliceRead};
 use serde_bser::device::Watched;
