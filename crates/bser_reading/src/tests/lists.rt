@@ -5,14 +5,11 @@ ghost use Rattle.bser_base.specs.ReadsHolders.{reads_tuple};
 ghost use Rattle.bser_base.specs.ReadsScalars.{reads_signed, reads_string};
 ghost use Rattle.serde_bser.specs.Messages.{ReadsAs};
 
+use super::is_complaint;
 use serde_bser::de::{from_reader, from_slice};
 use serde_bser::device::Watched;
-use serde_bser::errors::{Complaint, Error, Message, ReadCause, Result};
+use serde_bser::errors::{Complaint, Error, ReadCause, Result};
 use std::alloc::Global;
-
-fn is_complaint<T>(answer: &Result<T>, complaint: Complaint) -> bool {
-    matches!(answer, Err(Error::DeCustom { msg: Message::Fixed(found) }) if *found == complaint)
-}
 
 #[test]
 fn an_array_of_integers_is_a_list(rt: HostRuntime) -> Result<()> {

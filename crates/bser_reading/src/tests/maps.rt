@@ -1,8 +1,9 @@
 //! Tests of maps that are read from whole messages.
+use super::is_complaint;
 use serde_bser::bytestring::ByteString;
 use serde_bser::de::{from_reader, from_slice};
 use serde_bser::device::Watched;
-use serde_bser::errors::{Complaint, Error, Message, ReadCause, Result};
+use serde_bser::errors::{Complaint, Error, ReadCause, Result};
 use std::collections::{BTreeMap, HashMap};
 
 /// An object with the key "b" of 1, and then "a" of 2.
@@ -44,10 +45,6 @@ const EMPTY: [u8; 11] = [
 const ARRAY: [u8; 11] = [
     0x00, 0x02, 0x00, 0x00, 0x00, 0x00, 0x03, 0x03, 0x00, 0x03, 0x00,
 ];
-
-fn is_complaint<T>(answer: &Result<T>, complaint: Complaint) -> bool {
-    matches!(answer, Err(Error::DeCustom { msg: Message::Fixed(found) }) if *found == complaint)
-}
 
 fn is_utf8_refusal<T>(answer: &Result<T>) -> bool {
     matches!(

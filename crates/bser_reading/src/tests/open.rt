@@ -1,6 +1,7 @@
 //! Tests of containers that are open, and of calls in an order that is refused.
+use super::is_complaint;
 use serde_bser::de::{Deserializer, Ignored, SliceRead};
-use serde_bser::errors::{Complaint, Error, Message, ReadCause, Result};
+use serde_bser::errors::{Complaint, Error, ReadCause, Result};
 
 /// An array of true and an empty array.
 const ARRAY: &[u8] = b"\x00\x02\x00\x00\x00\x00\x03\x07\x00\x03\x02\x08\x00\x03\x00";
@@ -8,10 +9,6 @@ const ARRAY: &[u8] = b"\x00\x02\x00\x00\x00\x00\x03\x07\x00\x03\x02\x08\x00\x03\
 /// An object with the keys "a" and "b", of 1 and of 2.
 const OBJECT: &[u8] =
     b"\x00\x02\x00\x00\x00\x00\x03\x0f\x01\x03\x02\x0d\x03\x01a\x03\x01\x0d\x03\x01b\x03\x02";
-
-fn is_complaint<T>(answer: &Result<T>, complaint: Complaint) -> bool {
-    matches!(answer, Err(Error::DeCustom { msg: Message::Fixed(found) }) if *found == complaint)
-}
 
 fn is_failed<T>(answer: &Result<T>) -> bool {
     matches!(
