@@ -7,6 +7,4 @@ mod held;
 mod io_read;
 mod lending;
 pub mod read;
-#[cfg(test)]
-mod tests;
 pub mod text;

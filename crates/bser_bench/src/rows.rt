@@ -6,7 +6,9 @@ ghost use Rattle.bser_bench.specs.Rows.{reads_file, HoldsFile, file_needs, reads
 
 use serde_bser::bytestring::ByteString;
 use serde_bser::de::read::LendsText;
-use serde_bser::de::{DeRead, Deserialize, Deserializer, Optional, OwnedShape, Required, Shape};
+use serde_bser::de::{
+    DeRead, Deserialize, Deserializer, Optional, OwnedShape, ReadsFields, Required, Shape,
+};
 use serde_bser::errors::Result;
 use std::alloc::Global;
 

@@ -6,7 +6,7 @@ use Rattle.bser_base.specs.declared.errors.Error.{Error}
 use Rattle.bser_ser.specs.Message.{Missed}
 use Rattle.serde_bser.specs.Messages.{TookMessage}
 use Rattle.serde_bser.specs.ValueView.{tree_of, HoldsValue}
-use Rattle.serde_bser.specs.declared.value.Value.{Value}
+use Rattle.bser_value.specs.declared.value.Value.{Value}
 use Rattle.bser_canon.specs.Canon.{Refuses}
 
 pub writing_refused : {R W A : Type 0} (reads : Meaning) (left : R → Option (List ℕ)) (failures : R → ℕ) (took : W → W → List ℕ → Type 0) (faults : W → ℕ) (old new : R) (before after : W) (value : Value) (r : Result A Error) → TookMessage 128 reads HoldsValue (left old) (left new) value → IfErr r (Missed took faults (Some (tree_of value)) before after) → IfErr r (Refuses reads left failures took faults old new before after)

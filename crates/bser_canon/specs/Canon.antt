@@ -6,7 +6,7 @@ use Rattle.bser_base.specs.declared.errors.Error.{Error}
 use Rattle.bser_ser.specs.Message.{Missed}
 use Rattle.serde_bser.specs.Messages.{TookMessage, RefusesReader}
 use Rattle.serde_bser.specs.ValueView.{tree_of, HoldsValue}
-use Rattle.serde_bser.specs.declared.value.Value.{Value}
+use Rattle.bser_value.specs.declared.value.Value.{Value}
 
 -- exactly one message was taken, which reads as a value, and exactly that value's canonical message was written
 pub record Rewrote {R W : Type 0} (reads : Meaning) (left : R → Option (List ℕ)) (took : W → W → List ℕ → Type 0) (old new : R) (before after : W) : Type 0 where

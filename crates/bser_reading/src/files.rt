@@ -4,7 +4,7 @@ ghost use Rattle.bser_reading.specs.Files.{file_of, HoldsFile};
 ghost use Rattle.serde_bser.specs.Fold.{either};
 
 use serde_bser::de::read::LendsText;
-use serde_bser::de::{DeRead, Deserialize, Deserializer, Field, Shape};
+use serde_bser::de::{DeRead, Deserialize, Deserializer, Field, ReadsContainers, Shape};
 use serde_bser::errors::{Complaint, Error, Result};
 use std::alloc::Global;
 

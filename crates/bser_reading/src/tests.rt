@@ -9,7 +9,6 @@ mod maps;
 mod open;
 mod options;
 mod order;
-mod skip;
 mod structs;
 mod templates;
 mod typed;

@@ -8,7 +8,7 @@ use Rattle.sha2.specs.Sha256.{sha256}
 use Rattle.bser_base.specs.Canonical.{canonical_message}
 use Rattle.bser_base.specs.Content.{Meaning, Needs}
 use Rattle.serde_bser.specs.ValueView.{tree_of}
-use Rattle.serde_bser.specs.declared.value.Value.{Value}
+use Rattle.bser_value.specs.declared.value.Value.{Value}
 use Rattle.bser_vectors.specs.Notation.{notation}
 use Rattle.bser_vectors.specs.Ways.{Agrees}
 use Rattle.bser_samples.specs.declared.sample.Sample.{Sample}

@@ -18,8 +18,6 @@ mod pending;
 mod puts;
 mod scalars;
 mod serializer;
-#[cfg(test)]
-mod tests;
 mod tuples;
 
 pub use crate::count::CountWrite;

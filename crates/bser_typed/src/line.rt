@@ -1,6 +1,6 @@
 //! One line of the list of messages.
 use crate::types;
-use crate::ways::{Sample, Way};
+use crate::ways::{Mismatch, Sample};
 use anyhow::{Context, Result};
 use std::alloc::Global;
 
@@ -32,10 +32,11 @@ impl<'a> Line<'a> {
         })
     }
 
-    /// The first way of reading that answers otherwise than the list says.
-    pub fn first_mismatch(&self, alloc: Global) -> Result<Option<Way>> {
+    /// The first answer that is another than the list says.
+    pub fn first_mismatch(&self, alloc: Global) -> Result<Option<Mismatch>> {
         let sample = Sample {
             message: &self.message,
+            levels: 128,
             answer: self.answer,
             taken: self.taken,
         };

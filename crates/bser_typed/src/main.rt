@@ -5,19 +5,27 @@
 //! in hexadecimal digits, `ok` or `err`, the notation of the answer, and the bytes taken. The folder
 //! `watchman` has messages recorded from a Watchman server, and a manifest that says how many files
 //! each holds.
+//!
+//! The file `cases.txt` has a row for each case, in columns with ` | ` between them: its name, the types
+//! that the message is read as, the levels that it may have, the message in hexadecimal digits, and the
+//! notation of the answer. Blanks in a message are passed over, `0a..3` is `0a0a0a`, and what stands
+//! behind ` / ` follows the message. An answer that begins with `each front` is that of each front of the
+//! message. Empty lines, and those that begin with `#`, are no rows.
+//!
+//! The files `wrong-lines.tsv` and `wrong-cases.txt` have wrong ones, each of which is named.
 #![tactic(auto)]
 
 mod line;
+mod row;
 mod shown;
-#[cfg(test)]
-mod tests;
 mod types;
 mod watchman;
 mod ways;
 
 use crate::line::Line;
+use crate::row::Row;
 use crate::watchman::Recorded;
-use anyhow::{Context, Result};
+use anyhow::Result;
 use std::fs;
 
 /// How many lines were treated in which way.
@@ -35,38 +43,86 @@ fn count(counter: &mut u64) {
 }
 
 fn main(rt: HostRuntime) -> Result<()> {
-    compare_lines(&rt)?;
+    compare_lines(&rt, "sample-typed.tsv")?;
+    compare_lines(&rt, "wrong-lines.tsv")?;
+    compare_rows(&rt, "cases.txt")?;
+    compare_rows(&rt, "wrong-cases.txt")?;
     compare_files(&rt)
 }
 
 /// Reads each message of the list as its type.
-fn compare_lines(rt: &HostRuntime) -> Result<()> {
-    let text = fs::read_to_string(rt, "sample-typed.tsv")?;
+fn compare_lines(rt: &HostRuntime, file: &str) -> Result<()> {
+    let text = fs::read_to_string(rt, file)?;
     let mut counts = Counts::default();
     for row in text.as_str().lines() {
         count(&mut counts.lines);
         let line = Line::parse(rt.alloc(), row)?;
-        let mismatch = line
-            .first_mismatch(rt.alloc())
-            .context(format_args!("line {}", counts.lines))?;
-        match mismatch {
-            Some(way) => {
+        match line.first_mismatch(rt.alloc()) {
+            Ok(None) if line.accepted => count(&mut counts.accepted),
+            Ok(None) => count(&mut counts.refused),
+            Ok(Some(other)) => {
                 count(&mut counts.mismatches);
                 println!(rt;
                     "line {}, {}: another answer, {}",
                     counts.lines,
                     line.kind,
-                    way.name()
+                    other.way.name()
                 )?;
             }
-            None if line.accepted => count(&mut counts.accepted),
-            None => count(&mut counts.refused),
+            Err(error) => {
+                count(&mut counts.mismatches);
+                println!(rt; "line {}, {}: {error}", counts.lines, line.kind)?;
+            }
         }
     }
     println!(rt; "{} lines", counts.lines)?;
     println!(rt; "{} messages accepted as the file says", counts.accepted)?;
     println!(rt; "{} messages refused as the file says", counts.refused)?;
     println!(rt; "{} mismatches", counts.mismatches)?;
+    Ok(())
+}
+
+/// Reads the message of each case as its types.
+fn compare_rows(rt: &HostRuntime, file: &str) -> Result<()> {
+    let text = fs::read_to_string(rt, file)?;
+    let mut rows = 0u64;
+    let mut readings = 0u64;
+    let mut wrong = 0u64;
+    for line in text.as_str().lines() {
+        if line.is_empty() || line.starts_with('#') {
+            continue;
+        }
+        count(&mut rows);
+        let row = match Row::parse(rt.alloc(), line) {
+            Ok(row) => row,
+            Err(error) => {
+                count(&mut wrong);
+                println!(rt; "{line}: {error}")?;
+                continue;
+            }
+        };
+        for kind in row.kinds.split_whitespace() {
+            count(&mut readings);
+            match row.first_mismatch(rt.alloc(), kind) {
+                Ok(None) => {}
+                Ok(Some(other)) => {
+                    count(&mut wrong);
+                    println!(rt;
+                        "{}, {kind}: {} {}, and not {}",
+                        row.name,
+                        other.answer,
+                        other.way.name(),
+                        row.answer
+                    )?;
+                }
+                Err(error) => {
+                    count(&mut wrong);
+                    println!(rt; "{}, {kind}: {error}", row.name)?;
+                }
+            }
+        }
+    }
+    println!(rt; "{rows} cases, read as {readings} types, {wrong} of them wrong")?;
     Ok(())
 }
 

@@ -2,8 +2,9 @@
 //!
 //! `i` and decimal digits is an integer, `t` and `f` are the truth values, `u` is `()`, `_` what is
 //! ignored, `x` and hexadecimal digits the bytes of a string or of a character in UTF-8; `-` is no
-//! value and `+` comes before one; `[..]` is a list, `(..)` a pair, `{key=value}` a map in its
-//! order, `<field=value>` a struct, and `Variant` or `Variant:payload` an enum.
+//! value and `+` comes before one; `[..]` is a list, `(..)` a tuple, `{key=value}` a map in its
+//! order, `<field=value>` a struct, and `Variant` or `Variant:payload` an enum. A `Value` has the
+//! notation of `bser_vectors`.
 ghost use Rattle.std.specs.Prelude.{◌≡◌, ◌++◌, ℕ, List, string_bytes, OnOk};
 
 mod enums;
@@ -11,6 +12,7 @@ mod holders;
 mod scalars;
 mod strings;
 mod structs;
+mod value;
 
 use std::alloc::{AllocError, Global};
 

@@ -1,19 +1,24 @@
-//! The types by their names in the list: `vec_T` is a `Vec` of T, `opt_T` an `Option`, `map_K_V` a
-//! `BTreeMap`, `unit` is `()`, `tup2` a pair of `i64`, `str` is `&str`, and `bytes` is `&[u8]`, but
-//! `ByteString` as the key of a map, where `raw` is `&[u8]`.
+//! The types by their names in the lists: `vec_T` is a `Vec` of T, `opt_T` an `Option`, `map_K_V` a
+//! `BTreeMap`, `tup_A_B` a tuple, `tup2`, `tup3` and `tup4` one of so many `i64`, and `unit` is `()`;
+//! `str` is `&str`, and `bytes` is `&[u8]`, but `ByteString` as the key of a map, where `raw` is
+//! `&[u8]`. A struct or enum has texts of its own, but with `_str` or `_raw` behind its name.
 use crate::ways::{Compared, Sample};
 use bser_vectors::enums::{EnumRow, TestEnum};
-use bser_vectors::structs::{Files, TemplateRow};
+use bser_vectors::structs::{FileInfo, Files, TemplateRow};
 use serde_bser::bytestring::ByteString;
 use serde_bser::de::Ignored;
+use serde_bser::value::Value;
 use std::alloc::Global;
 use std::collections::BTreeMap;
 
 /// Reads the message as the type of this name, and compares the answers, where there is one.
 pub fn compare(alloc: Global, kind: &str, sample: &Sample<'_>) -> Option<Compared> {
     scalars(alloc, kind, sample)
+        .or_else(|| options(alloc, kind, sample))
         .or_else(|| lists(alloc, kind, sample))
+        .or_else(|| tuples(alloc, kind, sample))
         .or_else(|| maps(alloc, kind, sample))
+        .or_else(|| rows(alloc, kind, sample))
         .or_else(|| structs(alloc, kind, sample))
         .or_else(|| enums(alloc, kind, sample))
 }
@@ -27,6 +32,7 @@ fn scalars(alloc: Global, kind: &str, sample: &Sample<'_>) -> Option<Compared> {
         "u64" => sample.owned_mismatch::<u64>(alloc),
         "unit" => sample.owned_mismatch::<()>(alloc),
         "Ignored" => sample.owned_mismatch::<Ignored>(alloc),
+        "Value" => sample.owned_mismatch::<Value>(alloc),
         "char" => sample.owned_mismatch::<char>(alloc),
         "String" => sample.owned_mismatch::<String>(alloc),
         "ByteString" => sample.owned_mismatch::<ByteString>(alloc),
@@ -36,18 +42,44 @@ fn scalars(alloc: Global, kind: &str, sample: &Sample<'_>) -> Option<Compared> {
     })
 }
 
+fn options(alloc: Global, kind: &str, sample: &Sample<'_>) -> Option<Compared> {
+    Some(match kind {
+        "opt_i64" => sample.owned_mismatch::<Option<i64>>(alloc),
+        "opt_opt_i64" => sample.owned_mismatch::<Option<Option<i64>>>(alloc),
+        "opt_unit" => sample.owned_mismatch::<Option<()>>(alloc),
+        "opt_str" => sample.lent_mismatch::<Option<&str>>(alloc),
+        _ => return None,
+    })
+}
+
 fn lists(alloc: Global, kind: &str, sample: &Sample<'_>) -> Option<Compared> {
     Some(match kind {
-        "tup2" => sample.owned_mismatch::<(i64, i64)>(alloc),
         "vec_i64" => sample.owned_mismatch::<Vec<i64>>(alloc),
         "vec_char" => sample.owned_mismatch::<Vec<char>>(alloc),
         "vec_String" => sample.owned_mismatch::<Vec<String>>(alloc),
         "vec_ByteString" => sample.owned_mismatch::<Vec<ByteString>>(alloc),
         "vec_tup2" => sample.owned_mismatch::<Vec<(i64, i64)>>(alloc),
         "vec_str" => sample.lent_mismatch::<Vec<&str>>(alloc),
-        "opt_i64" => sample.owned_mismatch::<Option<i64>>(alloc),
+        "vec_vec_u8" => sample.owned_mismatch::<Vec<Vec<u8>>>(alloc),
+        "vec_Value" => sample.owned_mismatch::<Vec<Value>>(alloc),
         "vec_opt_i64" => sample.owned_mismatch::<Vec<Option<i64>>>(alloc),
         "vec_opt_vec_i64" => sample.owned_mismatch::<Vec<Option<Vec<i64>>>>(alloc),
+        _ => return None,
+    })
+}
+
+fn tuples(alloc: Global, kind: &str, sample: &Sample<'_>) -> Option<Compared> {
+    Some(match kind {
+        "tup2" => sample.owned_mismatch::<(i64, i64)>(alloc),
+        "tup3" => sample.owned_mismatch::<(i64, i64, i64)>(alloc),
+        "tup4" => sample.owned_mismatch::<(i64, i64, i64, i64)>(alloc),
+        "tup_bool_bool" => sample.owned_mismatch::<(bool, bool)>(alloc),
+        "tup_bool_bool_bool" => sample.owned_mismatch::<(bool, bool, bool)>(alloc),
+        "tup_i64_bool" => sample.owned_mismatch::<(i64, bool)>(alloc),
+        "tup_i64_bool_bool" => sample.owned_mismatch::<(i64, bool, bool)>(alloc),
+        "tup_i64_bool_bool_unit" => sample.owned_mismatch::<(i64, bool, bool, ())>(alloc),
+        "tup_String_String" => sample.owned_mismatch::<(String, String)>(alloc),
+        "tup_str_str" => sample.lent_mismatch::<(&str, &str)>(alloc),
         _ => return None,
     })
 }
@@ -59,12 +91,28 @@ fn maps(alloc: Global, kind: &str, sample: &Sample<'_>) -> Option<Compared> {
         "map_String_vec_String" => sample.owned_mismatch::<BTreeMap<String, Vec<String>>>(alloc),
         "map_String_Ignored" => sample.owned_mismatch::<BTreeMap<String, Ignored>>(alloc),
         "map_bytes_unit" => sample.owned_mismatch::<BTreeMap<ByteString, ()>>(alloc),
+        "map_bytes_opt_i64" => sample.owned_mismatch::<BTreeMap<ByteString, Option<i64>>>(alloc),
+        "map_String_String" => sample.owned_mismatch::<BTreeMap<String, String>>(alloc),
+        "map_raw_raw" => sample.lent_mismatch::<BTreeMap<&[u8], &[u8]>>(alloc),
         "map_str_i64" => sample.lent_mismatch::<BTreeMap<&str, i64>>(alloc),
         "map_raw_opt_i64" => sample.lent_mismatch::<BTreeMap<&[u8], Option<i64>>>(alloc),
+        _ => return None,
+    })
+}
+
+/// Lists of maps.
+fn rows(alloc: Global, kind: &str, sample: &Sample<'_>) -> Option<Compared> {
+    Some(match kind {
         "vec_map_bytes_opt_i64" => {
             sample.owned_mismatch::<Vec<BTreeMap<ByteString, Option<i64>>>>(alloc)
         }
         "vec_map_str_opt_i64" => sample.lent_mismatch::<Vec<BTreeMap<&str, Option<i64>>>>(alloc),
+        "vec_map_String_i64" => sample.owned_mismatch::<Vec<BTreeMap<String, i64>>>(alloc),
+        "vec_map_String_Ignored" => sample.owned_mismatch::<Vec<BTreeMap<String, Ignored>>>(alloc),
+        "vec_map_str_Ignored" => sample.lent_mismatch::<Vec<BTreeMap<&str, Ignored>>>(alloc),
+        "vec_map_String_vec_map_String_vec_i64" => sample.owned_mismatch::<
+            Vec<BTreeMap<String, Vec<BTreeMap<String, Vec<i64>>>>>,
+        >(alloc),
         "vec_map_String_unit" => sample.owned_mismatch::<Vec<BTreeMap<String, ()>>>(alloc),
         "vec_map_raw_unit" => sample.lent_mismatch::<Vec<BTreeMap<&[u8], ()>>>(alloc),
         _ => return None,
@@ -76,7 +124,12 @@ fn structs(alloc: Global, kind: &str, sample: &Sample<'_>) -> Option<Compared> {
         "TemplateRow" => sample.owned_mismatch::<TemplateRow<String>>(alloc),
         "vec_TemplateRow" => sample.owned_mismatch::<Vec<TemplateRow<String>>>(alloc),
         "vec_opt_TemplateRow" => sample.owned_mismatch::<Vec<Option<TemplateRow<String>>>>(alloc),
+        "vec_TemplateRow_str" => sample.lent_mismatch::<Vec<TemplateRow<&str>>>(alloc),
+        "vec_TemplateRow_raw" => sample.lent_mismatch::<Vec<TemplateRow<&[u8]>>>(alloc),
+        "FileInfo" => sample.owned_mismatch::<FileInfo<String>>(alloc),
+        "vec_FileInfo" => sample.owned_mismatch::<Vec<FileInfo<String>>>(alloc),
         "Files" => sample.owned_mismatch::<Files<String>>(alloc),
+        "Files_raw" => sample.lent_mismatch::<Files<&[u8]>>(alloc),
         _ => return None,
     })
 }
@@ -84,6 +137,8 @@ fn structs(alloc: Global, kind: &str, sample: &Sample<'_>) -> Option<Compared> {
 fn enums(alloc: Global, kind: &str, sample: &Sample<'_>) -> Option<Compared> {
     Some(match kind {
         "TestEnum" => sample.owned_mismatch::<TestEnum<String>>(alloc),
+        "TestEnum_str" => sample.lent_mismatch::<TestEnum<&str>>(alloc),
+        "TestEnum_raw" => sample.lent_mismatch::<TestEnum<&[u8]>>(alloc),
         "opt_TestEnum" => sample.owned_mismatch::<Option<TestEnum<String>>>(alloc),
         "vec_TestEnum" => sample.owned_mismatch::<Vec<TestEnum<String>>>(alloc),
         "vec_EnumRow" => sample.owned_mismatch::<Vec<EnumRow<String>>>(alloc),

@@ -5,7 +5,7 @@ ghost use Rattle.bser_typed.specs.Watchman.{reads_name, HoldsName, reads_names, 
 
 use anyhow::{Context, Result};
 use serde_bser::de::read::LendsText;
-use serde_bser::de::{DeRead, Deserialize, Deserializer, Required, Shape};
+use serde_bser::de::{DeRead, Deserialize, Deserializer, ReadsFields, Required, Shape};
 use serde_bser::from_slice;
 use serde_json::Value;
 use std::alloc::Global;

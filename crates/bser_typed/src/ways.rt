@@ -1,15 +1,14 @@
 //! The ways of reading one message as a type.
-ghost use Rattle.std.specs.Prelude.{◌≡◌, ◌↔◌, IfOk, IfNone, IsTrue};
+ghost use Rattle.std.specs.Prelude.{◌≡◌, IfOk, IfNone, IsTrue, min, string_bytes};
 ghost use Rattle.bser_vectors.specs.Planned.{is_steady};
 ghost use Rattle.bser_typed.specs.Ways.{Agrees, AnswersReader, AnswersSlice, answer_notation};
 
 use crate::shown::Shown;
 use bser_vectors::devices::Plan;
 use bser_vectors::notation::code;
-use bser_vectors::ways::read_by_plan;
-use serde_bser::de::{Deserialize, DeserializeOwned};
+use bser_vectors::ways::read_by_plan_within;
+use serde_bser::de::{Deserialize, DeserializeOwned, from_slice_within};
 use serde_bser::errors::Error;
-use serde_bser::from_slice;
 use std::alloc::{AllocError, Global};
 
 /// A way of reading a message.
@@ -34,14 +33,25 @@ impl Way {
     }
 }
 
-/// The first way whose answer is another than the one expected. Refused only for want of memory.
-pub type Compared = Result<Option<Way>, AllocError>;
+/// An answer that is another than the one expected.
+#[derive(Drop)]
+pub struct Mismatch {
+    /// The way on which it was answered.
+    pub way: Way,
+    /// Its notation, and the bytes taken where these alone differ.
+    pub answer: String,
+}
+
+/// The first answer that is another than the one expected. Refused only for want of memory.
+pub type Compared = Result<Option<Mismatch>, AllocError>;
 
 /// A message, and what is expected of reading it.
 #[derive(Clone, Copy)]
 pub struct Sample<'a> {
     /// The bytes that are read.
     pub message: &'a [u8],
+    /// How many levels the message may have, of which 1024 at most are given.
+    pub levels: usize,
     /// The notation of the answer.
     pub answer: &'a str,
     /// How many bytes a message has that is accepted.
@@ -51,13 +61,17 @@ pub struct Sample<'a> {
 impl<'a> Sample<'a> {
     /// Reads from the slice.
     pub fn lent_mismatch<T: Shown + Deserialize<&'a [u8]>>(&self, alloc: Global) -> Compared
-        ensures { IfOk result (λ way. IfNone way (AnswersSlice T.reads T.holds T.needs T.notation self.now.message.now self.now.answer.now)) }
+        ensures { IfOk result (λ other. IfNone other (AnswersSlice (min self.now.levels 1024) T.reads T.holds T.needs T.notation self.now.message.now self.now.answer.now)) }
     {
-        let answer = from_slice::<T>(alloc, self.message);
-        if is_answer(alloc, &answer, self.answer)? {
+        let answer = from_slice_within::<T>(alloc, self.levels.min(1024), self.message);
+        let text = notation_of(alloc, &answer)?;
+        if text.as_str() == self.answer {
             Ok(None)
         } else {
-            Ok(Some(Way::Slice))
+            Ok(Some(Mismatch {
+                way: Way::Slice,
+                answer: text,
+            }))
         }
     }
 
@@ -67,47 +81,71 @@ impl<'a> Sample<'a> {
         &self,
         alloc: Global,
     ) -> Compared
-        ensures { IfOk result (λ way. IfNone way (Agrees T.reads T.holds T.needs T.notation self.now.message.now self.now.answer.now self.now.taken)) }
+        ensures { IfOk result (λ other. IfNone other (Agrees (min self.now.levels 1024) T.reads T.holds T.needs T.notation self.now.message.now self.now.answer.now self.now.taken)) }
     {
-        if let Some(way) = self.lent_mismatch::<T>(alloc)? {
-            return Ok(Some(way));
+        if let Some(other) = self.lent_mismatch::<T>(alloc)? {
+            return Ok(Some(other));
         }
-        if !self.is_reader_answered::<T>(alloc, Plan::pieces(1))? {
-            return Ok(Some(Way::ByteReader));
+        if let Some(answer) = self.reader_mismatch::<T>(alloc, Plan::pieces(1))? {
+            return Ok(Some(Mismatch {
+                way: Way::ByteReader,
+                answer,
+            }));
         }
-        if !self.is_reader_answered::<T>(alloc, Plan::whole())? {
-            return Ok(Some(Way::WholeReader));
+        if let Some(answer) = self.reader_mismatch::<T>(alloc, Plan::whole())? {
+            return Ok(Some(Mismatch {
+                way: Way::WholeReader,
+                answer,
+            }));
         }
         Ok(None)
     }
 
-    /// Whether a reader of this plan is answered as expected.
-    fn is_reader_answered<T: Shown + DeserializeOwned>(
+    /// The answer of a reader of this plan, where it is another than the one expected.
+    fn reader_mismatch<T: Shown + DeserializeOwned>(
         &self,
         alloc: Global,
         plan: Plan,
-    ) -> Result<bool, AllocError>
+    ) -> Result<Option<String>, AllocError>
         requires { IsTrue (is_steady plan) }
-        ensures { IfOk result (λ same. IsTrue same → AnswersReader T.reads T.holds T.notation self.now.message.now self.now.answer.now self.now.taken) }
+        ensures { IfOk result (λ other. IfNone other (AnswersReader (min self.now.levels 1024) T.reads T.holds T.notation self.now.message.now self.now.answer.now self.now.taken)) }
     {
-        let (answer, count) = read_by_plan::<T>(alloc, self.message, plan);
-        let same = is_answer(alloc, &answer, self.answer)?;
-        Ok(same && (answer.is_err() || count == self.taken))
+        let (same, answer) = self.reader_answer::<T>(alloc, plan)?;
+        if same { Ok(None) } else { Ok(Some(answer)) }
+    }
+
+    /// Whether a reader of this plan is answered as expected, and its answer with the bytes taken.
+    fn reader_answer<T: Shown + DeserializeOwned>(
+        &self,
+        alloc: Global,
+        plan: Plan,
+    ) -> Result<(bool, String), AllocError>
+        requires { IsTrue (is_steady plan) }
+        ensures { IfOk result (λ found. IsTrue found.0 → AnswersReader (min self.now.levels 1024) T.reads T.holds T.notation self.now.message.now self.now.answer.now self.now.taken) }
+    {
+        let (answer, count) = read_by_plan_within::<T>(
+            alloc,
+            self.levels.min(1024),
+            self.message,
+            plan,
+        );
+        let text = notation_of(alloc, &answer)?;
+        let shown = format!(in alloc; "{text} of {count} bytes")?;
+        let same = text.as_str() == self.answer;
+        Ok((same && (answer.is_err() || count == self.taken), shown))
     }
 }
 
-/// Whether the notation of the answer is the text expected.
-fn is_answer<T: Shown>(
-    alloc: Global,
-    answer: &Result<T, Error>,
-    expected: &str,
-) -> Result<bool, AllocError>
-    ensures { IfOk result (λ same. IsTrue same ↔ (expected.now ≡ answer_notation T.notation answer.now)) }
+/// The notation of the answer.
+fn notation_of<T: Shown>(alloc: Global, answer: &Result<T, Error>) -> Result<String, AllocError>
+    ensures { IfOk result (λ text. string_bytes text ≡ answer_notation T.notation answer.now) }
 {
-    let mut text = String::new(alloc);
     match answer {
-        Ok(value) => value.put(alloc, &mut text)?,
-        Err(error) => text.push_str(code(alloc, error)?.as_str())?,
+        Ok(value) => {
+            let mut text = String::new(alloc);
+            value.put(alloc, &mut text)?;
+            Ok(text)
+        }
+        Err(error) => code(alloc, error),
     }
-    Ok(text.as_str() == expected)
 }

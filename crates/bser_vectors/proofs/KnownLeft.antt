@@ -14,18 +14,18 @@ rest_known true bytes rest text e = (refl, e)
 rest_known false bytes rest text e = absurd e
 
 -- an answer of a reader of known bytes, and how many it took
-pub given : {A : Type 0} (reads : Meaning) (holds : A → Content → Type 0) (answer : Result A Error) (old : Option (List ℕ)) (told : Bool) (bytes rest : List ℕ) (taken before failures : ℕ) → old ≡ Some bytes → before ≡ 0
-    → IfOk answer (TookMessage 128 reads holds old (known told rest)) → IfErr answer (λ e. RefusesReader 128 reads e old before failures) → taken ≡ length bytes - length rest
-    → GivenOfReader reads holds bytes answer taken
-given reads holds (Ok v) old told bytes rest taken before failures start none found refused count =
-    let read : TookMessage 128 reads holds (Some bytes) (known told rest) v = subst (λ (o : Option (List ℕ)). TookMessage 128 reads holds o (known told rest) v) start found in
+pub given : {A : Type 0} (n : ℕ) (reads : Meaning) (holds : A → Content → Type 0) (answer : Result A Error) (old : Option (List ℕ)) (told : Bool) (bytes rest : List ℕ) (taken before failures : ℕ) → old ≡ Some bytes → before ≡ 0
+    → IfOk answer (TookMessage n reads holds old (known told rest)) → IfErr answer (λ e. RefusesReader n reads e old before failures) → taken ≡ length bytes - length rest
+    → GivenOfReader n reads holds bytes answer taken
+given n reads holds (Ok v) old told bytes rest taken before failures start none found refused count =
+    let read : TookMessage n reads holds (Some bytes) (known told rest) v = subst (λ (o : Option (List ℕ)). TookMessage n reads holds o (known told rest) v) start found in
     let parts = rest_known told bytes rest read.text read.bytes in
     let sizes : length bytes ≡ length read.text + length rest = rw parts.1 (length-append read.text rest) in
     record { left = known told rest; failures = failures; read = read; count = λ ok. (rest, parts.0, omega (arith, sizes, count)) }
-given reads holds (Err e) old told bytes rest taken before failures start none found refused count =
+given n reads holds (Err e) old told bytes rest taken before failures start none found refused count =
     record {
       left = known told rest;
       failures = failures;
-      read = subst (λ (n : ℕ). RefusesReader 128 reads e (Some bytes) n failures) none (subst (λ (o : Option (List ℕ)). RefusesReader 128 reads e o before failures) start refused);
+      read = subst (λ (count : ℕ). RefusesReader n reads e (Some bytes) count failures) none (subst (λ (o : Option (List ℕ)). RefusesReader n reads e o before failures) start refused);
       count = λ ok. absurd cc;
     }

@@ -4,7 +4,7 @@ use Rattle.bser_base.specs.Content.{Content, Meaning, Needs}
 use Rattle.bser_base.specs.declared.errors.Error.{Error}
 use Rattle.serde_bser.specs.Messages.{BeginsWith, TookMessage, RefusesSlice, RefusesReader}
 use Rattle.serde_bser.specs.ValueView.{HoldsValue}
-use Rattle.serde_bser.specs.declared.value.Value.{Value}
+use Rattle.bser_value.specs.declared.value.Value.{Value}
 use Rattle.bser_vectors.specs.Notation.{answer_notation}
 
 -- an answer of a slice: the value that a front of it reads as, or a refusal of it
@@ -17,18 +17,18 @@ pub record AnswersSlice (reads : Meaning) (needs : Needs) (bytes expected : List
   pub given : GivenOfSlice reads needs bytes answer
   pub shown : expected ≡ answer_notation answer
 
--- an answer of a reader of known bytes, without failures before: the value of the message that it took, or a refusal of the bytes
-pub record GivenOfReader {A : Type 0} (reads : Meaning) (holds : A → Content → Type 0) (bytes : List ℕ) (answer : Result A Error) (taken : ℕ) : Type 0 where
+-- an answer of a reader of known bytes, without failures before: the value of the message of at most n levels that it took, or a refusal of the bytes
+pub record GivenOfReader {A : Type 0} (n : ℕ) (reads : Meaning) (holds : A → Content → Type 0) (bytes : List ℕ) (answer : Result A Error) (taken : ℕ) : Type 0 where
   pub left : Option (List ℕ)
   pub failures : ℕ
-  pub read : MatchResult answer (TookMessage 128 reads holds (Some bytes) left) (λ e. RefusesReader 128 reads e (Some bytes) 0 failures)
+  pub read : MatchResult answer (TookMessage n reads holds (Some bytes) left) (λ e. RefusesReader n reads e (Some bytes) 0 failures)
   pub count : IsOk answer → (rest : List ℕ) × (left ≡ Some rest) × (length bytes ≡ taken + length rest)
 
 -- a reader is answered so, the notation of the answer is the text expected, and a message has as many bytes as are expected
 pub record AnswersReader (reads : Meaning) (bytes expected : List ℕ) (taken : ℕ) : Type 0 where
   pub answer : Result Value Error
   pub count : ℕ
-  pub given : GivenOfReader reads HoldsValue bytes answer count
+  pub given : GivenOfReader 128 reads HoldsValue bytes answer count
   pub shown : expected ≡ answer_notation answer
   pub all : IsOk answer → count ≡ taken
 

@@ -7,7 +7,9 @@ ghost use Rattle.serde_bser.specs.Slots.{struct_needs};
 ghost use Rattle.bser_vectors.specs.Enums.{reads_parts, reads_test_enum, HoldsTestEnum, reads_enum_row, HoldsEnumRow};
 
 use serde_bser::de::read::LendsText;
-use serde_bser::de::{DeRead, Deserialize, Deserializer, OwnedShape, Required, Shape};
+use serde_bser::de::{
+    DeRead, Deserialize, Deserializer, OwnedShape, ReadsEnums, ReadsFields, Required, Shape,
+};
 use serde_bser::errors::Result;
 use std::alloc::Global;
 

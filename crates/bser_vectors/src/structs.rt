@@ -7,7 +7,9 @@ ghost use Rattle.serde_bser.specs.Slots.{struct_needs};
 ghost use Rattle.bser_vectors.specs.Structs.{reads_file, HoldsFile, reads_files, HoldsFiles, reads_row, HoldsRow};
 
 use serde_bser::de::read::LendsText;
-use serde_bser::de::{DeRead, Deserialize, Deserializer, Optional, OwnedShape, Required, Shape};
+use serde_bser::de::{
+    DeRead, Deserialize, Deserializer, Optional, OwnedShape, ReadsFields, Required, Shape,
+};
 use serde_bser::errors::Result;
 use std::alloc::Global;
 

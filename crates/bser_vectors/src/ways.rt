@@ -1,11 +1,11 @@
 //! The ways of reading one message as a `Value`.
-ghost use Rattle.std.specs.Prelude.{IfOk, IfNone, IsTrue};
+ghost use Rattle.std.specs.Prelude.{◌≤◌, IfOk, IfNone, IsTrue};
 ghost use Rattle.bser_vectors.specs.Planned.{is_steady};
 ghost use Rattle.bser_vectors.specs.Ways.{Agrees, AnswersReader, AnswersSlice, GivenOfReader};
 
 use crate::devices::{Plan, PlannedReader};
 use crate::notation::is_answer;
-use serde_bser::de::{DeserializeOwned, Shape};
+use serde_bser::de::{DeserializeOwned, Shape, from_reader_within};
 use serde_bser::device::Watched;
 use serde_bser::errors::Result;
 use serde_bser::value::Value;
@@ -18,10 +18,26 @@ pub fn read_by_plan<T: DeserializeOwned>(
     bytes: &[u8],
     plan: Plan,
 ) -> (Result<T>, usize)
-    ensures { IsTrue (is_steady plan) → GivenOfReader T.reads T.holds bytes.now result.0 result.1 }
+    ensures { IsTrue (is_steady plan) → GivenOfReader 128 T.reads T.holds bytes.now result.0 result.1 }
 {
     let mut reader = Watched::new(PlannedReader::new(bytes, plan));
     let answer = from_reader(alloc, &mut reader);
+    let left = reader.get_ref().left().len();
+    (answer, bytes.len().saturating_sub(left))
+}
+
+/// The same of a message that has at most so many levels.
+pub fn read_by_plan_within<T: DeserializeOwned>(
+    alloc: Global,
+    levels: usize,
+    bytes: &[u8],
+    plan: Plan,
+) -> (Result<T>, usize)
+    requires { levels ≤ 1024 }
+    ensures { IsTrue (is_steady plan) → GivenOfReader levels T.reads T.holds bytes.now result.0 result.1 }
+{
+    let mut reader = Watched::new(PlannedReader::new(bytes, plan));
+    let answer = from_reader_within(alloc, levels, &mut reader);
     let left = reader.get_ref().left().len();
     (answer, bytes.len().saturating_sub(left))
 }

@@ -19,10 +19,10 @@ use Rattle.bser_base.proofs.Frames.{framed, parts}
 use Rattle.bser_base.proofs.Fronts.{one_value}
 use Rattle.bser_base.proofs.OneHead.{one_head}
 use Rattle.bser_base.proofs.Tags.{no_empty}
-use Rattle.serde_bser.specs.State.{State, Begins, IsAtEnd}
-use Rattle.serde_bser.specs.Reading.{Answers, RefusesFront, FillsReadably, IsRefusal}
+use Rattle.bser_state.specs.State.{State, Begins, IsAtEnd}
+use Rattle.bser_state.specs.Reading.{Answers, RefusesFront, FillsReadably, IsRefusal}
 use Rattle.serde_bser.specs.Messages.{ReadsMessage, IsReadable, RefusesMessage}
-use Rattle.serde_bser.proofs.Refusals.{first_part, sequel, passed_head, unwanted_front, may_refuse, no_failure, rest_of}
+use Rattle.bser_state.proofs.Refusals.{first_part, sequel, passed_head, unwanted_front, may_refuse, no_failure, rest_of}
 
 -- ---- what was taken
 

@@ -9,7 +9,7 @@ use Rattle.bser_base.specs.Device.{Blamed}
 use Rattle.bser_base.specs.Source as source
 use Rattle.bser_base.specs.Source.{Took, with_limit}
 use Rattle.bser_base.specs.Grammar.{Format}
-use Rattle.serde_bser.specs.Reading.{TakesMemory, RefusesFront}
+use Rattle.bser_state.specs.Reading.{TakesMemory, RefusesFront}
 use Rattle.bser_base.specs.declared.errors.Error.{Error}
 use Rattle.bser_base.specs.declared.errors.Error.TheVariants.{DeReaderError, OutOfMemory}
 use Rattle.bser_base.specs.declared.errors.ReadCause.TheVariants.{Reader}

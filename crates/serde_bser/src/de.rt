@@ -1,43 +1,22 @@
 //! Reading.
-mod at_hand;
-mod building;
-mod cursor;
-mod deserializer;
 mod entry;
-mod field;
-mod fields;
-mod front;
-mod gathered;
-mod impls;
-mod map;
-mod node;
-mod open;
-mod places;
-mod pulls;
-mod reading;
-mod row_at_hand;
-mod rows_at_hand;
-mod scalar;
-mod seq;
-mod skip;
-mod strings;
-mod table;
-mod value_at_hand;
-mod value_front;
-mod values;
-mod variant;
 
-pub use crate::de::deserializer::Deserializer;
 pub use crate::de::entry::{from_reader, from_reader_within, from_slice, from_slice_within};
-pub use crate::de::field::Field;
-pub use crate::de::fields::{Optional, Required, Slot, Slots};
-pub use crate::de::front::Front;
-pub use crate::de::impls::{Ignored, MapKey, RealBits};
-pub use crate::de::map::MapAccess;
-pub use crate::de::node::Node;
-pub use crate::de::reading::{Deserialize, DeserializeOwned, OwnedShape, Shape};
-pub use crate::de::seq::SeqAccess;
-pub use crate::de::variant::{EnumAccess, UnitVariantAccess, VariantAccess, VariantForm};
 pub use bser_base::de::bunser::{Bunser, PduInfo};
 pub use bser_base::de::read::{DeRead, IoRead, Reference, SliceRead, TextReference};
 pub use bser_base::de::{bunser, read};
+pub use bser_cursor::deserializer::Deserializer;
+pub use bser_de::front::Front;
+pub use bser_de::impls::{MapKey, RealBits};
+pub use bser_de::map::MapAccess;
+pub use bser_de::opening::ReadsContainers;
+pub use bser_de::reading::{Deserialize, DeserializeOwned, OwnedShape, Shape};
+pub use bser_de::seq::SeqAccess;
+pub use bser_state::field::Field;
+pub use bser_state::node::Node;
+pub use bser_struct::fields::{Optional, ReadsFields, Required, Slot, Slots};
+pub use bser_struct::ignored::Ignored;
+pub use bser_struct::skip::SkipsValues;
+pub use bser_struct::variant::{
+    EnumAccess, ReadsEnums, UnitVariantAccess, VariantAccess, VariantForm,
+};

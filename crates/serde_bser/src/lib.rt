@@ -8,7 +8,7 @@
 pub mod de;
 pub mod laws;
 pub mod ser;
-pub mod value;
 
 pub use crate::de::{from_reader, from_slice};
 pub use bser_base::{bytestring, device, errors, header};
+pub use bser_value::value;

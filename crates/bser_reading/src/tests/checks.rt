@@ -1,10 +1,8 @@
 //! Checks of what a message is read as, by type, on each way of reading.
-ghost use Rattle.std.specs.Prelude.{◌≤◌};
-
 use super::Tested;
 use bser_vectors::devices::{Plan, PlannedReader};
 use bser_vectors::notation::code;
-use serde_bser::de::{Deserialize, DeserializeOwned, from_reader_within, from_slice_within};
+use serde_bser::de::{Deserialize, DeserializeOwned};
 use serde_bser::device::Watched;
 use serde_bser::errors::Result;
 use serde_bser::{from_reader, from_slice};
@@ -57,47 +55,6 @@ pub fn check_code<T>(rt: &impl Abort, alloc: Global, answer: &Result<T>, expecte
     match answer {
         Ok(_) => assert!(rt; false, "{expected} is read"),
         Err(error) => assert_eq!(rt; code(alloc, error)?.as_str(), expected),
-    }
-    Ok(())
-}
-
-/// Checks that the message is read as this value with so many levels, from the slice and from
-/// readers.
-pub fn check_value_within<'a, T: Deserialize<&'a [u8]> + DeserializeOwned + PartialEq>(
-    rt: &impl Abort,
-    alloc: Global,
-    limit: usize,
-    bytes: &'a [u8],
-    expected: &T,
-)
-    requires { limit ≤ 1024 }
-{
-    let answer = from_slice_within::<T>(alloc, limit, bytes);
-    assert!(rt; matches!(&answer, Ok(value) if value == expected));
-    for plan in [Plan::pieces(1), Plan::whole()] {
-        let mut reader = Watched::new(PlannedReader::new(bytes, plan));
-        let answer = from_reader_within::<_, T>(alloc, limit, &mut reader);
-        assert!(rt; matches!(&answer, Ok(value) if value == expected));
-        assert_eq!(rt; reader.get_ref().left().len(), 0);
-    }
-}
-
-/// Checks that the message is refused so with so many levels, from the slice and from readers.
-pub fn check_refusal_within<'a, T: Deserialize<&'a [u8]> + DeserializeOwned>(
-    rt: &impl Abort,
-    alloc: Global,
-    limit: usize,
-    bytes: &'a [u8],
-    expected: &str,
-) -> Tested
-    requires { limit ≤ 1024 }
-{
-    let answer = from_slice_within::<T>(alloc, limit, bytes);
-    check_code(rt, alloc, &answer, expected)?;
-    for plan in [Plan::pieces(1), Plan::whole()] {
-        let mut reader = Watched::new(PlannedReader::new(bytes, plan));
-        let answer = from_reader_within::<_, T>(alloc, limit, &mut reader);
-        check_code(rt, alloc, &answer, expected)?;
     }
     Ok(())
 }

@@ -1,5 +1,5 @@
 //! Tests of the calls that read an enum.
-use serde_bser::de::{Deserializer, SliceRead};
+use serde_bser::de::{Deserializer, ReadsEnums, SliceRead};
 use serde_bser::errors::{Complaint, Error, Message, Result};
 
 /// An object from "TestUnit" to null.

@@ -1,6 +1,6 @@
 //! Tests of containers that are open, and of calls in an order that is refused.
 use super::is_complaint;
-use serde_bser::de::{Deserializer, Ignored, SliceRead};
+use serde_bser::de::{Deserializer, Ignored, ReadsContainers, SliceRead};
 use serde_bser::errors::{Complaint, Error, ReadCause, Result};
 
 /// An array of true and an empty array.

@@ -1,5 +1,5 @@
-//! Values that may be missing, lists, pairs and maps.
-ghost use Rattle.std.specs.Prelude.{◌++◌, codes};
+//! Values that may be missing, lists, tuples and maps.
+ghost use Rattle.std.specs.Prelude.{◌≡◌, ◌++◌, OnOk, codes, string_bytes};
 ghost use Rattle.bser_typed.specs.Shown.{list_notation, map_notation, option_notation};
 
 use crate::shown::Shown;
@@ -31,6 +31,41 @@ impl<A: Shown, B: Shown> Shown for (A, B) {
         self.1.put(alloc, text)?;
         text.push_str(")")
     }
+}
+
+impl<A: Shown, B: Shown, C: Shown> Shown for (A, B, C) {
+    ghost notation = { λ v. codes "(" ++ (A.notation v.0 ++ (codes "," ++ (B.notation v.1 ++ (codes "," ++ (C.notation v.2 ++ codes ")"))))) };
+
+    fn put(&self, alloc: Global, text: &mut String) -> Result<(), AllocError> {
+        text.push_str("(")?;
+        self.0.put(alloc, text)?;
+        text.push_str(",")?;
+        self.1.put(alloc, text)?;
+        text.push_str(",")?;
+        self.2.put(alloc, text)?;
+        text.push_str(")")
+    }
+}
+
+impl<A: Shown, B: Shown, C: Shown, D: Shown> Shown for (A, B, C, D) {
+    ghost notation = { λ v. codes "(" ++ (A.notation v.0 ++ ((codes "," ++ B.notation v.1) ++ ((codes "," ++ C.notation v.2) ++ ((codes "," ++ D.notation v.3) ++ codes ")")))) };
+
+    fn put(&self, alloc: Global, text: &mut String) -> Result<(), AllocError> {
+        text.push_str("(")?;
+        self.0.put(alloc, text)?;
+        put_next(alloc, text, &self.1)?;
+        put_next(alloc, text, &self.2)?;
+        put_next(alloc, text, &self.3)?;
+        text.push_str(")")
+    }
+}
+
+/// Puts a comma and the value behind the text.
+fn put_next<T: Shown>(alloc: Global, text: &mut String, value: &T) -> Result<(), AllocError>
+    ensures { OnOk result (string_bytes text.new ≡ string_bytes text.old ++ (codes "," ++ T.notation value.now)) }
+{
+    text.push_str(",")?;
+    value.put(alloc, text)
 }
 
 impl<T: Shown> Shown for Option<T> {

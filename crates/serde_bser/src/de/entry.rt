@@ -1,13 +1,13 @@
 //! Reading whole messages.
 ghost use Rattle.std.specs.Prelude.{◌≡◌, ◌≤◌, [], IfOk, IfErr};
 ghost use Rattle.serde_bser.specs.Messages.{BeginsWith, TookMessage, ReadsMessage, RefusesMessage, RefusesSlice, RefusesReader};
-ghost use Rattle.serde_bser.specs.View.{state};
+ghost use Rattle.bser_cursor.specs.View.{state};
 
-use crate::de::deserializer::{Deserializer, LEVELS};
-use crate::de::reading::{Deserialize, DeserializeOwned};
 use bser_base::de::read::{DeRead, IoRead, LendsText, SliceRead};
 use bser_base::device::Source;
 use bser_base::errors::Result;
+use bser_cursor::deserializer::{Deserializer, LEVELS};
+use bser_de::reading::{Deserialize, DeserializeOwned};
 use std::alloc::Global;
 
 /// Reads a value from the message at the front of `bytes`, of at most 128 levels. What follows the

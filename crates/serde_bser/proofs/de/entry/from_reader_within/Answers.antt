@@ -1,6 +1,6 @@
 -- A message that is refused.
 use Rattle.std.proofs.Common.{rules}
-use Rattle.serde_bser.proofs.Strings.{if_err}
+use Rattle.bser_state.proofs.Strings.{if_err}
 use Rattle.serde_bser.proofs.Readers.{reader_refused, reader_counted}
 use Rattle.serde_bser.proofs.de.entry.from_reader_within.Goals as goal
 

@@ -1,0 +1,321 @@
+//! Tests of the byte sources and of the reader of tagged values.
+mod at_hand;
+mod text;
+
+use bser_base::de::bunser::{Bunser, PduInfo};
+use bser_base::de::read::{DeRead, IoRead, SliceRead};
+use bser_base::device::Watched;
+use bser_base::errors::{Complaint, Error, Kind, Message, ReadCause, Result};
+use bser_base::header::EMPTY_HEADER;
+use std::alloc::Global;
+use std::io;
+use std::io::{ErrorKind, Read};
+use std::process::Abort;
+
+/// A reader that gives at most `most` bytes a call, and is interrupted after `whole` bytes.
+#[derive(Drop)]
+struct Planned<'a> {
+    bytes: &'a [u8],
+    most: usize,
+    whole: usize,
+    calls: u64,
+}
+
+impl<'a> Read for Planned<'a> {
+    fn read(&mut self, buf: &mut [u8]) -> io::Result<usize> {
+        self.calls = self.calls.wrapping_add(1);
+        if self.whole == 0 {
+            return Err(io::Error::from(ErrorKind::Interrupted));
+        }
+        let count = buf
+            .len()
+            .min(self.most)
+            .min(self.whole)
+            .min(self.bytes.len());
+        buf[..count].copy_from_slice(&self.bytes[..count]);
+        self.bytes = &self.bytes[count..];
+        self.whole -= count;
+        Ok(count)
+    }
+}
+
+fn source_of(bytes: &[u8], most: usize, whole: usize) -> IoRead<Watched<Planned<'_>>> {
+    IoRead::new(Watched::new(Planned {
+        bytes,
+        most,
+        whole,
+        calls: 0,
+    }))
+}
+
+fn is_interruption(error: &io::Error) -> bool {
+    error.kind() == ErrorKind::Interrupted
+}
+
+#[test]
+fn an_empty_reader_ends_and_then_has_failed(rt: HostRuntime) {
+    let mut read = IoRead::new(Watched::new(b"".as_slice()));
+    assert!(rt; matches!(read.next(), Err(ReadCause::Eof)));
+    assert!(rt; matches!(read.peek(), Err(ReadCause::Failed)));
+}
+
+#[test]
+fn an_empty_slice_ends_each_time(rt: HostRuntime) {
+    let mut read = SliceRead::new(b"");
+    assert!(rt; matches!(read.next(), Err(ReadCause::Eof)));
+    assert!(rt; matches!(read.peek(), Err(ReadCause::Eof)));
+}
+
+/// Over the bytes 61 62.
+fn sees_and_takes<R: DeRead + Drop>(rt: &impl Abort, alloc: Global, mut read: R) -> Result<()> {
+    let mut scratch = Vec::new(alloc);
+    assert_eq!(rt; read.peek()?, 0x61);
+    assert_eq!(rt; read.next_bytes(0, &mut scratch)?.get_ref(), b"".as_slice());
+    assert_eq!(rt; read.read_count(), 0);
+    assert_eq!(rt;
+        read.next_bytes(2, &mut scratch)?.get_ref(),
+        b"ab".as_slice()
+    );
+    assert_eq!(rt; read.read_count(), 2);
+    Ok(())
+}
+
+#[test]
+fn a_byte_in_sight_is_still_left(rt: HostRuntime) -> Result<()> {
+    sees_and_takes(&rt, rt.alloc(), SliceRead::new(b"ab"))?;
+    sees_and_takes(&rt, rt.alloc(), source_of(b"ab", 1, 2))?;
+    sees_and_takes(&rt, rt.alloc(), source_of(b"ab", 9, 9))
+}
+
+#[test]
+fn a_scratch_grows_only_as_bytes_arrive(rt: HostRuntime) {
+    let mut scratch = Vec::new(rt.alloc());
+    let mut read = source_of(b"abc", 9, 9);
+    let refused = match read.next_bytes(1 << 62, &mut scratch) {
+        Ok(_) => false,
+        Err(cause) => matches!(cause, ReadCause::Eof),
+    };
+    assert!(rt; refused);
+    assert!(rt; scratch.len() <= 65_539);
+    assert!(rt; scratch.capacity() <= 65_539);
+}
+
+#[test]
+fn an_interruption_is_a_fault(rt: HostRuntime) -> Result<()> {
+    let mut read = source_of(b"\x00\x02\x00", 9, 2);
+    assert_eq!(rt; read.next()?, 0x00);
+    assert_eq!(rt; read.next()?, 0x02);
+    match read.next() {
+        Err(ReadCause::Reader(error)) => assert!(rt; is_interruption(&error)),
+        _ => assert!(rt; false),
+    }
+    assert!(rt; matches!(read.next(), Err(ReadCause::Failed)));
+    Ok(())
+}
+
+const MESSAGE: &[u8] = b"\x00\x02\x01\x00\x00\x00\x03\x06\x05\xff\xff\xff\xff\x0aZZ";
+
+/// Reads the message's head, the integer -1 and a null, and gives how often the reader was asked and
+/// how many bytes it has left.
+fn reads_whole(rt: &impl Abort, alloc: Global, most: usize) -> Result<(u64, usize)> {
+    let mut bunser = Bunser::new(alloc, source_of(MESSAGE, most, 99));
+    let info = bunser.read_pdu()?;
+    assert_eq!(rt; info.bser_capabilities, 1);
+    assert_eq!(rt; info.len, 6);
+    assert_eq!(rt; info.start, 8);
+    assert_eq!(rt; bunser.check_next_int()?, -1);
+    assert_eq!(rt; bunser.peek()?, 0x0a);
+    bunser.discard();
+    bunser.end(&info)?;
+    let reader = bunser.into_inner().into_inner().into_inner();
+    Ok((reader.calls, reader.bytes.len()))
+}
+
+#[test]
+fn short_reads_give_what_whole_ones_give(rt: HostRuntime) -> Result<()> {
+    for (most, calls) in [(99, 5), (1, 14), (3, 7)] {
+        let (asked, left) = reads_whole(&rt, rt.alloc(), most)?;
+        assert_eq!(rt; asked, calls, "at most {most} bytes a call");
+        assert_eq!(rt; left, 2, "at most {most} bytes a call");
+    }
+    Ok(())
+}
+
+#[test]
+fn a_fault_waits_for_the_call_that_needs_the_byte(rt: HostRuntime) -> Result<()> {
+    let mut bunser = Bunser::new(rt.alloc(), source_of(MESSAGE, 99, 13));
+    bunser.read_pdu()?;
+    assert_eq!(rt; bunser.check_next_int()?, -1);
+    match bunser.peek() {
+        Err(
+            Error::DeReaderError {
+                source: ReadCause::Reader(error),
+            },
+        ) => assert!(rt; is_interruption(&error)),
+        _ => assert!(rt; false),
+    }
+    assert!(rt;
+        matches!(
+            bunser.peek(),
+            Err(Error::DeReaderError {
+                source: ReadCause::Failed
+            })
+        )
+    );
+    Ok(())
+}
+
+#[test]
+fn integers_have_four_widths(rt: HostRuntime) -> Result<()> {
+    let texts: [(&[u8], i64); 6] = [
+        (b"\x03\x80", -128),
+        (b"\x04\x80\x00", 128),
+        (b"\x04\x7f\xff", -129),
+        (b"\x05\x00\x00\x08\x00", 524_288),
+        (b"\x06\x05\x00\x00\x00\x00\x00\x00\x00", 5),
+        (b"\x06\x00\x00\x00\x00\x00\x00\x00\x80", i64::MIN),
+    ];
+    for (text, value) in texts {
+        let mut bunser = Bunser::new(rt.alloc(), SliceRead::new(text));
+        assert_eq!(rt; bunser.check_next_int()?, value);
+    }
+    let mut bunser = Bunser::new(rt.alloc(), SliceRead::new(b"\x0a\x03\x01"));
+    match bunser.check_next_int() {
+        Err(Error::DeInvalidStartByte { kind, byte }) => {
+            assert!(rt; kind == Kind::Integer);
+            assert_eq!(rt; byte, 0x0a);
+        }
+        _ => assert!(rt; false),
+    }
+    assert!(rt;
+        matches!(
+            bunser.check_next_int(),
+            Err(Error::DeReaderError {
+                source: ReadCause::Failed
+            })
+        )
+    );
+    Ok(())
+}
+
+#[test]
+fn a_real_is_its_bits(rt: HostRuntime) -> Result<()> {
+    let mut bunser = Bunser::new(
+        rt.alloc(),
+        SliceRead::new(b"\x07\x18\x2d\x44\x54\xfb\x21\x09\x40"),
+    );
+    assert_eq!(rt; bunser.peek()?, 0x07);
+    assert_eq!(rt; bunser.next_f64()?, 0x4009_21fb_5444_2d18);
+    Ok(())
+}
+
+#[test]
+fn bytes_are_lent_from_a_slice(rt: HostRuntime) -> Result<()> {
+    let mut scratch = Vec::new(rt.alloc());
+    let mut bunser = Bunser::new(rt.alloc(), SliceRead::new(b"abc"));
+    assert_eq!(rt;
+        bunser.read_bytes(2, &mut scratch)?.get_ref(),
+        b"ab".as_slice()
+    );
+    assert_eq!(rt; scratch.len(), 0);
+    assert!(rt;
+        is_complaint(
+            bunser.read_bytes(-1, &mut scratch).err(),
+            Complaint::NegativeLength
+        )
+    );
+    Ok(())
+}
+
+fn is_complaint(refusal: Option<Error>, complaint: Complaint) -> bool {
+    match refusal {
+        Some(
+            Error::DeCustom {
+                msg: Message::Fixed(found),
+            },
+        ) => found == complaint,
+        _ => false,
+    }
+}
+
+#[test]
+fn reads_the_empty_header(rt: HostRuntime) -> Result<()> {
+    let mut bunser = Bunser::new(rt.alloc(), SliceRead::new(EMPTY_HEADER));
+    let info = bunser.read_pdu()?;
+    assert_eq!(rt; info.bser_capabilities, 0);
+    assert_eq!(rt; info.len, 0);
+    assert_eq!(rt; info.start, 11);
+    assert_eq!(rt; bunser.read_count(), 11);
+    bunser.end(&info)
+}
+
+#[test]
+fn refuses_other_heads(rt: HostRuntime) {
+    let mut bunser = Bunser::new(rt.alloc(), SliceRead::new(b"\x00\x01\x03\x01\x0a"));
+    match bunser.read_pdu() {
+        Err(Error::DeInvalidMagic { magic }) => assert_eq!(rt; magic, [0, 1]),
+        _ => assert!(rt; false),
+    }
+    let mut bunser = Bunser::new(
+        rt.alloc(),
+        SliceRead::new(b"\x00\x02\x00\x00\x00\x00\x03\xff\x0a"),
+    );
+    assert!(rt; is_complaint(bunser.read_pdu().err(), Complaint::NegativeLength));
+    let mut bunser = Bunser::new(
+        rt.alloc(),
+        SliceRead::new(b"\x00\x02\x00\x00\x00\x00\x04\x80"),
+    );
+    assert!(rt;
+        matches!(
+            bunser.read_pdu(),
+            Err(Error::DeReaderError {
+                source: ReadCause::Eof
+            })
+        )
+    );
+}
+
+/// Reads the head and a body of one byte, and gives what `end` refuses.
+fn end_of_one_byte(alloc: Global, message: &[u8]) -> Result<Option<Error>> {
+    let mut bunser = Bunser::new(alloc, SliceRead::new(message));
+    let info = bunser.read_pdu()?;
+    bunser.peek()?;
+    bunser.discard();
+    Ok(bunser.end(&info).err())
+}
+
+fn is_end(refusal: Option<Error>, expected_count: usize, read_count: usize) -> bool {
+    match refusal {
+        Some(Error::DeEof { expected, read }) => expected == expected_count && read == read_count,
+        _ => false,
+    }
+}
+
+#[test]
+fn a_body_ends_where_its_head_says(rt: HostRuntime) -> Result<()> {
+    let cases: [(&[u8], usize, usize); 3] = [
+        (b"\x00\x02\x00\x00\x00\x00\x03\x02\x0a", 10, 9),
+        (b"\x00\x02\x00\x00\x00\x00\x03\x00\x0a", 8, 9),
+        (
+            b"\x00\x02\x00\x00\x00\x00\x06\xf0\xff\xff\xff\xff\xff\xff\x7f\x0a",
+            9_223_372_036_854_775_807,
+            16,
+        ),
+    ];
+    for (message, expected, read) in cases {
+        assert!(rt; is_end(end_of_one_byte(rt.alloc(), message)?, expected, read));
+    }
+    assert!(rt; end_of_one_byte(rt.alloc(), b"\x00\x02\x00\x00\x00\x00\x03\x01\x0a")?.is_none());
+    let most = b"\x00\x02\x00\x00\x00\x00\x06\xff\xff\xff\xff\xff\xff\xff\x7f\x0a";
+    assert!(rt; is_complaint(end_of_one_byte(rt.alloc(), most)?, Complaint::CountTooGreat));
+    let bunser = Bunser::new(rt.alloc(), SliceRead::new(b""));
+    for (len, start) in [(-1, 0), (0, -1)] {
+        let info = PduInfo {
+            bser_capabilities: 0,
+            len,
+            start,
+        };
+        assert!(rt; is_complaint(bunser.end(&info).err(), Complaint::NegativeLength));
+    }
+    Ok(())
+}

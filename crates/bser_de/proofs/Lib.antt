@@ -1,0 +1,9 @@
+pub mod Items
+pub mod Arrays
+pub mod ObjectFills
+pub mod Objects
+pub mod Structs
+pub mod Lists
+pub mod Maps
+pub mod HashMaps
+pub mod Tuples

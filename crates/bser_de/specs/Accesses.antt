@@ -1,0 +1,28 @@
+-- What callers see of an access to an open container.
+use Rattle.std.specs.Prelude.{ℕ, List}
+use Rattle.std.specs.Borrow.{GName}
+use Rattle.bser_base.specs.Source as source
+use Rattle.bser_state.specs.Access.{OpenItems, OpenPairs}
+use Rattle.bser_state.specs.Parts.{wanted_items, wanted_pairs}
+use Rattle.bser_cursor.specs.View.{state}
+use Rattle.bser_state.specs.State.{State}
+use Rattle.bser_de.specs.declared.seq.SeqAccess.{SeqAccess}
+use Rattle.bser_de.specs.declared.map.MapAccess.{MapAccess}
+
+abbrev pub open_items : {R L K : Type 0} → (R → source.State) → (K → List ℕ) → SeqAccess R L K → OpenItems
+open_items at kept a =
+    let s = state at kept a.from.now in
+    record { state = s; wanted = wanted_items s.keys a.rows a.remaining; levels = a.levels; opened = a.opened }
+
+-- the reference to the deserializer that an access to items holds
+abbrev pub items_reference : {R L K : Type 0} → SeqAccess R L K → GName
+items_reference a = a.from.ghost_name
+
+abbrev pub open_pairs : {R L K : Type 0} → (R → source.State) → (K → List ℕ) → MapAccess R L K → OpenPairs
+open_pairs at kept a =
+    let s = state at kept a.from.now in
+    record { state = s; wanted = wanted_pairs s.keys a.row a.at; pending = a.pending; levels = a.levels; opened = a.opened }
+
+-- the reference to the deserializer that an access to entries holds
+abbrev pub pairs_reference : {R L K : Type 0} → MapAccess R L K → GName
+pairs_reference a = a.from.ghost_name

@@ -1,0 +1,11 @@
+//! The types that are read.
+pub mod hash_maps;
+pub mod holders;
+pub mod keys;
+pub mod lists;
+pub mod maps;
+pub mod scalars;
+pub mod strings;
+
+pub use crate::impls::keys::MapKey;
+pub use crate::impls::scalars::RealBits;

@@ -1,0 +1,46 @@
+//! Maps in the order of their keys.
+ghost use Rattle.std.specs.Prelude.{◌||◌, None, true, false};
+ghost use Rattle.std.proofs.Common.{ap, ◌∙◌};
+ghost use Rattle.bser_base.specs.ReadsHolders.{reads_map};
+ghost use Rattle.bser_state.specs.HoldsMaps.{HoldsMap};
+
+use crate::impls::keys::MapKey;
+use crate::opening::ReadsContainers;
+use crate::reading::{Deserialize, OwnedShape, Shape};
+use bser_base::de::read::{DeRead, LendsText};
+use bser_base::errors::Result;
+use bser_cursor::deserializer::Deserializer;
+use std::alloc::Global;
+use std::collections::BTreeMap;
+
+/// An object, or a template's row. The last of equal keys stays, and each value is to be one that
+/// the type reads, also where another one replaces it.
+impl<K: MapKey, V: Shape> Shape for BTreeMap<K, V> {
+    ghost reads = { reads_map K.reads V.reads };
+
+    ghost holds = { λ m. HoldsMap K.name V.holds m.entries };
+
+    ghost needs = { record { lent = K.needs.lent || V.needs.lent; memory = true; keys = false } };
+
+    ghost plain = { None };
+}
+
+impl<L: LendsText, K: MapKey + Deserialize<L>, V: Deserialize<L>> Deserialize<L>
+    for BTreeMap<K, V> {
+    fn deserialize<R: DeRead<Lent = L>>(
+        alloc: Global,
+        from: &mut Deserializer<R>,
+    ) -> Result<BTreeMap<K, V>> {
+        let mut entries = BTreeMap::new(alloc);
+        let mut map = from.read_map()?;
+        while let Some((key, value)) = map.next_entry::<K, V>(alloc)? {
+            drop(entries.insert(key, value)?);
+        }
+        map.end()?;
+        Ok(entries)
+    }
+}
+
+impl<K: MapKey + OwnedShape, V: OwnedShape> OwnedShape for BTreeMap<K, V> {
+    ghost owned = { ap (λ k. k || V.needs.lent) K.owned ∙ V.owned };
+}

@@ -1,0 +1,10 @@
+//! Types that are read, and the accesses to what a container holds.
+#![tactic(auto)]
+
+pub mod front;
+pub mod impls;
+pub mod map;
+pub mod map_at_hand;
+pub mod opening;
+pub mod reading;
+pub mod seq;

@@ -1,0 +1,35 @@
+-- Strings and keys that are taken before their bytes are checked.
+use Rattle.std.specs.Prelude.{◌≡◌, ℕ, Bool, true, false, List, [], ◌∷◌, length, ◌⊎◌}
+use Rattle.bser_base.specs.Grammar.{Format, Bytes, Never, Given, ◌then◌, SpellsCount}
+use Rattle.bser_base.specs.Expected.{Due, nothing_due, node_due, key_due, field_due, name_due, row_due}
+use Rattle.bser_base.specs.Source.{Took, sight_after}
+use Rattle.bser_state.specs.State.{State, past}
+
+-- the tag of a text, and of a byte string
+abbrev pub string_tag : Bool → ℕ
+string_tag true = 0x0d
+string_tag false = 0x02
+
+-- a tag of either
+abbrev pub IsStringTag : ℕ → Type 0
+IsStringTag tag = (tag ≡ 0x0d) ⊎ (tag ≡ 0x02)
+
+-- a string under the text's tag or the other, UTF-8 or not
+abbrev pub SpellsUnder : Bool → List ℕ → Format
+SpellsUnder is_text s = Bytes (string_tag is_text ∷ []) then SpellsCount (length s) then Bytes s
+
+-- these bytes, where a string or key is due; the key of a row's field has no tag
+abbrev pub StringDue : Due → Bool → List ℕ → Format
+StringDue nothing_due is_text s = Never
+StringDue node_due is_text s = SpellsUnder is_text s
+StringDue key_due is_text s = SpellsUnder is_text s
+StringDue field_due is_text s = SpellsUnder is_text s
+StringDue (name_due k) is_text s = Given ((s ≡ k) × (is_text ≡ false)) (Bytes [])
+StringDue (row_due ks) is_text s = Never
+
+-- the string or key that was due was taken: these bytes, under the text's tag or not
+pub record TookBytes (old new : State) (is_text : Bool) (s : List ℕ) : Type 0 where
+  pub text : List ℕ
+  pub filled : StringDue old.due is_text s text
+  pub took : Took old.source new.source text (sight_after (length text) old.source.sight)
+  pub state : new ≡ past old new.source

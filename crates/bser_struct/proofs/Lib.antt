@@ -1,0 +1,16 @@
+pub mod Slots
+pub mod RowsAtHand
+pub mod Skipping
+pub mod SkippedForms
+pub mod SkippedTags
+pub mod SkippedSteps
+pub mod SkippedStrings
+pub mod SkippedParts
+pub mod SkippedNodes
+pub mod SkippedFrames
+pub mod SkippedValues
+pub mod SkippedDues
+pub mod SkippedKeys
+pub mod SkippedAtHand
+pub mod VariantHeads
+pub mod Variants

@@ -1,0 +1,4 @@
+pub mod Skip
+pub mod Variants
+pub mod EnumAccess
+pub mod SlotValues

@@ -1,0 +1,8 @@
+//! Structs by their fields, enums, and what is skipped.
+#![tactic(auto)]
+
+pub mod fields;
+pub mod ignored;
+pub mod row_at_hand;
+pub mod skip;
+pub mod variant;

@@ -1,0 +1,14 @@
+pub mod Gathered
+pub mod Views
+pub mod Places
+pub mod ValueScalars
+pub mod ValuesAtHand
+pub mod RowsPut
+pub mod Buildings
+pub mod ValueParts
+pub mod BuildingNames
+pub mod ValueOutlooks
+pub mod ValuesRead
+pub mod DueKinds
+pub mod ValueFronts
+pub mod RowFields

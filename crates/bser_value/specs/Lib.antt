@@ -1,0 +1,9 @@
+pub mod ValueView
+pub mod Gathered
+pub mod ScalarAnswer
+pub mod Building
+pub mod BuildingSteps
+pub mod StepsAtHand
+pub mod Places
+pub mod Rows
+pub mod RowSteps
