@@ -1,20 +1,19 @@
 -- Numbers, tags and bytes that are at hand.
-use Rattle.std.proofs.Common.{◌≡◌, ℕ, zero, suc, ◌+◌, ◌-◌, ◌≤◌, ◌<◌, Bool, true, false, List, [], ◌∷◌, Option, None, length, take, drop, slice_range, get_or, refl, sym, ap, subst, ◌∙◌, arith, FitsSigned, inl, inr}
+use Rattle.std.proofs.Common.{◌≡◌, ℕ, zero, suc, ◌+◌, ◌-◌, ◌≤◌, ◌<◌, List, [], ◌∷◌, None, length, take, drop, get_or, refl, sym, ap, subst, ◌∙◌, arith, FitsSigned, inl, inr}
 use Rattle.std.specs.Int.{Width, to_le_bytes, cast_signed, cast_unsigned}
 use Rattle.std.specs.Prelude.{ℤ, pos, ◌⊎◌, nat_eq}
 use Rattle.std.proofs.Math.Facts.{sfits_to_z, Fits-of_lt}
 use Rattle.std.proofs.lemmas.Int.{of_z-to_z}
-use Rattle.std.proofs.lemmas.List.{length-drop, length-take}
+use Rattle.std.proofs.lemmas.List.{length-drop}
 use Rattle.std.proofs.Math.Seq.{take-length}
 use mir.Val.{Fits}
-use Rattle.bser_base.specs.Grammar.{SpellsInteger}
+use Rattle.bser_format.specs.Grammar.{SpellsInteger}
 use Rattle.bser_base.specs.Hand.{NumberFront, IntegerAfter, IntFront, LengthFront, StringFront, tag_of_string}
 use Rattle.bser_base.specs.declared.de.hand.SeenInt.{SeenInt}
 use Rattle.bser_base.specs.declared.de.hand.StringPlace.{StringPlace}
-use Rattle.bser_base.specs.Source.{State, Took, sight_after, slice_state}
+use Rattle.bser_source.specs.Source.{State, Took}
 use Rattle.bser_base.specs.Tagged.{TookInt}
-use Rattle.bser_base.proofs.Taken.{took_slice}
-use Rattle.bser_base.proofs.Tagged.{AreOf}
+use Rattle.bser_source.proofs.NumberBytes.{AreOf}
 
 -- bytes at the front that make a number are its bytes
 pub number_front : (w : Width) (k n : ℕ) (v : ℤ) (rest : List ℕ) → k ≤ length rest → v ≡ cast_signed w n → AreOf w n (take k rest) → NumberFront w k rest v
@@ -46,10 +45,6 @@ small_front (x ∷ xs) zero small i = omega arith
 small_front (x ∷ xs) (suc k) small zero = small 0
 small_front (x ∷ xs) (suc k) small (suc i) = small_front xs k (λ j. small (suc j)) i
 
--- a place within a range lies before its end
-pub within_range : (xs : List ℕ) (start end n : ℕ) → start ≤ end → n ≤ length (slice_range xs start end) → start + n ≤ end
-within_range xs start end n ordered le = omega (arith, ordered, le, length-take (end - start) (drop start xs))
-
 -- an integer at hand, and then its bytes were taken
 pub int_taken : (a b : State) (hand : List ℕ) (v out : ℤ) (k : ℕ) → out ≡ v → 0 < length hand → IntegerAfter (get_or hand 0 0) (drop 1 hand) v k → Took a b (take (1 + k) hand) None → TookInt a b out
 int_taken a b hand v out k same some is took =
@@ -66,24 +61,6 @@ int_in_front hand seen v k same len some is = record {
   within = omega (arith, len, some, is.within, length-drop 1 hand);
   spelled = subst (λ n. SpellsInteger seen.number (take n hand)) (sym len) (subst (SpellsInteger seen.number) (first_and_rest hand k some) (subst (λ z. SpellsInteger z (get_or hand 0 0 ∷ take k (drop 1 hand))) (sym same) is.spelled));
 }
-
-none_after : (n : ℕ) (seen : Option ℕ) → 0 < n → sight_after n seen ≡ None
-none_after zero seen some = absurd (omega (arith, some))
-none_after (suc n) seen some = refl
-
--- the first bytes that are left of a slice are taken
-pub slice_taken : (peeked : Bool) (xs : List ℕ) (i n : ℕ) → 0 < n → n ≤ length (drop i xs) → Took (slice_state xs i peeked) (slice_state xs (i + n) false) (take n (drop i xs)) None
-slice_taken peeked xs i n some le =
-    let parts : i + n - i ≡ n = omega arith in
-    let within : i + n ≤ length xs = omega (arith, some, le, length-drop i xs) in
-    let seen = none_after n (slice_state xs i peeked).sight some in
-    let took = subst (Took (slice_state xs i peeked) (slice_state xs (i + n) false) _) seen (took_slice peeked xs i n some within) in
-    subst (λ l. Took (slice_state xs i peeked) (slice_state xs (i + n) false) l None) (ap (λ k. take k (drop i xs)) parts) took
-
--- where bytes are at hand no call was refused
-pub works : (failed : Bool) (hand : List ℕ) (n : ℕ) → (failed ≡ true → hand ≡ []) → 0 < n → n ≤ length hand → failed ≡ false
-works false hand n none some le = refl
-works true hand n none some le = absurd (omega (arith, some, le, ap length (none refl)))
 
 -- a length in front, and as many bytes after it
 pub length_in_front : (rest : List ℕ) (v : ℤ) (n k : ℕ) → 0 < length rest → IntegerAfter (get_or rest 0 0) (drop 1 rest) v k → pos n ≡ v → 1 + k + n ≤ length rest → LengthFront rest n (1 + k)

@@ -4,19 +4,19 @@ use Rattle.std.proofs.lemmas.List.{append_cancel_left, append-nil}
 use Rattle.std.specs.Prelude.{IsSomeAnd}
 use Rattle.std.specs.Int.{w32, byte_len, to_le_bytes}
 use Rattle.std.specs.Io.KnownBytes.{Consumes}
-use Rattle.bser_base.specs.Grammar.{Format, Bytes, SpellsInteger, SpellsCount, IntSize, int8, int16, int32, int64, tag_of, width_of, int_bytes, ◌then◌}
-use Rattle.bser_base.specs.Source.{State, Took, IsNext}
-use Rattle.bser_base.specs.Refusal.{Excuse}
+use Rattle.bser_format.specs.Grammar.{Format, Bytes, SpellsInteger, SpellsCount, IntSize, int8, int16, int32, int64, tag_of, width_of, int_bytes, ◌then◌}
+use Rattle.bser_source.specs.Source.{State, Took, IsNext}
+use Rattle.bser_source.specs.Refusal.{Excuse}
 use Rattle.bser_base.specs.Tagged.{TookInt, IsInteger, IsLength, IsMagic, IsCapabilities, IsHead, with_failure}
 use Rattle.bser_base.specs.TaggedRefusal.{Unwanted, ShortOf, Outside, MayAnswer, NamesTag, failures_by, cause_of}
-use Rattle.bser_base.specs.declared.errors.Kind.TheVariants as kinds
-use Rattle.bser_base.specs.declared.errors.Error.{Error}
-use Rattle.bser_base.specs.declared.errors.Error.TheVariants.{DeInvalidStartByte, DeReaderError, DeCustom, OutOfMemory}
-use Rattle.bser_base.specs.declared.errors.Message.TheVariants.{Fixed}
-use Rattle.bser_base.specs.declared.errors.Complaint.TheVariants.{NegativeLength}
-use Rattle.bser_base.specs.declared.errors.ReadCause.{ReadCause}
-use Rattle.bser_base.specs.declared.errors.ReadCause.TheVariants.{Eof, Utf8, Reader, Memory, Failed}
-use Rattle.bser_base.proofs.Laws.{one_int}
+use Rattle.bser_format.specs.declared.errors.Kind.TheVariants as kinds
+use Rattle.bser_format.specs.declared.errors.Error.{Error}
+use Rattle.bser_format.specs.declared.errors.Error.TheVariants.{DeInvalidStartByte, DeReaderError, DeCustom, OutOfMemory}
+use Rattle.bser_format.specs.declared.errors.Message.TheVariants.{Fixed}
+use Rattle.bser_format.specs.declared.errors.Complaint.TheVariants.{NegativeLength}
+use Rattle.bser_format.specs.declared.errors.ReadCause.{ReadCause}
+use Rattle.bser_format.specs.declared.errors.ReadCause.TheVariants.{Eof, Utf8, Reader, Memory, Failed}
+use Rattle.bser_format.proofs.Laws.{one_int}
 
 weaken : {A : Type 0} (P Q : A → Type 0) (o : Option A) → ((a : A) → P a → Q a) → IsSomeAnd o P → IsSomeAnd o Q
 weaken P Q None f h = absurd h

@@ -1,7 +1,7 @@
 -- Integers and strings at the front of bytes that are at hand.
 use Rattle.std.specs.Prelude.{◌≡◌, ℕ, ℤ, ◌≤◌, ◌<◌, ◌+◌, ◌-◌, Bool, true, false, List, [], ◌∷◌, length, take, FitsSigned, if◌then◌else◌}
 use Rattle.std.specs.Int.{Width, to_le_bytes, cast_unsigned}
-use Rattle.bser_base.specs.Grammar.{SpellsInteger, SpellsCount}
+use Rattle.bser_format.specs.Grammar.{SpellsInteger, SpellsCount}
 use Rattle.bser_base.specs.declared.de.bunser.Bunser.{Bunser}
 use Rattle.bser_base.specs.declared.de.hand.SeenInt.{SeenInt}
 use Rattle.bser_base.specs.declared.de.hand.StringPlace.{StringPlace}

@@ -1,9 +1,9 @@
 -- What the reader of tagged values takes.
 use Rattle.std.specs.Prelude.{◌≡◌, ◌<◌, ◌+ℤ◌, ◌≤ℤ◌, ◌≤◌, ℕ, ◌+◌, ◌^◌, ℤ, pos, List, [], ◌∷◌, ◌++◌, Bool, true, None, if◌then◌else◌, max, FitsSigned}
 use Rattle.std.specs.Int.{Width, w32, w64, to_le_bytes, cast_unsigned}
-use Rattle.bser_base.specs.Grammar.{Format, Bytes, SpellsInteger, SpellsCount}
-use Rattle.bser_base.specs.Message.{Head}
-use Rattle.bser_base.specs.Source.{State, Took, bytes_in_sight, with_limit}
+use Rattle.bser_format.specs.Grammar.{Format, Bytes, SpellsInteger, SpellsCount}
+use Rattle.bser_format.specs.Message.{Head}
+use Rattle.bser_source.specs.Source.{State, Took, bytes_in_sight, with_limit}
 use Rattle.bser_base.specs.declared.de.bunser.Bunser.{Bunser}
 
 -- what has failed has no byte in sight

@@ -1,16 +1,16 @@
 -- When the reader of tagged values refuses a call, and what state it is in then.
 use Rattle.std.specs.Prelude.{◌≡◌, ◌+◌, ◌≤◌, ◌^◌, ◌⊎◌, ℕ, ℤ, pos, negsuc, List, ◌∷◌, ◌++◌, length, Bool, true, false, Option, Some, None, IsSomeAnd, if◌then◌else◌, nat_lt}
-use Rattle.bser_base.specs.Grammar.{IntSize, tag_of}
-use Rattle.bser_base.specs.Source.{State}
-use Rattle.bser_base.specs.Refusal.{Excuse, failures_after}
-use Rattle.bser_base.specs.declared.errors.ReadCause.{ReadCause}
-use Rattle.bser_base.specs.declared.errors.ReadCause.TheVariants.{Eof, Utf8, Reader, Memory, Failed}
-use Rattle.bser_base.specs.declared.errors.Error.{Error}
-use Rattle.bser_base.specs.declared.errors.Error.TheVariants.{DeInvalidStartByte, DeCustom, DeEof, DeReaderError, OutOfMemory}
-use Rattle.bser_base.specs.declared.errors.Kind.TheVariants.{Integer}
-use Rattle.bser_base.specs.declared.errors.Message.TheVariants.{Fixed}
-use Rattle.bser_base.specs.declared.errors.Complaint.TheVariants as complaints
-use Rattle.bser_base.specs.declared.errors.Complaint.TheVariants.{BorrowedFromCopying, CountTooGreat}
+use Rattle.bser_format.specs.Grammar.{IntSize, tag_of}
+use Rattle.bser_source.specs.Source.{State}
+use Rattle.bser_source.specs.Refusal.{Excuse, failures_after}
+use Rattle.bser_format.specs.declared.errors.ReadCause.{ReadCause}
+use Rattle.bser_format.specs.declared.errors.ReadCause.TheVariants.{Eof, Utf8, Reader, Memory, Failed}
+use Rattle.bser_format.specs.declared.errors.Error.{Error}
+use Rattle.bser_format.specs.declared.errors.Error.TheVariants.{DeInvalidStartByte, DeCustom, DeEof, DeReaderError, OutOfMemory}
+use Rattle.bser_format.specs.declared.errors.Kind.TheVariants.{Integer}
+use Rattle.bser_format.specs.declared.errors.Message.TheVariants.{Fixed}
+use Rattle.bser_format.specs.declared.errors.Complaint.TheVariants as complaints
+use Rattle.bser_format.specs.declared.errors.Complaint.TheVariants.{BorrowedFromCopying, CountTooGreat}
 
 -- the byte source's cause in a refusal; want of memory has an error of its own
 abbrev pub cause_of : Error → Option ReadCause

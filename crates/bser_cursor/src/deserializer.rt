@@ -1,5 +1,6 @@
 //! The deserializer: what is left of a message, and what is due.
 ghost use Rattle.std.specs.Prelude.{IsTrue, ◌≡◌, ◌≢◌, ◌≤◌, ◌^◌, ℕ, pos, [], true, false, IfOk, IfErr, OnOk, OnErr};
+ghost use Rattle.bser_base.specs.Errors.{error_of};
 ghost use Rattle.bser_base.specs.Tagged.{IsHead};
 ghost use Rattle.bser_base.specs.TaggedRefusal.{Unwanted};
 ghost use Rattle.bser_base.specs.Expected.{nothing_due, node_due};
@@ -111,6 +112,8 @@ impl<R: DeRead> Deserializer<R> {
     pub fn end(&self) -> Result<()>
         ensures ok { OnOk result (IsAtEnd (state R.state R.Lent.kept self.now)) }
         ensures working { OnOk result ((state R.state R.Lent.kept self.now).source.failed ≡ false) }
+        ensures failed { (state R.state R.Lent.kept self.now).source.failed ≡ true
+            → IfErr result (λ e. e ≡ error_of ReadCause.Failed) }
         ensures err { OnErr result (IsAtEnd (state R.state R.Lent.kept self.now) → IsTrue (state R.state R.Lent.kept self.now).source.failed) }
         ensures kind { IfErr result IsRefusal }
     {

@@ -1,12 +1,12 @@
 -- What was written, part by part.
 use Rattle.std.proofs.Common.{◌≡◌, ℕ, ◌≤◌, List, [], ◌∷◌, ◌++◌, Option, Some, None, append_assoc, append-nil, arith, sym, ◌∙◌, ap, refl, subst}
-use Rattle.bser_base.specs.Device.{Blamed}
+use Rattle.bser_source.specs.Device.{Blamed}
 use Rattle.std.proofs.Common.{Result}
 use Rattle.std.proofs.lemmas.Result.{MatchResult-weaker}
 use Rattle.bser_ser.specs.Sent.{Sent, Excuses, Adds, refusal_of}
 use Rattle.bser_ser.specs.declared.serializer.Serializer.{Serializer}
-use Rattle.bser_base.specs.declared.errors.Error.{Error}
-use Rattle.bser_base.specs.declared.errors.Error.TheVariants.{OutOfMemory, Io}
+use Rattle.bser_format.specs.declared.errors.Error.{Error}
+use Rattle.bser_format.specs.declared.errors.Error.TheVariants.{OutOfMemory, Io}
 use Rattle.bser_ser.proofs.Sends.{Sent-both}
 use Rattle.bser_ser.specs.Ends.{Ends, Stops, Tried, then}
 

@@ -2,7 +2,7 @@
 use Rattle.std.proofs.Common.{◌≡◌, ℕ, Bool, true, false, List, refl}
 use Rattle.std.specs.Str.{is_utf8, IsUtf8}
 use Rattle.std.proofs.lemmas.Str.{is_utf8-from_IsUtf8, IsUtf8-from_is_utf8}
-use Rattle.bser_base.specs.Canonical.{canonical_key, canonical_text, canonical_bytes}
+use Rattle.bser_format.specs.Canonical.{canonical_key, canonical_text, canonical_bytes}
 
 other : (s : List ℕ) (b : Bool) → is_utf8 s ≡ b → ¬ (IsUtf8 s) → is_utf8 s ≡ false
 other s true e h = absurd (h (IsUtf8-from_is_utf8 s e))

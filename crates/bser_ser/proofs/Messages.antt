@@ -1,10 +1,10 @@
 -- A message and the serializer that sent it.
 use Rattle.std.proofs.Common.{◌≡◌, ℕ, ℤ, pos, List, [], ◌∷◌, ◌++◌, length, Option, Some, None, append_assoc, append-nil, sym, ◌∙◌, ap, subst}
 use Rattle.std.specs.Int.{w32, to_le_bytes}
-use Rattle.bser_base.specs.Tree.{Tree}
-use Rattle.bser_base.specs.Canonical.{canonical_body, canonical_message, least_integer}
-use Rattle.bser_base.specs.declared.errors.Error.{Error}
-use Rattle.bser_base.specs.declared.errors.Error.TheVariants.{OutOfMemory, Io}
+use Rattle.bser_format.specs.Tree.{Tree}
+use Rattle.bser_format.specs.Canonical.{canonical_body, canonical_message, least_integer}
+use Rattle.bser_format.specs.declared.errors.Error.{Error}
+use Rattle.bser_format.specs.declared.errors.Error.TheVariants.{OutOfMemory, Io}
 use Rattle.bser_ser.specs.Sent.{Sent, Excuses, IsNew, IsFlushed}
 use Rattle.bser_ser.specs.Ends.{Ends, Stops, text_of}
 use Rattle.bser_ser.specs.Message.{message_of, IsLength, Wrote, Broke, Partly, IsFault}

@@ -1,8 +1,8 @@
 -- The least spelling of an integer, size by size, and how it comes to stand in a buffer.
 use Rattle.std.proofs.Common.{◌≡◌, ℕ, ℤ, suc, ◌<◌, ◌≤◌, ◌^◌, true, false, nat_lt, List, [], ◌∷◌, ◌++◌, length, take, slice_set, refl, ap, arith, append_assoc}
 use Rattle.std.proofs.lemmas.Grind.{common_steps}
-use Rattle.bser_base.specs.Grammar.{int8, int16, int32, int64, int_bytes}
-use Rattle.bser_base.specs.Canonical.{least_integer, least_count, is_within}
+use Rattle.bser_format.specs.Grammar.{int8, int16, int32, int64, int_bytes}
+use Rattle.bser_format.specs.Canonical.{least_integer, least_count, is_within}
 
 pub least_int8 : (v : ℤ) → is_within (2 ^ 7) v ≡ true → least_integer v ≡ int_bytes int8 v
 unfolding least_integer

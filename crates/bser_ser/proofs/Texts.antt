@@ -1,11 +1,11 @@
 -- The text of a value with parts, by the texts of its parts.
 use Rattle.std.proofs.Common.{◌≡◌, ℕ, suc, ◌<◌, ◌≤◌, ◌^◌, List, [], ◌∷◌, ◌++◌, length, Option, Some, None, option_map, ◌⊎◌, inl, inr, arith, sym, ap, refl, subst}
-use Rattle.bser_base.specs.Tree.{Tree, Items, Entries, array, object, items, entries}
-use Rattle.bser_base.specs.Canonical.{canonical_body, canonical_items, canonical_entries, canonical_key}
-use Rattle.bser_base.specs.Pieces.{array_head, object_head}
-use Rattle.bser_base.specs.Written.{item_before, entry_before, written_items, written_entries, array_tree, object_tree, slice_tree, part_tree, tuple_tree}
-use Rattle.bser_base.specs.declared.errors.Error.{Error}
-use Rattle.bser_base.specs.declared.errors.Collection.TheVariants.{Sequence}
+use Rattle.bser_format.specs.Tree.{Tree, Items, Entries, array, object, items, entries}
+use Rattle.bser_format.specs.Canonical.{canonical_body, canonical_items, canonical_entries, canonical_key}
+use Rattle.bser_format.specs.Pieces.{array_head, object_head}
+use Rattle.bser_format.specs.Written.{item_before, entry_before, written_items, written_entries, array_tree, object_tree, slice_tree, part_tree, tuple_tree}
+use Rattle.bser_format.specs.declared.errors.Error.{Error}
+use Rattle.bser_format.specs.declared.errors.Collection.TheVariants.{Sequence}
 use Rattle.bser_ser.specs.Sent.{Sent, Excuses, IsMiscounted}
 use Rattle.bser_ser.specs.Ends.{Ends, Stops, text_of, then}
 use Rattle.bser_ser.specs.declared.serializer.Serializer.{Serializer}

@@ -1,8 +1,8 @@
 -- What the serializing of a value leaves.
 use Rattle.std.specs.Prelude.{◌≡◌, ℕ, List, ◌++◌, Option, Some, None}
-use Rattle.bser_base.specs.Tree.{Tree}
-use Rattle.bser_base.specs.Canonical.{canonical_body, canonical_key}
-use Rattle.bser_base.specs.declared.errors.Error.{Error}
+use Rattle.bser_format.specs.Tree.{Tree}
+use Rattle.bser_format.specs.Canonical.{canonical_body, canonical_key}
+use Rattle.bser_format.specs.declared.errors.Error.{Error}
 use Rattle.bser_ser.specs.Sent.{Sent, Excuses}
 use Rattle.bser_ser.specs.declared.serializer.Serializer.{Serializer}
 

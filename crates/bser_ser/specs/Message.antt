@@ -1,10 +1,10 @@
 -- What the writing of a whole message leaves.
 use Rattle.std.specs.Prelude.{◌≡◌, ℕ, ℤ, pos, ◌<◌, ◌^◌, List, ◌++◌, length, Option, Some, None, ⊤, ◌⊎◌}
-use Rattle.bser_base.specs.Device.{Blamed}
-use Rattle.bser_base.specs.Tree.{Tree}
-use Rattle.bser_base.specs.Canonical.{canonical_body, canonical_message}
-use Rattle.bser_base.specs.declared.errors.Error.{Error}
-use Rattle.bser_base.specs.declared.errors.Error.TheVariants.{OutOfMemory, Io}
+use Rattle.bser_source.specs.Device.{Blamed}
+use Rattle.bser_format.specs.Tree.{Tree}
+use Rattle.bser_format.specs.Canonical.{canonical_body, canonical_message}
+use Rattle.bser_format.specs.declared.errors.Error.{Error}
+use Rattle.bser_format.specs.declared.errors.Error.TheVariants.{OutOfMemory, Io}
 use Rattle.bser_ser.specs.Sent.{IsTooMany}
 
 -- the canonical message of a value, where it has a tree

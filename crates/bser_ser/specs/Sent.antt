@@ -1,11 +1,11 @@
 -- What a serializer's writer took, and what is still pending.
 use Rattle.std.specs.Prelude.{◌≡◌, ℕ, ◌+◌, ◌<◌, ◌≤◌, ◌^◌, List, [], ◌++◌, length, Option, Some, None, ⊤, Result, MatchResult, ◌⊎◌}
-use Rattle.bser_base.specs.Device.{Blamed}
-use Rattle.bser_base.specs.declared.errors.Collection.{Collection}
-use Rattle.bser_base.specs.declared.errors.Complaint.TheVariants.{CountTooGreat}
-use Rattle.bser_base.specs.declared.errors.Error.{Error}
-use Rattle.bser_base.specs.declared.errors.Error.TheVariants.{OutOfMemory, Io, SerU64TooBig, SerNeedSize, SerCustom}
-use Rattle.bser_base.specs.declared.errors.Message.TheVariants.{Fixed}
+use Rattle.bser_source.specs.Device.{Blamed}
+use Rattle.bser_format.specs.declared.errors.Collection.{Collection}
+use Rattle.bser_format.specs.declared.errors.Complaint.TheVariants.{CountTooGreat}
+use Rattle.bser_format.specs.declared.errors.Error.{Error}
+use Rattle.bser_format.specs.declared.errors.Error.TheVariants.{OutOfMemory, Io, SerU64TooBig, SerNeedSize, SerCustom}
+use Rattle.bser_format.specs.declared.errors.Message.TheVariants.{Fixed}
 use Rattle.std.specs.declared.io.Error as io
 use Rattle.bser_ser.specs.declared.count.CountWrite.{CountWrite}
 use Rattle.bser_ser.specs.declared.serializer.Serializer.{Serializer}

@@ -1,19 +1,19 @@
 //! The puts of a serializer that keep the reason of a refusal in it.
 ghost use Rattle.std.specs.Prelude.{◌≡◌, ◌<◌, ◌≤◌, ◌^◌, ◌∷◌, ◌++◌, [], length, take};
 ghost use Rattle.std.specs.Int.{w32, to_le_bytes};
-ghost use Rattle.bser_base.specs.Canonical.{least_integer, least_count};
-ghost use Rattle.bser_base.specs.Pieces.{null_piece, bool_piece, integer_piece, real_piece, text_piece, bytes_piece, key_piece, array_head, object_head, newtype_variant_head};
+ghost use Rattle.bser_format.specs.Canonical.{least_integer, least_count};
+ghost use Rattle.bser_format.specs.Pieces.{null_piece, bool_piece, integer_piece, real_piece, text_piece, bytes_piece, key_piece, array_head, object_head, newtype_variant_head};
 ghost use Rattle.bser_ser.specs.Sent.{Adds, refusal_of};
 
 use crate::integer::{LONGEST, spell};
 use crate::pending::{append_both, append_front, append_variant, append_variant_of};
 use crate::serializer::{Refused, Serializer};
-use bser_base::device::Sink;
-use bser_base::errors::Error;
-use bser_base::header::{
+use bser_format::errors::Error;
+use bser_format::header::{
     BSER_ARRAY, BSER_BYTESTRING, BSER_FALSE, BSER_INT8, BSER_NULL, BSER_OBJECT, BSER_REAL,
     BSER_TRUE, BSER_UTF8STRING,
 };
+use bser_source::device::Sink;
 use byteorder::{ByteOrder, LittleEndian};
 use std::result::Result;
 

@@ -1,10 +1,10 @@
 //! A writer that counts.
 ghost use Rattle.std.specs.Prelude.{◌≡◌, length};
-ghost use Rattle.bser_base.specs.Device.{counts_to};
-ghost use Rattle.bser_base.specs.Sinks.{counts_to-none, counts_to-both};
+ghost use Rattle.bser_source.specs.Device.{counts_to};
+ghost use Rattle.bser_source.specs.Sinks.{counts_to-none, counts_to-both};
 ghost use Rattle.bser_ser.specs.Sent.{count_of};
 
-use bser_base::device::Sink;
+use bser_source::device::Sink;
 use std::io;
 use std::io::Write;
 

@@ -1,10 +1,10 @@
 //! Values that hold others.
-ghost use Rattle.bser_base.specs.Written.{option_tree, array_tree, slice_tree};
+ghost use Rattle.bser_format.specs.Written.{option_tree, array_tree, slice_tree};
 
 use crate::Serialize;
 use crate::serializer::Serializer;
-use bser_base::device::Sink;
-use bser_base::errors::Result;
+use bser_format::errors::Result;
+use bser_source::device::Sink;
 use std::alloc::Global;
 
 impl<T: Serialize> Serialize for &T {

@@ -1,8 +1,8 @@
 //! The least spelling of an integer.
 ghost use Rattle.std.specs.Prelude.{◌≡◌, ◌≤◌, length, take};
-ghost use Rattle.bser_base.specs.Canonical.{least_integer, is_within as within};
+ghost use Rattle.bser_format.specs.Canonical.{least_integer, is_within as within};
 
-use bser_base::header::{BSER_INT8, BSER_INT16, BSER_INT32, BSER_INT64};
+use bser_format::header::{BSER_INT8, BSER_INT16, BSER_INT32, BSER_INT64};
 use byteorder::{ByteOrder, LittleEndian};
 
 /// The most bytes that an integer takes: its tag and eight bytes.

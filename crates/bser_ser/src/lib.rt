@@ -5,7 +5,7 @@
 #![tactic(auto)]
 
 ghost use Rattle.std.specs.Prelude.{Option, OnOk, IfErr};
-ghost use Rattle.bser_base.specs.Tree.{Tree};
+ghost use Rattle.bser_format.specs.Tree.{Tree};
 ghost use Rattle.bser_ser.specs.Ends.{Ends, Stops, text_of};
 
 mod adds;
@@ -22,8 +22,8 @@ mod tuples;
 
 pub use crate::count::CountWrite;
 pub use crate::serializer::{Refused, Serializer};
-use bser_base::device::Sink;
-use bser_base::errors::Result;
+use bser_format::errors::Result;
+use bser_source::device::Sink;
 use std::alloc::Global;
 
 /// A value that can be written.
@@ -37,7 +37,7 @@ pub trait Serialize {
     /// Puts the canonical text of the value's tree.
     ///
     /// A value without a tree is refused, as an integer above `i64::MAX` with
-    /// [`SerU64TooBig`](bser_base::errors::Error::SerU64TooBig). Besides, the faults of the puts
+    /// [`SerU64TooBig`](bser_format::errors::Error::SerU64TooBig). Besides, the faults of the puts
     /// are handed on: `Io` for the writer's, and `OutOfMemory`. After a refusal the parts before it
     /// have been put.
     fn serialize<W: Sink>(&self, alloc: Global, out: &mut Serializer<W>) -> Result<()>

@@ -1,12 +1,12 @@
 //! Maps, whose entries stand in rising byte order of their keys.
 ghost use Rattle.std.specs.Prelude.{string_bytes};
-ghost use Rattle.bser_base.specs.Written.{object_tree, same_bytes};
+ghost use Rattle.bser_format.specs.Written.{object_tree, same_bytes};
 
 use crate::Serialize;
 use crate::serializer::Serializer;
-use bser_base::bytestring::ByteString;
-use bser_base::device::Sink;
-use bser_base::errors::Result;
+use bser_format::bytestring::ByteString;
+use bser_format::errors::Result;
+use bser_source::device::Sink;
 use std::alloc::Global;
 use std::collections::BTreeMap;
 

@@ -7,8 +7,8 @@ ghost use Rattle.bser_ser.specs.Sent.{IsFlushed};
 use crate::Serialize;
 use crate::count::CountWrite;
 use crate::serializer::Serializer;
-use bser_base::device::Sink;
-use bser_base::errors::{Complaint, Error, Result};
+use bser_format::errors::{Complaint, Error, Result};
+use bser_source::device::Sink;
 use std::alloc::Global;
 
 /// Writes one message with the value as its body, to a writer that is lent.

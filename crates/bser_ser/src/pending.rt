@@ -1,12 +1,12 @@
 //! The bytes that a writer has still to take.
 ghost use Rattle.std.specs.Prelude.{◌≡◌, ◌≤◌, List, ℕ, [], ◌∷◌, ◌++◌, length, take, drop, OnOk, OnErr};
-ghost use Rattle.bser_base.specs.Canonical.{least_integer};
-ghost use Rattle.bser_base.specs.Device.{Blamed};
-ghost use Rattle.bser_base.specs.Pieces.{newtype_variant_head};
+ghost use Rattle.bser_format.specs.Canonical.{least_integer};
+ghost use Rattle.bser_source.specs.Device.{Blamed};
+ghost use Rattle.bser_format.specs.Pieces.{newtype_variant_head};
 
 use crate::integer::{LONGEST, spell};
-use bser_base::device::Sink;
-use bser_base::header::{BSER_INT8, BSER_OBJECT, BSER_UTF8STRING};
+use bser_format::header::{BSER_INT8, BSER_OBJECT, BSER_UTF8STRING};
+use bser_source::device::Sink;
 use std::alloc::AllocError;
 use std::io;
 use std::io::ErrorKind;

@@ -1,15 +1,15 @@
 //! The puts of a serializer.
 ghost use Rattle.std.specs.Prelude.{◌≡◌, pos, ◌<◌, ◌^◌, ◌∷◌, ◌++◌, [], length, OnOk, IfOk, IfErr, encode_utf8};
 ghost use Rattle.std.specs.Int.{w32, to_le_bytes};
-ghost use Rattle.bser_base.specs.Canonical.{least_integer, least_count};
-ghost use Rattle.bser_base.specs.Pieces.{null_piece, bool_piece, integer_piece, real_piece, text_piece, bytes_piece, key_piece, array_head, object_head, newtype_variant_head, tuple_variant_head, struct_variant_head};
-ghost use Rattle.bser_base.specs.declared.errors.Collection.TheVariants.{Sequence, Map};
+ghost use Rattle.bser_format.specs.Canonical.{least_integer, least_count};
+ghost use Rattle.bser_format.specs.Pieces.{null_piece, bool_piece, integer_piece, real_piece, text_piece, bytes_piece, key_piece, array_head, object_head, newtype_variant_head, tuple_variant_head, struct_variant_head};
+ghost use Rattle.bser_format.specs.declared.errors.Collection.TheVariants.{Sequence, Map};
 ghost use Rattle.bser_ser.specs.Sent.{Puts, PutsOr, IsTooBig, IsTooMany, IsMiscounted, IsCounted, count_or_zero};
 
 use crate::serializer::Serializer;
-use bser_base::device::Sink;
-use bser_base::errors::{Collection, Complaint, Error, Result};
-use bser_base::header::{BSER_ARRAY, BSER_OBJECT};
+use bser_format::errors::{Collection, Complaint, Error, Result};
+use bser_format::header::{BSER_ARRAY, BSER_OBJECT};
+use bser_source::device::Sink;
 
 /// Each put appends its piece, or nothing where it is refused.
 ///

@@ -1,13 +1,13 @@
 //! Values without parts.
 ghost use Rattle.std.specs.Prelude.{Some, pos, string_bytes, encode_utf8};
-ghost use Rattle.bser_base.specs.Tree.{null, boolean, integer, bytes, text};
-ghost use Rattle.bser_base.specs.Written.{unsigned_tree};
+ghost use Rattle.bser_format.specs.Tree.{null, boolean, integer, bytes, text};
+ghost use Rattle.bser_format.specs.Written.{unsigned_tree};
 
 use crate::Serialize;
 use crate::serializer::Serializer;
-use bser_base::bytestring::ByteString;
-use bser_base::device::Sink;
-use bser_base::errors::Result;
+use bser_format::bytestring::ByteString;
+use bser_format::errors::Result;
+use bser_source::device::Sink;
 use std::alloc::Global;
 
 impl Serialize for () {

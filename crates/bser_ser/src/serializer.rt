@@ -1,10 +1,10 @@
 //! A serializer: pieces on their way to a writer.
 ghost use Rattle.std.specs.Prelude.{◌≡◌, ◌≤◌, [], ◌++◌, length, OnOk, OnErr, IfOk, IfErr, IsTrue, if◌then◌else◌};
-ghost use Rattle.bser_base.specs.declared.errors.Error.TheVariants.{OutOfMemory};
+ghost use Rattle.bser_format.specs.declared.errors.Error.TheVariants.{OutOfMemory};
 ghost use Rattle.bser_ser.specs.Sent.{Sent, Excuses, Finishes, IsFlushed, IsNew, WriterFailed, writer_of, pending_of, refusal_of};
 
 use crate::pending::send;
-use bser_base::device::Sink;
+use bser_source::device::Sink;
 use std::alloc::Global;
 use std::io;
 use std::result::Result;

@@ -1,11 +1,11 @@
 //! Tuples, which are arrays of their parts.
 ghost use Rattle.std.specs.Prelude.{[], ◌∷◌};
-ghost use Rattle.bser_base.specs.Written.{tuple_tree};
+ghost use Rattle.bser_format.specs.Written.{tuple_tree};
 
 use crate::Serialize;
 use crate::serializer::Serializer;
-use bser_base::device::Sink;
-use bser_base::errors::Result;
+use bser_format::errors::Result;
+use bser_source::device::Sink;
 use std::alloc::Global;
 
 impl<A: Serialize, B: Serialize> Serialize for (A, B) {

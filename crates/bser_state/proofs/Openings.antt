@@ -8,7 +8,7 @@ use Rattle.bser_base.specs.Expected.{nothing_due, WantedItems, nodes, rows_over,
 use Rattle.bser_base.specs.Source as source
 use Rattle.bser_base.specs.Source.{Took, IsNext, sight_after, bytes_in_sight}
 use Rattle.bser_base.specs.Tagged.{IsLength, with_failure}
-use Rattle.bser_base.specs.declared.errors.Error.{Error}
+use Rattle.bser_format.specs.declared.errors.Error.{Error}
 use Rattle.bser_state.specs.State.{State, with_source, refused}
 use Rattle.bser_state.specs.Reading.{RefusesFront, IsRefusal, bare, only_keys}
 use Rattle.bser_state.specs.Scalar.{owned}

@@ -12,7 +12,7 @@ use Rattle.bser_base.specs.Source as source
 use Rattle.bser_base.specs.Source.{IsNext}
 use Rattle.bser_base.specs.Tagged.{with_failure}
 use Rattle.bser_base.specs.TaggedRefusal.{ShortOf}
-use Rattle.bser_base.specs.declared.errors.Error.{Error}
+use Rattle.bser_format.specs.declared.errors.Error.{Error}
 use Rattle.bser_base.proofs.Heads.{short_of}
 use Rattle.bser_base.proofs.Tags.{Tagged, tagged_by, no_empty}
 use Rattle.bser_state.specs.State.{State}

@@ -12,11 +12,11 @@ use Rattle.bser_base.specs.Source.{Took, IsNext}
 use Rattle.bser_base.proofs.Taken.{took_then}
 use Rattle.bser_base.specs.Tagged.{with_failure}
 use Rattle.bser_base.specs.TaggedRefusal.{BytesRefused, NegativeLength}
-use Rattle.bser_base.specs.declared.errors.Error.{Error}
-use Rattle.bser_base.specs.declared.errors.Error.TheVariants.{DeCustom, DeReaderError, OutOfMemory}
-use Rattle.bser_base.specs.declared.errors.Message.TheVariants.{Fixed}
-use Rattle.bser_base.specs.declared.errors.Complaint.TheVariants as complaints
-use Rattle.bser_base.specs.declared.errors.ReadCause.TheVariants.{Reader}
+use Rattle.bser_format.specs.declared.errors.Error.{Error}
+use Rattle.bser_format.specs.declared.errors.Error.TheVariants.{DeCustom, DeReaderError, OutOfMemory}
+use Rattle.bser_format.specs.declared.errors.Message.TheVariants.{Fixed}
+use Rattle.bser_format.specs.declared.errors.Complaint.TheVariants as complaints
+use Rattle.bser_format.specs.declared.errors.ReadCause.TheVariants.{Reader}
 use Rattle.bser_base.proofs.Heads.{short_of}
 use Rattle.bser_state.specs.Heads.{TagInSight, Standing, Stands}
 use Rattle.bser_state.specs.declared.head.Head.{Head}

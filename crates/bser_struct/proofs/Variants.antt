@@ -11,7 +11,7 @@ use Rattle.bser_base.specs.Enums.{Payload, unit, holds, named, by_name, by_entry
 use Rattle.bser_base.specs.Expand.{key_tree}
 use Rattle.bser_base.specs.Expected.{Due, Fills, FillsPairs, nothing_due, node_due, key_due, field_due, name_due, row_due, WantedPairs, entries_of_object, fields_of_row}
 use Rattle.bser_base.specs.ReadsScalars.{utf8_of, reads_unit}
-use Rattle.bser_base.specs.declared.errors.Error.{Error}
+use Rattle.bser_format.specs.declared.errors.Error.{Error}
 use Rattle.bser_state.specs.State.{State, awaiting}
 use Rattle.bser_state.specs.Reading.{TakesMemory, Answers, Refuses, FillsReadably, bare}
 use Rattle.bser_state.specs.Parts.{BeginsPairs, pairs_left, pair_value, pairs_after}

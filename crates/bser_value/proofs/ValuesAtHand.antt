@@ -14,7 +14,7 @@ use Rattle.bser_base.specs.ReadsAny.{reads_value}
 use Rattle.bser_base.specs.Source.{Took}
 use Rattle.bser_base.specs.Source as source
 use Rattle.bser_base.specs.declared.de.hand.StringPlace.{StringPlace}
-use Rattle.bser_base.specs.declared.errors.Error.TheVariants.{OutOfMemory}
+use Rattle.bser_format.specs.declared.errors.Error.TheVariants.{OutOfMemory}
 use Rattle.bser_value.specs.Gathered.{all_items}
 use Rattle.bser_value.specs.declared.de.gathered.Gathered.{Gathered}
 use Rattle.bser_state.specs.State.{State, past, awaiting}

@@ -6,7 +6,7 @@ use Rattle.std.specs.Str.{IsUtf8}
 use Rattle.std.specs.String.{string_cmp}
 use Rattle.bser_base.specs.Tree.{Tree, null, text, bytes}
 use Rattle.bser_base.specs.ReadsAny.{reads_value}
-use Rattle.bser_base.specs.declared.errors.Error.TheVariants.{OutOfMemory}
+use Rattle.bser_format.specs.declared.errors.Error.TheVariants.{OutOfMemory}
 use Rattle.bser_base.specs.Source as source
 use Rattle.bser_base.specs.Source.{Took}
 use Rattle.bser_state.specs.State.{State}

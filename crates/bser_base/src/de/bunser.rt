@@ -1,40 +1,29 @@
 //! Tagged values over a byte source.
-ghost use Rattle.std.specs.Prelude.{◌≡◌, ◌≢◌, ◌≤◌, ◌<◌, ◌+◌, ◌-◌, ◌^◌, ◌∷◌, [], ◌++◌, ℕ, ℤ, pos, negsuc, ◌<ℤ◌, ◌≤ℤ◌, MatchOption, List, Bool, true, false, length, drop, take, Option, Some, None, IfOk, IfErr, OnOk, OnErr, IsSome, is_err, MatchResult, vec_len, min};
-ghost use Rattle.std.specs.Int.{w8, w16, w32, w64, to_le_bytes};
-ghost use Rattle.std.specs.Borrow.{sem};
-ghost use Rattle.std.specs.Io.BufRead.{Rests};
-ghost use Rattle.bser_base.specs.Source.{State, Took, Expects, IsNext, sight_after, bytes_in_sight};
+ghost use Rattle.std.specs.Prelude.{◌≡◌, ◌≤◌, ◌<◌, ◌+◌, ◌-◌, ◌^◌, ◌∷◌, [], pos, MatchOption, true, false, length, drop, take, Option, Some, None, IfOk, IfErr, OnErr, IsSome, min};
+ghost use Rattle.std.specs.Int.{w8, w16, w32, w64};
+ghost use Rattle.bser_source.specs.Source.{Took, IsNext, sight_after, bytes_in_sight};
 ghost use Rattle.bser_base.specs.Hand.{bunser_hand, StringFront};
-ghost use Rattle.bser_base.specs.Refs.{bytes_of, is_lent};
-ghost use Rattle.bser_base.specs.Errors.{error_of, copying};
-ghost use Rattle.bser_base.specs.Tagged.{bunser_state, has_refused, bunser_source, with_failure, TookNumber, TookBits, TookInt, TookLength, TookHead, IsInteger, IsLength, IsMagic, IsCapabilities, IsHead, EndsAt};
-ghost use Rattle.bser_base.specs.TaggedRefusal.{ShortOf, BytesRefused, Unwanted, NamesTag, end_refusal};
-ghost use Rattle.bser_base.specs.contracts.de.bunser.Bunser.{the_row};
+ghost use Rattle.bser_source.specs.Refs.{bytes_of, is_lent};
+ghost use Rattle.bser_format.specs.Errors.{error_of};
+ghost use Rattle.bser_base.specs.Tagged.{bunser_state, has_refused, bunser_source, with_failure, TookNumber, TookBits, TookInt, IsInteger};
+ghost use Rattle.bser_base.specs.TaggedRefusal.{ShortOf, BytesRefused, Unwanted, NamesTag};
 
+mod pdu;
+
+pub use crate::de::bunser::pdu::PduInfo;
 use crate::de::hand::integer_after;
 pub use crate::de::hand::{SeenInt, StringPlace, integer_front, string_front};
-use crate::de::read::{DeRead, Lending, Reference};
-use crate::errors::{Complaint, Error, Kind, ReadCause, Result};
-use crate::header::{BSER_INT8, BSER_INT16, BSER_INT32, BSER_INT64};
+use bser_format::errors::{Complaint, Error, Kind, ReadCause, Result};
+use bser_format::header::{BSER_INT8, BSER_INT16, BSER_INT32, BSER_INT64};
+use bser_source::read::{DeRead, Lending, Reference};
 use byteorder::{ByteOrder, LittleEndian};
 use std::alloc::Global;
-
-/// What stands in the head of a message.
-#[derive(Clone, Copy)]
-pub struct PduInfo {
-    /// The capabilities that the message asks for, one bit each.
-    pub bser_capabilities: u32,
-    /// The length of the body, in bytes.
-    pub len: i64,
-    /// How many bytes had been taken when the body began, at most `i64::MAX`.
-    pub start: i64,
-}
 
 /// Reads the head of a message, integers and counted bytes from a byte source.
 ///
 /// A call that refuses leaves it failed: each later call that can refuse answers
-/// [`Error::DeReaderError`] with [`ReadCause::Failed`]. [`Bunser::end`] alone changes nothing.
-/// An early end, a reader's fault, or a use after the source itself refused is
+/// [`Error::DeReaderError`] with [`ReadCause::Failed`], [`Bunser::end`] too, of which alone a refusal
+/// changes nothing. An early end, a reader's fault, or a use after the source itself refused is
 /// [`Error::DeReaderError`] with the source's cause, and a refused growth [`Error::OutOfMemory`].
 /// Over a slice it takes no memory.
 ///
@@ -377,98 +366,5 @@ impl<R: DeRead> Bunser<R> {
         } else {
             i64::MAX
         }
-    }
-
-    /// Checks that the body ended where its head says, by the count of the source itself.
-    ///
-    /// A negative start or length is the message [`Complaint::NegativeLength`], a sum of both above
-    /// `i64::MAX` is [`Complaint::CountTooGreat`], and another count of bytes than that sum is
-    /// [`Error::DeEof`]. A refusal changes nothing.
-    pub fn end(&self, pdu_info: &PduInfo) -> Result<()>
-        ensures ok { OnOk result (EndsAt pdu_info.now.start pdu_info.now.len (bunser_state R.state self.now).count) }
-        ensures other { IfErr result (λ e. e ≢ copying) }
-        ensures cause { IfErr result (λ e. e ≡ end_refusal pdu_info.now.start pdu_info.now.len (bunser_state R.state self.now).count) }
-        ensures err { OnErr result (EndsAt pdu_info.now.start pdu_info.now.len (bunser_state R.state self.now).count → ⊥) }
-    {
-        if pdu_info.start < 0 || pdu_info.len < 0 {
-            return Err(Error::de_custom(Complaint::NegativeLength));
-        }
-        let Some(sum) = pdu_info.start.checked_add(pdu_info.len) else {
-            return Err(Error::de_custom(Complaint::CountTooGreat));
-        };
-        let expected = sum as usize;
-        let read = self.read.read_count();
-        if read != expected {
-            return Err(Error::DeEof { expected, read });
-        }
-        Ok(())
-    }
-
-    /// Takes the two bytes that begin a message.
-    fn read_magic(&mut self) -> Result<()>
-        ensures ok { OnOk result (Took (bunser_state R.state self.old) (bunser_state R.state self.new) (0x00 ∷ 0x02 ∷ []) None) }
-        ensures err { IfErr result (λ e. Unwanted IsMagic e (bunser_state R.state self.old) (bunser_state R.state self.new)) }
-        ensures after { OnErr result (has_refused self.new ≡ true) }
-    {
-        let magic = self.front::<2>()?;
-        if magic[0] != 0 || magic[1] != 2 {
-            self.failed = true;
-            return Err(Error::DeInvalidMagic { magic });
-        }
-        Ok(())
-    }
-
-    /// Takes the four bytes of the capabilities, the lowest first.
-    fn read_capabilities(&mut self) -> Result<u32>
-        ensures ok { IfOk result (λ c. Took (bunser_state R.state self.old) (bunser_state R.state self.new) (to_le_bytes w32 c) None) }
-        ensures err { IfErr result (λ e. Unwanted IsCapabilities e (bunser_state R.state self.old) (bunser_state R.state self.new)) }
-        ensures after { OnErr result (has_refused self.new ≡ true) }
-    {
-        let bytes = self.front::<4>()?;
-        Ok(LittleEndian::read_u32(&bytes))
-    }
-
-    /// Takes the length of a message's body.
-    fn read_len(&mut self) -> Result<i64>
-        ensures ok { IfOk result (λ v. TookLength (bunser_state R.state self.old) (bunser_state R.state self.new) v) }
-        ensures err { IfErr result (λ e. Unwanted IsLength e (bunser_state R.state self.old) (bunser_state R.state self.new)) }
-        ensures after { OnErr result (has_refused self.new ≡ true) }
-    {
-        let len = self.check_next_int()?;
-        if len < 0 {
-            self.failed = true;
-            return Err(Error::de_custom(Complaint::NegativeLength));
-        }
-        Ok(len)
-    }
-
-    /// Lets the source hold what it reads, within the next `n` bytes.
-    fn announce(&mut self, n: usize)
-        ensures { Expects (bunser_state R.state self.old) (bunser_state R.state self.new) n }
-    {
-        self.read.expect(n);
-    }
-
-    /// Takes the head of a message, and announces the length of its body to the source.
-    ///
-    /// Other bytes than `00 02` in front are [`Error::DeInvalidMagic`], a length without an
-    /// integer's tag is [`Error::DeInvalidStartByte`] of kind [`Kind::Integer`], and a negative one
-    /// the message [`Complaint::NegativeLength`].
-    pub fn read_pdu(&mut self) -> Result<PduInfo>
-        ensures ok { IfOk result (λ info. TookHead (bunser_state R.state self.old) (bunser_state R.state self.new) info.bser_capabilities info.len) }
-        ensures start { IfOk result (λ info. info.start ≡ pos (min (bunser_state R.state self.new).count (2 ^ 63 - 1))) }
-        ensures err { IfErr result (λ e. Unwanted IsHead e (bunser_state R.state self.old) (bunser_state R.state self.new)) }
-        ensures after { OnErr result (has_refused self.new ≡ true) }
-    {
-        self.read_magic()?;
-        let bser_capabilities = self.read_capabilities()?;
-        let len = self.read_len()?;
-        self.announce(len as usize);
-        let start = self.read_count();
-        Ok(PduInfo {
-            bser_capabilities,
-            len,
-            start,
-        })
     }
 }

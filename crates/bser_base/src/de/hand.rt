@@ -3,7 +3,7 @@ ghost use Rattle.std.specs.Prelude.{MatchOption};
 ghost use Rattle.std.specs.Int.{w8, w16, w32, w64};
 ghost use Rattle.bser_base.specs.Hand.{NumberFront, IntegerAfter, IntFront, LengthFront, StringFront};
 
-use crate::header::{
+use bser_format::header::{
     BSER_BYTESTRING, BSER_INT8, BSER_INT16, BSER_INT32, BSER_INT64, BSER_UTF8STRING,
 };
 use byteorder::{ByteOrder, LittleEndian};

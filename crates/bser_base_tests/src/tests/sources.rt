@@ -275,6 +275,31 @@ fn refuses_other_heads(rt: HostRuntime) {
     );
 }
 
+#[test]
+fn a_body_does_not_end_after_a_refusal(rt: HostRuntime) -> Result<()> {
+    let message = b"\x00\x02\x00\x00\x00\x00\x03\x00";
+    let mut bunser = Bunser::new(rt.alloc(), SliceRead::new(message));
+    let info = bunser.read_pdu()?;
+    bunser.end(&info)?;
+    assert!(rt;
+        matches!(
+            bunser.peek(),
+            Err(Error::DeReaderError {
+                source: ReadCause::Eof
+            })
+        )
+    );
+    assert!(rt;
+        matches!(
+            bunser.end(&info),
+            Err(Error::DeReaderError {
+                source: ReadCause::Failed
+            })
+        )
+    );
+    Ok(())
+}
+
 /// Reads the head and a body of one byte, and gives what `end` refuses.
 fn end_of_one_byte(alloc: Global, message: &[u8]) -> Result<Option<Error>> {
     let mut bunser = Bunser::new(alloc, SliceRead::new(message));

@@ -1,8 +1,8 @@
 use Rattle.std.proofs.Common.{rules, arith, ◌≡◌, ℕ, ◌%◌, ◌^◌, true, false, sym, ap, ◌∙◌, refl, ◌∷◌, [], FitsSigned, w8, w16, w32, w64}
 use Rattle.std.specs.Int.{to_le_bytes, cast_unsigned}
 use Rattle.std.proofs.lemmas.Int.{to_z-of_z}
-use Rattle.bser_base.specs.Canonical.{is_within}
-use Rattle.bser_base.proofs.Canon.{within_fits}
+use Rattle.bser_format.specs.Canonical.{is_within}
+use Rattle.bser_format.proofs.Canon.{within_fits}
 use Rattle.bser_ser.proofs.Spelling.{least_int8, least_int16, least_int32, least_int64, two_set, tag_set}
 use Rattle.bser_ser.proofs.integer.spell.Goals as goal
 

@@ -1,5 +1,5 @@
 use Rattle.std.proofs.lemmas.Result.{err_from_is_err_and}
-use Rattle.bser_base.specs.declared.errors.Error.TheVariants.{Io}
+use Rattle.bser_format.specs.declared.errors.Error.TheVariants.{Io}
 use Rattle.bser_ser.specs.Message.{message_of}
 use Rattle.bser_ser.proofs.Ends.{Ends-flushed, Stops-flushed, Tried-ended}
 use Rattle.bser_ser.proofs.message.send_message.Goals as goal

@@ -2,7 +2,7 @@ use Rattle.std.proofs.Common.{◌≡◌, ℕ, ◌+◌, ◌<◌, suc, List, ◌�
 use Rattle.std.proofs.Math.Seq.{drop-cons}
 use Rattle.std.proofs.lemmas.List.{drop_all}
 use Rattle.std.proofs.lemmas.Result.{err_from_is_err_and}
-use Rattle.bser_base.specs.Pieces.{array_head}
+use Rattle.bser_format.specs.Pieces.{array_head}
 use Rattle.bser_ser.proofs.Ends.{UpTo-more}
 use Rattle.bser_ser.proofs.Texts.{item_text, Ends-array, Stops-array}
 use Rattle.bser_ser.proofs.holders.VecSerialize.serialize.Goals as goal

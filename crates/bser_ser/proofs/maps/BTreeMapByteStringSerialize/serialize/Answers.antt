@@ -1,8 +1,8 @@
 use Rattle.std.proofs.Common.{rules, length, Some}
 use Rattle.std.proofs.lemmas.Result.{err_from_is_err_and}
-use Rattle.bser_base.specs.Written.{same_bytes}
-use Rattle.bser_base.specs.Pieces.{object_head}
-use Rattle.bser_base.specs.Canonical.{canonical_key}
+use Rattle.bser_format.specs.Written.{same_bytes}
+use Rattle.bser_format.specs.Pieces.{object_head}
+use Rattle.bser_format.specs.Canonical.{canonical_key}
 use Rattle.bser_ser.specs.Ends.{text_of}
 use Rattle.bser_ser.proofs.Ends.{UpTo-more, Ends-both, Stops-second, Stops-none}
 use Rattle.bser_ser.proofs.Texts.{entry_text, Ends-object, Stops-object}

@@ -1,6 +1,6 @@
 use Rattle.std.proofs.Common.{rules, List, ℕ, ◌≡◌, take, subst, FitsSigned, w64}
 use Rattle.std.proofs.lemmas.Int.{to_z-of_z}
-use Rattle.bser_base.specs.Canonical.{least_integer}
+use Rattle.bser_format.specs.Canonical.{least_integer}
 use Rattle.bser_ser.specs.Sent.{Adds}
 use Rattle.bser_ser.proofs.Ends.{Adds-after}
 use Rattle.bser_ser.proofs.serializer.Serializer.add_i64.Goals as goal

@@ -1,5 +1,5 @@
 use Rattle.std.proofs.Common.{List, ℕ, sym, ap, ◌∙◌, subst}
-use Rattle.bser_base.specs.Canonical.{canonical_text}
+use Rattle.bser_format.specs.Canonical.{canonical_text}
 use Rattle.bser_ser.specs.Sent.{Puts}
 use Rattle.bser_ser.proofs.Keys.{key_of_text, key_of_bytes}
 use Rattle.bser_ser.proofs.serializer.Serializer.put_key.Goals as goal

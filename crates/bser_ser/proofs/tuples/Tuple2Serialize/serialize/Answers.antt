@@ -1,6 +1,6 @@
 use Rattle.std.proofs.Common.{List, [], ◌∷◌, Option}
 use Rattle.std.proofs.lemmas.Result.{err_from_is_err_and, MatchResult-weaker}
-use Rattle.bser_base.specs.Tree.{Tree}
+use Rattle.bser_format.specs.Tree.{Tree}
 use Rattle.bser_ser.proofs.Texts.{parts_start, parts_more, parts_all, parts_stop}
 use Rattle.bser_ser.proofs.tuples.Tuple2Serialize.serialize.Goals as goal
 

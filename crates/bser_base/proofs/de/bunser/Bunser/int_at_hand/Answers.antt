@@ -3,7 +3,7 @@ use Rattle.std.specs.Int.{w64}
 use mir.Val.{SFits}
 use Rattle.std.proofs.lemmas.Int.{to_z-of_z}
 use Rattle.bser_base.specs.Tagged.{bunser_state}
-use Rattle.bser_base.specs.Source.{Took}
+use Rattle.bser_source.specs.Source.{Took}
 use Rattle.bser_base.specs.Hand.{IntegerAfter}
 use Rattle.bser_base.proofs.Hand.{int_taken, all_after}
 use Rattle.bser_base.proofs.de.bunser.Bunser.int_at_hand.Goals as goal

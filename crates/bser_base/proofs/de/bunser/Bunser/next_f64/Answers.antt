@@ -1,6 +1,7 @@
 use Rattle.std.proofs.Common.{rules, ℕ, ◌<◌, get_or}
 use Rattle.std.specs.Int.{w64}
-use Rattle.bser_base.proofs.Tagged.{bytes_of_64, took_bits}
+use Rattle.bser_source.proofs.NumberBytes.{bytes_of_64}
+use Rattle.bser_base.proofs.Tagged.{took_bits}
 use Rattle.bser_base.proofs.de.bunser.Bunser.next_f64.Goals as goal
 
 pub returns-clause-ok : goal.returns-clause-ok

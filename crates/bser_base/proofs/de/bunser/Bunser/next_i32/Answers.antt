@@ -3,7 +3,8 @@ use Rattle.std.specs.Int.{w32}
 use mir.Val.{SFits}
 use Rattle.std.proofs.lemmas.Int.{to_z-of_z}
 use Rattle.byteorder.specs.Endian.{little_number}
-use Rattle.bser_base.proofs.Tagged.{bytes_of_32, took_number}
+use Rattle.bser_source.proofs.NumberBytes.{bytes_of_32}
+use Rattle.bser_base.proofs.Tagged.{took_number}
 use Rattle.bser_base.proofs.de.bunser.Bunser.next_i32.Goals as goal
 
 pub returns-clause-ok : goal.returns-clause-ok

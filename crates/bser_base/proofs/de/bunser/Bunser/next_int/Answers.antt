@@ -4,8 +4,8 @@ use Rattle.std.specs.Int.{w64}
 use mir.Val.{SFits}
 use Rattle.std.proofs.lemmas.Int.{to_z-of_z}
 use Rattle.std.proofs.lemmas.Result.{err_from_is_err_and}
-use Rattle.bser_base.specs.Grammar.{int8, int16, int32, int64}
-use Rattle.bser_base.specs.Source.{Took}
+use Rattle.bser_format.specs.Grammar.{int8, int16, int32, int64}
+use Rattle.bser_source.specs.Source.{Took}
 use Rattle.bser_base.specs.Tagged.{bunser_state}
 use Rattle.bser_base.proofs.Tagged.{took_int}
 use Rattle.bser_base.proofs.Heads.{named, short_number}

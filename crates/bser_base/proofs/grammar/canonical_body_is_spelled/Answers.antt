@@ -1,5 +1,0 @@
-use Rattle.bser_base.proofs.Canon.{text_spelled}
-use Rattle.bser_base.proofs.grammar.canonical_body_is_spelled.Goals as goal
-
-pub returns : goal.returns
-returns c = text_spelled

@@ -1,5 +1,0 @@
-use Rattle.bser_base.proofs.Messages.{message_exact}
-use Rattle.bser_base.proofs.grammar.message_reading_is_exact.Goals as goal
-
-pub returns : goal.returns
-returns c = message_exact

@@ -1,5 +1,0 @@
-use Rattle.bser_base.proofs.Messages.{value_exact}
-use Rattle.bser_base.proofs.grammar.reading_is_exact.Goals as goal
-
-pub returns : goal.returns
-returns c = value_exact

@@ -1,7 +1,0 @@
--- What an error keeps of an enum's name.
-use Rattle.std.specs.Prelude.{ℕ, List, take}
-use Rattle.bser_base.specs.declared.errors.name.EnumName.{EnumName}
-
--- the bytes that are kept
-abbrev pub kept : EnumName → List ℕ
-kept name = take name.len name.bytes

@@ -1,0 +1,82 @@
+-- One integer, one message, more levels.
+use Rattle.std.proofs.Common.{◌≡◌, ℕ, zero, suc, ◌+◌, ◌-◌, ◌^◌, ◌<◌, ◌≤◌, ℤ, List, [], ◌∷◌, ◌++◌, length, Option, Some, None, refl, sym, ap, subst, ◌∙◌, arith, bytes_eq}
+use Rattle.std.proofs.lemmas.List.{append_cancel_right}
+use Rattle.std.proofs.lemmas.Option.{some_pair_parts}
+use Rattle.std.specs.Int.{w32, to_le_bytes, from_le_bytes}
+use Rattle.bser_format.specs.Tree.{Tree, null, boolean, integer, real, bytes, text, array, object, template, items, entries, rows}
+use Rattle.bser_format.specs.Grammar.{Format, Bytes, SpellsCount, Each, SpellsInteger, SpellsString, SpellsEntry, SpellsField, Spells, int32, ◌then◌}
+use Rattle.bser_format.specs.Plain.{int, front, check, string, magic, parts, give, ◌>>=◌}
+use Rattle.bser_format.specs.Message.{IsMessage}
+use Rattle.bser_format.proofs.Fronts.{Reads, reads_then, reads_last, string_reads, int_reads, one_value, front_reads, from_to_le_bytes}
+
+pub one_int : (b c x y : List ℕ) (v w : ℤ) → SpellsInteger v b → SpellsInteger w c → b ++ x ≡ c ++ y → (b ≡ c) × (v ≡ w)
+one_int b c x y v w p q e =
+    let same = some_pair_parts v w x y (sym (int_reads v b x p) ∙ ap int e ∙ int_reads w c y q) in
+    (append_cancel_right b c y (subst (λ r. b ++ r ≡ c ++ y) same.1 e), same.0)
+
+-- ---- levels
+
+pub then_more : (F F' G G' : Format) → ((b : List ℕ) → F b → F' b) → ((b : List ℕ) → G b → G' b) → (b : List ℕ) → (F then G) b → (F' then G') b
+then_more F F' G G' f g b h = record { front = h.front; rest = h.rest; whole = h.whole; first = f h.front h.first; second = g h.rest h.second }
+
+pub after : (F G G' : Format) → ((b : List ℕ) → G b → G' b) → (b : List ℕ) → (F then G) b → (F then G') b
+after F G G' g = then_more F F G G' (λ c f. f) g
+
+each_more : {X : Type 0} (F G : X → Format) → ((x : X) (b : List ℕ) → F x b → G x b) → (xs : List X) (b : List ℕ) → Each F xs b → Each G xs b
+each_more F G more [] b h = h
+each_more F G more (x ∷ xs) b h = then_more (F x) (G x) (Each F xs) (Each G xs) (more x) (each_more F G more xs) b h
+
+entry_more : (F G : Tree → Format) → ((t : Tree) (b : List ℕ) → F t b → G t b) → (e : List ℕ × Tree) (b : List ℕ) → SpellsEntry F e b → SpellsEntry G e b
+entry_more F G more e = after (SpellsString e.0) (F e.1) (G e.1) (more e.1)
+
+field_more : (F G : Tree → Format) → ((t : Tree) (b : List ℕ) → F t b → G t b) → (f : Option Tree) (b : List ℕ) → SpellsField F f b → SpellsField G f b
+field_more F G more None b h = h
+field_more F G more (Some t) b h = more t b h
+
+pub one_more : (n : ℕ) (t : Tree) (b : List ℕ) → Spells n t b → Spells (suc n) t b
+one_more n null b h = h
+one_more n (boolean v) b h = h
+one_more n (integer v) b h = h
+one_more n (real r) b h = h
+one_more n (bytes s) b h = h
+one_more n (text s) b h = h
+one_more zero (array ts) b h = absurd h
+one_more (suc n) (array ts) b h = after _ _ _ (after _ _ _ (each_more (Spells n) (Spells (suc n)) (one_more n) (items ts))) b h
+one_more zero (object es) b h = absurd h
+one_more (suc n) (object es) b h = after _ _ _ (after _ _ _ (each_more (SpellsEntry (Spells n)) (SpellsEntry (Spells (suc n))) (entry_more _ _ (one_more n)) (entries es))) b h
+one_more zero (template ks rs) b h = absurd h
+one_more (suc zero) (template ks rs) b h = absurd h
+one_more (suc (suc n)) (template ks rs) b h =
+    (h.0, after _ _ _ (after _ _ _ (after _ _ _ (after _ _ _ (after _ _ _ (each_more _ _ (each_more _ _ (field_more (Spells (suc n)) (Spells (suc (suc n))) (one_more (suc n)))) (rows rs)))))) b h.1)
+
+more_by : (k n m : ℕ) (t : Tree) (b : List ℕ) → n + k ≡ m → Spells n t b → Spells m t b
+more_by zero n m t b e h = let same : n ≡ m = omega arith in subst (λ j. Spells j t b) same h
+more_by (suc k) n m t b e h = more_by k (suc n) m t b (omega arith) (one_more n t b h)
+
+pub more_levels : (n m : ℕ) (b : List ℕ) (t : Tree) → n ≤ m → Spells n t b → Spells m t b
+more_levels n m b t l h = more_by (m - n) n m t b (omega arith) h
+
+-- ---- messages
+
+bytes_reads : (n : ℕ) (s : List ℕ) → length s ≡ n → Reads (front n) (Bytes s) s
+bytes_reads n s l b y e = ap (λ c. front n (c ++ y)) e ∙ front_reads n s y l
+
+magic_reads : Reads magic (Bytes (0x00 ∷ 0x02 ∷ [])) (0x00 ∷ 0x02 ∷ [])
+magic_reads = reads_last (front 2) (check (λ s. bytes_eq s (0x00 ∷ 0x02 ∷ []))) (Bytes (0x00 ∷ 0x02 ∷ [])) (0x00 ∷ 0x02 ∷ []) (0x00 ∷ 0x02 ∷ []) (bytes_reads 2 _ refl) (λ w. refl)
+
+-- the frame of a body
+abbrev pub Frame : ℕ × List ℕ → Format
+Frame p = Bytes (0x00 ∷ 0x02 ∷ []) then Bytes (to_le_bytes w32 p.0) then SpellsCount (length p.1) then Bytes p.1
+
+pub parts_reads : (c : ℕ) (body : List ℕ) → c < 2 ^ 32 → Reads parts (Frame (c, body)) (c, body)
+parts_reads c body small =
+    reads_then magic (λ m. front 4 >>= λ cs. string >>= λ p. give (from_le_bytes w32 cs, p)) _ _ (0x00 ∷ 0x02 ∷ []) _ magic_reads
+    (reads_then (front 4) (λ cs. string >>= λ p. give (from_le_bytes w32 cs, p)) _ _ (to_le_bytes w32 c) _ (bytes_reads 4 _ refl)
+    (reads_last string (λ p. give (from_le_bytes w32 (to_le_bytes w32 c), p)) _ body (c, body) (string_reads body) (λ w. ap (λ k. Some ((k, body), w)) (from_to_le_bytes int32 c small))))
+
+pub one_message : (n c d : ℕ) (a b x y : List ℕ) (t u : Tree) → IsMessage n c t a → IsMessage n d u b → a ++ x ≡ b ++ y → (a ≡ b) × (c ≡ d) × (t ≡ u)
+one_message n c d a b x y t u p q e =
+    let same = some_pair_parts (c, p.body) (d, q.body) x y (sym (parts_reads c p.body p.capabilities a x p.whole) ∙ ap parts e ∙ parts_reads d q.body q.capabilities b y q.whole) in
+    let bodies : p.body ≡ q.body = ap (λ v. v.1) same.0 in
+    let value = one_value n p.body q.body [] [] t u p.value q.value (ap (λ v. v ++ []) bodies) in
+    (append_cancel_right a b y (subst (λ r. a ++ r ≡ b ++ y) same.1 e), ap (λ v. v.0) same.0, value.1)

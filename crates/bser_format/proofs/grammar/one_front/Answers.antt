@@ -1,0 +1,5 @@
+use Rattle.bser_format.proofs.Laws.{one_message}
+use Rattle.bser_format.proofs.grammar.one_front.Goals as goal
+
+pub returns : goal.returns
+returns c = one_message
