@@ -5,11 +5,9 @@ ghost use Rattle.serde_bser.specs.Slots.{struct_needs};
 ghost use Rattle.bser_bench.specs.Rows.{reads_file, HoldsFile, file_needs, reads_files, HoldsFiles};
 
 use serde_bser::bytestring::ByteString;
-use serde_bser::de::read::LendsText;
-use serde_bser::de::{
-    DeRead, Deserialize, Deserializer, Optional, OwnedShape, ReadsFields, Required, Shape,
-};
+use serde_bser::de::{Deserializer, Optional, Required};
 use serde_bser::errors::Result;
+use serde_bser::prelude::*;
 use std::alloc::Global;
 
 /// What an answer tells of a file. The name's bytes and the type's text are lent or owned.

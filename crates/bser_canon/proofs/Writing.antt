@@ -2,7 +2,7 @@
 use Rattle.std.proofs.Common.{ℕ, List, Option, Some, Result, IfErr, inr}
 use Rattle.std.proofs.lemmas.Result.{IfErr-weaker}
 use Rattle.bser_base.specs.Content.{Meaning}
-use Rattle.bser_format.specs.declared.errors.Error.{Error}
+use Rattle.bser_base.specs.declared.errors.Error.{Error}
 use Rattle.bser_ser.specs.Message.{Missed}
 use Rattle.serde_bser.specs.Messages.{TookMessage}
 use Rattle.serde_bser.specs.ValueView.{tree_of, HoldsValue}

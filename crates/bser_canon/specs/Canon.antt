@@ -2,7 +2,7 @@
 use Rattle.std.specs.Prelude.{◌≡◌, ℕ, ◌<◌, ◌^◌, List, length, Option, Some, ◌⊎◌}
 use Rattle.bser_base.specs.Canonical.{canonical_body, canonical_message}
 use Rattle.bser_base.specs.Content.{Meaning}
-use Rattle.bser_format.specs.declared.errors.Error.{Error}
+use Rattle.bser_base.specs.declared.errors.Error.{Error}
 use Rattle.bser_ser.specs.Message.{Missed}
 use Rattle.serde_bser.specs.Messages.{TookMessage, RefusesReader}
 use Rattle.serde_bser.specs.ValueView.{tree_of, HoldsValue}

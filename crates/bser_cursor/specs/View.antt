@@ -6,6 +6,7 @@ use Rattle.bser_state.specs.State.{State}
 use Rattle.bser_cursor.specs.declared.deserializer.Deserializer.{Deserializer}
 use Rattle.bser_state.specs.Dues.{due_of}
 
+-- the state of a deserializer, by the state of its source and the bytes of a kept key
 abbrev pub state : {R L K : Type 0} → (R → source.State) → (K → List ℕ) → Deserializer R L K → State
 state at kept d =
     let ks = map kept d.keys.items in

@@ -4,7 +4,7 @@ ghost use Rattle.bser_base.specs.Content.{byte_list};
 ghost use Rattle.bser_base.specs.Errors.{copying};
 ghost use Rattle.bser_base.specs.Expected.{name_due};
 ghost use Rattle.bser_base.specs.Grammar.{Given};
-ghost use Rattle.bser_format.specs.declared.errors.Error.TheVariants.{OutOfMemory};
+ghost use Rattle.bser_base.specs.declared.errors.Error.TheVariants.{OutOfMemory};
 ghost use Rattle.bser_base.specs.ReadsScalars.{reads_slice, reads_string};
 ghost use Rattle.bser_base.specs.Refs.{bytes_of, is_lent, text_of, is_lent_text};
 ghost use Rattle.bser_state.specs.Reading.{Answers, Refuses, RefusesFront, IsRefusal, bare};

@@ -7,9 +7,9 @@ use Rattle.bser_base.specs.Content.{Content, Meaning, Needs}
 use Rattle.bser_base.specs.Expected.{Fills, FillsItems, WantedItems, nodes, rows_over}
 use Rattle.bser_base.specs.Source as source
 use Rattle.bser_base.specs.Source.{Took, sight_after}
-use Rattle.bser_format.specs.declared.errors.Error.{Error}
-use Rattle.bser_format.specs.declared.errors.Error.TheVariants.{DeReaderError}
-use Rattle.bser_format.specs.declared.errors.ReadCause.TheVariants.{Failed}
+use Rattle.bser_base.specs.declared.errors.Error.{Error}
+use Rattle.bser_base.specs.declared.errors.Error.TheVariants.{DeReaderError}
+use Rattle.bser_base.specs.declared.errors.ReadCause.TheVariants.{Failed}
 use Rattle.bser_state.specs.State.{State, past, refused, awaiting}
 use Rattle.bser_state.specs.Reading.{TakesMemory, Answers, Refuses, RefusesFront, FillsReadably, IsRefusal}
 use Rattle.bser_state.specs.Scalar.{owned}

@@ -5,7 +5,7 @@ use Rattle.std.specs.Prelude.{option_map, option_and_then}
 use Rattle.bser_base.specs.Tree.{Tree, null, boolean, integer, real, bytes, text, array, object, template, Items}
 use Rattle.bser_base.specs.Content.{Content, Meaning, Needs, each_some}
 use Rattle.bser_base.specs.ReadsHolders.{list_of, reads_vec, reads_each, reads_tuple}
-use Rattle.bser_format.specs.declared.errors.Error.{Error}
+use Rattle.bser_base.specs.declared.errors.Error.{Error}
 use Rattle.bser_state.specs.State.{State}
 use Rattle.bser_state.specs.Reading.{Answers, Refuses}
 use Rattle.bser_state.specs.Access.{OpenItems, OpensItems, RefusesItems, IsNext, RefusesItem, ClosesItems}

@@ -10,8 +10,8 @@ use Rattle.bser_base.specs.Tree.{Tree, null, boolean, integer, real, bytes, text
 use Rattle.bser_base.specs.Expand.{key_tree}
 use Rattle.bser_base.specs.Content.{Content, byte_list, pair, Meaning, Needs, each_some}
 use Rattle.bser_base.specs.ReadsHolders.{reads_map, reads_entry, list_of}
-use Rattle.bser_format.specs.declared.errors.Error.{Error}
-use Rattle.bser_format.specs.declared.errors.Error.TheVariants.{OutOfMemory}
+use Rattle.bser_base.specs.declared.errors.Error.{Error}
+use Rattle.bser_base.specs.declared.errors.Error.TheVariants.{OutOfMemory}
 use Rattle.bser_state.specs.State.{State}
 use Rattle.bser_state.specs.Reading.{Answers, Refuses, bare}
 use Rattle.bser_state.specs.Parts.{pairs_left}

@@ -6,7 +6,7 @@ use Rattle.bser_base.specs.Tree.{Tree, null, boolean, integer, real, bytes, text
 use Rattle.bser_base.specs.Content.{Content, one, byte_list, Meaning, Needs}
 use Rattle.bser_base.specs.ReadsScalars.{reads_string, utf8_of}
 use Rattle.bser_base.specs.Expected.{WantedPairs, entries_of_object, fields_of_row}
-use Rattle.bser_format.specs.declared.errors.Error.{Error}
+use Rattle.bser_base.specs.declared.errors.Error.{Error}
 use Rattle.bser_state.specs.State.{State, awaiting, refused}
 use Rattle.bser_state.specs.Reading.{TakesMemory, Answers, Refuses, IsRefusal, bare}
 use Rattle.bser_state.specs.Parts.{pairs_left, pair_value, pairs_after}

@@ -8,7 +8,7 @@ use Rattle.bser_base.specs.Content.{Content, Meaning, Needs}
 use Rattle.bser_base.specs.Grammar.{Each}
 use Rattle.bser_base.specs.Expected.{Fills, row_due, WantedItems, nodes, rows_over}
 use Rattle.bser_base.specs.ReadsHolders.{list_of, reads_each, reads_tuple}
-use Rattle.bser_format.specs.declared.errors.Error.{Error}
+use Rattle.bser_base.specs.declared.errors.Error.{Error}
 use Rattle.bser_state.specs.State.{State}
 use Rattle.bser_state.specs.Reading.{Refuses, FillsReadably, only_keys}
 use Rattle.bser_state.specs.Parts.{BeginsItems}

@@ -9,6 +9,7 @@ use Rattle.bser_state.specs.State.{State}
 use Rattle.bser_de.specs.declared.seq.SeqAccess.{SeqAccess}
 use Rattle.bser_de.specs.declared.map.MapAccess.{MapAccess}
 
+-- the array or template whose items an access reads
 abbrev pub open_items : {R L K : Type 0} → (R → source.State) → (K → List ℕ) → SeqAccess R L K → OpenItems
 open_items at kept a =
     let s = state at kept a.from.now in
@@ -18,6 +19,7 @@ open_items at kept a =
 abbrev pub items_reference : {R L K : Type 0} → SeqAccess R L K → GName
 items_reference a = a.from.ghost_name
 
+-- the object or row whose entries an access reads
 abbrev pub open_pairs : {R L K : Type 0} → (R → source.State) → (K → List ℕ) → MapAccess R L K → OpenPairs
 open_pairs at kept a =
     let s = state at kept a.from.now in

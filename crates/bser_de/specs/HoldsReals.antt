@@ -1,4 +1,4 @@
--- What values of the types that are read hold.
+-- What a real holds.
 use Rattle.std.specs.Prelude.{◌≡◌, pos}
 use Rattle.bser_base.specs.Content.{Content, number}
 use Rattle.bser_de.specs.declared.impls.scalars.RealBits.{RealBits}

@@ -7,7 +7,7 @@ use Rattle.bser_base.specs.ReadsAny.{reads_ignored}
 use Rattle.bser_base.specs.Expected.{Fills}
 use Rattle.bser_base.specs.Source.{Took, sight_after}
 use Rattle.bser_base.specs.Tagged.{with_failure}
-use Rattle.bser_format.specs.declared.errors.Error.{Error}
+use Rattle.bser_base.specs.declared.errors.Error.{Error}
 use Rattle.bser_state.specs.State.{State, awaiting, past}
 use Rattle.bser_state.specs.Reading.{RefusesFront, IsRefusal}
 use Rattle.bser_state.specs.Parts.{pair_value}

@@ -1,6 +1,7 @@
 //! The types that are read.
 pub mod hash_maps;
 pub mod holders;
+pub mod integers;
 pub mod keys;
 pub mod lists;
 pub mod maps;

@@ -3,9 +3,9 @@ ghost use Rattle.std.specs.Prelude.{None};
 ghost use Rattle.bser_reading.specs.Files.{file_of, HoldsFile};
 ghost use Rattle.serde_bser.specs.Fold.{either};
 
-use serde_bser::de::read::LendsText;
-use serde_bser::de::{DeRead, Deserialize, Deserializer, Field, ReadsContainers, Shape};
+use serde_bser::de::{Deserializer, Field};
 use serde_bser::errors::{Complaint, Error, Result};
+use serde_bser::prelude::*;
 use std::alloc::Global;
 
 /// A file's name and size. Another field, and one that comes twice, is refused.

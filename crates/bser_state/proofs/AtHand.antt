@@ -28,6 +28,7 @@ use Rattle.bser_state.specs.declared.head.Head.TheVariants.{Tag}
 use Rattle.bser_state.proofs.KindTags.{tags_of, field_tags}
 use Rattle.bser_state.proofs.Pairs.{name_of}
 use Rattle.bser_state.proofs.Pulls.{fits_w64, signed_64}
+use Rattle.bser_state.proofs.Seen.{tagged_some}
 use Rattle.bser_state.proofs.TextRefusals.{name_taken}
 use Rattle.bser_state.proofs.Texts.{text_answer}
 
@@ -120,6 +121,7 @@ pub other_at_hand : (s t : State) (hand : List ℕ) (tag : ℕ) (k : Node) → I
 other_at_hand s t hand tag k is first kind other next took state = record {
   kind = k;
   sees = record {
+    some = tagged_some s.due (value_tagged s.due is);
     head = Tag tag;
     stands = record { tagged = value_tagged s.due is; next = next; took = took; state = state };
     kind = subst (λ x. node_at s.due (Tag x) ≡ Some k) (first_is hand tag first) kind;

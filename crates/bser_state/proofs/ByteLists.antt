@@ -7,7 +7,7 @@ use Rattle.bser_base.specs.Content.{Content, byte_list, number, contents_of, eac
 use Rattle.bser_base.specs.ReadsScalars.{byte_of, reads_unsigned, reads_slice, reads_byte_string}
 use Rattle.bser_base.specs.ReadsHolders.{list_of, reads_vec}
 use Rattle.bser_base.specs.Expected.{Due, Fills, nothing_due, node_due, key_due, field_due, name_due, row_due}
-use Rattle.bser_format.specs.declared.errors.Error.{Error}
+use Rattle.bser_base.specs.declared.errors.Error.{Error}
 use Rattle.bser_state.specs.Nodes.{node_at, field_node, SeesNode}
 use Rattle.bser_state.specs.Heads.{Stands}
 use Rattle.bser_state.specs.State.{State}

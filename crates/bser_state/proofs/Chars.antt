@@ -4,7 +4,7 @@ use Rattle.std.specs.Prelude.{option_map, option_and_then, chars, slice_get, pos
 use Rattle.std.proofs.lemmas.Str.{chars_past_char}
 use Rattle.bser_base.specs.Content.{byte_list, number}
 use Rattle.bser_base.specs.ReadsScalars.{utf8_of, reads_string, reads_char, one_char}
-use Rattle.bser_format.specs.declared.errors.Error.{Error}
+use Rattle.bser_base.specs.declared.errors.Error.{Error}
 use Rattle.bser_state.specs.State.{State, refused}
 use Rattle.bser_state.specs.Reading.{Answers, FillsReadably, Refuses, IsRefusal, bare}
 use Rattle.bser_state.proofs.Refusals.{rest_of}

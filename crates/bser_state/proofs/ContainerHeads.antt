@@ -11,7 +11,8 @@ use Rattle.bser_state.specs.declared.node.Node.TheVariants as kinds
 use Rattle.bser_state.specs.declared.head.Head.{Head}
 use Rattle.bser_state.specs.declared.head.Head.TheVariants.{Tag, Name, Row}
 use Rattle.bser_state.specs.Heads.{IsTagged, TagInSight}
-use Rattle.bser_state.specs.Openings.{IsValue, IsBefore}
+use Rattle.bser_state.specs.Openings.{IsBefore}
+use Rattle.bser_state.specs.Scalar.{IsValue}
 use Rattle.bser_state.specs.Tables.{SpellsTable, IsTable}
 use Rattle.bser_state.proofs.KindTags.{TagsOf, tags_of, field_tags, key_tags}
 

@@ -10,7 +10,7 @@ use Rattle.bser_base.specs.Source as source
 use Rattle.bser_base.specs.Source.{Took, sight_after}
 use Rattle.bser_base.proofs.Taken.{took_then}
 use Rattle.bser_base.specs.TaggedRefusal.{ShortOf}
-use Rattle.bser_format.specs.declared.errors.Error.{Error}
+use Rattle.bser_base.specs.declared.errors.Error.{Error}
 use Rattle.bser_base.proofs.Heads.{short_of}
 use Rattle.bser_base.proofs.Tags.{no_empty}
 use Rattle.bser_state.specs.State.{State, past}

@@ -11,7 +11,7 @@ use Rattle.bser_base.specs.Expected.{Due, Fills, nothing_due, node_due, key_due,
 use Rattle.bser_base.specs.Source as source
 use Rattle.bser_base.specs.Source.{Took, first_or}
 use Rattle.bser_base.specs.Tagged.{with_failure}
-use Rattle.bser_format.specs.declared.errors.Error.{Error}
+use Rattle.bser_base.specs.declared.errors.Error.{Error}
 use Rattle.bser_base.proofs.Tags.{integer_tag}
 use Rattle.bser_state.specs.State.{State}
 use Rattle.bser_state.specs.Dues.{name_at}

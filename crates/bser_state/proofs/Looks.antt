@@ -5,7 +5,7 @@ use Rattle.bser_base.specs.Content.{Content, Meaning, Needs}
 use Rattle.bser_base.specs.Expected.{Due, Fills, nothing_due, node_due, key_due, field_due, name_due, row_due}
 use Rattle.bser_base.specs.Source as source
 use Rattle.bser_base.specs.Source.{Took, sight_after}
-use Rattle.bser_format.specs.declared.errors.Error.{Error}
+use Rattle.bser_base.specs.declared.errors.Error.{Error}
 use Rattle.bser_state.specs.State.{State, past}
 use Rattle.bser_state.specs.Nodes.{key_node, field_node, BeginsNode}
 use Rattle.bser_state.specs.Heads.{Stands}

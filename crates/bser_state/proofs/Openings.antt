@@ -8,7 +8,7 @@ use Rattle.bser_base.specs.Expected.{nothing_due, WantedItems, nodes, rows_over,
 use Rattle.bser_base.specs.Source as source
 use Rattle.bser_base.specs.Source.{Took, IsNext, sight_after, bytes_in_sight}
 use Rattle.bser_base.specs.Tagged.{IsLength, with_failure}
-use Rattle.bser_format.specs.declared.errors.Error.{Error}
+use Rattle.bser_base.specs.declared.errors.Error.{Error}
 use Rattle.bser_state.specs.State.{State, with_source, refused}
 use Rattle.bser_state.specs.Reading.{RefusesFront, IsRefusal, bare, only_keys}
 use Rattle.bser_state.specs.Scalar.{owned}
@@ -18,7 +18,8 @@ use Rattle.bser_state.specs.Nodes.{BeginsKind, StandsAs}
 use Rattle.bser_state.specs.declared.node.Node.TheVariants as kinds
 use Rattle.bser_state.specs.declared.head.Head.{Head}
 use Rattle.bser_state.specs.declared.head.Head.TheVariants.{Tag, Name, Row}
-use Rattle.bser_state.specs.Openings.{IsBefore, IsValue}
+use Rattle.bser_state.specs.Openings.{IsBefore}
+use Rattle.bser_state.specs.Scalar.{IsValue}
 use Rattle.bser_state.specs.Tables.{TookPart, SpellsTable, IsTable}
 use Rattle.bser_state.proofs.Refusals.{passed_by, first_part, sequel}
 use Rattle.bser_state.proofs.Steps.{with_needs, narrower, unfit, unfit_here}

@@ -7,7 +7,7 @@ use Rattle.bser_base.specs.Expected.{Fills}
 use Rattle.bser_base.specs.ReadsHolders.{reads_option}
 use Rattle.bser_base.specs.Source as source
 use Rattle.bser_base.specs.Source.{Took}
-use Rattle.bser_format.specs.declared.errors.Error.{Error}
+use Rattle.bser_base.specs.declared.errors.Error.{Error}
 use Rattle.bser_state.specs.State.{State}
 use Rattle.bser_state.specs.Nodes.{node_at, IsOther}
 use Rattle.bser_state.specs.Reading.{Answers, RefusesFront, FillsReadably}

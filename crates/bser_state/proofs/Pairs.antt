@@ -3,7 +3,7 @@ use Rattle.std.proofs.Common.{◌≡◌, ℕ, zero, suc, ◌+◌, ◌-◌, ◌<�
 use Rattle.bser_base.specs.Content.{Meaning, Needs}
 use Rattle.bser_base.specs.Expected.{WantedPairs, entries_of_object, fields_of_row, nothing_due, name_due}
 use Rattle.bser_base.specs.Expected as expected
-use Rattle.bser_format.specs.declared.errors.Error.{Error}
+use Rattle.bser_base.specs.declared.errors.Error.{Error}
 use Rattle.bser_state.specs.State.{awaiting, refused}
 use Rattle.bser_state.specs.Parts.{wanted_pairs, pairs_left, pair_key, pair_value, pairs_after}
 use Rattle.bser_state.specs.Dues.{name_at, due_of}

@@ -14,7 +14,7 @@ use Rattle.bser_base.specs.Source.{Took, sight_after, bytes_in_sight}
 use Rattle.bser_base.proofs.Taken.{took_then}
 use Rattle.bser_base.specs.Tagged.{TookInt, TookBits, IsInteger}
 use Rattle.bser_base.specs.TaggedRefusal.{Unwanted, ShortOf}
-use Rattle.bser_format.specs.declared.errors.Error.{Error}
+use Rattle.bser_base.specs.declared.errors.Error.{Error}
 use Rattle.bser_base.proofs.Heads.{short_of}
 use Rattle.bser_base.proofs.Fronts.{length-le_bytes}
 use Rattle.bser_state.specs.State.{State, past}

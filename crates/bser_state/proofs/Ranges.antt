@@ -13,7 +13,7 @@ use Rattle.bser_base.specs.ReadsScalars.{reads_signed, reads_integer, is_signed,
 use Rattle.bser_base.specs.Source as source
 use Rattle.bser_base.specs.Source.{sight_after}
 use Rattle.bser_base.specs.Tagged.{with_failure}
-use Rattle.bser_format.specs.declared.errors.Error.{Error}
+use Rattle.bser_base.specs.declared.errors.Error.{Error}
 use Rattle.bser_state.specs.State.{State}
 use Rattle.bser_state.specs.Reading.{Answers, RefusesFront, FillsReadably, IsRefusal, bare}
 use Rattle.bser_state.specs.declared.node.Node.TheVariants as kinds

@@ -8,11 +8,11 @@ use Rattle.bser_base.specs.Content.{Needs}
 use Rattle.bser_base.specs.Source.{State, Took, with_limit}
 use Rattle.bser_base.specs.TaggedRefusal as tagged
 use Rattle.bser_base.specs.TaggedRefusal.{Unwanted, MayAnswer, cause_of, failures_by}
-use Rattle.bser_format.specs.declared.errors.Error.{Error}
-use Rattle.bser_format.specs.declared.errors.Error.TheVariants.{DeInvalidStartByte, DeCustom, DeReaderError, OutOfMemory}
-use Rattle.bser_format.specs.declared.errors.Message.TheVariants.{Fixed}
-use Rattle.bser_format.specs.declared.errors.Complaint.TheVariants as complaints
-use Rattle.bser_format.specs.declared.errors.ReadCause.TheVariants.{Eof, Utf8, Reader, Memory, Failed}
+use Rattle.bser_base.specs.declared.errors.Error.{Error}
+use Rattle.bser_base.specs.declared.errors.Error.TheVariants.{DeInvalidStartByte, DeCustom, DeReaderError, OutOfMemory}
+use Rattle.bser_base.specs.declared.errors.Message.TheVariants.{Fixed}
+use Rattle.bser_base.specs.declared.errors.Complaint.TheVariants as complaints
+use Rattle.bser_base.specs.declared.errors.ReadCause.TheVariants.{Eof, Utf8, Reader, Memory, Failed}
 use Rattle.bser_state.specs.Reading.{Outside, MayRefuse, IsRefusal, RefusesFront}
 
 -- what the bytes are not to blame for stays so where more was wanted

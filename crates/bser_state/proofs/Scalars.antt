@@ -8,7 +8,7 @@ use Rattle.bser_base.specs.Content.{Needs}
 use Rattle.bser_base.specs.Source.{State, Took, IsNext, bytes_in_sight}
 use Rattle.bser_base.specs.Tagged.{TookInt, TookBits, IsInteger}
 use Rattle.bser_base.specs.TaggedRefusal.{Unwanted, ShortOf}
-use Rattle.bser_format.specs.declared.errors.Error.{Error}
+use Rattle.bser_base.specs.declared.errors.Error.{Error}
 use Rattle.bser_base.proofs.Heads.{short_of}
 use Rattle.bser_base.proofs.Tags.{Tagged, tagged_by, integer_tag, no_empty}
 use Rattle.bser_state.specs.Reading.{RefusesFront, IsRefusal}

@@ -12,7 +12,7 @@ use Rattle.bser_base.specs.Source as source
 use Rattle.bser_base.specs.Source.{IsNext}
 use Rattle.bser_base.specs.Tagged.{with_failure}
 use Rattle.bser_base.specs.TaggedRefusal.{ShortOf}
-use Rattle.bser_format.specs.declared.errors.Error.{Error}
+use Rattle.bser_base.specs.declared.errors.Error.{Error}
 use Rattle.bser_base.proofs.Heads.{short_of}
 use Rattle.bser_base.proofs.Tags.{Tagged, tagged_by, no_empty}
 use Rattle.bser_state.specs.State.{State}
@@ -161,6 +161,10 @@ name_due_within place kept ks n e h = named place (map kept ks) (omega (arith, l
 
 pub name_due_past : {K : Type 0} (place : ℕ) (kept : K → List ℕ) (ks : List K) (n : ℕ) → n ≡ length ks → nat_lt place n ≡ false → name_at place (map kept ks) ≡ nothing_due
 name_due_past place kept ks n e h = unnamed place (map kept ks) (omega (arith, ltb-false place n h, e, length-map ks kept))
+
+-- what begins with a tag is due
+pub tagged_some : (d : Due) → IsTagged d → d ≡ nothing_due → ⊥
+tagged_some d is none = subst IsTagged none is
 
 -- what is due without being a name or a row has a tag
 pub tagged_due : (ks : List (List ℕ)) (d : deserializer.Due) → (due_of ks d ≡ nothing_due → ⊥) → ((place : ℕ) → d ≡ due.Name place → ⊥) → (d ≡ due.Row → ⊥) → IsTagged (due_of ks d)

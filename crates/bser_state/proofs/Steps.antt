@@ -4,11 +4,11 @@ use Rattle.bser_base.specs.Grammar.{Format}
 use Rattle.bser_base.specs.Content.{Needs}
 use Rattle.bser_base.specs.Source.{State, Took}
 use Rattle.bser_base.specs.Tagged.{with_failure}
-use Rattle.bser_format.specs.declared.errors.Error.{Error}
-use Rattle.bser_format.specs.declared.errors.Error.TheVariants.{DeCustom, DeReaderError, OutOfMemory}
-use Rattle.bser_format.specs.declared.errors.Message.TheVariants.{Fixed}
-use Rattle.bser_format.specs.declared.errors.Complaint.TheVariants as complaints
-use Rattle.bser_format.specs.declared.errors.ReadCause.TheVariants.{Reader, Failed}
+use Rattle.bser_base.specs.declared.errors.Error.{Error}
+use Rattle.bser_base.specs.declared.errors.Error.TheVariants.{DeCustom, DeReaderError, OutOfMemory}
+use Rattle.bser_base.specs.declared.errors.Message.TheVariants.{Fixed}
+use Rattle.bser_base.specs.declared.errors.Complaint.TheVariants as complaints
+use Rattle.bser_base.specs.declared.errors.ReadCause.TheVariants.{Reader, Failed}
 use Rattle.bser_state.specs.Reading.{TakesMemory, Outside, MayRefuse, IsRefusal, RefusesFront, bare}
 use Rattle.bser_state.proofs.Refusals.{may_refuse, no_failure}
 

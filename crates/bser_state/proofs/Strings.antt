@@ -10,7 +10,7 @@ use Rattle.bser_base.specs.Source.{State, Took, sight_after, bytes_in_sight}
 use Rattle.bser_base.proofs.Taken.{took_then}
 use Rattle.bser_base.specs.Tagged.{TookInt, IsInteger}
 use Rattle.bser_base.specs.TaggedRefusal.{Unwanted}
-use Rattle.bser_format.specs.declared.errors.Error.{Error}
+use Rattle.bser_base.specs.declared.errors.Error.{Error}
 use Rattle.bser_base.proofs.Laws.{one_int}
 use Rattle.bser_base.proofs.Fronts.{string_reads}
 use Rattle.bser_state.specs.Reading.{RefusesFront, IsRefusal}

@@ -1,4 +1,4 @@
--- Strings that are at hand whole, as what is due and as what is skipped.
+-- Strings that are at hand whole, as what is due.
 use Rattle.std.proofs.Common.{◌≡◌, ℕ, ◌+◌, ◌-◌, Bool, true, false, List, [], ◌∷◌, ◌++◌, Some, None, length, take, drop, get_or, refl, sym, ap, subst, ◌∙◌, arith}
 use Rattle.std.specs.Prelude.{pos}
 use Rattle.std.proofs.lemmas.List.{length-take-le, length-drop}
@@ -11,13 +11,10 @@ use Rattle.bser_base.specs.Source.{Took, IsNext}
 use Rattle.bser_state.specs.Heads.{IsTagged}
 use Rattle.bser_state.specs.Nodes.{node_at, SeesNode}
 use Rattle.bser_state.specs.State.{State, past, with_source}
-use Rattle.bser_state.specs.Strings.{string_tag, SpellsUnder, StringDue, TookBytes}
+use Rattle.bser_state.specs.Strings.{SpellsUnder, StringDue, TookBytes}
 use Rattle.bser_state.specs.declared.node.Node.{Node}
 use Rattle.bser_state.specs.declared.head.Head.TheVariants.{Tag}
-
-same_tag : (m : Bool) → tag_of_string m ≡ string_tag m
-same_tag true = refl
-same_tag false = refl
+use Rattle.bser_state.proofs.Seen.{tagged_some}
 
 -- its own bytes
 abbrev pub own_bytes : List ℕ → StringPlace → List ℕ
@@ -38,7 +35,7 @@ spelled_front hand p f = record {
   front = tag_of_string p.is_text ∷ [];
   rest = f.number ++ own_bytes hand p;
   whole = refl;
-  first = ap (λ t. t ∷ []) (same_tag p.is_text);
+  first = refl;
   second = record {
     front = f.number;
     rest = own_bytes hand p;
@@ -70,6 +67,7 @@ string_at_hand s t hand p bytes is f same took state = subst (TookBytes s t p.is
 pub node_at_hand : (s t : State) (hand : List ℕ) (tag : ℕ) (k : Node) → IsTagged s.due → hand ≡ tag ∷ drop 1 hand → node_at s.due (Tag (get_or hand 0 0)) ≡ Some k
     → IsNext t.source.left tag → Took s.source t.source [] (Some tag) → t ≡ with_source s t.source → SeesNode s t k
 node_at_hand s t hand tag k is first kind next took state = record {
+  some = tagged_some s.due is;
   head = Tag tag;
   stands = record { tagged = is; next = next; took = took; state = state };
   kind = subst (λ x. node_at s.due (Tag x) ≡ Some k) (ap (λ l. get_or l 0 0) first) kind;

@@ -13,10 +13,10 @@ use Rattle.bser_base.specs.Source.{State, Took, IsNext, sight_after, bytes_in_si
 use Rattle.bser_base.proofs.Taken.{took_then}
 use Rattle.bser_base.specs.Tagged.{TookInt, IsInteger, IsLength, with_failure}
 use Rattle.bser_base.specs.TaggedRefusal.{Unwanted, BytesRefused, NegativeLength}
-use Rattle.bser_format.specs.declared.errors.Error.{Error}
-use Rattle.bser_format.specs.declared.errors.Error.TheVariants.{DeCustom, DeReaderError}
-use Rattle.bser_format.specs.declared.errors.Message.TheVariants.{Fixed}
-use Rattle.bser_format.specs.declared.errors.ReadCause.TheVariants as causes
+use Rattle.bser_base.specs.declared.errors.Error.{Error}
+use Rattle.bser_base.specs.declared.errors.Error.TheVariants.{DeCustom, DeReaderError}
+use Rattle.bser_base.specs.declared.errors.Message.TheVariants.{Fixed}
+use Rattle.bser_base.specs.declared.errors.ReadCause.TheVariants as causes
 use Rattle.bser_base.proofs.Fronts.{Reads, reads_then, next_reads, string_reads, key_reads, count_reads, many_all}
 use Rattle.bser_base.proofs.Heads.{short_of}
 use Rattle.bser_base.proofs.Laws.{one_int}

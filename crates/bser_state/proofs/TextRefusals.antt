@@ -12,18 +12,19 @@ use Rattle.bser_base.specs.Source.{Took, IsNext}
 use Rattle.bser_base.proofs.Taken.{took_then}
 use Rattle.bser_base.specs.Tagged.{with_failure}
 use Rattle.bser_base.specs.TaggedRefusal.{BytesRefused, NegativeLength}
-use Rattle.bser_format.specs.declared.errors.Error.{Error}
-use Rattle.bser_format.specs.declared.errors.Error.TheVariants.{DeCustom, DeReaderError, OutOfMemory}
-use Rattle.bser_format.specs.declared.errors.Message.TheVariants.{Fixed}
-use Rattle.bser_format.specs.declared.errors.Complaint.TheVariants as complaints
-use Rattle.bser_format.specs.declared.errors.ReadCause.TheVariants.{Reader}
+use Rattle.bser_base.specs.declared.errors.Error.{Error}
+use Rattle.bser_base.specs.declared.errors.Error.TheVariants.{DeCustom, DeReaderError, OutOfMemory}
+use Rattle.bser_base.specs.declared.errors.Message.TheVariants.{Fixed}
+use Rattle.bser_base.specs.declared.errors.Complaint.TheVariants as complaints
+use Rattle.bser_base.specs.declared.errors.ReadCause.TheVariants.{Reader}
 use Rattle.bser_base.proofs.Heads.{short_of}
 use Rattle.bser_state.specs.Heads.{TagInSight, Standing, Stands}
 use Rattle.bser_state.specs.declared.head.Head.{Head}
 use Rattle.bser_state.specs.declared.head.Head.TheVariants.{Tag, Name, Row}
 use Rattle.bser_state.specs.State.{State, past, refused}
 use Rattle.bser_state.specs.Dues.{name_at}
-use Rattle.bser_state.specs.Strings.{string_tag, IsStringTag, SpellsUnder, StringDue, TookBytes}
+use Rattle.bser_base.specs.Hand.{tag_of_string}
+use Rattle.bser_state.specs.Strings.{IsStringTag, SpellsUnder, StringDue, TookBytes}
 use Rattle.bser_state.specs.Scalar.{IsString, TookString, Counted}
 use Rattle.bser_state.specs.Reading.{FillsReadably, Refuses, RefusesFront, RefusesDue, IsDue, IsRefusal, bare}
 use Rattle.bser_state.proofs.Refusals.{sequel, passed_by, rest_of, unwanted_front, may_refuse}
@@ -66,18 +67,18 @@ wanted_text a text f = go (utf8_of f.tree) refl f.read
 pub head_refused : (reads : Meaning) (e : Error) (a b : State) → RefusesDue e a b → Refuses reads bare e a b
 head_refused reads e a b u = narrower bare (IsDue a) (FillsReadably reads a) e a.source b.source (λ text f. (f.tree, f.filled)) u
 
-first_tag : (left : Option (List ℕ)) (tag : ℕ) (m : Bool) (s text rest : List ℕ) → IsNext left tag → left ≡ Some (text ++ rest) → SpellsUnder m s text → string_tag m ≡ tag
+first_tag : (left : Option (List ℕ)) (tag : ℕ) (m : Bool) (s text rest : List ℕ) → IsNext left tag → left ≡ Some (text ++ rest) → SpellsUnder m s text → tag_of_string m ≡ tag
 first_tag None tag m s text rest next e h = absurd cc
 first_tag (Some xs) tag m s text rest next e h =
-    let whole : text ≡ string_tag m ∷ h.rest = h.whole ∙ ap (λ x. x ++ h.rest) h.first in
+    let whole : text ≡ tag_of_string m ∷ h.rest = h.whole ∙ ap (λ x. x ++ h.rest) h.first in
     let k : xs ≡ text ++ rest = cc in
-    let all : xs ≡ string_tag m ∷ (h.rest ++ rest) = k ∙ ap (λ x. x ++ rest) whole in
+    let all : xs ≡ tag_of_string m ∷ (h.rest ++ rest) = k ∙ ap (λ x. x ++ rest) whole in
     cc
 
 -- a string that is due with this tag in sight
 record SeenString (tag : ℕ) (s text : List ℕ) : Type 0 where
   pub is_text : Bool
-  pub tag_is : string_tag is_text ≡ tag
+  pub tag_is : tag_of_string is_text ≡ tag
   pub under : SpellsUnder is_text s text
 
 seen_string : (a mid : State) (tag : ℕ) (text rest : List ℕ) → TagInSight a mid tag → mid.source.left ≡ Some (text ++ rest) → FillsReadably reads_slice a text → (s : List ℕ) × SeenString tag s text
@@ -90,7 +91,7 @@ seen_string a mid tag text rest look left f =
 after_look : (W : Format) (e : Error) (a mid b : source.State) (tag : ℕ) → Took a mid [] (Some tag) → RefusesFront bare W e mid b → RefusesFront bare W e a b
 after_look W e a mid b tag look u = sequel bare W W e a mid b [] (passed_by a mid [] (Some tag) look) (λ c rest ys f q. (c, refl, f)) u
 
-is_string_tag : (m : Bool) (tag : ℕ) → string_tag m ≡ tag → IsStringTag tag
+is_string_tag : (m : Bool) (tag : ℕ) → tag_of_string m ≡ tag → IsStringTag tag
 is_string_tag true tag e = inl (sym e)
 is_string_tag false tag e = inr (sym e)
 
@@ -160,15 +161,15 @@ counted_refused (negsuc n) e a b h =
 look_then : (a mid b : source.State) (tag : ℕ) (text : List ℕ) → Took a mid [] (Some tag) → Took mid b text None → Took a b text None
 look_then a mid b tag text = took_then a mid b [] text (Some tag) None
 
-taken_under : (m : Bool) (a mid b : State) (s : List ℕ) → TagInSight a mid (string_tag m) → TookString (string_tag m) mid.source b.source s → b ≡ past mid b.source → TookBytes a b m s
+taken_under : (m : Bool) (a mid b : State) (s : List ℕ) → TagInSight a mid (tag_of_string m) → TookString (tag_of_string m) mid.source b.source s → b ≡ past mid b.source → TookBytes a b m s
 taken_under m a mid b s look took state = record {
-  text = string_tag m ∷ (took.number ++ s);
-  filled = at_tag a.due m s _ look.tagged (record { front = string_tag m ∷ []; rest = took.number ++ s; whole = refl; first = refl; second = record { front = took.number; rest = s; whole = refl; first = took.spelled; second = refl } });
-  took = look_then a.source mid.source b.source (string_tag m) _ look.took took.took;
+  text = tag_of_string m ∷ (took.number ++ s);
+  filled = at_tag a.due m s _ look.tagged (record { front = tag_of_string m ∷ []; rest = took.number ++ s; whole = refl; first = refl; second = record { front = took.number; rest = s; whole = refl; first = took.spelled; second = refl } });
+  took = look_then a.source mid.source b.source (tag_of_string m) _ look.took took.took;
   state = state ∙ ap (λ t. past t b.source) look.state;
 }
 
-tag_told : (tag : ℕ) → IsStringTag tag → tag ≡ string_tag (nat_eq tag 0x0d)
+tag_told : (tag : ℕ) → IsStringTag tag → tag ≡ tag_of_string (nat_eq tag 0x0d)
 tag_told tag (inl e) = rw e refl
 tag_told tag (inr e) = rw e refl
 

@@ -15,7 +15,8 @@ use Rattle.bser_base.proofs.Fronts.{string_reads}
 use Rattle.bser_state.specs.Front.{string_tree}
 use Rattle.bser_state.specs.Heads.{IsTagged}
 use Rattle.bser_state.specs.State.{State}
-use Rattle.bser_state.specs.Strings.{string_tag, SpellsUnder, StringDue, TookBytes}
+use Rattle.bser_base.specs.Hand.{tag_of_string}
+use Rattle.bser_state.specs.Strings.{SpellsUnder, StringDue, TookBytes}
 use Rattle.bser_state.specs.Reading.{Answers}
 
 -- ---- the tree of a string that is due
@@ -191,7 +192,7 @@ wanted_utf8 n (row_due ks) u s b h e = absurd (let none : None ≡ Some s = ap u
 
 -- ---- strings that begin alike are the same
 
-tag_same : (m l : Bool) → string_tag m ≡ string_tag l → m ≡ l
+tag_same : (m l : Bool) → tag_of_string m ≡ tag_of_string l → m ≡ l
 tag_same true true e = refl
 tag_same true false e = absurd (omega arith)
 tag_same false true e = absurd (omega arith)
@@ -199,11 +200,11 @@ tag_same false false e = refl
 
 under_same : (m l : Bool) (s c b taken rest ys : List ℕ) → SpellsUnder m s b → SpellsUnder l c taken → b ++ rest ≡ taken ++ ys → (s ≡ c) × (m ≡ l)
 under_same m l s c b taken rest ys h k e =
-    let mine : b ≡ string_tag m ∷ h.rest = h.whole ∙ ap (λ x. x ++ h.rest) h.first in
-    let its : taken ≡ string_tag l ∷ k.rest = k.whole ∙ ap (λ x. x ++ k.rest) k.first in
-    let all : string_tag m ∷ (h.rest ++ rest) ≡ string_tag l ∷ (k.rest ++ ys) = ap (λ x. x ++ rest) (sym mine) ∙ e ∙ ap (λ x. x ++ ys) its in
+    let mine : b ≡ tag_of_string m ∷ h.rest = h.whole ∙ ap (λ x. x ++ h.rest) h.first in
+    let its : taken ≡ tag_of_string l ∷ k.rest = k.whole ∙ ap (λ x. x ++ k.rest) k.first in
+    let all : tag_of_string m ∷ (h.rest ++ rest) ≡ tag_of_string l ∷ (k.rest ++ ys) = ap (λ x. x ++ rest) (sym mine) ∙ e ∙ ap (λ x. x ++ ys) its in
     let tail : h.rest ++ rest ≡ k.rest ++ ys = cc in
-    let tag : string_tag m ≡ string_tag l = cc in
+    let tag : tag_of_string m ≡ tag_of_string l = cc in
     let same = some_pair_parts s c rest ys (sym (string_reads s h.rest rest h.second) ∙ ap string tail ∙ string_reads c k.rest ys k.second) in
     (same.0, tag_same m l tag)
 

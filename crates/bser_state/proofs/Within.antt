@@ -11,11 +11,11 @@ use Rattle.bser_base.specs.Expected.{Due, Fills, nothing_due, node_due, key_due,
 use Rattle.bser_base.specs.Source as source
 use Rattle.bser_base.specs.Source.{Took, sight_after}
 use Rattle.bser_base.proofs.Taken as taken
-use Rattle.bser_format.specs.declared.errors.Error.{Error}
-use Rattle.bser_format.specs.declared.errors.Error.TheVariants.{DeCustom, DeReaderError, OutOfMemory}
-use Rattle.bser_format.specs.declared.errors.Message.TheVariants.{Fixed}
-use Rattle.bser_format.specs.declared.errors.Complaint.TheVariants as complaints
-use Rattle.bser_format.specs.declared.errors.ReadCause.TheVariants as causes
+use Rattle.bser_base.specs.declared.errors.Error.{Error}
+use Rattle.bser_base.specs.declared.errors.Error.TheVariants.{DeCustom, DeReaderError, OutOfMemory}
+use Rattle.bser_base.specs.declared.errors.Message.TheVariants.{Fixed}
+use Rattle.bser_base.specs.declared.errors.Complaint.TheVariants as complaints
+use Rattle.bser_base.specs.declared.errors.ReadCause.TheVariants as causes
 use Rattle.bser_base.proofs.Fronts.{Reads, value_reads, any_string_reads, field_reads, fields_back, many_all}
 use Rattle.bser_state.specs.Reading.{Outside, TakesMemory, MayRefuse, RefusesFront, FillsReadably}
 use Rattle.bser_state.specs.State.{State}

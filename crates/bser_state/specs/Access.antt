@@ -6,9 +6,9 @@ use Rattle.bser_base.specs.Device.{one_more}
 use Rattle.bser_base.specs.Source as source
 use Rattle.bser_base.specs.Source.{Took, sight_after}
 use Rattle.bser_base.specs.Expected.{nothing_due, WantedItems, nodes, rows_over, WantedPairs, entries_of_object, fields_of_row}
-use Rattle.bser_format.specs.declared.errors.Error.{Error}
-use Rattle.bser_format.specs.declared.errors.ReadCause.TheVariants.{Failed}
-use Rattle.bser_format.specs.declared.errors.Error.TheVariants.{DeReaderError}
+use Rattle.bser_base.specs.declared.errors.Error.{Error}
+use Rattle.bser_base.specs.declared.errors.ReadCause.TheVariants.{Failed}
+use Rattle.bser_base.specs.declared.errors.Error.TheVariants.{DeReaderError}
 use Rattle.bser_state.specs.State.{State, awaiting, refused}
 use Rattle.bser_state.specs.Reading.{Answers, Refuses, RefusesFront, IsRefusal, only_keys}
 use Rattle.bser_state.specs.Scalar.{owned}

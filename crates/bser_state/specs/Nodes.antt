@@ -43,8 +43,9 @@ node_at _ (Tag b) = None
 node_at _ (Name place) = Some kinds.Key
 node_at _ Row = Some kinds.Object
 
--- what is due is of this kind, and nothing is taken
+-- something is due and is of this kind, and nothing is taken
 pub record SeesNode (old new : State) (k : Node) : Type 0 where
+  pub some : old.due ≢ nothing_due
   pub head : Head
   pub stands : Stands old new head
   pub kind : node_at old.due head ≡ Some k

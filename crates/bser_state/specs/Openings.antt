@@ -1,14 +1,8 @@
 -- What stands before a container is opened.
 use Rattle.std.specs.Prelude.{◌≡◌, ℕ, Some}
-use Rattle.bser_base.specs.Expected.{Due, node_due, field_due}
 use Rattle.bser_base.specs.Source.{IsNext}
+use Rattle.bser_state.specs.Scalar.{IsValue}
 use Rattle.bser_state.specs.State.{State}
-
--- a value or a field
-abbrev pub IsValue : Due → Type 0
-IsValue node_due = Unit {0}
-IsValue field_due = Unit {0}
-IsValue _ = ⊥
 
 -- a value or a field is due, whose tag is in sight
 pub record IsBefore (tag : ℕ) (s : State) : Type 0 where

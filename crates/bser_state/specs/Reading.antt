@@ -8,11 +8,11 @@ use Rattle.bser_base.specs.Source.{Took, sight_after}
 use Rattle.bser_base.specs.Source as source
 use Rattle.bser_base.specs.Tagged.{IsHead}
 use Rattle.bser_base.specs.TaggedRefusal.{failures_by, MayAnswer}
-use Rattle.bser_format.specs.declared.errors.Error.{Error}
-use Rattle.bser_format.specs.declared.errors.Error.TheVariants.{DeCustom, DeReaderError, OutOfMemory}
-use Rattle.bser_format.specs.declared.errors.Message.TheVariants.{Fixed}
-use Rattle.bser_format.specs.declared.errors.Complaint.TheVariants.{BorrowedFromCopying}
-use Rattle.bser_format.specs.declared.errors.ReadCause.TheVariants.{Reader, Failed}
+use Rattle.bser_base.specs.declared.errors.Error.{Error}
+use Rattle.bser_base.specs.declared.errors.Error.TheVariants.{DeCustom, DeReaderError, OutOfMemory}
+use Rattle.bser_base.specs.declared.errors.Message.TheVariants.{Fixed}
+use Rattle.bser_base.specs.declared.errors.Complaint.TheVariants.{BorrowedFromCopying}
+use Rattle.bser_base.specs.declared.errors.ReadCause.TheVariants.{Reader, Failed}
 use Rattle.bser_state.specs.State.{State, past}
 
 -- What was due is read: the bytes that were taken fill it, and the tree that they stand for reads as what v holds.

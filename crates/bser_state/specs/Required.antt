@@ -1,7 +1,7 @@
 -- An item that has to be there.
 use Rattle.std.specs.Prelude.{◌≡◌, ◌⊎◌}
 use Rattle.bser_base.specs.Content.{Meaning, Needs}
-use Rattle.bser_format.specs.declared.errors.Error.{Error}
+use Rattle.bser_base.specs.declared.errors.Error.{Error}
 use Rattle.bser_state.specs.State.{State, refused}
 use Rattle.bser_state.specs.Reading.{IsRefusal}
 use Rattle.bser_state.specs.Parts.{items_left}

@@ -1,14 +1,10 @@
 -- Strings and keys that are taken before their bytes are checked.
-use Rattle.std.specs.Prelude.{◌≡◌, ℕ, Bool, true, false, List, [], ◌∷◌, length, ◌⊎◌}
+use Rattle.std.specs.Prelude.{◌≡◌, ℕ, Bool, false, List, [], ◌∷◌, length, ◌⊎◌}
 use Rattle.bser_base.specs.Grammar.{Format, Bytes, Never, Given, ◌then◌, SpellsCount}
 use Rattle.bser_base.specs.Expected.{Due, nothing_due, node_due, key_due, field_due, name_due, row_due}
+use Rattle.bser_base.specs.Hand.{tag_of_string}
 use Rattle.bser_base.specs.Source.{Took, sight_after}
 use Rattle.bser_state.specs.State.{State, past}
-
--- the tag of a text, and of a byte string
-abbrev pub string_tag : Bool → ℕ
-string_tag true = 0x0d
-string_tag false = 0x02
 
 -- a tag of either
 abbrev pub IsStringTag : ℕ → Type 0
@@ -16,7 +12,7 @@ IsStringTag tag = (tag ≡ 0x0d) ⊎ (tag ≡ 0x02)
 
 -- a string under the text's tag or the other, UTF-8 or not
 abbrev pub SpellsUnder : Bool → List ℕ → Format
-SpellsUnder is_text s = Bytes (string_tag is_text ∷ []) then SpellsCount (length s) then Bytes s
+SpellsUnder is_text s = Bytes (tag_of_string is_text ∷ []) then SpellsCount (length s) then Bytes s
 
 -- these bytes, where a string or key is due; the key of a row's field has no tag
 abbrev pub StringDue : Due → Bool → List ℕ → Format

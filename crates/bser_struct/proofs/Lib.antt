@@ -13,4 +13,5 @@ pub mod SkippedDues
 pub mod SkippedKeys
 pub mod SkippedAtHand
 pub mod VariantHeads
+pub mod VariantNames
 pub mod Variants

@@ -1,4 +1,4 @@
--- Strings that are at hand whole, as what is due and as what is skipped.
+-- Strings that are at hand whole, as what is skipped.
 use Rattle.std.proofs.Common.{◌≡◌, ℕ, ◌+◌, ◌-◌, ◌<◌, Bool, true, false, List, [], ◌∷◌, ◌++◌, None, length, take, drop, get_or, refl, sym, ap, subst, ◌∙◌, arith, IsUtf8, inl, inr}
 use Rattle.std.specs.Prelude.{pos, ◌⊎◌}
 use Rattle.bser_base.specs.Grammar.{SpellsInteger, Bytes}

@@ -3,7 +3,7 @@ use Rattle.std.proofs.Common.{◌≡◌, ℕ, List, [], ◌∷◌, ◌++◌, Opt
 use Rattle.bser_base.specs.Grammar.{Format, Bytes, ◌then◌}
 use Rattle.bser_base.specs.Source as source
 use Rattle.bser_base.specs.Source.{Took}
-use Rattle.bser_format.specs.declared.errors.Error.TheVariants.{OutOfMemory}
+use Rattle.bser_base.specs.declared.errors.Error.TheVariants.{OutOfMemory}
 use Rattle.bser_state.specs.State.{State}
 use Rattle.bser_state.specs.Reading.{RefusesFront}
 use Rattle.bser_state.specs.Scalar.{owned}

@@ -3,9 +3,9 @@ use Rattle.std.proofs.Common.{◌≡◌, ℕ, zero, suc, List, [], ◌∷◌, le
 use Rattle.std.specs.List.{AllByRecursion}
 use Rattle.bser_base.specs.Expected.{name_due, nothing_due, row_due}
 use Rattle.bser_base.specs.ReadsAny.{reads_ignored, has_utf8_keys}
-use Rattle.bser_format.specs.declared.errors.Error.{Error}
-use Rattle.bser_format.specs.declared.errors.Error.TheVariants.{DeReaderError, OutOfMemory}
-use Rattle.bser_format.specs.declared.errors.ReadCause.TheVariants.{Utf8}
+use Rattle.bser_base.specs.declared.errors.Error.{Error}
+use Rattle.bser_base.specs.declared.errors.Error.TheVariants.{DeReaderError, OutOfMemory}
+use Rattle.bser_base.specs.declared.errors.ReadCause.TheVariants.{Utf8}
 use Rattle.bser_base.specs.Expected.{Fills, FillsRow}
 use Rattle.bser_state.specs.Reading.{FillsReadably, RefusesFront}
 use Rattle.bser_state.specs.Scalar.{owned}

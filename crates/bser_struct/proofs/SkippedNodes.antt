@@ -6,7 +6,7 @@ use Rattle.bser_base.specs.Source as source
 use Rattle.bser_base.specs.Source.{IsNext}
 use Rattle.bser_base.specs.Tagged.{IsInteger}
 use Rattle.bser_base.specs.TaggedRefusal.{Unwanted, ShortOf}
-use Rattle.bser_format.specs.declared.errors.Error.{Error}
+use Rattle.bser_base.specs.declared.errors.Error.{Error}
 use Rattle.bser_base.proofs.Heads.{short_of}
 use Rattle.bser_base.proofs.Tags.{Tagged, tagged_by, integer_tag}
 use Rattle.bser_state.specs.Reading.{RefusesFront}

@@ -8,7 +8,7 @@ use Rattle.bser_base.specs.Grammar.{Format, Bytes, Given, ◌then◌, SpellsInte
 use Rattle.bser_base.specs.Source as source
 use Rattle.bser_base.specs.Source.{Took, IsNext, sight_after, bytes_in_sight}
 use Rattle.bser_base.specs.Tagged.{TookInt, TookBits}
-use Rattle.bser_format.specs.declared.errors.Error.{Error}
+use Rattle.bser_base.specs.declared.errors.Error.{Error}
 use Rattle.bser_base.proofs.Heads.{int_first}
 use Rattle.bser_base.proofs.Tagged.{took_both}
 use Rattle.bser_base.proofs.Tags.{integer_tag}

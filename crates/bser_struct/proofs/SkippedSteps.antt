@@ -9,7 +9,7 @@ use Rattle.bser_base.specs.Source.{Took, IsNext, sight_after, bytes_in_sight}
 use Rattle.bser_base.proofs.Taken as taken
 use Rattle.bser_base.specs.Tagged.{IsLength}
 use Rattle.bser_base.specs.TaggedRefusal.{ShortOf}
-use Rattle.bser_format.specs.declared.errors.Error.{Error}
+use Rattle.bser_base.specs.declared.errors.Error.{Error}
 use Rattle.bser_base.proofs.Heads.{short_of, int_first}
 use Rattle.bser_base.proofs.Tagged.{took_both}
 use Rattle.bser_state.specs.State.{State, with_source}

@@ -6,11 +6,11 @@ use Rattle.bser_base.specs.Source as source
 use Rattle.bser_base.specs.Source.{Took, IsNext, sight_after, bytes_in_sight}
 use Rattle.bser_base.specs.Tagged.{TookInt, IsInteger, IsLength}
 use Rattle.bser_base.specs.TaggedRefusal.{Unwanted, BytesRefused, NegativeLength}
-use Rattle.bser_format.specs.declared.errors.Error.{Error}
-use Rattle.bser_format.specs.declared.errors.Error.TheVariants.{DeCustom, DeReaderError, OutOfMemory}
-use Rattle.bser_format.specs.declared.errors.Message.TheVariants.{Fixed}
-use Rattle.bser_format.specs.declared.errors.Complaint.TheVariants.{BorrowedFromCopying}
-use Rattle.bser_format.specs.declared.errors.ReadCause.TheVariants.{Reader}
+use Rattle.bser_base.specs.declared.errors.Error.{Error}
+use Rattle.bser_base.specs.declared.errors.Error.TheVariants.{DeCustom, DeReaderError, OutOfMemory}
+use Rattle.bser_base.specs.declared.errors.Message.TheVariants.{Fixed}
+use Rattle.bser_base.specs.declared.errors.Complaint.TheVariants.{BorrowedFromCopying}
+use Rattle.bser_base.specs.declared.errors.ReadCause.TheVariants.{Reader}
 use Rattle.bser_base.proofs.Laws.{one_int}
 use Rattle.bser_base.proofs.Heads.{fronts, short_of}
 use Rattle.bser_state.specs.State.{State, with_source}

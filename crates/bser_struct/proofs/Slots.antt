@@ -4,7 +4,7 @@ use Rattle.std.specs.Prelude.{◌||◌, MatchOption}
 use Rattle.bser_base.specs.Tree.{Tree}
 use Rattle.bser_base.specs.Content.{Content, Meaning, Needs, each_some}
 use Rattle.bser_base.specs.ReadsAny.{reads_ignored}
-use Rattle.bser_format.specs.declared.errors.Error.{Error}
+use Rattle.bser_base.specs.declared.errors.Error.{Error}
 use Rattle.bser_state.specs.State.{State, awaiting}
 use Rattle.bser_state.specs.Reading.{TakesMemory, Answers, FillsReadably}
 use Rattle.bser_state.specs.Parts.{pair_value}

@@ -11,7 +11,7 @@ use Rattle.bser_base.specs.Expected.{Due, Fills, nothing_due, node_due, key_due,
 use Rattle.bser_base.specs.ReadsScalars.{utf8_of, reads_string}
 use Rattle.bser_base.specs.Source as source
 use Rattle.bser_base.specs.Tagged.{with_failure}
-use Rattle.bser_format.specs.declared.errors.Error.{Error}
+use Rattle.bser_base.specs.declared.errors.Error.{Error}
 use Rattle.bser_base.proofs.Laws.{one_int}
 use Rattle.bser_state.specs.State.{State, with_source, awaiting, refused}
 use Rattle.bser_state.specs.Dues.{due_of, name_at}

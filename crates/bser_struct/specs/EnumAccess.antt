@@ -1,17 +1,15 @@
 -- What callers see of an access to a variant.
 use Rattle.std.specs.Prelude.{ℕ, List, Option, Some, None}
-use Rattle.std.specs.Borrow.{GName, MutBor}
+use Rattle.std.specs.Borrow.{MutBor}
 use Rattle.bser_base.specs.Source as source
 use Rattle.bser_state.specs.State.{State}
 use Rattle.bser_cursor.specs.View.{state}
 use Rattle.bser_struct.specs.Variants.{OpenVariant, OpenEnum, name_alone, with_payload, payload_due}
 use Rattle.bser_cursor.specs.declared.deserializer.Deserializer.{Deserializer}
-use Rattle.bser_struct.specs.declared.variant.EnumAccess.{EnumAccess}
-use Rattle.bser_struct.specs.declared.variant.UnitVariantAccess.{UnitVariantAccess}
-use Rattle.bser_struct.specs.declared.variant.VariantAccess.{VariantAccess}
+use Rattle.bser_struct.specs.declared.enum_access.EnumAccess.{EnumAccess}
+use Rattle.bser_struct.specs.declared.variant_access.UnitVariantAccess.{UnitVariantAccess}
+use Rattle.bser_struct.specs.declared.variant_access.VariantAccess.{VariantAccess}
 use Rattle.bser_struct.specs.declared.variant.VariantHead.{VariantHead}
-use Rattle.bser_struct.specs.declared.variant.VariantForm.{VariantForm}
-use Rattle.bser_struct.specs.declared.variant.VariantForm.TheVariants as forms
 
 -- a variant of this head, in this state
 abbrev pub variant_head : VariantHead → State → OpenVariant
@@ -31,15 +29,6 @@ open_enum at kept a = enum_head a.head (state at kept a.from.now)
 -- the place of the variant's name
 abbrev pub place_of : {R L K : Type 0} → EnumAccess R L K → ℕ
 place_of a = a.place
-
-abbrev pub open_form : {R L K : Type 0} → (R → source.State) → (K → List ℕ) → VariantForm R L K → OpenEnum
-open_form at kept (forms.Unit a) = name_alone (state at kept a.from.now)
-open_form at kept (forms.Object a) = with_payload (open_variant at kept a)
-
--- the reference that an access holds
-abbrev pub reference : {R L K : Type 0} → VariantForm R L K → GName
-reference (forms.Unit a) = a.from.ghost_name
-reference (forms.Object a) = a.from.ghost_name
 
 -- the deserializer that is lent to an access to an enum
 abbrev pub enum_deserializer : {R L K : Type 0} → EnumAccess R L K → MutBor (Deserializer R L K)

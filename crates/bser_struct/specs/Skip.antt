@@ -1,8 +1,8 @@
 -- What is skipped: values, keys and open containers, whatever they hold.
 use Rattle.std.specs.List.{AllByRecursion}
-use Rattle.bser_format.specs.declared.errors.Error.{Error}
-use Rattle.bser_format.specs.declared.errors.Error.TheVariants.{DeReaderError, OutOfMemory}
-use Rattle.bser_format.specs.declared.errors.ReadCause.TheVariants.{Utf8}
+use Rattle.bser_base.specs.declared.errors.Error.{Error}
+use Rattle.bser_base.specs.declared.errors.Error.TheVariants.{DeReaderError, OutOfMemory}
+use Rattle.bser_base.specs.declared.errors.ReadCause.TheVariants.{Utf8}
 use Rattle.std.specs.Prelude.{◌≡◌, ℕ, zero, suc, ◌<◌, ℤ, Bool, true, List, [], ◌∷◌, ◌++◌, length, Option, Some, None, IsUtf8, ◌⊎◌}
 use Rattle.bser_base.specs.Tree.{Tree}
 use Rattle.bser_base.specs.Expand.{expand}

@@ -1,7 +1,7 @@
 -- What was read of one field of a struct.
 use Rattle.std.specs.Prelude.{Option}
-use Rattle.bser_struct.specs.declared.fields.Required.{Required}
-use Rattle.bser_struct.specs.declared.fields.Optional.{Optional}
+use Rattle.bser_struct.specs.declared.slot.Required.{Required}
+use Rattle.bser_struct.specs.declared.slot.Optional.{Optional}
 
 -- the value of a field that has to be there, where it was read
 abbrev pub required_value : {T : Type 0} → Required T → Option T

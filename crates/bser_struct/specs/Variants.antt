@@ -4,7 +4,7 @@ use Rattle.bser_base.specs.Grammar.{Format, ◌then◌}
 use Rattle.bser_base.specs.Content.{Content, one, number, variant, Meaning, Needs}
 use Rattle.bser_base.specs.Expected.{Due, node_due, field_due, WantedPairs}
 use Rattle.bser_base.specs.ReadsScalars.{utf8_of, reads_unit}
-use Rattle.bser_format.specs.declared.errors.Error.{Error}
+use Rattle.bser_base.specs.declared.errors.Error.{Error}
 use Rattle.bser_state.specs.State.{State, awaiting, refused}
 use Rattle.bser_state.specs.Reading.{Answers, Refuses, FillsReadably, IsRefusal, bare}
 use Rattle.bser_state.specs.Parts.{BeginsPairs, pairs_left, pair_key, pair_value}

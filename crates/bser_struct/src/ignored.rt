@@ -1,13 +1,17 @@
 //! What is read and not kept.
-ghost use Rattle.std.specs.Prelude.{◌≡◌, refl, None};
+ghost use Rattle.std.specs.Prelude.{◌≡◌, true, false, refl, None, MatchOption};
 ghost use Rattle.bser_base.specs.Content.{one};
 ghost use Rattle.bser_base.specs.ReadsAny.{reads_ignored};
+ghost use Rattle.bser_state.specs.Access.{RefusesValue};
+ghost use Rattle.bser_de.specs.Accesses.{open_pairs, pairs_reference};
+ghost use Rattle.bser_de.specs.Slots.{Passes};
 ghost use Rattle.bser_state.specs.Scalar.{owned};
 
 use crate::skip::SkipsValues;
 use bser_base::de::read::{DeRead, LendsText};
-use bser_base::errors::Result;
+use bser_base::errors::{Error, Result};
 use bser_cursor::deserializer::Deserializer;
+use bser_de::map::MapAccess;
 use bser_de::reading::{Deserialize, OwnedShape, Shape};
 use std::alloc::Global;
 
@@ -40,4 +44,27 @@ impl<L: LendsText> Deserialize<L> for Ignored {
 
 impl OwnedShape for Ignored {
     ghost owned = { refl };
+}
+
+/// Passes over the value of the key that was read, and tells whether it did. Where it did not,
+/// `refusal` has the reason.
+#[inline(never)]
+pub fn pass_value<'a, R: DeRead>(
+    access: &mut MapAccess<'a, R>,
+    alloc: Global,
+    refusal: &mut Option<Error>,
+) -> bool
+where
+    R::Lent: LendsText,
+    ensures same_reference { pairs_reference access.new ≡ pairs_reference access.old }
+    ensures found { result ≡ true → Passes (open_pairs R.state R.Lent.kept access.old) (open_pairs R.state R.Lent.kept access.new) }
+    ensures refused { result ≡ false → MatchOption refusal.new ⊥ (λ e. RefusesValue reads_ignored owned e (open_pairs R.state R.Lent.kept access.old) (open_pairs R.state R.Lent.kept access.new).state) }
+{
+    match access.next_value::<Ignored>(alloc) {
+        Ok(_) => true,
+        Err(error) => {
+            *refusal = Some(error);
+            false
+        }
+    }
 }

@@ -5,7 +5,7 @@ ghost use Rattle.bser_de.specs.RowsAtHand.{TakesField, TakesEntries};
 ghost use Rattle.bser_de.specs.Slots.{StructField};
 ghost use Rattle.bser_cursor.specs.View.{state};
 
-use crate::fields::Slots;
+use crate::slot::Slots;
 use bser_base::de::read::{DeRead, Lending, LendsText};
 use bser_cursor::deserializer::Deserializer;
 use bser_de::map::MapAccess;

@@ -4,7 +4,7 @@ ghost use Rattle.std.specs.List.{AllByRecursion};
 ghost use Rattle.bser_base.specs.Content.{one};
 ghost use Rattle.bser_base.specs.Grammar.{Bytes, ◌then◌};
 ghost use Rattle.bser_base.specs.ReadsAny.{reads_ignored};
-ghost use Rattle.bser_format.specs.declared.errors.Error.TheVariants.{OutOfMemory};
+ghost use Rattle.bser_base.specs.declared.errors.Error.TheVariants.{OutOfMemory};
 ghost use Rattle.bser_state.specs.Reading.{Answers, Refuses, RefusesFront, FillsReadably, IsRefusal};
 ghost use Rattle.bser_state.specs.Scalar.{owned};
 ghost use Rattle.bser_struct.specs.Skip.{Skipped, SkippedField, SkippedKey, SkippedString, SkippedBytes, SkipsPart, SkipsFrame, SkipsFrames, SkipsNext, SkipsOpened, TagSeen, Skips, SkipsFrom, SkipsNode, SkipsField, SkipsString, SkipsBytes, CountsDown, NamesText, RefusesKeys};

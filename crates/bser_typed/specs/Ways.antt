@@ -1,7 +1,7 @@
 -- That reading a message as a type answers as a text says.
 use Rattle.std.specs.Prelude.{◌≡◌, ℕ, List, Result, Ok, Err, MatchResult, IsOk}
 use Rattle.bser_base.specs.Content.{Content, Meaning, Needs}
-use Rattle.bser_format.specs.declared.errors.Error.{Error}
+use Rattle.bser_base.specs.declared.errors.Error.{Error}
 use Rattle.serde_bser.specs.Messages.{BeginsWith, RefusesSlice}
 use Rattle.bser_vectors.specs.Notation.{refusal_code}
 use Rattle.bser_vectors.specs.Ways.{GivenOfReader}

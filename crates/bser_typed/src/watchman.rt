@@ -4,9 +4,9 @@ ghost use Rattle.serde_bser.specs.Slots.{struct_needs};
 ghost use Rattle.bser_typed.specs.Watchman.{reads_name, HoldsName, reads_names, HoldsNames};
 
 use anyhow::{Context, Result};
-use serde_bser::de::read::LendsText;
-use serde_bser::de::{DeRead, Deserialize, Deserializer, ReadsFields, Required, Shape};
+use serde_bser::de::{Deserializer, Required};
 use serde_bser::from_slice;
+use serde_bser::prelude::*;
 use serde_json::Value;
 use std::alloc::Global;
 

@@ -3,7 +3,7 @@ use Rattle.std.proofs.Common.{◌≡◌, ℕ, suc, zero, ◌+◌, ◌-◌, ◌<�
 use Rattle.std.specs.declared.alloc.Global.{Global}
 use Rattle.bser_base.specs.ReadsScalars.{reads_string}
 use Rattle.bser_base.specs.Expected.{WantedPairs, key_due, node_due, field_due}
-use Rattle.bser_format.specs.declared.errors.Error.{Error}
+use Rattle.bser_base.specs.declared.errors.Error.{Error}
 use Rattle.bser_state.specs.State.{State, awaiting}
 use Rattle.bser_state.specs.Reading.{Answers, Refuses}
 use Rattle.bser_state.specs.Scalar.{owned}

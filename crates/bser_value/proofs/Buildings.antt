@@ -10,8 +10,8 @@ use Rattle.bser_base.specs.Content.{Content, byte_list, value}
 use Rattle.bser_base.specs.ReadsAny.{reads_value}
 use Rattle.bser_base.specs.ReadsScalars.{reads_string}
 use Rattle.bser_base.specs.Expected.{WantedItems, WantedPairs}
-use Rattle.bser_format.specs.declared.errors.Error.{Error}
-use Rattle.bser_format.specs.declared.errors.Error.TheVariants.{OutOfMemory}
+use Rattle.bser_base.specs.declared.errors.Error.{Error}
+use Rattle.bser_base.specs.declared.errors.Error.TheVariants.{OutOfMemory}
 use Rattle.bser_state.specs.State.{State, refused, awaiting}
 use Rattle.bser_state.specs.Reading.{Answers, Refuses, RefusesFront, FillsReadably}
 use Rattle.bser_state.specs.Scalar.{owned}

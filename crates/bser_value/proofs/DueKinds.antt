@@ -5,7 +5,7 @@ use Rattle.bser_base.specs.Expand.{key_tree}
 use Rattle.bser_base.specs.Content.{Content, Meaning, Needs}
 use Rattle.bser_base.specs.ReadsAny.{reads_value}
 use Rattle.bser_base.specs.Expected.{Due, Fills, nothing_due, node_due, key_due, field_due, name_due, row_due}
-use Rattle.bser_format.specs.declared.errors.Error.{Error}
+use Rattle.bser_base.specs.declared.errors.Error.{Error}
 use Rattle.bser_state.specs.State.{State}
 use Rattle.bser_state.specs.Dues.{name_at}
 use Rattle.bser_state.specs.Nodes.{tag_node, field_node, node_at}

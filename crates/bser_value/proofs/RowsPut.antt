@@ -3,7 +3,7 @@ use Rattle.std.proofs.Common.{◌≡◌, ◌-◌, ◌<◌, true, List, [], ◌�
 use Rattle.std.specs.declared.alloc.Global.{Global}
 use Rattle.bser_base.specs.Expected.{row_due}
 use Rattle.bser_base.specs.ReadsAny.{reads_value}
-use Rattle.bser_format.specs.declared.errors.Error.TheVariants.{OutOfMemory}
+use Rattle.bser_base.specs.declared.errors.Error.TheVariants.{OutOfMemory}
 use Rattle.bser_state.specs.State.{State, awaiting}
 use Rattle.bser_state.specs.Reading.{Answers, Refuses}
 use Rattle.bser_state.specs.Scalar.{owned}

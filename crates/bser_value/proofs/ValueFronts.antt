@@ -13,9 +13,8 @@ use Rattle.bser_base.specs.ReadsAny.{reads_value}
 use Rattle.bser_base.specs.declared.de.hand.SeenInt.{SeenInt}
 use Rattle.bser_base.specs.declared.de.hand.StringPlace.{StringPlace}
 use Rattle.bser_base.proofs.Settled.{filled_settles}
-use Rattle.bser_state.specs.Front as fronts
-use Rattle.bser_state.specs.Front.{value_due, IsNullTag, FrontReads, StringReads}
-use Rattle.bser_value.specs.StepsAtHand.{string_tree, IsStringValue}
+use Rattle.bser_state.specs.Front.{value_due, IsNullTag, FrontReads, string_tree, StringReads}
+use Rattle.bser_value.specs.StepsAtHand.{IsStringValue}
 use Rattle.bser_value.specs.ValueView.{tree_of, HoldsTree, HoldsValue}
 use Rattle.bser_state.specs.declared.front.Front.{Front}
 use Rattle.bser_value.specs.declared.value.Value.{Value, Integer, Real, Bool as Truth, Null, the_lemmas}
@@ -85,7 +84,7 @@ real_in_front in_row hand r some tag small fits is =
     tree_front in_row hand (record { value = Real r; len = 9 }) (real r) (omega arith) (omega (arith, some))
     (λ n. value_node in_row n (real r) (take 9 hand) (record { tree = real r; stands = refl; spelled = (fits, spelled) })) refl (tree_of-Real r)
 
-string_read : (m : Bool) (s : List ℕ) (v : Value) → tree_of v ≡ string_tree m s → reads_value (fronts.string_tree m s) ≡ Some (value (tree_of v))
+string_read : (m : Bool) (s : List ℕ) (v : Value) → tree_of v ≡ string_tree m s → reads_value (string_tree m s) ≡ Some (value (tree_of v))
 string_read true s v is = ap (λ t. Some (value t)) (sym is)
 string_read false s v is = ap (λ t. Some (value t)) (sym is)
 

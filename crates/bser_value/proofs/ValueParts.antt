@@ -1,7 +1,7 @@
 -- What is read of a `Value` that is due, after a look at its kind.
 use Rattle.std.proofs.Common.{◌≡◌, [], refl, sym, subst}
 use Rattle.bser_base.specs.ReadsAny.{reads_value}
-use Rattle.bser_format.specs.declared.errors.Error.{Error}
+use Rattle.bser_base.specs.declared.errors.Error.{Error}
 use Rattle.bser_state.specs.State.{State}
 use Rattle.bser_state.specs.Reading.{Answers, Refuses, RefusesFront, bare}
 use Rattle.bser_state.specs.Scalar.{reads_scalar, owned}

@@ -10,7 +10,7 @@ use Rattle.bser_base.specs.Expected.{Due, Fills, FillsNode, nothing_due, node_du
 use Rattle.bser_base.specs.ReadsScalars.{reads_slice, string_bytes_of}
 use Rattle.bser_base.specs.Source as source
 use Rattle.bser_base.specs.Source.{Took, IsNext, sight_after, bytes_in_sight}
-use Rattle.bser_format.specs.declared.errors.Error.{Error}
+use Rattle.bser_base.specs.declared.errors.Error.{Error}
 use Rattle.bser_base.proofs.Tags.{no_empty}
 use Rattle.bser_state.specs.State.{State, past, refused}
 use Rattle.bser_state.specs.Reading.{Answers, Refuses, RefusesFront, FillsReadably, IsRefusal}

@@ -14,9 +14,10 @@ use Rattle.bser_base.specs.ReadsAny.{reads_value}
 use Rattle.bser_base.specs.Source.{Took}
 use Rattle.bser_base.specs.Source as source
 use Rattle.bser_base.specs.declared.de.hand.StringPlace.{StringPlace}
-use Rattle.bser_format.specs.declared.errors.Error.TheVariants.{OutOfMemory}
+use Rattle.bser_base.specs.declared.errors.Error.TheVariants.{OutOfMemory}
 use Rattle.bser_value.specs.Gathered.{all_items}
 use Rattle.bser_value.specs.declared.de.gathered.Gathered.{Gathered}
+use Rattle.bser_state.specs.Front.{string_tree}
 use Rattle.bser_state.specs.State.{State, past, awaiting}
 use Rattle.bser_state.specs.Reading.{Answers, Refuses}
 use Rattle.bser_state.specs.Scalar.{reads_scalar, owned, IsValue, TookScalar}
@@ -29,7 +30,7 @@ use Rattle.bser_state.specs.Parts.{item_due, wanted_items}
 use Rattle.bser_state.specs.Access.{OpensPairs}
 use Rattle.bser_cursor.specs.Frames.{pairs_head}
 use Rattle.bser_value.specs.Building.{ReadsName, AwaitsItem, Awaits, IsNewPairs, Builds}
-use Rattle.bser_value.specs.StepsAtHand.{string_tree, IsStringValue, TookKey, TookField, MatchStep, PutsEntry, NamesEntry, RefusesEntry, PutsItem, RefusesItem, PutsWhole, RefusesWhole, NextRow, Advances, RefusesStep}
+use Rattle.bser_value.specs.StepsAtHand.{IsStringValue, TookKey, TookField, MatchStep, PutsEntry, NamesEntry, RefusesEntry, PutsItem, RefusesItem, PutsWhole, RefusesWhole, NextRow, Advances, RefusesStep}
 use Rattle.bser_value.specs.declared.value.Value.{Value}
 use Rattle.bser_value.specs.declared.de.value_at_hand.Step.{Step}
 use Rattle.bser_value.specs.declared.de.value_at_hand.Step.TheVariants.{Taken, Due, Absent, Refused}

@@ -3,7 +3,7 @@ use Rattle.std.proofs.Common.{◌≡◌, ◌∙◌, ap, Some, Result, IfOk}
 use Rattle.std.proofs.lemmas.Result.{IfOk-weaker}
 use Rattle.bser_base.specs.Normal.{normal}
 use Rattle.bser_base.specs.ReadsAny.{reads_value}
-use Rattle.bser_format.specs.declared.errors.Error.{Error}
+use Rattle.bser_base.specs.declared.errors.Error.{Error}
 use Rattle.bser_base.proofs.Settled.{filled_settles}
 use Rattle.bser_state.specs.Reading.{Answers}
 use Rattle.bser_state.specs.State.{State}

@@ -11,7 +11,7 @@ use Rattle.std.specs.Map.{keys_of}
 use Rattle.std.specs.String.{string_cmp}
 use Rattle.bser_base.specs.Tree.{Tree, null, bytes, integer, text, array, object, items, entry, entries, entries_of, items_of}
 use Rattle.bser_base.specs.Compact.{keys}
-use Rattle.bser_format.specs.declared.bytestring.ByteString.{ByteString}
+use Rattle.bser_base.specs.declared.bytestring.ByteString.{ByteString}
 use Rattle.std.specs.Prelude.{ℤ, Some, option_map}
 use Rattle.bser_base.specs.Written.{item_before, entry_before, written_items, written_entries, array_tree, object_tree}
 use Rattle.bser_value.specs.declared.value.Value as value

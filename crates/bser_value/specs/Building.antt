@@ -8,7 +8,7 @@ use Rattle.bser_base.specs.Content.{Content, Meaning}
 use Rattle.bser_base.specs.Expected.{Fills}
 use Rattle.bser_base.specs.ReadsAny.{reads_value}
 use Rattle.bser_base.specs.ReadsScalars.{reads_string}
-use Rattle.bser_format.specs.declared.errors.Error.{Error}
+use Rattle.bser_base.specs.declared.errors.Error.{Error}
 use Rattle.bser_state.specs.State.{State, awaiting}
 use Rattle.bser_state.specs.Reading.{Refuses}
 use Rattle.bser_state.specs.Scalar.{owned}

@@ -1,14 +1,15 @@
 -- The steps in which a `Value` is read where all that they need is at hand.
-use Rattle.std.specs.Prelude.{◌≡◌, Bool, true, false, List, [], ◌∷◌, ◌++◌, ℕ, Option, Some, None, String, string_bytes, ◌⊎◌}
+use Rattle.std.specs.Prelude.{◌≡◌, Bool, true, List, [], ◌∷◌, ◌++◌, ℕ, Option, Some, None, String, string_bytes, ◌⊎◌}
 use Rattle.std.specs.declared.alloc.Global.{Global}
 use Rattle.std.specs.BTreeMap.{insert_entry}
 use Rattle.std.specs.Str.{IsUtf8}
 use Rattle.std.specs.String.{string_cmp}
-use Rattle.bser_base.specs.Tree.{Tree, null, text, bytes}
+use Rattle.bser_base.specs.Tree.{Tree, null}
 use Rattle.bser_base.specs.ReadsAny.{reads_value}
-use Rattle.bser_format.specs.declared.errors.Error.TheVariants.{OutOfMemory}
+use Rattle.bser_base.specs.declared.errors.Error.TheVariants.{OutOfMemory}
 use Rattle.bser_base.specs.Source as source
 use Rattle.bser_base.specs.Source.{Took}
+use Rattle.bser_state.specs.Front.{string_tree}
 use Rattle.bser_state.specs.State.{State}
 use Rattle.bser_state.specs.Strings.{SpellsUnder}
 use Rattle.bser_state.specs.Reading.{Answers, Refuses}
@@ -26,11 +27,6 @@ use Rattle.bser_value.specs.declared.de.value_at_hand.Step.{Step}
 use Rattle.bser_value.specs.declared.de.value_at_hand.Step.TheVariants.{Taken, Due, Absent, Refused}
 
 -- ---- strings
-
--- the tree of a string, by whether it is a text
-abbrev pub string_tree : Bool → List ℕ → Tree
-string_tree true s = text s
-string_tree false s = bytes s
 
 -- the value of a string with these bytes, which are UTF-8 in a text
 pub record IsStringValue (is_text : Bool) (s : List ℕ) (v : Value) : Type 0 where

@@ -13,7 +13,7 @@ use Rattle.bser_base.specs.Expand.{ItemsAreTemplateFree}
 use Rattle.bser_base.specs.Canonical.{canonical_message, ItemsAreWritable}
 use Rattle.bser_base.specs.Measures.{items_depth}
 use Rattle.bser_base.specs.Written.{written_items}
-use Rattle.bser_format.specs.declared.errors.Error.{Error}
+use Rattle.bser_base.specs.declared.errors.Error.{Error}
 use Rattle.bser_base.proofs.RoundTrip.{meaning_stays}
 use Rattle.serde_bser.specs.Holds.{HoldsNumber}
 use Rattle.serde_bser.specs.HoldsTexts.{HoldsBytes}

@@ -1,7 +1,7 @@
 -- That a way of reading answers as a text says.
 use Rattle.std.specs.Prelude.{◌≡◌, ℕ, ◌+◌, List, length, Option, Some, Result, MatchResult, IsOk}
 use Rattle.bser_base.specs.Content.{Content, Meaning, Needs}
-use Rattle.bser_format.specs.declared.errors.Error.{Error}
+use Rattle.bser_base.specs.declared.errors.Error.{Error}
 use Rattle.serde_bser.specs.Messages.{BeginsWith, TookMessage, RefusesSlice, RefusesReader}
 use Rattle.serde_bser.specs.ValueView.{HoldsValue}
 use Rattle.bser_value.specs.declared.value.Value.{Value}

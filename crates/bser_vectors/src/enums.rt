@@ -6,11 +6,9 @@ ghost use Rattle.serde_bser.specs.HoldsLists.{HoldsTuple};
 ghost use Rattle.serde_bser.specs.Slots.{struct_needs};
 ghost use Rattle.bser_vectors.specs.Enums.{reads_parts, reads_test_enum, HoldsTestEnum, reads_enum_row, HoldsEnumRow};
 
-use serde_bser::de::read::LendsText;
-use serde_bser::de::{
-    DeRead, Deserialize, Deserializer, OwnedShape, ReadsEnums, ReadsFields, Required, Shape,
-};
+use serde_bser::de::{Deserializer, Required};
 use serde_bser::errors::Result;
+use serde_bser::prelude::*;
 use std::alloc::Global;
 
 /// A variant of each form.

@@ -6,11 +6,9 @@ ghost use Rattle.serde_bser.specs.Reading.{bare};
 ghost use Rattle.serde_bser.specs.Slots.{struct_needs};
 ghost use Rattle.bser_vectors.specs.Structs.{reads_file, HoldsFile, reads_files, HoldsFiles, reads_row, HoldsRow};
 
-use serde_bser::de::read::LendsText;
-use serde_bser::de::{
-    DeRead, Deserialize, Deserializer, Optional, OwnedShape, ReadsFields, Required, Shape,
-};
+use serde_bser::de::{Deserializer, Optional, Required};
 use serde_bser::errors::Result;
+use serde_bser::prelude::*;
 use std::alloc::Global;
 
 /// A file's name and size.

@@ -8,7 +8,7 @@ pub use Rattle.bser_state.proofs.FieldNames
 pub use Rattle.bser_value.proofs.Gathered
 pub use Rattle.bser_state.proofs.AtHand
 pub use Rattle.bser_state.proofs.AtFront
-pub use Rattle.bser_state.proofs.StringsAtHand
+pub mod StringsAtHand
 pub use Rattle.bser_state.proofs.Looks
 pub use Rattle.bser_state.proofs.Options
 pub use Rattle.bser_state.proofs.Ranges
@@ -59,7 +59,7 @@ pub use Rattle.bser_value.proofs.ValueOutlooks
 pub use Rattle.bser_value.proofs.ValuesRead
 pub use Rattle.bser_value.proofs.DueKinds
 pub use Rattle.bser_struct.proofs.VariantHeads
+pub use Rattle.bser_struct.proofs.VariantNames
 pub use Rattle.bser_struct.proofs.Variants
 pub use Rattle.bser_value.proofs.ValueFronts
 pub use Rattle.bser_value.proofs.RowFields
-pub use Rattle.bser_struct.proofs.SkippedAtHand

@@ -14,7 +14,7 @@ use Rattle.bser_base.specs.Expected.{Fills, FillsNode, nothing_due}
 use Rattle.bser_base.specs.Content.{Content, Meaning, Needs}
 use Rattle.bser_base.specs.Tagged.{IsHead}
 use Rattle.bser_base.specs.TaggedRefusal.{Unwanted}
-use Rattle.bser_format.specs.declared.errors.Error.{Error}
+use Rattle.bser_base.specs.declared.errors.Error.{Error}
 use Rattle.bser_base.proofs.Frames.{framed, parts}
 use Rattle.bser_base.proofs.Fronts.{one_value}
 use Rattle.bser_base.proofs.OneHead.{one_head}

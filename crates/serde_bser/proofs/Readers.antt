@@ -2,7 +2,7 @@
 use Rattle.std.proofs.Common.{◌≡◌, ℕ, false, rules, sym, Option, List}
 use Rattle.bser_base.specs.Content.{Meaning, Needs}
 use Rattle.bser_base.specs.Source as source
-use Rattle.bser_format.specs.declared.errors.Error.{Error}
+use Rattle.bser_base.specs.declared.errors.Error.{Error}
 use Rattle.serde_bser.specs.Messages.{RefusesMessage, RefusesReader}
 
 pub reader_refused : (n : ℕ) (reads : Meaning) (needs : Needs) (e : Error) (s t : source.State) → needs.lent ≡ false → s.count ≡ 0 → s.failed ≡ false → RefusesMessage n reads needs e s t → RefusesReader n reads e s.left s.failures t.failures

@@ -2,7 +2,7 @@ pub use Rattle.bser_state.specs.State
 pub use Rattle.bser_state.specs.Reading
 pub use Rattle.bser_state.specs.Parts
 pub use Rattle.bser_state.specs.Access
-pub use Rattle.bser_de.specs.Accesses
+pub mod Accesses
 pub use Rattle.bser_state.specs.Fields
 pub use Rattle.bser_state.specs.HoldsMaps
 pub use Rattle.bser_de.specs.Fold
@@ -14,11 +14,11 @@ pub use Rattle.bser_state.specs.Front
 pub use Rattle.bser_value.specs.Gathered
 pub use Rattle.bser_state.specs.Nodes
 pub mod Messages
-pub use Rattle.bser_cursor.specs.View
+pub mod View
 pub use Rattle.bser_state.specs.Scalar
 pub use Rattle.bser_state.specs.Tables
 pub use Rattle.bser_state.specs.Openings
-pub use Rattle.bser_state.specs.Holds
+pub mod Holds
 pub mod Laws
 pub use Rattle.bser_value.specs.ValueView
 pub use Rattle.bser_struct.specs.Skip
@@ -36,6 +36,3 @@ pub use Rattle.bser_value.specs.RowSteps
 pub use Rattle.bser_struct.specs.Variants
 pub use Rattle.bser_struct.specs.EnumAccess
 pub use Rattle.bser_de.specs.RowsAtHand
-pub use Rattle.bser_de.specs.HoldsReals
-pub use Rattle.bser_state.specs.Dues
-pub use Rattle.bser_cursor.specs.Frames

@@ -10,9 +10,9 @@ use Rattle.bser_base.specs.Source as source
 use Rattle.bser_base.specs.Source.{Took, with_limit}
 use Rattle.bser_base.specs.Grammar.{Format}
 use Rattle.bser_state.specs.Reading.{TakesMemory, RefusesFront}
-use Rattle.bser_format.specs.declared.errors.Error.{Error}
-use Rattle.bser_format.specs.declared.errors.Error.TheVariants.{DeReaderError, OutOfMemory}
-use Rattle.bser_format.specs.declared.errors.ReadCause.TheVariants.{Reader}
+use Rattle.bser_base.specs.declared.errors.Error.{Error}
+use Rattle.bser_base.specs.declared.errors.Error.TheVariants.{DeReaderError, OutOfMemory}
+use Rattle.bser_base.specs.declared.errors.ReadCause.TheVariants.{Reader}
 
 -- the text is a message of at most n levels, whose expanded tree reads as the content
 pub record ReadsAs (n : ℕ) (reads : Meaning) (text : List ℕ) (c : Content) : Type 0 where

@@ -1,6 +1,11 @@
 //! Reading.
 mod entry;
 
+pub mod field {
+    //! What a struct's reading tells of a field's name.
+    pub use bser_state::field::Field;
+}
+
 pub use crate::de::entry::{from_reader, from_reader_within, from_slice, from_slice_within};
 pub use bser_base::de::bunser::{Bunser, PduInfo};
 pub use bser_base::de::read::{DeRead, IoRead, Reference, SliceRead, TextReference};
@@ -14,9 +19,9 @@ pub use bser_de::reading::{Deserialize, DeserializeOwned, OwnedShape, Shape};
 pub use bser_de::seq::SeqAccess;
 pub use bser_state::field::Field;
 pub use bser_state::node::Node;
-pub use bser_struct::fields::{Optional, ReadsFields, Required, Slot, Slots};
+pub use bser_struct::enum_access::{EnumAccess, ReadsEnums};
+pub use bser_struct::fields::ReadsFields;
 pub use bser_struct::ignored::Ignored;
 pub use bser_struct::skip::SkipsValues;
-pub use bser_struct::variant::{
-    EnumAccess, ReadsEnums, UnitVariantAccess, VariantAccess, VariantForm,
-};
+pub use bser_struct::slot::{Optional, Required, Slot, Slots};
+pub use bser_struct::variant_access::{UnitVariantAccess, VariantAccess};

@@ -7,6 +7,7 @@
 
 pub mod de;
 pub mod laws;
+pub mod prelude;
 pub mod ser;
 
 pub use crate::de::{from_reader, from_slice};

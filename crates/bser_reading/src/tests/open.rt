@@ -6,6 +6,9 @@ use serde_bser::errors::{Complaint, Error, ReadCause, Result};
 /// An array of true and an empty array.
 const ARRAY: &[u8] = b"\x00\x02\x00\x00\x00\x00\x03\x07\x00\x03\x02\x08\x00\x03\x00";
 
+/// True.
+const TRUE: &[u8] = b"\x00\x02\x00\x00\x00\x00\x03\x01\x08";
+
 /// An object with the keys "a" and "b", of 1 and of 2.
 const OBJECT: &[u8] =
     b"\x00\x02\x00\x00\x00\x00\x03\x0f\x01\x03\x02\x0d\x03\x01a\x03\x01\x0d\x03\x01b\x03\x02";
@@ -56,6 +59,50 @@ fn a_read_while_an_array_is_open_is_refused(rt: HostRuntime) -> Result<()> {
     assert!(rt; is_complaint(&refused, Complaint::ValueOpen));
     assert!(rt; is_failed(&from.read_i64()));
     assert!(rt; is_failed(&from.end()));
+    Ok(())
+}
+
+#[test]
+fn a_kind_after_the_value_was_read_is_refused(rt: HostRuntime) -> Result<()> {
+    let alloc = rt.alloc();
+    let mut from = Deserializer::new(alloc, SliceRead::new(TRUE))?;
+    from.read_bool()?;
+    let refused = from.node();
+    assert!(rt; is_complaint(&refused, Complaint::TooFewItems));
+    assert!(rt; is_failed(&from.node()));
+    Ok(())
+}
+
+#[test]
+fn a_kind_while_an_array_is_open_is_refused(rt: HostRuntime) -> Result<()> {
+    let alloc = rt.alloc();
+    let mut from = Deserializer::new(alloc, SliceRead::new(ARRAY))?;
+    drop(from.read_seq(alloc)?);
+    let refused = from.node();
+    assert!(rt; is_complaint(&refused, Complaint::ValueOpen));
+    assert!(rt; is_failed(&from.node()));
+    Ok(())
+}
+
+#[test]
+fn a_null_after_the_value_was_read_is_refused(rt: HostRuntime) -> Result<()> {
+    let alloc = rt.alloc();
+    let mut from = Deserializer::new(alloc, SliceRead::new(TRUE))?;
+    from.read_bool()?;
+    let refused = from.read_none();
+    assert!(rt; is_complaint(&refused, Complaint::TooFewItems));
+    assert!(rt; is_failed(&from.read_none()));
+    Ok(())
+}
+
+#[test]
+fn a_null_while_an_array_is_open_is_refused(rt: HostRuntime) -> Result<()> {
+    let alloc = rt.alloc();
+    let mut from = Deserializer::new(alloc, SliceRead::new(ARRAY))?;
+    drop(from.read_seq(alloc)?);
+    let refused = from.read_none();
+    assert!(rt; is_complaint(&refused, Complaint::ValueOpen));
+    assert!(rt; is_failed(&from.read_none()));
     Ok(())
 }
 

@@ -3,8 +3,9 @@ use super::Tested;
 use super::checks::check_code;
 use bser_base::de::read::NoLoan;
 use bser_vectors::devices::{Plan, PlannedReader};
-use serde_bser::de::{Deserialize, Deserializer, IoRead, ReadsContainers, SkipsValues, SliceRead};
+use serde_bser::de::{Deserializer, IoRead, SliceRead};
 use serde_bser::device::Watched;
+use serde_bser::prelude::*;
 
 /// A message, and its refusal's code.
 type Refused = (&'static [u8], &'static str);

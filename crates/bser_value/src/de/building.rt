@@ -1,6 +1,6 @@
 //! Containers that are being read as a `Value`.
 ghost use Rattle.std.specs.Prelude.{◌≡◌, ◌<◌, length, None, true, false, IfOk, IfErr, OnOk};
-ghost use Rattle.bser_format.specs.declared.errors.Error.TheVariants.{OutOfMemory};
+ghost use Rattle.bser_base.specs.declared.errors.Error.TheVariants.{OutOfMemory};
 ghost use Rattle.bser_cursor.specs.Frames.{pairs_head};
 ghost use Rattle.bser_value.specs.Building.{IsNewItems, IsNewPairs, Puts, AwaitsItem, NoItem, NextName, RefusesName, Awaits, RefusesNext, IsRead, BetweenValues, ClosesInto, built};
 ghost use Rattle.bser_state.specs.Access.{closed};

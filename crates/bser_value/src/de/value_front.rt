@@ -4,7 +4,7 @@ ghost use Rattle.bser_base.specs.ReadsAny.{reads_value};
 ghost use Rattle.bser_state.specs.Front.{FrontReads};
 ghost use Rattle.bser_value.specs.ValueView.{HoldsTree};
 
-use crate::de::value_at_hand::string_value;
+use crate::de::scalar_at_hand::string_value;
 use crate::value::Value;
 use bser_base::de::bunser::{integer_front, string_front};
 use bser_base::header::{BSER_FALSE, BSER_NULL, BSER_REAL, BSER_SKIP, BSER_TRUE};

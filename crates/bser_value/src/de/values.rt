@@ -3,7 +3,7 @@ ghost use Rattle.std.specs.Prelude.{refl, ◌≡◌, Some, true, false, IfOk, If
 ghost use Rattle.bser_base.specs.ReadsAny.{reads_value};
 ghost use Rattle.bser_base.specs.Source.{IsNext};
 ghost use Rattle.bser_state.specs.Scalar.{reads_scalar, owned, IsNoValue, IsValue};
-ghost use Rattle.bser_format.specs.declared.errors.Error.TheVariants.{OutOfMemory};
+ghost use Rattle.bser_base.specs.declared.errors.Error.TheVariants.{OutOfMemory};
 ghost use Rattle.bser_value.specs.Building.{ClosesInto};
 ghost use Rattle.bser_value.specs.BuildingSteps.{ReadsPart, ReadsInto, ClosesPart};
 ghost use Rattle.bser_value.specs.ScalarAnswer.{TookValue};

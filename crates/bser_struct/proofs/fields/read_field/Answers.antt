@@ -2,7 +2,7 @@ use Rattle.std.proofs.Common.{List, subst, sym}
 use Rattle.std.specs.Prelude.{MatchOption}
 use Rattle.bser_state.specs.Access.{OpenPairs, RefusesValue}
 use Rattle.bser_base.specs.ReadsAny.{reads_ignored}
-use Rattle.bser_format.specs.declared.errors.Error.{Error}
+use Rattle.bser_base.specs.declared.errors.Error.{Error}
 use Rattle.bser_state.specs.Scalar.{owned}
 use Rattle.bser_state.specs.declared.field.Field.TheVariants.{Unknown}
 use Rattle.bser_de.specs.Accesses.{open_pairs}

@@ -1,7 +1,7 @@
 -- What stands there is an object or a row.
 use Rattle.std.proofs.lemmas.Result.{err_from_is_err_and}
-use Rattle.bser_state.specs.Openings.{IsValue}
 use Rattle.bser_state.specs.Reading.{bare}
+use Rattle.bser_state.specs.Scalar.{IsValue}
 use Rattle.bser_state.specs.State.{State}
 use Rattle.bser_cursor.specs.View.{state}
 use Rattle.bser_state.proofs.Strings.{if_ok, if_err}

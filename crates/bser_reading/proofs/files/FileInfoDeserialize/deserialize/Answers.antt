@@ -9,7 +9,7 @@ use Rattle.serde_bser.specs.Accesses.{open_pairs}
 use Rattle.serde_bser.specs.Reading.{IsRefusal}
 use Rattle.serde_bser.specs.Fold.{either}
 use Rattle.bser_reading.specs.Files.{Found, file_names, file_field, nothing_found, file_found, both, HoldsFile}
-use Rattle.bser_state.specs.declared.field.Field.TheVariants.{Known, Unknown}
+use Rattle.serde_bser.specs.declared.de.field.Field.TheVariants.{Known, Unknown}
 use Rattle.serde_bser.proofs.Structs.{struct_start, struct_field, struct_value, struct_end, opening, name_refused, field_refused, field_unread, fields_missing, keeps_not, keeps_is, first_read, read_again, was_read, later_place, either_left, either_right, takes_left, takes_right, stays_here, closed_stays}
 use Rattle.bser_reading.proofs.files.FileInfoDeserialize.deserialize.Goals as goal
 use Rattle.bser_reading.proofs.files.FileInfoDeserialize.deserialize.Goals.{in_default-2-via-in-Some+in_default, in_default-2-via-in_default}

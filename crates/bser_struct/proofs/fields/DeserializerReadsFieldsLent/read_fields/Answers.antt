@@ -2,7 +2,7 @@ use Rattle.std.proofs.Common.{◌∙◌, List, ℕ, map, sym, ap, refl, option_m
 use Rattle.std.proofs.lemmas.Option.{MatchOption-at_some}
 use Rattle.std.proofs.lemmas.Result.{err_from_is_err_and}
 use Rattle.bser_base.specs.Content.{Needs}
-use Rattle.bser_format.specs.declared.errors.Error.{Error}
+use Rattle.bser_base.specs.declared.errors.Error.{Error}
 use Rattle.bser_base.specs.ReadsHolders.{list_of}
 use Rattle.bser_state.specs.Access.{OpenPairs}
 use Rattle.bser_de.specs.Accesses.{open_pairs}

@@ -1,7 +1,7 @@
 -- Part by part, until the outermost container is closed.
 use Rattle.std.proofs.Common.{sym, subst}
 use Rattle.std.proofs.lemmas.Result.{err_from_is_err_and}
-use Rattle.bser_format.specs.declared.errors.Error.TheVariants.{OutOfMemory}
+use Rattle.bser_base.specs.declared.errors.Error.TheVariants.{OutOfMemory}
 use Rattle.bser_base.specs.ReadsAny.{reads_value}
 use Rattle.bser_state.specs.Reading.{Refuses}
 use Rattle.bser_state.specs.Scalar.{owned}

@@ -12,7 +12,8 @@ use Rattle.serde_bser.specs.Tuples.{tuple_needs}
 use Rattle.serde_bser.specs.State.{State}
 use Rattle.serde_bser.specs.Variants.{OpenEnum}
 use Rattle.serde_bser.specs.View.{state}
-use Rattle.serde_bser.proofs.Variants.{payload_at, place_there, enum_refused, unit_found, unit_refused, payload_found, payload_refused}
+use Rattle.serde_bser.proofs.VariantNames.{payload_at}
+use Rattle.serde_bser.proofs.Variants.{place_there, enum_refused, unit_found, unit_refused, payload_found, payload_refused}
 use Rattle.bser_vectors.specs.Enums.{reads_parts, test_variants}
 use Rattle.bser_vectors.proofs.enums.TestEnumDeserialize.deserialize.Goals as goal
 
