@@ -14,6 +14,7 @@
 
 mod files;
 mod rows;
+mod table;
 
 use crate::rows::{Bytes, Files};
 use anyhow::{Context, Result, bail};

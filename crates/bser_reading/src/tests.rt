@@ -1,20 +1,15 @@
 //! Tests by the public calls of reading.
 mod checks;
 mod enums;
-mod files;
-mod hostile;
+mod faults;
 mod levels;
 mod lists;
 mod maps;
 mod open;
 mod options;
 mod order;
-mod structs;
-mod templates;
+mod printed;
 mod typed;
-mod value;
-mod values;
-mod variants;
 
 use serde_bser::errors::{Complaint, Error, Message, Result};
 use std::test::Fail;

@@ -4,12 +4,11 @@
 //! The file `sample.tsv` has a line for each message: its class, the message in hexadecimal digits,
 //! `ok` or `err`, the answer in the notation of `bser_vectors`, the bytes taken, the nodes and the
 //! depth of the value, and what is written for it, canonical and compact. A long message is
-//! `#LENGTH:SHA256`.
+//! `#LENGTH:SHA256`. The file `lines.tsv` has more such lines, whose classes are their names, and
+//! `wrong-lines.tsv` has wrong ones, each of which is named.
 #![tactic(auto)]
 
 mod sample;
-#[cfg(test)]
-mod tests;
 
 use crate::sample::Sample;
 use anyhow::{Context, Result};
@@ -31,9 +30,8 @@ fn count(counter: &mut u64) {
 }
 
 impl Counts {
-    /// Counts a line by what is done with it.
+    /// Counts a line that is right, by what is done with it.
     fn add(&mut self, sample: &Sample<'_>) {
-        count(&mut self.lines);
         if sample.accepted {
             count(&mut self.accepted);
             count(&mut self.written);
@@ -44,20 +42,30 @@ impl Counts {
 }
 
 fn main(rt: HostRuntime) -> Result<()> {
-    let text = fs::read_to_string(&rt, "sample.tsv")?;
+    compare_lines(&rt, "sample.tsv")?;
+    compare_lines(&rt, "lines.tsv")?;
+    compare_lines(&rt, "wrong-lines.tsv")
+}
+
+/// Reads each message of the list, and writes the values of those that are accepted.
+fn compare_lines(rt: &HostRuntime, file: &str) -> Result<()> {
+    let text = fs::read_to_string(rt, file)?;
     let mut counts = Counts::default();
     for line in text.as_str().lines() {
+        count(&mut counts.lines);
         let sample = Sample::parse(rt.alloc(), line)?;
-        counts.add(&sample);
         let mismatch = sample
             .first_mismatch(rt.alloc())
             .context(format_args!("line {}", counts.lines))?;
-        if let Some(what) = mismatch {
-            count(&mut counts.mismatches);
-            println!(rt;
-                "line {}, {}: another answer, {what}",
-                counts.lines, sample.class
-            )?;
+        match mismatch {
+            None => counts.add(&sample),
+            Some(what) => {
+                count(&mut counts.mismatches);
+                println!(rt;
+                    "line {}, {}: another answer, {what}",
+                    counts.lines, sample.class
+                )?;
+            }
         }
     }
     println!(rt; "{} lines", counts.lines)?;

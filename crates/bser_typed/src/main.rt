@@ -10,7 +10,9 @@
 //! that the message is read as, the levels that it may have, the message in hexadecimal digits, and the
 //! notation of the answer. Blanks in a message are passed over, `0a..3` is `0a0a0a`, and what stands
 //! behind ` / ` follows the message. An answer that begins with `each front` is that of each front of the
-//! message. Empty lines, and those that begin with `#`, are no rows.
+//! message, and one that begins with `parts` is what follows, without blanks, where `[..3` is `[[[`. Empty
+//! lines, and those that begin with `#`, are no rows. The file `values.txt` has such rows too, mostly of
+//! what a `Value` is read from, and of the same messages where they are passed over.
 //!
 //! The files `wrong-lines.tsv` and `wrong-cases.txt` have wrong ones, each of which is named.
 #![tactic(auto)]
@@ -46,6 +48,7 @@ fn main(rt: HostRuntime) -> Result<()> {
     compare_lines(&rt, "sample-typed.tsv")?;
     compare_lines(&rt, "wrong-lines.tsv")?;
     compare_rows(&rt, "cases.txt")?;
+    compare_rows(&rt, "values.txt")?;
     compare_rows(&rt, "wrong-cases.txt")?;
     compare_files(&rt)
 }

@@ -12,7 +12,7 @@ pub struct Row<'a> {
     /// The names of the types that the message is read as.
     pub kinds: &'a str,
     /// The notation of the answer.
-    pub answer: &'a str,
+    pub answer: String,
     levels: usize,
     bytes: Vec<u8>,
     /// How many of the bytes are the message.
@@ -36,7 +36,7 @@ impl<'a> Row<'a> {
         Ok(Row {
             name,
             kinds,
-            answer: of_fronts.unwrap_or(answer),
+            answer: text_of(alloc, of_fronts.unwrap_or(answer))?,
             levels: levels.parse::<usize>()?,
             bytes,
             taken,
@@ -63,7 +63,7 @@ impl<'a> Row<'a> {
         let sample = Sample {
             message,
             levels: self.levels,
-            answer: self.answer,
+            answer: self.answer.as_str(),
             taken: self.taken,
         };
         types::compare(alloc, kind, &sample).context("no such type")
@@ -86,4 +86,20 @@ fn bytes_of(alloc: Global, parts: &str) -> Result<Vec<u8>> {
         }
     }
     Ok(bytes)
+}
+
+/// The answer that a column says: the column itself, or the parts behind `parts `. A part with `..` and
+/// a number behind it stands so often.
+fn text_of(alloc: Global, column: &str) -> Result<String> {
+    let Some(parts) = column.strip_prefix("parts ") else {
+        return Ok(String::from_str(alloc, column)?);
+    };
+    let mut text = String::new(alloc);
+    for part in parts.split_whitespace() {
+        let (piece, times) = part.split_once("..").unwrap_or((part, "1"));
+        for _ in 0..times.parse::<u32>()? {
+            text.push_str(piece)?;
+        }
+    }
+    Ok(text)
 }

@@ -4,6 +4,7 @@
 //! `&[u8]`. A struct or enum has texts of its own, but with `_str` or `_raw` behind its name.
 use crate::ways::{Compared, Sample};
 use bser_vectors::enums::{EnumRow, TestEnum};
+use bser_vectors::files::ExactFile;
 use bser_vectors::structs::{FileInfo, Files, TemplateRow};
 use serde_bser::bytestring::ByteString;
 use serde_bser::de::Ignored;
@@ -129,6 +130,7 @@ fn structs(alloc: Global, kind: &str, sample: &Sample<'_>) -> Option<Compared> {
         "FileInfo" => sample.owned_mismatch::<FileInfo<String>>(alloc),
         "vec_FileInfo" => sample.owned_mismatch::<Vec<FileInfo<String>>>(alloc),
         "Files" => sample.owned_mismatch::<Files<String>>(alloc),
+        "ExactFile" => sample.lent_mismatch::<ExactFile<String, u64>>(alloc),
         "Files_raw" => sample.lent_mismatch::<Files<&[u8]>>(alloc),
         _ => return None,
     })

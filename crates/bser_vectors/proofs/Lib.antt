@@ -1,4 +1,2 @@
-pub mod Computed
-pub mod Spelling
 pub mod KnownLeft
 pub mod ReadBack

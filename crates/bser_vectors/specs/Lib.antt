@@ -1,10 +1,6 @@
-pub mod Reading
-pub mod Samples
-pub mod Templates
-pub mod Recorded
-pub mod Spelled
 pub mod Notation
 pub mod Planned
 pub mod Ways
 pub mod Structs
 pub mod Enums
+pub mod Files

@@ -46,6 +46,14 @@ fn texts(rt: HostRuntime) -> Result<(), AllocError> {
     check_texts(
         &rt,
         rt.alloc(),
+        b"\0a\n",
+        "\0a\n",
+        "\"\\u{0}a\\n\"",
+        "\"\\0a\\n\"",
+    )?;
+    check_texts(
+        &rt,
+        rt.alloc(),
         b"\xc3\xa9",
         "\u{e9}",
         "\"\\u{e9}\"",
@@ -84,6 +92,10 @@ fn conversions(rt: HostRuntime) -> Result<(), AllocError> {
     match byte_string(alloc, b"\xff")?.into_string() {
         Ok(text) => panic!(rt; "{text}"),
         Err(same) => assert_eq!(rt; same.as_bytes(), b"\xff".as_slice()),
+    }
+    match byte_string(alloc, b"Tom")?.into_string() {
+        Ok(text) => assert_eq!(rt; text.as_str(), "Tom"),
+        Err(value) => panic!(rt; "{value}"),
     }
     match byte_string(alloc, b"caf\xc3\xa9")?.into_string() {
         Ok(text) => assert_eq!(rt; text.as_str(), "caf\u{e9}"),

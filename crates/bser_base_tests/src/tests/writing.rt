@@ -284,6 +284,38 @@ fn writes_a_struct_whose_name_is_no_text(rt: HostRuntime) -> Tested {
 }
 
 #[test]
+fn puts_a_key_that_is_no_text(rt: HostRuntime) -> Tested {
+    let mut out = Serializer::new(rt.alloc(), Watched::new(Vec::new(rt.alloc())));
+    out.put_map(Some(1))?;
+    out.put_key(b"\xff")?;
+    out.put_null()?;
+    let expected = b"\x01\x03\x01\x02\x03\x01\xff\x0a";
+    assert_eq!(rt; out.finish()?.into_inner().as_slice(), expected.as_slice());
+    Ok(())
+}
+
+#[test]
+fn writes_byte_strings_beside_a_length_that_takes_more_bytes(rt: HostRuntime) -> Tested {
+    let alloc = rt.alloc();
+    let cases: [(usize, u8, &[u8]); 3] = [
+        (124, 0, b"\x00\x02\x00\x00\x00\x00\x03\x7f\x02\x03\x7c"),
+        (125, 0, b"\x00\x02\x00\x00\x00\x00\x04\x80\x00\x02\x03\x7d"),
+        (
+            200_000,
+            0xa5,
+            b"\x00\x02\x00\x00\x00\x00\x05\x46\x0d\x03\x00\x02\x05\x40\x0d\x03\x00",
+        ),
+    ];
+    for (len, byte, front) in cases {
+        let bytes = ByteString::from_vec(vec![in alloc; byte; len]?);
+        let mut expected = Vec::from_slice(alloc, front)?;
+        expected.extend_from_slice(bytes.as_bytes())?;
+        assert!(rt; message(alloc, &bytes)? == expected, "{len} bytes");
+    }
+    Ok(())
+}
+
+#[test]
 fn writes_a_map_whose_key_is_no_text(rt: HostRuntime) -> Tested {
     let alloc = rt.alloc();
     let mut members = BTreeMap::new(alloc);

@@ -1,5 +1,6 @@
 //! Tests of the calls that read an enum.
-use serde_bser::de::{Deserializer, ReadsEnums, SliceRead};
+use bser_vectors::enums::TestEnum;
+use serde_bser::de::{Deserializer, ReadsContainers, ReadsEnums, SliceRead};
 use serde_bser::errors::{Complaint, Error, Message, Result};
 
 /// An object from "TestUnit" to null.
@@ -73,4 +74,16 @@ fn a_dropped_variant_leaves_its_object_open(rt: HostRuntime) -> Result<()> {
         )
     );
     Ok(())
+}
+
+#[test]
+fn a_key_is_a_unit_variant(rt: HostRuntime) -> Result<()> {
+    let alloc = rt.alloc();
+    let mut from = Deserializer::new(alloc, SliceRead::new(UNIT))?;
+    let mut map = from.read_map()?;
+    let key = map.next_key::<TestEnum<&str>>(alloc)?;
+    assert!(rt; matches!(key, Some(TestEnum::TestUnit)));
+    map.next_value::<()>(alloc)?;
+    map.end()?;
+    from.end()
 }

@@ -82,11 +82,6 @@ fn rows_are_hashed_maps(rt: HostRuntime) -> Result<()> {
     assert_eq!(rt; rows[0].get("a").copied(), Some(1));
     assert_eq!(rt; rows[1].len(), 2);
     assert_eq!(rt; rows[1].get("b").copied(), Some(4));
-    Ok(())
-}
-
-#[test]
-fn an_object_without_entries_is_an_empty_hashed_map(rt: HostRuntime) -> Result<()> {
     let empty = b"\x00\x02\0\0\0\0\x03\x03\x01\x03\x00";
     assert!(rt; from_slice::<HashMap<String, u8>>(rt.alloc(), empty)?.is_empty());
     Ok(())

@@ -63,46 +63,30 @@ fn a_read_while_an_array_is_open_is_refused(rt: HostRuntime) -> Result<()> {
 }
 
 #[test]
-fn a_kind_after_the_value_was_read_is_refused(rt: HostRuntime) -> Result<()> {
+fn a_kind_is_refused_where_none_is_due(rt: HostRuntime) -> Result<()> {
     let alloc = rt.alloc();
-    let mut from = Deserializer::new(alloc, SliceRead::new(TRUE))?;
-    from.read_bool()?;
-    let refused = from.node();
-    assert!(rt; is_complaint(&refused, Complaint::TooFewItems));
-    assert!(rt; is_failed(&from.node()));
+    let mut read = Deserializer::new(alloc, SliceRead::new(TRUE))?;
+    read.read_bool()?;
+    assert!(rt; is_complaint(&read.node(), Complaint::TooFewItems));
+    assert!(rt; is_failed(&read.node()));
+    let mut open = Deserializer::new(alloc, SliceRead::new(ARRAY))?;
+    drop(open.read_seq(alloc)?);
+    assert!(rt; is_complaint(&open.node(), Complaint::ValueOpen));
+    assert!(rt; is_failed(&open.node()));
     Ok(())
 }
 
 #[test]
-fn a_kind_while_an_array_is_open_is_refused(rt: HostRuntime) -> Result<()> {
+fn a_null_is_refused_where_none_is_due(rt: HostRuntime) -> Result<()> {
     let alloc = rt.alloc();
-    let mut from = Deserializer::new(alloc, SliceRead::new(ARRAY))?;
-    drop(from.read_seq(alloc)?);
-    let refused = from.node();
-    assert!(rt; is_complaint(&refused, Complaint::ValueOpen));
-    assert!(rt; is_failed(&from.node()));
-    Ok(())
-}
-
-#[test]
-fn a_null_after_the_value_was_read_is_refused(rt: HostRuntime) -> Result<()> {
-    let alloc = rt.alloc();
-    let mut from = Deserializer::new(alloc, SliceRead::new(TRUE))?;
-    from.read_bool()?;
-    let refused = from.read_none();
-    assert!(rt; is_complaint(&refused, Complaint::TooFewItems));
-    assert!(rt; is_failed(&from.read_none()));
-    Ok(())
-}
-
-#[test]
-fn a_null_while_an_array_is_open_is_refused(rt: HostRuntime) -> Result<()> {
-    let alloc = rt.alloc();
-    let mut from = Deserializer::new(alloc, SliceRead::new(ARRAY))?;
-    drop(from.read_seq(alloc)?);
-    let refused = from.read_none();
-    assert!(rt; is_complaint(&refused, Complaint::ValueOpen));
-    assert!(rt; is_failed(&from.read_none()));
+    let mut read = Deserializer::new(alloc, SliceRead::new(TRUE))?;
+    read.read_bool()?;
+    assert!(rt; is_complaint(&read.read_none(), Complaint::TooFewItems));
+    assert!(rt; is_failed(&read.read_none()));
+    let mut open = Deserializer::new(alloc, SliceRead::new(ARRAY))?;
+    drop(open.read_seq(alloc)?);
+    assert!(rt; is_complaint(&open.read_none(), Complaint::ValueOpen));
+    assert!(rt; is_failed(&open.read_none()));
     Ok(())
 }
 

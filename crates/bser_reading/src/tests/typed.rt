@@ -3,42 +3,20 @@ use super::Tested;
 use super::checks::check_code;
 use bser_base::de::read::{DeRead, LendsText, NoLoan};
 use bser_vectors::devices::{Plan, PlannedReader};
-use serde_bser::bytestring::ByteString;
 use serde_bser::de::{Deserialize, Deserializer, IoRead, ReadsContainers, SliceRead};
 use serde_bser::device::Watched;
 use serde_bser::from_reader;
-use serde_bser::ser::serialize_to;
 use std::alloc::Global;
-use std::collections::BTreeMap;
 use std::process::Abort;
 
 #[test]
-fn byte_strings_beside_the_length_that_takes_two_bytes_are_written(rt: HostRuntime) -> Tested {
-    let alloc = rt.alloc();
-    let cases: [(usize, &[u8]); 2] = [
-        (124, b"\x00\x02\0\0\0\0\x03\x7f\x02\x03\x7c"),
-        (125, b"\x00\x02\0\0\0\0\x04\x80\x00\x02\x03\x7d"),
-    ];
-    for (zeros, front) in cases {
-        let expected = ByteString::from_vec(vec![in alloc; 0u8; zeros]?);
-        let mut message = Vec::from_slice(alloc, front)?;
-        message.extend_from_slice(expected.as_bytes())?;
-        let mut writer = Watched::new(Vec::new(alloc));
-        serialize_to(alloc, &mut writer, &expected)?;
-        assert_eq!(rt; writer.into_inner().as_slice(), message.as_slice());
-    }
-    Ok(())
-}
-
-#[test]
-fn a_map_with_a_key_that_is_no_text_is_written(rt: HostRuntime) -> Tested {
-    let alloc = rt.alloc();
-    let bytes = b"\x00\x02\0\0\0\0\x03\x08\x01\x03\x01\x02\x03\x01\xff\x0a";
-    let mut expected = BTreeMap::new(alloc);
-    drop(expected.insert(ByteString::from_vec([0xff].to_vec(alloc)?), ())?);
-    let mut writer = Watched::new(Vec::new(alloc));
-    serialize_to(alloc, &mut writer, &expected)?;
-    assert_eq!(rt; writer.into_inner().as_slice(), bytes.as_slice());
+fn capabilities_are_told(rt: HostRuntime) -> Tested {
+    let bytes = b"\x00\x02\x01\0\0\x80\x03\x01\x0a";
+    let from = Deserializer::new(rt.alloc(), SliceRead::new(bytes))?;
+    assert_eq!(rt; from.capabilities(), 0x8000_0001);
+    let reader = Watched::new(PlannedReader::new(bytes, Plan::pieces(1)));
+    let from = Deserializer::new(rt.alloc(), IoRead::new(reader))?;
+    assert_eq!(rt; from.capabilities(), 0x8000_0001);
     Ok(())
 }
 

@@ -5,6 +5,7 @@ ghost use Rattle.std.specs.Fmt.{signed_decimal};
 ghost use Rattle.bser_typed.specs.Shown.{list_notation, option_notation};
 
 use crate::shown::Shown;
+use bser_vectors::files::ExactFile;
 use bser_vectors::structs::{FileInfo, Files, TemplateRow};
 use std::alloc::{AllocError, Global};
 
@@ -15,6 +16,18 @@ impl<S: Shown> Shown for FileInfo<S> {
         text.push_str("<name=")?;
         self.name.put(alloc, text)?;
         text.push_str(format!(in alloc; ",size=i{}>", self.size)?.as_str())
+    }
+}
+
+impl<S: Shown, N: Shown> Shown for ExactFile<S, N> {
+    ghost notation = { λ v. codes "<name=" ++ (S.notation v.name ++ (codes ",size=" ++ (N.notation v.size ++ codes ">"))) };
+
+    fn put(&self, alloc: Global, text: &mut String) -> Result<(), AllocError> {
+        text.push_str("<name=")?;
+        self.name.put(alloc, text)?;
+        text.push_str(",size=")?;
+        self.size.put(alloc, text)?;
+        text.push_str(">")
     }
 }
 

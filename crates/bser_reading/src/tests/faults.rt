@@ -1,0 +1,60 @@
+//! Types that are read from readers that fault.
+use super::checks::read_by;
+use bser_vectors::devices::{Plan, Then};
+use bser_vectors::structs::TemplateRow;
+use serde_bser::de::{DeserializeOwned, Ignored};
+use serde_bser::errors::{Error, ReadCause, Result};
+use serde_bser::value::Value;
+use std::alloc::Global;
+use std::collections::BTreeMap;
+use std::io::ErrorKind;
+use std::process::Abort;
+
+/// Two rows of three fields, with a null and a skipped field.
+const ROWS: &[u8] =
+    b"\x00\x02\0\0\0\0\x05\x28\0\0\0\x0b\x00\x03\x03\x02\x03\x03abc\x02\x03\x03def\x02\x03\x03ghi\x03\x02\x03\x7b\x02\x03\x03bar\x0a\x04\xc8\x01\x0c\x04\x15\x03";
+
+const REAL: &[u8] = b"\x00\x02\0\0\0\0\x03\x09\x07\x18\x2d\x44\x54\xfb\x21\x09\x40";
+
+/// Whether the reader's fault is handed on with its kind.
+fn is_fault<T>(answer: &Result<T>, wanted: ErrorKind) -> bool {
+    match answer {
+        Err(
+            Error::DeReaderError {
+                source: ReadCause::Reader(fault),
+            },
+        ) => fault.kind() == wanted,
+        _ => false,
+    }
+}
+
+/// Checks that a fault after each byte of the message is handed on, and that the bytes before it were
+/// taken.
+fn check_faults<T: DeserializeOwned>(
+    rt: &impl Abort,
+    alloc: Global,
+    message: &[u8],
+    most: usize,
+    kind: ErrorKind,
+) {
+    for whole in 0..message.len() {
+        let plan = Plan::pieces(most).up_to(whole, Then::Faults(kind));
+        let (answer, left) = read_by::<T>(alloc, message, plan);
+        assert!(rt; is_fault(&answer, kind), "after {whole} bytes");
+        assert_eq!(rt; left, message.len() - whole, "after {whole} bytes");
+    }
+}
+
+#[test]
+fn a_fault_at_each_byte_is_handed_on(rt: HostRuntime) {
+    let alloc = rt.alloc();
+    for kind in [ErrorKind::Interrupted, ErrorKind::BrokenPipe] {
+        for most in [1, 3, usize::MAX] {
+            check_faults::<Value>(&rt, alloc, REAL, most, kind);
+            check_faults::<Value>(&rt, alloc, ROWS, most, kind);
+            check_faults::<Vec<TemplateRow<String>>>(&rt, alloc, ROWS, most, kind);
+            check_faults::<Vec<BTreeMap<String, Ignored>>>(&rt, alloc, ROWS, most, kind);
+            check_faults::<Ignored>(&rt, alloc, ROWS, most, kind);
+        }
+    }
+}

@@ -1,0 +1,6 @@
+//! Tests of `Value` by the calls that a user has: its memory, its lengths, its messages read and written,
+//! and its notation.
+#![tactic(auto)]
+
+#[cfg(test)]
+mod tests;

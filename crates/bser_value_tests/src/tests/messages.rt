@@ -1,0 +1,58 @@
+//! Messages one after another, and a reader that faults behind one.
+use super::Tested;
+use bser_vectors::devices::{Plan, PlannedReader, Then};
+use bser_vectors::notation::{code, is_answer};
+use bser_vectors::ways::read_by_plan;
+use serde_bser::de::Ignored;
+use serde_bser::device::Watched;
+use serde_bser::errors::Result;
+use serde_bser::from_reader;
+use std::alloc::Global;
+use std::io::ErrorKind;
+use std::process::Abort;
+
+/// A null and an integer, each as a message.
+const TWO: &[u8] = b"\x00\x02\0\0\0\0\x03\x01\x0a\x00\x02\0\0\0\0\x03\x03\x04\x80\x00";
+
+/// What is read of the two and of what follows them, and how many bytes are left then.
+const ANSWERS: [(&str, usize); 3] = [("n", 11), ("i128", 0), ("E6 Eof", 0)];
+
+/// Checks what ignores a message, where this is its answer as a `Value`.
+fn check_ignored(
+    rt: &impl Abort,
+    alloc: Global,
+    answer: &Result<Ignored>,
+    expected: &str,
+) -> Tested {
+    match answer {
+        Ok(_) => assert!(rt; !expected.starts_with("E"), "{expected} is ignored"),
+        Err(error) => assert_eq!(rt; code(alloc, error)?.as_str(), expected),
+    }
+    Ok(())
+}
+
+#[test]
+fn messages_are_read_one_after_another(rt: HostRuntime) -> Tested {
+    for plan in [Plan::pieces(1), Plan::whole()] {
+        let mut reader = Watched::new(PlannedReader::new(TWO, plan));
+        let mut passed = Watched::new(PlannedReader::new(TWO, plan));
+        for (expected, left) in ANSWERS {
+            let answer = from_reader(rt.alloc(), &mut reader);
+            assert!(rt; is_answer(rt.alloc(), &answer, expected)?, "{expected}");
+            assert_eq!(rt; reader.get_ref().left().len(), left, "{expected}");
+            let answer = from_reader(rt.alloc(), &mut passed);
+            check_ignored(&rt, rt.alloc(), &answer, expected)?;
+            assert_eq!(rt; passed.get_ref().left().len(), left, "{expected}");
+        }
+    }
+    Ok(())
+}
+
+#[test]
+fn a_fault_after_the_message_is_not_asked_for(rt: HostRuntime) -> Tested {
+    let real = b"\x00\x02\0\0\0\0\x03\x09\x07\x18\x2d\x44\x54\xfb\x21\x09\x40";
+    let plan = Plan::whole().up_to(real.len(), Then::Faults(ErrorKind::Other));
+    let (answer, _) = read_by_plan(rt.alloc(), real, plan);
+    assert!(rt; is_answer(rt.alloc(), &answer, "r400921fb54442d18")?);
+    Ok(())
+}

@@ -1,0 +1,109 @@
+//! What is written for values, and what is left where a writer faults.
+use super::Tested;
+use bser_vectors::devices::{Plan, PlannedWriter, Then};
+use bser_vectors::notation::parse_value;
+use serde_bser::device::Watched;
+use serde_bser::errors::Error;
+use serde_bser::ser::{serialize, serialize_to};
+use serde_bser::value::Value;
+use std::collections::BTreeMap;
+use std::io::ErrorKind;
+use std::result::Result;
+
+#[test]
+fn keys_are_written_in_rising_order(rt: HostRuntime) -> Tested {
+    let alloc = rt.alloc();
+    let mut entries = BTreeMap::new(alloc);
+    drop(entries.insert(String::from_str(alloc, "b")?, Value::Integer(1))?);
+    drop(entries.insert(String::from_str(alloc, "a")?, Value::Integer(2))?);
+    let mut writer = Watched::new(Vec::new(alloc));
+    serialize_to(alloc, &mut writer, &Value::Object(entries))?;
+    assert_eq!(rt;
+        writer.into_inner().as_slice(),
+        b"\x00\x02\0\0\0\0\x03\x0f\x01\x03\x02\x0d\x03\x01a\x03\x02\x0d\x03\x01b\x03\x01".as_slice()
+    );
+    Ok(())
+}
+
+const TOM: &[u8] = b"\x00\x02\0\0\0\0\x03\x06\x0d\x03\x03Tom";
+
+/// Two rows of three fields each, in the notation.
+const ROWS: &str = "[{616263:i123,646566:b626172,676869:n},{616263:i456,646566:n,676869:i789}]";
+
+/// The message that is written for the two rows.
+const ROWS_MESSAGE: &[u8] =
+    b"\x00\x02\0\0\0\0\x03\x3d\x00\x03\x02\x01\x03\x03\x0d\x03\x03abc\x03\x7b\x0d\x03\x03def\x02\x03\x03bar\x0d\x03\x03ghi\x0a\x01\x03\x03\x0d\x03\x03abc\x04\xc8\x01\x0d\x03\x03def\x0a\x0d\x03\x03ghi\x04\x15\x03";
+
+/// Whether writing was refused by the writer's fault of this kind.
+fn is_fault(answer: &Result<(), Error>, wanted: ErrorKind) -> bool {
+    match answer {
+        Err(Error::Io(fault)) => fault.kind() == wanted,
+        _ => false,
+    }
+}
+
+#[test]
+fn a_fault_at_each_byte_leaves_a_beginning(rt: HostRuntime) -> Tested {
+    let value = parse_value(rt.alloc(), ROWS)?;
+    assert_eq!(rt; ROWS_MESSAGE.len(), 69);
+    let stops = [
+        (Then::Ends, ErrorKind::WriteZero),
+        (Then::Faults(ErrorKind::BrokenPipe), ErrorKind::BrokenPipe),
+        (Then::Faults(ErrorKind::Interrupted), ErrorKind::Interrupted),
+    ];
+    for (then, kind) in stops {
+        for whole in 0..ROWS_MESSAGE.len() {
+            let plan = Plan::whole().up_to(whole, then);
+            let mut writer = Watched::new(PlannedWriter::new(rt.alloc(), plan));
+            let answer = serialize_to(rt.alloc(), &mut writer, &value);
+            assert!(rt; is_fault(&answer, kind), "after {whole} bytes");
+            assert_eq!(rt; writer.get_ref().taken(), &ROWS_MESSAGE[..whole]);
+        }
+    }
+    Ok(())
+}
+
+#[test]
+fn a_message_is_written_a_byte_a_call(rt: HostRuntime) -> Tested {
+    let value = parse_value(rt.alloc(), ROWS)?;
+    let mut writer = Watched::new(PlannedWriter::new(rt.alloc(), Plan::pieces(1)));
+    serialize_to(rt.alloc(), &mut writer, &value)?;
+    assert_eq!(rt; writer.get_ref().taken(), ROWS_MESSAGE);
+    Ok(())
+}
+
+/// Each growth is granted where the tests run. Where one is refused, a beginning was written.
+#[test]
+fn a_message_that_is_refused_for_memory_leaves_a_beginning(rt: HostRuntime) -> Tested {
+    let value = parse_value(rt.alloc(), ROWS)?;
+    let mut writer = Watched::new(PlannedWriter::new(rt.alloc(), Plan::pieces(5)));
+    match serialize_to(rt.alloc(), &mut writer, &value) {
+        Ok(()) => assert_eq!(rt; writer.get_ref().taken(), ROWS_MESSAGE),
+        Err(Error::OutOfMemory) => {
+            assert!(rt; ROWS_MESSAGE.starts_with(writer.get_ref().taken()));
+        }
+        answer => {
+            assert!(rt; is_fault(&answer, ErrorKind::OutOfMemory));
+            assert!(rt; ROWS_MESSAGE.starts_with(writer.get_ref().taken()));
+        }
+    }
+    Ok(())
+}
+
+#[test]
+fn the_writer_is_handed_back_beside_its_fault(rt: HostRuntime) -> Tested {
+    let value = Value::from_text(rt.alloc(), "Tom")?;
+    let plan = Plan::whole().up_to(7, Then::FaultsOnce(ErrorKind::Other));
+    match serialize(
+        rt.alloc(),
+        Watched::new(PlannedWriter::new(rt.alloc(), plan)),
+        &value,
+    ) {
+        Ok(_) => return Err("not refused".into()),
+        Err((writer, error)) => {
+            assert!(rt; is_fault(&Err(error), ErrorKind::Other));
+            assert_eq!(rt; writer.get_ref().taken(), &TOM[..7]);
+        }
+    }
+    Ok(())
+}

@@ -1,0 +1,59 @@
+//! A struct that is read field by field, and has no other fields.
+ghost use Rattle.std.specs.Prelude.{None};
+ghost use Rattle.bser_vectors.specs.Files.{exact_file_of, HoldsExactFile};
+ghost use Rattle.serde_bser.specs.Fold.{either};
+
+use serde_bser::de::{Deserializer, Field};
+use serde_bser::errors::{Complaint, Error, Result};
+use serde_bser::prelude::*;
+use std::alloc::Global;
+
+/// A file's name and size. Another field, and one that comes twice, is refused.
+#[derive(Drop)]
+pub struct ExactFile<S, N> {
+    pub name: S,
+    pub size: N,
+}
+
+impl<S: Shape, N: Shape> Shape for ExactFile<S, N> {
+    ghost reads = { exact_file_of S.reads N.reads };
+
+    ghost holds = { λ v c. HoldsExactFile S.holds N.holds v.name v.size c };
+
+    ghost needs = { either S.needs N.needs };
+
+    ghost plain = { None };
+}
+
+impl<L: LendsText, S: Deserialize<L>, N: Deserialize<L>> Deserialize<L> for ExactFile<S, N> {
+    fn deserialize<R: DeRead<Lent = L>>(
+        alloc: Global,
+        from: &mut Deserializer<R>,
+    ) -> Result<ExactFile<S, N>> {
+        let mut name = None;
+        let mut size = None;
+        let mut map = from.read_map()?;
+        while let Some(field) = map.next_field(alloc, &["name", "size"])? {
+            match field {
+                Field::Known(0) => {
+                    if name.is_some() {
+                        return Err(Error::de_custom(Complaint::WrongType));
+                    }
+                    name = Some(map.next_value::<S>(alloc)?);
+                }
+                Field::Known(_) => {
+                    if size.is_some() {
+                        return Err(Error::de_custom(Complaint::WrongType));
+                    }
+                    size = Some(map.next_value::<N>(alloc)?);
+                }
+                Field::Unknown => return Err(Error::de_custom(Complaint::WrongType)),
+            }
+        }
+        map.end()?;
+        match (name, size) {
+            (Some(name), Some(size)) => Ok(ExactFile { name, size }),
+            _ => Err(Error::de_custom(Complaint::WrongType)),
+        }
+    }
+}

@@ -1,0 +1,5 @@
+pub mod Reading
+pub mod Samples
+pub mod Templates
+pub mod Recorded
+pub mod Spelled

@@ -1,0 +1,5 @@
+//! Worked messages of BSER, each computed from the definitions, and an instance of each law.
+#![tactic(auto)]
+
+pub mod definitions;
+pub mod laws;
