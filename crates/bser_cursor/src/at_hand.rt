@@ -17,7 +17,7 @@ use crate::deserializer::{Deserializer, Due};
 use bser_base::de::read::DeRead;
 use bser_base::header::{BSER_FALSE, BSER_TRUE};
 use bser_state::field::{Field, find_known};
-use bser_state::node::Node;
+use bser_state::node::{Node, kind_at};
 use std::alloc::Global;
 
 impl<R: DeRead> Deserializer<R> {
@@ -45,7 +45,7 @@ impl<R: DeRead> Deserializer<R> {
 
     /// What kind of value is due, where a tag is at hand that may stand there. It is not taken.
     #[inline(always)]
-    pub fn node_at_hand(&mut self) -> Option<Node>
+    pub(crate) fn node_at_hand(&mut self) -> Option<Node>
         ensures { MatchOption result (state R.state R.Lent.kept self.new ≡ state R.state R.Lent.kept self.old)
             (SeesNode (state R.state R.Lent.kept self.old) (state R.state R.Lent.kept self.new)) }
     {
@@ -56,7 +56,7 @@ impl<R: DeRead> Deserializer<R> {
         if bytes.is_empty() {
             return None;
         }
-        match Node::at(self.due, Head::Tag(bytes[0])) {
+        match kind_at(self.due, Head::Tag(bytes[0])) {
             Some(node) => {
                 let _tag = self.bunser.glance();
                 Some(node)
@@ -68,7 +68,7 @@ impl<R: DeRead> Deserializer<R> {
     /// Takes the string that is due, where it is at hand whole and the source lends, and tells
     /// whether it stood under the text's tag. Else nothing changes.
     #[inline(always)]
-    pub fn lent_at_hand(&mut self) -> Option<(R::Lent, bool)>
+    pub(crate) fn lent_at_hand(&mut self) -> Option<(R::Lent, bool)>
         ensures { MatchOption result (state R.state R.Lent.kept self.new ≡ state R.state R.Lent.kept self.old)
             (λ p. TookBytes (state R.state R.Lent.kept self.old) (state R.state R.Lent.kept self.new) p.1 (R.Lent.bytes p.0) × (R.Lent.lends ≡ true)) }
     {
@@ -91,7 +91,7 @@ impl<R: DeRead> Deserializer<R> {
     /// Copies the string that is due and takes it, where it is at hand whole, and tells whether it
     /// stood under the text's tag. Else nothing changes, nor where no memory is left.
     #[inline(always)]
-    pub fn copy_at_hand(&mut self, alloc: Global) -> Option<(Vec<u8>, bool)>
+    pub(crate) fn copy_at_hand(&mut self, alloc: Global) -> Option<(Vec<u8>, bool)>
         ensures { MatchOption result (state R.state R.Lent.kept self.new ≡ state R.state R.Lent.kept self.old)
             (λ p. TookBytes (state R.state R.Lent.kept self.old) (state R.state R.Lent.kept self.new) p.1 p.0.items) }
     {
@@ -114,32 +114,9 @@ impl<R: DeRead> Deserializer<R> {
         }
     }
 
-    /// Takes the string that is at hand whole as an object's key, where it is one of the names. Else
-    /// nothing changes.
-    #[inline(always)]
-    pub fn name_at_hand(&mut self, names: &[&str]) -> Option<Field>
-        ensures { MatchOption result (state R.state R.Lent.kept self.new ≡ state R.state R.Lent.kept self.old)
-            (Answers reads_string (HoldsField (map (λ r. r.now) names.now)) (awaiting key_due (state R.state R.Lent.kept self.old)) (state R.state R.Lent.kept self.new)) }
-    {
-        match self.bunser.string_at_hand() {
-            Some(place) => {
-                let bytes = self.bunser.at_hand();
-                match find_known(names, &bytes[place.at..place.end]) {
-                    Some(known) => {
-                        self.bunser.advance(place.end);
-                        self.due = Due::Nothing;
-                        Some(Field::Known(known))
-                    }
-                    None => None,
-                }
-            }
-            None => None,
-        }
-    }
-
     /// Takes the integer that is due, where it is at hand. Else nothing changes.
     #[inline(always)]
-    pub fn i64_at_hand(&mut self) -> Option<i64>
+    pub(crate) fn i64_at_hand(&mut self) -> Option<i64>
         ensures { MatchOption result (state R.state R.Lent.kept self.new ≡ state R.state R.Lent.kept self.old)
             (Answers (reads_signed 64) (λ v c. c ≡ number v) (state R.state R.Lent.kept self.old) (state R.state R.Lent.kept self.new)) }
     {
@@ -157,7 +134,7 @@ impl<R: DeRead> Deserializer<R> {
 
     /// Takes the truth value that is due, where it is at hand. Else nothing changes.
     #[inline(always)]
-    pub fn bool_at_hand(&mut self) -> Option<bool>
+    pub(crate) fn bool_at_hand(&mut self) -> Option<bool>
         ensures { MatchOption result (state R.state R.Lent.kept self.new ≡ state R.state R.Lent.kept self.old)
             (Answers reads_bool (λ v c. c ≡ truth v) (state R.state R.Lent.kept self.old) (state R.state R.Lent.kept self.new)) }
     {
@@ -180,7 +157,7 @@ impl<R: DeRead> Deserializer<R> {
     /// Whether a null or a skipped field is due, which is taken then, where a tag is at hand that
     /// may stand there. Else nothing changes.
     #[inline(always)]
-    pub fn none_at_hand(&mut self) -> Option<bool>
+    pub(crate) fn none_at_hand(&mut self) -> Option<bool>
         ensures { MatchOption result (state R.state R.Lent.kept self.new ≡ state R.state R.Lent.kept self.old)
             (λ b. MatchBool b (TookNull (state R.state R.Lent.kept self.old) (state R.state R.Lent.kept self.new)) (IsOther (state R.state R.Lent.kept self.old) (state R.state R.Lent.kept self.new))) }
     {
@@ -191,7 +168,7 @@ impl<R: DeRead> Deserializer<R> {
         if bytes.is_empty() {
             return None;
         }
-        match Node::at(self.due, Head::Tag(bytes[0])) {
+        match kind_at(self.due, Head::Tag(bytes[0])) {
             Some(node) => match node {
                 Node::Null => {
                     self.bunser.advance(1);
@@ -205,5 +182,28 @@ impl<R: DeRead> Deserializer<R> {
             },
             None => None,
         }
+    }
+}
+
+/// Takes the string that is at hand whole as an object's key, where it is one of the names. Else
+/// nothing changes.
+#[inline(always)]
+pub fn name_at_hand<R: DeRead>(from: &mut Deserializer<R>, names: &[&str]) -> Option<Field>
+    ensures { MatchOption result (state R.state R.Lent.kept from.new ≡ state R.state R.Lent.kept from.old)
+        (Answers reads_string (HoldsField (map (λ r. r.now) names.now)) (awaiting key_due (state R.state R.Lent.kept from.old)) (state R.state R.Lent.kept from.new)) }
+{
+    match from.bunser.string_at_hand() {
+        Some(place) => {
+            let bytes = from.bunser.at_hand();
+            match find_known(names, &bytes[place.at..place.end]) {
+                Some(known) => {
+                    from.bunser.advance(place.end);
+                    from.due = Due::Nothing;
+                    Some(Field::Known(known))
+                }
+                None => None,
+            }
+        }
+        None => None,
     }
 }

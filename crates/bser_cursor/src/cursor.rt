@@ -1,13 +1,13 @@
 //! What stands where something is due.
-ghost use Rattle.bser_state.specs.Access.{closed};
 ghost use Rattle.std.specs.Prelude.{◌≡◌, ◌≢◌, true, false, IfOk, IfErr, OnOk, OnErr};
-ghost use Rattle.bser_base.specs.Expected.{nothing_due};
-ghost use Rattle.bser_base.specs.Errors.{error_of};
+ghost use Rattle.bser_base.specs.Expected.{nothing_due, node_due, key_due, field_due, row_due};
+ghost use Rattle.bser_base.specs.Errors.{copying, error_of};
 ghost use Rattle.bser_state.specs.Heads.{Stands, BeginsDue};
 ghost use Rattle.bser_state.specs.Nodes.{StandsAs, BeginsKind};
-ghost use Rattle.bser_state.specs.State.{refused};
+ghost use Rattle.bser_state.specs.State.{awaiting, refused};
+ghost use Rattle.bser_state.specs.Dues.{name_at};
 ghost use Rattle.bser_state.specs.Reading.{IsRefusal, RefusesDue, RefusesFront, bare};
-ghost use Rattle.bser_cursor.specs.View.{state};
+ghost use Rattle.bser_cursor.specs.View.{state, due_in};
 ghost use Rattle.bser_state.specs.declared.head.Head.TheVariants.{Tag};
 
 use crate::deserializer::{Deserializer, Due};
@@ -15,27 +15,72 @@ use bser_base::de::read::DeRead;
 use bser_base::errors::{Complaint, Error, Kind, ReadCause, Result};
 use bser_base::header::{BSER_ARRAY, BSER_BYTESTRING, BSER_SKIP, BSER_TEMPLATE, BSER_UTF8STRING};
 pub use bser_state::head::Head;
-use bser_state::node::Node;
+use bser_state::node::{Node, stands_at};
 
-impl<R: DeRead> Deserializer<R> {
+/// What the crates above see and change of what is due, and refusals: a [`Deserializer`].
+pub trait Cursor {
     /// Whether a call was refused before, so that each later one is.
-    pub fn is_failed(&self) -> bool
+    fn is_failed(&self) -> bool;
+
+    /// Refuses all calls from now on.
+    fn fail(&mut self);
+
+    /// The refusal after an earlier one.
+    fn refuse_failed(&mut self) -> Error;
+
+    /// Refuses by this complaint.
+    fn refuse(&mut self, complaint: Complaint) -> Error;
+
+    /// Refuses what stands where another kind of value is asked for.
+    fn refuse_head(&mut self, head: Head) -> Error;
+
+    /// Refuses to lend what was copied.
+    fn refuse_loan(&mut self) -> Error;
+
+    /// What stands where something is due. It is not taken.
+    fn head(&mut self) -> Result<Head>;
+
+    /// What is due.
+    fn due(&self) -> Due;
+
+    /// How many levels are left.
+    fn levels(&self) -> usize;
+
+    /// Makes a value due.
+    fn await_node(&mut self);
+
+    /// Makes an object's key due.
+    fn await_key(&mut self);
+
+    /// Makes a field of a template's row due.
+    fn await_field(&mut self);
+
+    /// Makes the key of a row's field due, by its place among the template's keys.
+    fn await_name(&mut self, place: usize);
+
+    /// Makes a template's row due.
+    fn await_row(&mut self);
+
+    /// Makes nothing due: the value was read.
+    fn await_nothing(&mut self);
+}
+
+impl<R: DeRead> Cursor for Deserializer<R> {
+    fn is_failed(&self) -> bool
         ensures { result ≡ (state R.state R.Lent.kept self.now).source.failed }
     {
         self.bunser.is_failed()
     }
 
-    /// Refuses all calls from now on.
-    pub fn fail(&mut self)
+    fn fail(&mut self)
         ensures { state R.state R.Lent.kept self.new ≡ refused (state R.state R.Lent.kept self.old) }
     {
         self.bunser.fail();
     }
 
-    /// The refusal after an earlier one.
     #[cold]
     #[inline(never)]
-    pub fn refuse_failed(&mut self) -> Error
+    fn refuse_failed(&mut self) -> Error
         ensures kind { IsRefusal result }
         ensures cause { result ≡ error_of ReadCause.Failed }
         ensures state { state R.state R.Lent.kept self.new ≡ refused (state R.state R.Lent.kept self.old) }
@@ -44,10 +89,9 @@ impl<R: DeRead> Deserializer<R> {
         Error::de_reader_error(ReadCause::Failed)
     }
 
-    /// Refuses by this complaint.
     #[cold]
     #[inline(never)]
-    pub fn refuse(&mut self, complaint: Complaint) -> Error
+    fn refuse(&mut self, complaint: Complaint) -> Error
         ensures kind { complaint ≢ Complaint.BorrowedFromCopying → IsRefusal result }
         ensures state { state R.state R.Lent.kept self.new ≡ refused (state R.state R.Lent.kept self.old) }
     {
@@ -55,23 +99,28 @@ impl<R: DeRead> Deserializer<R> {
         Error::de_custom(complaint)
     }
 
-    /// The refusal where nothing is due: too few items, or a container is still open.
     #[cold]
     #[inline(never)]
-    fn refuse_none_due(&mut self) -> Error
+    fn refuse_head(&mut self, head: Head) -> Error
         ensures kind { IsRefusal result }
         ensures state { state R.state R.Lent.kept self.new ≡ refused (state R.state R.Lent.kept self.old) }
     {
         self.bunser.fail();
-        Error::de_custom(if self.opened != 0 {
-            Complaint::ValueOpen
-        } else {
-            Complaint::TooFewItems
-        })
+        match head {
+            Head::Tag(byte) => stray(self.due, byte),
+            _ => Error::de_custom(Complaint::WrongType),
+        }
     }
 
-    /// What stands where something is due. It is not taken.
-    pub fn head(&mut self) -> Result<Head>
+    fn refuse_loan(&mut self) -> Error
+        ensures error { result ≡ copying }
+        ensures state { state R.state R.Lent.kept self.new ≡ refused (state R.state R.Lent.kept self.old) }
+    {
+        self.fail();
+        Error::de_custom(Complaint::BorrowedFromCopying)
+    }
+
+    fn head(&mut self) -> Result<Head>
         ensures ok { IfOk result (Stands (state R.state R.Lent.kept self.old) (state R.state R.Lent.kept self.new)) }
         ensures some { OnOk result ((state R.state R.Lent.kept self.old).due ≢ nothing_due) }
         ensures err { IfErr result (λ e. RefusesDue e (state R.state R.Lent.kept self.old) (state R.state R.Lent.kept self.new)) }
@@ -91,41 +140,90 @@ impl<R: DeRead> Deserializer<R> {
         }
     }
 
+    #[inline(always)]
+    fn due(&self) -> Due
+        ensures { result ≡ due_in self.now }
+    {
+        self.due
+    }
+
+    #[inline(always)]
+    fn levels(&self) -> usize
+        ensures { result ≡ (state R.state R.Lent.kept self.now).levels }
+    {
+        self.levels
+    }
+
+    #[inline(always)]
+    fn await_node(&mut self)
+        ensures { state R.state R.Lent.kept self.new ≡ awaiting node_due (state R.state R.Lent.kept self.old) }
+    {
+        self.due = Due::Node;
+    }
+
+    #[inline(always)]
+    fn await_key(&mut self)
+        ensures { state R.state R.Lent.kept self.new ≡ awaiting key_due (state R.state R.Lent.kept self.old) }
+    {
+        self.due = Due::Key;
+    }
+
+    #[inline(always)]
+    fn await_field(&mut self)
+        ensures { state R.state R.Lent.kept self.new ≡ awaiting field_due (state R.state R.Lent.kept self.old) }
+    {
+        self.due = Due::Field;
+    }
+
+    #[inline(always)]
+    fn await_name(&mut self, place: usize)
+        ensures { state R.state R.Lent.kept self.new ≡ awaiting (name_at place (state R.state R.Lent.kept self.old).keys) (state R.state R.Lent.kept self.old) }
+    {
+        self.due = Due::Name(place);
+    }
+
+    #[inline(always)]
+    fn await_row(&mut self)
+        ensures { state R.state R.Lent.kept self.new ≡ awaiting (row_due (state R.state R.Lent.kept self.old).keys) (state R.state R.Lent.kept self.old) }
+    {
+        self.due = Due::Row;
+    }
+
+    #[inline(always)]
+    fn await_nothing(&mut self)
+        ensures { state R.state R.Lent.kept self.new ≡ awaiting nothing_due (state R.state R.Lent.kept self.old) }
+    {
+        self.due = Due::Nothing;
+    }
+}
+
+impl<R: DeRead> Deserializer<R> {
+    /// The refusal where nothing is due: too few items, or a container is still open.
+    #[cold]
+    #[inline(never)]
+    fn refuse_none_due(&mut self) -> Error
+        ensures kind { IsRefusal result }
+        ensures state { state R.state R.Lent.kept self.new ≡ refused (state R.state R.Lent.kept self.old) }
+    {
+        self.bunser.fail();
+        Error::de_custom(if self.opened != 0 {
+            Complaint::ValueOpen
+        } else {
+            Complaint::TooFewItems
+        })
+    }
+
     /// What stands where something is due, which must be of this kind. It is not taken.
-    pub fn expect(&mut self, wanted: Node) -> Result<Head>
+    pub(crate) fn expect(&mut self, wanted: Node) -> Result<Head>
         ensures found { IfOk result (StandsAs wanted (state R.state R.Lent.kept self.old) (state R.state R.Lent.kept self.new)) }
         ensures refused { IfErr result (λ e. RefusesFront bare (BeginsKind (state R.state R.Lent.kept self.old).due wanted) e (state R.state R.Lent.kept self.old).source (state R.state R.Lent.kept self.new).source) }
         ensures failed { OnErr result ((state R.state R.Lent.kept self.new).source.failed ≡ true) }
     {
         let head = self.head()?;
-        if !wanted.stands(self.due, head) {
+        if !stands_at(wanted, self.due, head) {
             return Err(self.refuse_head(head));
         }
         Ok(head)
-    }
-
-    /// Refuses what stands where another kind of value is asked for.
-    #[cold]
-    #[inline(never)]
-    pub fn refuse_head(&mut self, head: Head) -> Error
-        ensures kind { IsRefusal result }
-        ensures state { state R.state R.Lent.kept self.new ≡ refused (state R.state R.Lent.kept self.old) }
-    {
-        self.bunser.fail();
-        match head {
-            Head::Tag(byte) => stray(self.due, byte),
-            _ => Error::de_custom(Complaint::WrongType),
-        }
-    }
-
-    /// Closes an object.
-    #[inline(always)]
-    pub fn close_pairs(&mut self, levels: usize, opened: usize)
-        ensures { state R.state R.Lent.kept self.new ≡ closed levels opened (state R.state R.Lent.kept self.old) }
-    {
-        self.levels = levels;
-        self.opened = opened;
-        self.due = Due::Nothing;
     }
 }
 

@@ -1,13 +1,12 @@
 //! The deserializer: what is left of a message, and what is due.
-ghost use Rattle.std.specs.Prelude.{IsTrue, ◌≡◌, ◌≢◌, ◌≤◌, ◌^◌, ℕ, pos, [], true, false, IfOk, IfErr, OnOk, OnErr};
+ghost use Rattle.std.specs.Prelude.{IsTrue, ◌≡◌, ◌≢◌, ◌≤◌, true, false, IfOk, IfErr, OnOk, OnErr};
 ghost use Rattle.bser_base.specs.Errors.{error_of};
-ghost use Rattle.bser_base.specs.Tagged.{IsHead};
-ghost use Rattle.bser_base.specs.TaggedRefusal.{Unwanted};
-ghost use Rattle.bser_base.specs.Expected.{nothing_due, node_due};
+ghost use Rattle.bser_base.specs.Expected.{nothing_due};
 ghost use Rattle.bser_state.specs.State.{Begins, IsAtEnd};
 ghost use Rattle.bser_state.specs.Reading.{IsRefusal, RefusesHead};
 
 use crate::frame::Frame;
+use crate::message::{read_head, unread};
 use bser_base::de::bunser::{Bunser, PduInfo};
 use bser_base::de::read::{DeRead, Lending};
 use bser_base::errors::{Complaint, Error, ReadCause, Result};
@@ -22,17 +21,17 @@ pub const LEVELS: usize = 128;
 /// After a refusal each later call that can be refused answers [`ReadCause::Failed`].
 #[derive(Drop)]
 pub struct Deserializer<R: DeRead> {
-    pub bunser: Bunser<R>,
-    info: PduInfo,
-    pub due: Due,
-    pub levels: usize,
-    pub opened: usize,
+    pub(crate) bunser: Bunser<R>,
+    pub(crate) info: PduInfo,
+    pub(crate) due: Due,
+    pub(crate) levels: usize,
+    pub(crate) opened: usize,
     // the keys of the innermost open template, and those of the templates around it
-    pub keys: Vec<<R::Lent as Lending>::Kept>,
-    pub outer: Vec<Vec<<R::Lent as Lending>::Kept>>,
+    pub(crate) keys: Vec<<R::Lent as Lending>::Kept>,
+    pub(crate) outer: Vec<Vec<<R::Lent as Lending>::Kept>>,
     // the containers around what is being skipped, and bytes that are copied and not kept
-    pub frames: Vec<Frame>,
-    pub scratch: Vec<u8>,
+    pub(crate) frames: Vec<Frame>,
+    pub(crate) scratch: Vec<u8>,
 }
 
 impl<R: DeRead + Drop> Deserializer<R> {
@@ -56,53 +55,14 @@ impl<R: DeRead + Drop> Deserializer<R> {
         ensures ok { IfOk result (λ d. Begins limit (R.state read) (state R.state R.Lent.kept d)) }
         ensures err { IfErr result (RefusesHead (R.state read)) }
     {
-        let mut from = Deserializer::unread(alloc, read);
-        from.read_head(limit)?;
+        let mut from = unread(alloc, read);
+        read_head(&mut from, limit)?;
         Ok(from)
     }
 }
 
 impl<R: DeRead> Deserializer<R> {
     ghost use Rattle.bser_cursor.specs.View.{state, IsSourceOf};
-
-    /// Reads from the source's next byte on. Nothing is due before the head is read.
-    pub fn unread(alloc: Global, read: R) -> Self
-        ensures source { (state R.state R.Lent.kept result).source ≡ R.state read }
-        ensures due { (state R.state R.Lent.kept result).due ≡ nothing_due }
-        ensures keys { (state R.state R.Lent.kept result).keys ≡ [] }
-        ensures outer { (state R.state R.Lent.kept result).outer ≡ [] }
-        ensures opened { (state R.state R.Lent.kept result).opened ≡ 0 }
-    {
-        Deserializer {
-            bunser: Bunser::new(alloc, read),
-            info: PduInfo {
-                bser_capabilities: 0,
-                len: 0,
-                start: 0,
-            },
-            due: Due::Nothing,
-            levels: 0,
-            opened: 0,
-            keys: Vec::new(alloc),
-            outer: Vec::new(alloc),
-            frames: Vec::new(alloc),
-            scratch: Vec::new(alloc),
-        }
-    }
-
-    /// Takes the head of a message, whose value is due then.
-    pub fn read_head(&mut self, limit: usize) -> Result<()>
-        requires opened { (state R.state R.Lent.kept self.old).opened ≡ 0 }
-        requires keys { (state R.state R.Lent.kept self.old).keys ≡ [] }
-        requires outer { (state R.state R.Lent.kept self.old).outer ≡ [] }
-        ensures ok { OnOk result (Begins limit (state R.state R.Lent.kept self.old).source (state R.state R.Lent.kept self.new)) }
-        ensures err { IfErr result (λ e. Unwanted IsHead e (state R.state R.Lent.kept self.old).source (state R.state R.Lent.kept self.new).source) }
-    {
-        self.info = self.bunser.read_pdu()?;
-        self.due = Due::Node;
-        self.levels = limit;
-        Ok(())
-    }
 
     /// Checks that the value was read to its end, and that the body ended where it was to.
     ///
@@ -129,7 +89,7 @@ impl<R: DeRead> Deserializer<R> {
     }
 
     /// Whether anything is due.
-    pub fn is_due(&self) -> bool
+    pub(crate) fn is_due(&self) -> bool
         ensures none { result ≡ false → (state R.state R.Lent.kept self.now).due ≡ nothing_due }
         ensures some { result ≡ true → (state R.state R.Lent.kept self.now).due ≢ nothing_due }
     {

@@ -12,7 +12,7 @@ ghost use Rattle.bser_state.specs.State.{refused};
 ghost use Rattle.bser_state.specs.Reading.{RefusesFront, IsRefusal, bare, only_keys};
 ghost use Rattle.bser_cursor.specs.View.{state};
 
-use crate::cursor::Head;
+use crate::cursor::{Cursor, Head};
 use crate::deserializer::{Deserializer, Due};
 use crate::table::{take_count, take_table, take_table_tags};
 use bser_base::de::read::{DeRead, Lending};
@@ -22,6 +22,71 @@ pub use bser_state::frames::{MapHead, SeqHead};
 use bser_state::node::Node;
 use std::alloc::Global;
 use std::mem;
+
+/// What opens and closes containers by their heads: a [`Deserializer`].
+pub trait Containers {
+    /// Opens the array or template that is due.
+    fn open_items(&mut self, alloc: Global) -> Result<SeqHead>;
+
+    /// Opens the object or the row that is due.
+    fn open_pairs(&mut self) -> Result<MapHead>;
+
+    /// Closes an array, and gives the keys outside a template back.
+    fn close_items(&mut self, rows: bool, levels: usize, opened: usize);
+
+    /// Closes an object.
+    fn close_pairs(&mut self, levels: usize, opened: usize);
+}
+
+impl<R: DeRead> Containers for Deserializer<R> {
+    fn open_items(&mut self, alloc: Global) -> Result<SeqHead>
+        ensures found { IfOk result (λ h. OpensItems (state R.state R.Lent.kept self.old) (items_head h (state R.state R.Lent.kept self.new))) }
+        ensures refused { IfErr result (λ e. RefusesFront owned (IsItemsHead (state R.state R.Lent.kept self.old)) e (state R.state R.Lent.kept self.old).source (state R.state R.Lent.kept self.new).source) }
+        ensures array { IfErr result (λ e. RefusesFront only_keys (IsArrayHead (state R.state R.Lent.kept self.old)) e (state R.state R.Lent.kept self.old).source (state R.state R.Lent.kept self.new).source) }
+        ensures failed { OnErr result ((state R.state R.Lent.kept self.new).source.failed ≡ true) }
+    {
+        match self.expect(Node::Array)? {
+            Head::Tag(BSER_ARRAY) => self.open_array(),
+            _ => self.open_template(alloc),
+        }
+    }
+
+    #[inline(always)]
+    fn open_pairs(&mut self) -> Result<MapHead>
+        ensures found { IfOk result (λ h. OpensPairs (state R.state R.Lent.kept self.old) (pairs_head h (state R.state R.Lent.kept self.new))) }
+        ensures refused { IfErr result (λ e. RefusesFront bare (IsPairsHead (state R.state R.Lent.kept self.old)) e (state R.state R.Lent.kept self.old).source (state R.state R.Lent.kept self.new).source) }
+        ensures failed { OnErr result ((state R.state R.Lent.kept self.new).source.failed ≡ true) }
+    {
+        if self.due == Due::Row && !self.is_failed() {
+            return Ok(open_row(self));
+        }
+        self.pull_pairs()
+    }
+
+    fn close_items(&mut self, rows: bool, levels: usize, opened: usize)
+        ensures keys { (k : ℕ) → KeysOutside (wanted_items (state R.state R.Lent.kept self.old).keys rows k) (state R.state R.Lent.kept self.old) (state R.state R.Lent.kept self.new) }
+        ensures state { state R.state R.Lent.kept self.new ≡ record (closed levels opened (state R.state R.Lent.kept self.old)) { keys = (state R.state R.Lent.kept self.new).keys; outer = (state R.state R.Lent.kept self.new).outer } }
+    {
+        self.levels = levels;
+        self.opened = opened;
+        self.due = Due::Nothing;
+        if rows {
+            if let Some(keys) = self.outer.pop() {
+                self.keys = keys;
+            }
+        }
+    }
+
+    #[inline(always)]
+    fn close_pairs(&mut self, levels: usize, opened: usize)
+        ensures { state R.state R.Lent.kept self.new ≡ closed levels opened (state R.state R.Lent.kept self.old) }
+    {
+        self.levels = levels;
+        self.opened = opened;
+        self.due = Due::Nothing;
+        // the keys of a row are those of its template, which stays open
+    }
+}
 
 impl<R: DeRead> Deserializer<R> {
     /// How many levels are left inside a container of this kind.
@@ -136,49 +201,6 @@ impl<R: DeRead> Deserializer<R> {
         Ok(head)
     }
 
-    /// Opens the row that is due.
-    #[inline(always)]
-    pub fn open_row(&mut self) -> MapHead
-        requires due { (state R.state R.Lent.kept self.old).due ≡ row_due (state R.state R.Lent.kept self.old).keys }
-        requires working { (state R.state R.Lent.kept self.old).source.failed ≡ false }
-        ensures { OpensPairs (state R.state R.Lent.kept self.old) (pairs_head result (state R.state R.Lent.kept self.new)) }
-    {
-        let head = MapHead {
-            at: 0,
-            row: true,
-            levels: self.levels,
-            opened: self.opened,
-        };
-        self.enter(self.levels);
-        head
-    }
-
-    /// Opens the array or template that is due.
-    pub fn open_items(&mut self, alloc: Global) -> Result<SeqHead>
-        ensures found { IfOk result (λ h. OpensItems (state R.state R.Lent.kept self.old) (items_head h (state R.state R.Lent.kept self.new))) }
-        ensures refused { IfErr result (λ e. RefusesFront owned (IsItemsHead (state R.state R.Lent.kept self.old)) e (state R.state R.Lent.kept self.old).source (state R.state R.Lent.kept self.new).source) }
-        ensures array { IfErr result (λ e. RefusesFront only_keys (IsArrayHead (state R.state R.Lent.kept self.old)) e (state R.state R.Lent.kept self.old).source (state R.state R.Lent.kept self.new).source) }
-        ensures failed { OnErr result ((state R.state R.Lent.kept self.new).source.failed ≡ true) }
-    {
-        match self.expect(Node::Array)? {
-            Head::Tag(BSER_ARRAY) => self.open_array(),
-            _ => self.open_template(alloc),
-        }
-    }
-
-    /// Opens the object or the row that is due.
-    #[inline(always)]
-    pub fn open_pairs(&mut self) -> Result<MapHead>
-        ensures found { IfOk result (λ h. OpensPairs (state R.state R.Lent.kept self.old) (pairs_head h (state R.state R.Lent.kept self.new))) }
-        ensures refused { IfErr result (λ e. RefusesFront bare (IsPairsHead (state R.state R.Lent.kept self.old)) e (state R.state R.Lent.kept self.old).source (state R.state R.Lent.kept self.new).source) }
-        ensures failed { OnErr result ((state R.state R.Lent.kept self.new).source.failed ≡ true) }
-    {
-        if self.due == Due::Row && !self.is_failed() {
-            return Ok(self.open_row());
-        }
-        self.pull_pairs()
-    }
-
     /// Opens the object or the row that is due, at hand or not.
     #[inline(never)]
     fn pull_pairs(&mut self) -> Result<MapHead>
@@ -187,23 +209,25 @@ impl<R: DeRead> Deserializer<R> {
         ensures failed { OnErr result ((state R.state R.Lent.kept self.new).source.failed ≡ true) }
     {
         match self.expect(Node::Object)? {
-            Head::Row => Ok(self.open_row()),
+            Head::Row => Ok(open_row(self)),
             _ => self.open_object(),
         }
     }
+}
 
-    /// Closes an array, and gives the keys outside a template back.
-    pub fn close_items(&mut self, rows: bool, levels: usize, opened: usize)
-        ensures keys { (k : ℕ) → KeysOutside (wanted_items (state R.state R.Lent.kept self.old).keys rows k) (state R.state R.Lent.kept self.old) (state R.state R.Lent.kept self.new) }
-        ensures state { state R.state R.Lent.kept self.new ≡ record (closed levels opened (state R.state R.Lent.kept self.old)) { keys = (state R.state R.Lent.kept self.new).keys; outer = (state R.state R.Lent.kept self.new).outer } }
-    {
-        self.levels = levels;
-        self.opened = opened;
-        self.due = Due::Nothing;
-        if rows {
-            if let Some(keys) = self.outer.pop() {
-                self.keys = keys;
-            }
-        }
-    }
+/// Opens the row that is due.
+#[inline(always)]
+pub fn open_row<R: DeRead>(from: &mut Deserializer<R>) -> MapHead
+    requires due { (state R.state R.Lent.kept from.old).due ≡ row_due (state R.state R.Lent.kept from.old).keys }
+    requires working { (state R.state R.Lent.kept from.old).source.failed ≡ false }
+    ensures { OpensPairs (state R.state R.Lent.kept from.old) (pairs_head result (state R.state R.Lent.kept from.new)) }
+{
+    let head = MapHead {
+        at: 0,
+        row: true,
+        levels: from.levels,
+        opened: from.opened,
+    };
+    from.enter(from.levels);
+    head
 }

@@ -6,11 +6,12 @@ ghost use Rattle.bser_state.specs.Reading.{Answers, Refuses, RefusesFront, bare}
 ghost use Rattle.bser_state.specs.Nodes.{SeesNode, BeginsNode, TookNull, IsOther};
 ghost use Rattle.bser_cursor.specs.View.{state};
 
+use crate::cursor::Cursor;
 use crate::deserializer::{Deserializer, Due};
 use bser_base::de::read::DeRead;
 use bser_base::errors::Result;
 use bser_base::header::BSER_TRUE;
-use bser_state::node::Node;
+use bser_state::node::{Node, kind_at};
 
 impl<R: DeRead> Deserializer<R> {
     /// What kind of value is due. It is not taken: what is read next begins with the tag that was
@@ -39,7 +40,7 @@ impl<R: DeRead> Deserializer<R> {
         ensures failed { OnErr result ((state R.state R.Lent.kept self.new).source.failed ≡ true) }
     {
         let head = self.head()?;
-        match Node::at(self.due, head) {
+        match kind_at(self.due, head) {
             Some(node) => Ok(node),
             None => Err(self.refuse_head(head)),
         }

@@ -1,7 +1,6 @@
 //! Reading strings, and keys as strings.
 ghost use Rattle.std.specs.Prelude.{◌≡◌, ◌<◌, ℕ, Some, true, false, length, string_bytes, IsUtf8, IfOk, IfErr, OnOk, OnErr};
 ghost use Rattle.bser_base.specs.Content.{byte_list};
-ghost use Rattle.bser_base.specs.Errors.{copying};
 ghost use Rattle.bser_base.specs.Expected.{name_due};
 ghost use Rattle.bser_base.specs.Grammar.{Given};
 ghost use Rattle.bser_base.specs.declared.errors.Error.TheVariants.{OutOfMemory};
@@ -14,7 +13,7 @@ ghost use Rattle.bser_state.specs.Strings.{IsStringTag, TookBytes};
 ghost use Rattle.bser_cursor.specs.View.{state};
 ghost use Rattle.bser_state.specs.Dues.{name_at};
 
-use crate::cursor::Head;
+use crate::cursor::{Cursor, Head};
 use crate::deserializer::{Deserializer, Due};
 use bser_base::bytestring::ByteString;
 use bser_base::de::read::{DeRead, Lending, LendsText, Reference, TextReference};
@@ -237,15 +236,6 @@ impl<R: DeRead> Deserializer<R> {
             Ok(copy) => Ok(ByteString::from_vec(copy)),
             Err(_) => Err(self.refuse_growth()),
         }
-    }
-
-    /// Refuses to lend what was copied.
-    pub fn refuse_loan(&mut self) -> Error
-        ensures error { result ≡ copying }
-        ensures state { state R.state R.Lent.kept self.new ≡ refused (state R.state R.Lent.kept self.old) }
-    {
-        self.fail();
-        Error::de_custom(Complaint::BorrowedFromCopying)
     }
 
     /// Refuses for want of memory.

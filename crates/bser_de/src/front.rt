@@ -8,7 +8,9 @@ ghost use Rattle.bser_cursor.specs.View.{state};
 
 use crate::reading::Deserialize;
 use bser_base::de::read::{DeRead, LendsText};
-use bser_cursor::deserializer::{Deserializer, Due};
+use bser_cursor::cursor::Cursor;
+use bser_cursor::deserializer::Deserializer;
+use bser_cursor::parts::{bunser_mut, bunser_of};
 pub use bser_state::front::Front;
 use std::alloc::Global;
 
@@ -25,10 +27,10 @@ where
     ensures { MatchOption result (state R.state R.Lent.kept from.new ≡ state R.state R.Lent.kept from.old)
         (Answers V.reads V.holds (awaiting (value_due in_row) (state R.state R.Lent.kept from.old)) (state R.state R.Lent.kept from.new)) }
 {
-    match V::front(alloc, in_row, from.bunser.at_hand()) {
+    match V::front(alloc, in_row, bunser_of(from).at_hand()) {
         Some(Front { value, len }) => {
-            from.bunser.advance(len);
-            from.due = Due::Nothing;
+            bunser_mut(from).advance(len);
+            from.await_nothing();
             Some(value)
         }
         None => lent_string_at_hand(from, in_row),
@@ -71,12 +73,12 @@ where
     ensures { MatchOption result (state R.state R.Lent.kept from.new ≡ state R.state R.Lent.kept from.old)
         (Answers V.reads V.holds (awaiting (value_due in_row) (state R.state R.Lent.kept from.old)) (state R.state R.Lent.kept from.new)) }
 {
-    match from.bunser.string_at_hand() {
-        Some(place) => match from.bunser.lend_at_hand(place.at, place.end - place.at) {
+    match bunser_of(from).string_at_hand() {
+        Some(place) => match bunser_of(from).lend_at_hand(place.at, place.end - place.at) {
             Some(bytes) => match V::of_lent(bytes, place.is_text) {
                 Some(value) => {
-                    from.bunser.advance(place.end);
-                    from.due = Due::Nothing;
+                    bunser_mut(from).advance(place.end);
+                    from.await_nothing();
                     Some(value)
                 }
                 None => None,

@@ -9,12 +9,13 @@ ghost use Rattle.bser_state.specs.Parts.{pairs_left, pairs_after};
 ghost use Rattle.bser_state.specs.Reading.{bare};
 ghost use Rattle.bser_de.specs.Slots.{ReadsOnce, RefusesOnce};
 
-use crate::front::typed_at_hand;
 use crate::reading::Deserialize;
 use bser_base::de::read::{DeRead, LendsText};
 use bser_base::errors::{Complaint, Error, Result};
-use bser_cursor::deserializer::{Deserializer, Due};
-use bser_cursor::open::MapHead;
+use bser_cursor::cursor::Cursor;
+use bser_cursor::deserializer::Deserializer;
+use bser_cursor::open::{Containers, MapHead};
+use bser_cursor::parts::keys_of;
 use bser_state::field::{Field, find_field};
 use std::alloc::Global;
 
@@ -23,15 +24,15 @@ use std::alloc::Global;
 /// Each key is read before its value. Where it is dropped before its `end`, the object stays open.
 #[derive(Drop)]
 pub struct MapAccess<'a, R: DeRead> {
-    pub from: &'a mut Deserializer<R>,
+    pub(crate) from: &'a mut Deserializer<R>,
     // of an object how many entries are to come, of a row the place of the next field
-    pub at: usize,
-    pub row: bool,
+    pub(crate) at: usize,
+    pub(crate) row: bool,
     // whether the value of a key that was read is due
-    pub pending: bool,
+    pub(crate) pending: bool,
     // the levels and the number of open containers outside
-    pub levels: usize,
-    pub opened: usize,
+    pub(crate) levels: usize,
+    pub(crate) opened: usize,
 }
 
 impl<'a, R: DeRead> MapAccess<'a, R> {
@@ -43,7 +44,7 @@ impl<'a, R: DeRead> MapAccess<'a, R> {
         ensures { result ≡ pairs_left (open_pairs R.state R.Lent.kept self.now).wanted }
     {
         if self.row {
-            self.from.keys.len().saturating_sub(self.at)
+            keys_of(self.from).len().saturating_sub(self.at)
         } else {
             self.at
         }
@@ -65,11 +66,11 @@ impl<'a, R: DeRead> MapAccess<'a, R> {
         if self.remaining() == 0 {
             return Ok(false);
         }
-        self.from.due = if self.row {
-            Due::Name(self.at)
-        } else {
-            Due::Key
-        };
+        if self.row {
+            self.from.await_name(self.at);
+            return Ok(true);
+        }
+        self.from.await_key();
         Ok(true)
     }
 
@@ -85,7 +86,11 @@ impl<'a, R: DeRead> MapAccess<'a, R> {
         if !self.pending {
             return Err(self.from.refuse(Complaint::ValueOpen));
         }
-        self.from.due = if self.row { Due::Field } else { Due::Node };
+        if self.row {
+            self.from.await_field();
+        } else {
+            self.from.await_node();
+        }
         Ok(())
     }
 
@@ -119,9 +124,7 @@ impl<'a, R: DeRead> MapAccess<'a, R> {
         }
         let levels = self.levels;
         let opened = self.opened;
-        self.from.levels = levels;
-        self.from.opened = opened;
-        self.from.due = Due::Nothing;
+        self.from.close_pairs(levels, opened);
         Ok(())
     }
 }
@@ -199,36 +202,9 @@ where
         Ok(())
     }
 
-    /// Reads the value of the key that was read into a variable that has none, and tells whether it
-    /// did. Where it did not, `refusal` has the reason, which is that of
-    /// [`MapAccess::next_value_once`].
-    #[inline(always)]
-    pub fn read_once<V: Deserialize<R::Lent>>(
-        &mut self,
-        alloc: Global,
-        value: &mut Option<V>,
-        refusal: &mut Option<Error>,
-    ) -> bool
-        ensures same_reference { pairs_reference self.new ≡ pairs_reference self.old }
-        ensures found { result ≡ true → ReadsOnce V.reads V.holds value.old value.new (open_pairs R.state R.Lent.kept self.old) (open_pairs R.state R.Lent.kept self.new) }
-        ensures refused { result ≡ false → MatchOption refusal.new ⊥ (λ e. RefusesOnce V.reads V.needs e value.old (open_pairs R.state R.Lent.kept self.old) (open_pairs R.state R.Lent.kept self.new).state) }
-    {
-        if value.is_some() || !self.pending {
-            return self.pull_once(alloc, value, refusal);
-        }
-        match typed_at_hand::<_, V>(self.from, alloc, self.row) {
-            Some(read) => {
-                self.pending = false;
-                *value = Some(read);
-                true
-            }
-            None => self.pull_once(alloc, value, refusal),
-        }
-    }
-
     /// Reads the value of the key that was read into a variable that has none, at hand or not.
     #[inline(never)]
-    fn pull_once<V: Deserialize<R::Lent>>(
+    pub(crate) fn pull_once<V: Deserialize<R::Lent>>(
         &mut self,
         alloc: Global,
         value: &mut Option<V>,

@@ -7,13 +7,15 @@ ghost use Rattle.bser_state.specs.Fields.{HoldsField};
 
 use crate::map::MapAccess;
 use bser_base::de::read::{DeRead, Lending};
-use bser_cursor::deserializer::Due;
+use bser_cursor::at_hand::name_at_hand;
+use bser_cursor::cursor::Cursor;
+use bser_cursor::parts::keys_of;
 use bser_state::field::{Field, find_known};
 
 impl<'a, R: DeRead> MapAccess<'a, R> {
     /// Whether no entry is left, and no value is due.
     #[inline(always)]
-    pub fn is_over(&self) -> bool
+    pub(crate) fn is_over(&self) -> bool
         ensures { result ≡ true → NoEntry (open_pairs R.state R.Lent.kept self.now) (open_pairs R.state R.Lent.kept self.now) }
     {
         !self.pending && !self.from.is_failed() && self.remaining() == 0
@@ -22,7 +24,7 @@ impl<'a, R: DeRead> MapAccess<'a, R> {
     /// Takes the next key, a row's or one that is at hand whole, where it is one of the names. Else
     /// nothing changes.
     #[inline(always)]
-    pub fn field_at_hand(&mut self, names: &[&str]) -> Option<Field>
+    pub(crate) fn field_at_hand(&mut self, names: &[&str]) -> Option<Field>
         ensures same_reference { pairs_reference self.new ≡ pairs_reference self.old }
         ensures answer { MatchOption result (open_pairs R.state R.Lent.kept self.new ≡ open_pairs R.state R.Lent.kept self.old)
             (IsKey reads_string (HoldsField (map (λ r. r.now) names.now)) (open_pairs R.state R.Lent.kept self.old) (open_pairs R.state R.Lent.kept self.new)) }
@@ -46,13 +48,13 @@ impl<'a, R: DeRead> MapAccess<'a, R> {
             (IsKey reads_string (HoldsField (map (λ r. r.now) names.now)) (open_pairs R.state R.Lent.kept self.old) (open_pairs R.state R.Lent.kept self.new)) }
     {
         let place = self.at;
-        if self.from.is_failed() || place >= self.from.keys.len() {
+        if self.from.is_failed() || place >= keys_of(self.from).len() {
             return None;
         }
-        let name = <R::Lent as Lending>::kept_bytes(&self.from.keys[place]);
+        let name = <R::Lent as Lending>::kept_bytes(&keys_of(self.from)[place]);
         match find_known(names, name) {
             Some(known) => {
-                self.from.due = Due::Nothing;
+                self.from.await_nothing();
                 self.pending = true;
                 self.at = place + 1;
                 Some(Field::Known(known))
@@ -74,7 +76,7 @@ impl<'a, R: DeRead> MapAccess<'a, R> {
         if self.at == 0 {
             return None;
         }
-        match self.from.name_at_hand(names) {
+        match name_at_hand(self.from, names) {
             Some(field) => {
                 self.at -= 1;
                 self.pending = true;

@@ -13,7 +13,7 @@ use crate::seq::SeqAccess;
 use bser_base::de::read::DeRead;
 use bser_base::errors::Result;
 use bser_cursor::deserializer::Deserializer;
-use bser_cursor::open::{MapHead, SeqHead};
+use bser_cursor::open::{Containers, MapHead, SeqHead};
 use std::alloc::Global;
 
 /// What opens containers: a [`Deserializer`].

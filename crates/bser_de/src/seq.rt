@@ -8,7 +8,9 @@ ghost use Rattle.bser_state.specs.State.{awaiting};
 use crate::reading::Deserialize;
 use bser_base::de::read::{DeRead, LendsText};
 use bser_base::errors::{Complaint, Error, ReadCause, Result};
-use bser_cursor::deserializer::{Deserializer, Due};
+use bser_cursor::cursor::Cursor;
+use bser_cursor::deserializer::Deserializer;
+use bser_cursor::open::Containers;
 use std::alloc::Global;
 
 /// The items of an open array or template.
@@ -16,13 +18,13 @@ use std::alloc::Global;
 /// Where it is dropped before its `end`, the array stays open.
 #[derive(Drop)]
 pub struct SeqAccess<'a, R: DeRead> {
-    pub from: &'a mut Deserializer<R>,
-    pub remaining: usize,
+    pub(crate) from: &'a mut Deserializer<R>,
+    pub(crate) remaining: usize,
     // whether the items are a template's rows
-    pub rows: bool,
+    pub(crate) rows: bool,
     // the levels and the number of open containers outside
-    pub levels: usize,
-    pub opened: usize,
+    pub(crate) levels: usize,
+    pub(crate) opened: usize,
 }
 
 impl<'a, R: DeRead> SeqAccess<'a, R> {
@@ -38,16 +40,20 @@ impl<'a, R: DeRead> SeqAccess<'a, R> {
 
     /// Makes the next item due.
     #[inline(always)]
-    pub fn await_item(&mut self)
+    pub(crate) fn await_item(&mut self)
         ensures same_reference { items_reference self.new ≡ items_reference self.old }
         ensures awaited { open_items R.state R.Lent.kept self.new ≡ items_in (open_items R.state R.Lent.kept self.old) (awaiting (item_due (open_items R.state R.Lent.kept self.old).wanted) (open_items R.state R.Lent.kept self.old).state) (open_items R.state R.Lent.kept self.old).wanted }
     {
-        self.from.due = if self.rows { Due::Row } else { Due::Node };
+        if self.rows {
+            self.from.await_row();
+        } else {
+            self.from.await_node();
+        }
     }
 
     /// Goes on past the item that was read.
     #[inline(always)]
-    pub fn pass_item(&mut self)
+    pub(crate) fn pass_item(&mut self)
         requires { 0 < items_left (open_items R.state R.Lent.kept self.old).wanted }
         ensures same_reference { items_reference self.new ≡ items_reference self.old }
         ensures passed { open_items R.state R.Lent.kept self.new ≡ items_in (open_items R.state R.Lent.kept self.old) (open_items R.state R.Lent.kept self.old).state (items_after (open_items R.state R.Lent.kept self.old).wanted) }

@@ -34,30 +34,30 @@ pub enum Node {
     Key,
 }
 
+/// The kind of what stands where this is due. None where such a tag may not stand there.
+#[inline(always)]
+pub fn kind_at(due: Due, head: Head) -> Option<Node>
+    ensures { (ks : List (List ℕ)) → result ≡ node_at (due_of ks due) head }
+{
+    match head {
+        Head::Name(_) => Some(Node::Key),
+        Head::Row => Some(Node::Object),
+        Head::Tag(tag) => Node::of_due_tag(due, tag),
+    }
+}
+
+/// Whether a value of this kind stands where this is due.
+pub fn stands_at(node: Node, due: Due, head: Head) -> bool
+    ensures yes { (ks : List (List ℕ)) → result ≡ true → node_at (due_of ks due) head ≡ Some node }
+    ensures no { (ks : List (List ℕ)) → result ≡ false → node_at (due_of ks due) head ≢ Some node }
+{
+    match kind_at(due, head) {
+        Some(kind) => kind == node,
+        None => false,
+    }
+}
+
 impl Node {
-    /// The kind of what stands where this is due. None where such a tag may not stand there.
-    #[inline(always)]
-    pub fn at(due: Due, head: Head) -> Option<Node>
-        ensures { (ks : List (List ℕ)) → result ≡ node_at (due_of ks due) head }
-    {
-        match head {
-            Head::Name(_) => Some(Node::Key),
-            Head::Row => Some(Node::Object),
-            Head::Tag(tag) => Node::of_due_tag(due, tag),
-        }
-    }
-
-    /// Whether a value of this kind stands where this is due.
-    pub fn stands(self, due: Due, head: Head) -> bool
-        ensures yes { (ks : List (List ℕ)) → result ≡ true → node_at (due_of ks due) head ≡ Some self }
-        ensures no { (ks : List (List ℕ)) → result ≡ false → node_at (due_of ks due) head ≢ Some self }
-    {
-        match Node::at(due, head) {
-            Some(node) => node == self,
-            None => false,
-        }
-    }
-
     /// The kind of what has this tag where this is due.
     #[inline(always)]
     fn of_due_tag(due: Due, tag: u8) -> Option<Node>

@@ -16,16 +16,7 @@ use Rattle.bser_struct.proofs.SkippedForms.{row_keys_back}
 use Rattle.bser_struct.proofs.SkippedFrames.{no_memory}
 use Rattle.bser_struct.proofs.SkippedParts.{refused_none}
 use Rattle.bser_state.specs.Dues.{name_at}
-
--- a name is one
-same_name : (k j : List ℕ) → name_due k ≡ name_due j → IsUtf8 k → IsUtf8 j
-same_name k j e h = let same : k ≡ j = cc in subst IsUtf8 same h
-
--- where all keys are texts, the one at a place is one
-pub named_text : (n : ℕ) (ks : List (List ℕ)) (j : List ℕ) → name_at n ks ≡ name_due j → AllByRecursion IsUtf8 ks → IsUtf8 j
-named_text n [] j e all = absurd cc
-named_text zero (k ∷ ks) j e all = same_name k j e all.0
-named_text (suc n) (k ∷ ks) j e all = named_text n ks j e all.1
+use Rattle.bser_cursor.proofs.Passed.{named_text, same_name}
 
 pub as_many : {A B : Type 0} (f : A → B) (xs : List A) → length (map f xs) ≡ length xs
 as_many f [] = refl

@@ -61,39 +61,6 @@ string_skipped tag utf8 must len asked s t b c need same state seen took number 
       state = state;
     }
 
--- ---- the bytes
-
-may_negative : (e : Error) (a : source.State) → NegativeLength e a → MayRefuse owned e a
-may_negative (DeCustom (Fixed BorrowedFromCopying)) a h = absurd cc
-may_negative (DeReaderError (Reader fault)) a h = absurd h
-may_negative OutOfMemory a h = absurd h
-may_negative _ a h = tt
-
-pub short_bytes : (len : ℤ) (utf8 : Bool) (e : Error) (a b : source.State) → BytesRefused len e a b → RefusesFront owned (SkippedBytes len utf8) e a b
-short_bytes (pos n) utf8 e a b h = unwanted_front owned (SkippedBytes (pos n) utf8) e a b (short_of (SkippedBytes (pos n) utf8) n e a b (λ body w. (let k : length body ≡ n = (let q = w.1 in cc) in omega (arith, k))) h)
-short_bytes (negsuc n) utf8 e a b h = record {
-  excuse = λ body rest w left. absurd (let q : pos (length body) ≡ negsuc n = w.1 in cc);
-  may = may_negative e a h.0;
-  lends = h.1.lends;
-  through = h.1.through;
-  failures = h.1.failures;
-}
-
--- bytes that are not UTF-8
-pub bad_bytes : (len : ℤ) (utf8 : Bool) (e : Error) (got : List ℕ) (a b d : source.State) → utf8 ≡ true → IsRefusal e → pos (length got) ≡ len → Took a b got (sight_after (length got) a.sight) → ¬ (IsUtf8 got) → d.lends ≡ b.lends → d.through ≡ b.through → d.failures ≡ b.failures
-    → RefusesFront owned (SkippedBytes len utf8) e a d
-bad_bytes len utf8 e got a b d strict kind size took bad lends through failures = record {
-  excuse = λ body rest w left. absurd (
-      let r = rest_of a.left b.left got (body ++ rest) left took.bytes in
-      let k : pos (length body) ≡ pos (length got) = w.1 ∙ sym size in
-      let same : length body ≡ length got = cc in
-      bad (subst IsUtf8 (fronts body got rest r.0 same r.2) (w.0 strict)));
-  may = may_refuse owned a e kind;
-  lends = lends ∙ took.lends;
-  through = through ∙ took.through;
-  failures = failures ∙ took.failures ∙ sym (no_failure a.failures e kind);
-}
-
 -- ---- keys
 
 bytes_key : (utf8 : Bool) (body : List ℕ) → SkippedString 0x02 utf8 body → SkippedKey utf8 body

@@ -1,18 +1,12 @@
 -- What is skipped: values, keys and open containers, whatever they hold.
-use Rattle.std.specs.List.{AllByRecursion}
-use Rattle.bser_base.specs.declared.errors.Error.{Error}
-use Rattle.bser_base.specs.declared.errors.Error.TheVariants.{DeReaderError, OutOfMemory}
-use Rattle.bser_base.specs.declared.errors.ReadCause.TheVariants.{Utf8}
-use Rattle.std.specs.Prelude.{◌≡◌, ℕ, zero, suc, ◌<◌, ℤ, Bool, true, List, [], ◌∷◌, ◌++◌, length, Option, Some, None, IsUtf8, ◌⊎◌}
+pub use Rattle.bser_cursor.specs.Passed.{SkippedBytes, SkipsBytes, NamesText, RefusesKeys}
+use Rattle.std.specs.Prelude.{◌≡◌, ℕ, zero, suc, ◌<◌, Bool, true, List, [], ◌∷◌, ◌++◌, length, Option, Some, None, IsUtf8, ◌⊎◌}
 use Rattle.bser_base.specs.Tree.{Tree}
 use Rattle.bser_base.specs.Expand.{expand}
 use Rattle.bser_base.specs.ReadsAny.{has_utf8_keys}
 use Rattle.bser_base.specs.Grammar.{Format, Bytes, Given, ◌then◌, Spells, SpellsString, SpellsCount}
-use Rattle.bser_base.specs.Expected.{name_due}
 use Rattle.bser_base.specs.Source.{Took, IsNext, sight_after}
-use Rattle.bser_state.specs.Scalar.{Counted}
 use Rattle.bser_state.specs.State.{State, with_source}
-use Rattle.bser_state.specs.Dues.{name_at}
 use Rattle.bser_cursor.specs.declared.frame.Frame.{Frame}
 use Rattle.bser_cursor.specs.declared.frame.Left.{Left}
 use Rattle.bser_cursor.specs.declared.frame.Left.TheVariants.{Items, Entries, Rows}
@@ -59,10 +53,6 @@ SkippedTable n = Given (0 < n) (Bytes (0x00 ∷ []) then Counting (λ w. Times w
 -- a string under this tag, which is UTF-8 where that is asked for, and where it is a text
 abbrev pub SkippedString : ℕ → Bool → Format
 SkippedString tag utf8 b = (s : List ℕ) × Given ((utf8 ≡ true) ⊎ (tag ≡ 0x0d) → IsUtf8 s) (Bytes (tag ∷ []) then SpellsCount (length s) then Bytes s) b
-
--- as many bytes, which are UTF-8 where that is asked for
-abbrev pub SkippedBytes : ℤ → Bool → Format
-SkippedBytes len utf8 b = Given (utf8 ≡ true → IsUtf8 b) (Counted len) b
 
 -- ---- open containers
 
@@ -140,13 +130,6 @@ pub record SkipsString (tag : ℕ) (utf8 : Bool) (old new : State) : Type 0 wher
   pub took : Took old.source new.source (tag ∷ rest) None
   pub state : new ≡ with_source old new.source
 
--- as many bytes were taken
-pub record SkipsBytes (len : ℤ) (utf8 : Bool) (old new : State) : Type 0 where
-  pub text : List ℕ
-  pub counted : SkippedBytes len utf8 text
-  pub took : Took old.source new.source text (sight_after (length text) old.source.sight)
-  pub state : new ≡ with_source old new.source
-
 -- a count was taken
 pub record SkipsCount (k : ℕ) (old new : State) : Type 0 where
   pub text : List ℕ
@@ -158,13 +141,3 @@ pub record SkipsCount (k : ℕ) (old new : State) : Type 0 where
 abbrev pub CountsDown : ℕ → Left → Left → Option Part → Type 0
 CountsDown n old new None = Within (SkipsLeft n old) (Bytes []) []
 CountsDown n old new (Some part) = Within (SkipsLeft n old) (SkipsPart n part then SkipsLeft n new) []
-
--- the key at this place is UTF-8
-abbrev pub NamesText : ℕ → List (List ℕ) → Type 0
-NamesText n ks = (k : List ℕ) × (name_at n ks ≡ name_due k) × IsUtf8 k
-
--- a key is not UTF-8, or no memory is left for a copy of one
-abbrev pub RefusesKeys : Error → State → Type 0
-RefusesKeys OutOfMemory s = Unit {0}
-RefusesKeys (DeReaderError Utf8) s = AllByRecursion IsUtf8 s.keys → ⊥
-RefusesKeys _ s = ⊥

@@ -9,12 +9,14 @@ ghost use Rattle.bser_state.specs.Access.{RefusesOpening};
 ghost use Rattle.bser_cursor.specs.Frames.{items_head, pairs_head};
 ghost use Rattle.bser_struct.specs.EnumAccess.{open_enum, place_of, enum_head, enum_deserializer};
 
-use crate::variant::{VariantHead, await_payload, open_variant};
+use crate::variant::{VariantHead, await_payload, items_outside, open_variant, pairs_outside};
 use crate::variant_access::{UnitVariantAccess, VariantAccess};
 use bser_base::de::read::{DeRead, LendsText};
 use bser_base::errors::{Complaint, Result};
+use bser_cursor::cursor::Cursor;
 use bser_cursor::deserializer::Deserializer;
-use bser_cursor::open::{MapHead, SeqHead};
+use bser_cursor::open::{Containers, MapHead, SeqHead};
+use bser_de::access::{items_of, pairs_of};
 use bser_de::map::MapAccess;
 use bser_de::reading::Deserialize;
 use bser_de::seq::SeqAccess;
@@ -85,8 +87,8 @@ fn open_tuple<R: DeRead>(
     from: &mut Deserializer<R>,
     alloc: Global,
     head: Option<VariantHead>,
-) -> Result<(SeqHead, usize, usize)>
-    ensures found { IfOk result (λ p. IsTuplePayload (enum_head head (state R.state R.Lent.kept from.old)) (record (items_head p.0 (state R.state R.Lent.kept from.new)) { levels = p.1; opened = p.2 })) }
+) -> Result<SeqHead>
+    ensures found { IfOk result (λ h. IsTuplePayload (enum_head head (state R.state R.Lent.kept from.old)) (items_head h (state R.state R.Lent.kept from.new))) }
     ensures refused { IfErr result (λ e. RefusesTuple e (enum_head head (state R.state R.Lent.kept from.old)) (state R.state R.Lent.kept from.new)) }
 {
     match head {
@@ -94,17 +96,14 @@ fn open_tuple<R: DeRead>(
         Some(variant) => {
             await_payload(from, variant);
             let items = from.open_items(alloc)?;
-            Ok((items, variant.levels, variant.opened))
+            Ok(items_outside(variant, items))
         }
     }
 }
 
 /// Opens the object or row that is a variant's payload, or refuses a name alone.
-fn open_struct<R: DeRead>(
-    from: &mut Deserializer<R>,
-    head: Option<VariantHead>,
-) -> Result<(MapHead, usize, usize)>
-    ensures found { IfOk result (λ p. IsStructPayload (enum_head head (state R.state R.Lent.kept from.old)) (record (pairs_head p.0 (state R.state R.Lent.kept from.new)) { levels = p.1; opened = p.2 })) }
+fn open_struct<R: DeRead>(from: &mut Deserializer<R>, head: Option<VariantHead>) -> Result<MapHead>
+    ensures found { IfOk result (λ h. IsStructPayload (enum_head head (state R.state R.Lent.kept from.old)) (pairs_head h (state R.state R.Lent.kept from.new))) }
     ensures refused { IfErr result (λ e. RefusesStruct e (enum_head head (state R.state R.Lent.kept from.old)) (state R.state R.Lent.kept from.new)) }
 {
     match head {
@@ -112,7 +111,7 @@ fn open_struct<R: DeRead>(
         Some(variant) => {
             await_payload(from, variant);
             let pairs = from.open_pairs()?;
-            Ok((pairs, variant.levels, variant.opened))
+            Ok(pairs_outside(variant, pairs))
         }
     }
 }
@@ -161,14 +160,8 @@ impl<'a, R: DeRead> EnumAccess<'a, R> {
             place: _,
             head,
         } = self;
-        let (items, levels, opened) = open_tuple(from, alloc, head)?;
-        Ok(SeqAccess {
-            from,
-            remaining: items.remaining,
-            rows: items.rows,
-            levels,
-            opened,
-        })
+        let items = open_tuple(from, alloc, head)?;
+        Ok(items_of(from, items))
     }
 
     /// Reads the payload as an object or a row.
@@ -186,15 +179,8 @@ impl<'a, R: DeRead> EnumAccess<'a, R> {
             place: _,
             head,
         } = self;
-        let (pairs, levels, opened) = open_struct(from, head)?;
-        Ok(MapAccess {
-            from,
-            at: pairs.at,
-            row: pairs.row,
-            pending: false,
-            levels,
-            opened,
-        })
+        let pairs = open_struct(from, head)?;
+        Ok(pairs_of(from, pairs))
     }
 }
 

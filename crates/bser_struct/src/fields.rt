@@ -12,7 +12,9 @@ use crate::row_at_hand::read_row_at_hand;
 use crate::slot::Slots;
 use bser_base::de::read::{DeRead, LendsText};
 use bser_base::errors::{Complaint, Error, Result};
+use bser_cursor::cursor::Cursor;
 use bser_cursor::deserializer::Deserializer;
+use bser_de::access::close_pairs_of;
 use bser_de::map::MapAccess;
 use bser_de::opening::ReadsContainers;
 use bser_state::field::Field;
@@ -84,9 +86,7 @@ where
                 return Err(given(refusal));
             }
         }
-        let levels = map.levels;
-        let opened = map.opened;
-        map.from.close_pairs(levels, opened);
+        close_pairs_of(&mut map);
         match fields.finish() {
             Some(values) => Ok(values),
             None => {

@@ -8,6 +8,8 @@ ghost use Rattle.bser_cursor.specs.View.{state};
 use crate::slot::Slots;
 use bser_base::de::read::{DeRead, Lending, LendsText};
 use bser_cursor::deserializer::Deserializer;
+use bser_cursor::parts::keys_of;
+use bser_de::access::{deserializer_of, go_on_at, place_in_row};
 use bser_de::map::MapAccess;
 use bser_state::field::find_known;
 use std::alloc::Global;
@@ -29,10 +31,10 @@ where
     ensures same { result ≡ false → (place.new ≡ place.old) × (fields.new ≡ fields.old) × (state R.state R.Lent.kept from.new ≡ state R.state R.Lent.kept from.old) }
 {
     let at = *place;
-    if at >= from.keys.len() {
+    if at >= keys_of(from).len() {
         return false;
     }
-    let name = <R::Lent as Lending>::kept_bytes(&from.keys[at]);
+    let name = <R::Lent as Lending>::kept_bytes(&keys_of(from)[at]);
     let known = match find_known(names, name) {
         Some(known) => known,
         None => return false,
@@ -59,10 +61,10 @@ where
     ensures same_reference { pairs_reference access.new ≡ pairs_reference access.old }
     ensures taken { (ss : List StructField) → F.keeps fields.old ss → TakesEntries (map (λ r. r.now) names.now) (F.keeps fields.new) ss (open_pairs R.state R.Lent.kept access.old) (open_pairs R.state R.Lent.kept access.new) }
 {
-    if !access.row || access.pending || access.from.is_failed() {
+    let Some(start) = place_in_row(access) else {
         return;
-    }
-    let mut place = access.at;
-    while row_entry_at_hand(access.from, alloc, names, &mut place, fields) {}
-    access.at = place;
+    };
+    let mut place = start;
+    while row_entry_at_hand(deserializer_of(access), alloc, names, &mut place, fields) {}
+    go_on_at(access, place);
 }

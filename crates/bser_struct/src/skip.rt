@@ -1,27 +1,28 @@
 //! Skipping values whole.
-ghost use Rattle.std.specs.Prelude.{◌≡◌, ℕ, true, false, [], ◌∷◌, ◌++◌, ◌<◌, length, IfOk, IfErr, OnOk, OnErr, IsUtf8};
+ghost use Rattle.std.specs.Prelude.{◌≡◌, ℕ, false, true, [], IfOk, IfErr, OnOk, OnErr, IsUtf8};
 ghost use Rattle.std.specs.List.{AllByRecursion};
 ghost use Rattle.bser_base.specs.Content.{one};
 ghost use Rattle.bser_base.specs.Grammar.{Bytes, ◌then◌};
 ghost use Rattle.bser_base.specs.ReadsAny.{reads_ignored};
-ghost use Rattle.bser_base.specs.declared.errors.Error.TheVariants.{OutOfMemory};
 ghost use Rattle.bser_state.specs.Reading.{Answers, Refuses, RefusesFront, FillsReadably, IsRefusal};
 ghost use Rattle.bser_state.specs.Scalar.{owned};
-ghost use Rattle.bser_struct.specs.Skip.{Skipped, SkippedField, SkippedKey, SkippedString, SkippedBytes, SkipsPart, SkipsFrame, SkipsFrames, SkipsNext, SkipsOpened, TagSeen, Skips, SkipsFrom, SkipsNode, SkipsField, SkipsString, SkipsBytes, CountsDown, NamesText, RefusesKeys};
+ghost use Rattle.bser_struct.specs.Skip.{Skipped, SkippedField, SkippedKey, SkippedString, SkipsPart, SkipsFrame, SkipsFrames, SkipsNext, SkipsOpened, TagSeen, Skips, SkipsFrom, SkipsNode, SkipsField, SkipsString, CountsDown, RefusesKeys};
 ghost use Rattle.bser_state.specs.State.{refused};
-ghost use Rattle.bser_cursor.specs.View.{state};
+ghost use Rattle.bser_cursor.specs.View.{state, frames_in};
 
 use crate::skip::ready::skip_ready;
 use crate::skip::tables::{skip_array, skip_object, skip_template};
-use bser_base::de::read::{DeRead, Lending};
-use bser_base::errors::{Error, Kind, ReadCause, Result};
+use bser_base::de::read::DeRead;
+use bser_base::errors::{Error, Kind, Result};
 use bser_base::header::{
     BSER_ARRAY, BSER_BYTESTRING, BSER_FALSE, BSER_INT8, BSER_INT16, BSER_INT32, BSER_INT64,
     BSER_NULL, BSER_OBJECT, BSER_REAL, BSER_SKIP, BSER_TEMPLATE, BSER_TRUE, BSER_UTF8STRING,
 };
-use bser_cursor::cursor::Head;
+use bser_cursor::cursor::{Cursor, Head};
 use bser_cursor::deserializer::{Deserializer, Due};
 pub use bser_cursor::frame::{Frame, Left};
+use bser_cursor::parts::{bunser_mut, keys_of};
+use bser_cursor::skipping::{check_key, clear_frames, pop_frame, push_frame, skip_counted};
 
 mod ready;
 mod tables;
@@ -89,7 +90,7 @@ impl<R: DeRead> SkipsValues for Deserializer<R> {
     {
         let opened = skip_due(self)?;
         skip_opened(self, opened)?;
-        self.due = Due::Nothing;
+        self.await_nothing();
         Ok(())
     }
 }
@@ -114,7 +115,7 @@ fn skip_frames<R: DeRead>(from: &mut Deserializer<R>, whole: Frame) -> Result<()
     ensures refused { IfErr result (λ e. RefusesFront owned (SkipsFrame whole) e (state R.state R.Lent.kept from.old).source (state R.state R.Lent.kept from.new).source) }
     ensures failed { OnErr result ((state R.state R.Lent.kept from.new).source.failed ≡ true) }
 {
-    from.frames.clear();
+    clear_frames(from);
     let mut frame = whole;
     for _ in 0..u64::MAX {
         skip_ready(from, &mut frame);
@@ -131,13 +132,13 @@ fn skip_frames<R: DeRead>(from: &mut Deserializer<R>, whole: Frame) -> Result<()
 /// container that is the innermost then.
 fn skip_step<R: DeRead>(from: &mut Deserializer<R>, mut frame: Frame) -> Result<Option<Frame>>
     requires { (state R.state R.Lent.kept from.old).source.failed ≡ false }
-    ensures found { IfOk result (λ next. Skips (SkipsFrame frame then SkipsFrames from.old.frames.items) (SkipsNext next from.new.frames.items) (state R.state R.Lent.kept from.old) (state R.state R.Lent.kept from.new)) }
+    ensures found { IfOk result (λ next. Skips (SkipsFrame frame then SkipsFrames (frames_in from.old)) (SkipsNext next (frames_in from.new)) (state R.state R.Lent.kept from.old) (state R.state R.Lent.kept from.new)) }
     ensures refused { IfErr result (λ e. RefusesFront owned (SkipsFrame frame) e (state R.state R.Lent.kept from.old).source (state R.state R.Lent.kept from.new).source) }
     ensures failed { OnErr result ((state R.state R.Lent.kept from.new).source.failed ≡ true) }
 {
     let levels = frame.levels;
     let Some(part) = next(&mut frame.left) else {
-        return Ok(from.frames.pop());
+        return Ok(pop_frame(from));
     };
     let Some(inner) = skip_part(from, part, levels)? else {
         return Ok(Some(frame));
@@ -146,38 +147,25 @@ fn skip_step<R: DeRead>(from: &mut Deserializer<R>, mut frame: Frame) -> Result<
     Ok(Some(inner))
 }
 
-/// Keeps a container whose part was opened.
-fn push_frame<R: DeRead>(from: &mut Deserializer<R>, frame: Frame) -> Result<()>
-    ensures frames { OnOk result (from.new.frames.items ≡ from.old.frames.items ++ frame ∷ []) }
-    ensures state { OnOk result ((state R.state R.Lent.kept from.new) ≡ (state R.state R.Lent.kept from.old)) }
-    ensures refused { IfErr result (λ e. (e ≡ OutOfMemory) × ((state R.state R.Lent.kept from.new) ≡ refused (state R.state R.Lent.kept from.old))) }
-{
-    if from.frames.push(frame).is_err() {
-        from.fail();
-        return Err(Error::OutOfMemory);
-    }
-    Ok(())
-}
-
 /// Skips what is due, or opens it.
 fn skip_due<R: DeRead>(from: &mut Deserializer<R>) -> Result<Option<Frame>>
     ensures found { IfOk result (λ f. Skips (FillsReadably reads_ignored (state R.state R.Lent.kept from.old)) (SkipsOpened f) (state R.state R.Lent.kept from.old) (state R.state R.Lent.kept from.new)) }
     ensures refused { IfErr result (λ e. RefusesFront owned (FillsReadably reads_ignored (state R.state R.Lent.kept from.old)) e (state R.state R.Lent.kept from.old).source (state R.state R.Lent.kept from.new).source) }
     ensures failed { OnErr result ((state R.state R.Lent.kept from.new).source.failed ≡ true) }
 {
-    let levels = from.levels;
+    let levels = from.levels();
     match from.head()? {
         Head::Name(_) => Ok(None),
         Head::Row => {
             check_keys(from)?;
             let left = Left::Rows {
-                fields: from.keys.len(),
+                fields: keys_of(from).len(),
                 rows: 0,
                 width: 0,
             };
             Ok(Some(Frame { levels, left }))
         }
-        Head::Tag(tag) => match from.due {
+        Head::Tag(tag) => match from.due() {
             Due::Key => {
                 skip_key(from, tag, false, Kind::MapKey)?;
                 Ok(None)
@@ -195,31 +183,10 @@ fn check_keys<R: DeRead>(from: &mut Deserializer<R>) -> Result<()>
     ensures refused { IfErr result (λ e. RefusesKeys e (state R.state R.Lent.kept from.old)) }
     ensures failed { OnErr result ((state R.state R.Lent.kept from.new) ≡ refused (state R.state R.Lent.kept from.old)) }
 {
-    for place in 0..from.keys.len() {
+    for place in 0..keys_of(from).len() {
         check_key(from, place)?;
     }
     Ok(())
-}
-
-/// Checks that the key at this place is UTF-8.
-fn check_key<R: DeRead>(from: &mut Deserializer<R>, place: usize) -> Result<()>
-    requires { place < length (state R.state R.Lent.kept from.old).keys }
-    ensures found { OnOk result (NamesText place (state R.state R.Lent.kept from.old).keys) }
-    ensures same { OnOk result ((state R.state R.Lent.kept from.new) ≡ (state R.state R.Lent.kept from.old)) }
-    ensures refused { IfErr result (λ e. RefusesKeys e (state R.state R.Lent.kept from.old)) }
-    ensures failed { OnErr result ((state R.state R.Lent.kept from.new) ≡ refused (state R.state R.Lent.kept from.old)) }
-{
-    let Ok(bytes) = <R::Lent as Lending>::lend(&from.keys[place], &mut from.scratch) else {
-        from.bunser.fail();
-        return Err(Error::OutOfMemory);
-    };
-    match str::from_utf8(bytes.get_ref()) {
-        Ok(_) => Ok(()),
-        Err(_) => {
-            from.bunser.fail();
-            Err(Error::de_reader_error(ReadCause::Utf8))
-        }
-    }
 }
 
 /// Skips a part of a container, or opens it.
@@ -229,17 +196,17 @@ fn skip_part<R: DeRead>(
     levels: usize,
 ) -> Result<Option<Frame>>
     ensures found { IfOk result (λ f. Skips (SkipsPart levels part) (SkipsOpened f) (state R.state R.Lent.kept from.old) (state R.state R.Lent.kept from.new)) }
-    ensures frames { OnOk result (from.new.frames ≡ from.old.frames) }
+    ensures frames { OnOk result (frames_in from.new ≡ frames_in from.old) }
     ensures refused { IfErr result (λ e. RefusesFront owned (SkipsPart levels part) e (state R.state R.Lent.kept from.old).source (state R.state R.Lent.kept from.new).source) }
     ensures failed { OnErr result ((state R.state R.Lent.kept from.new).source.failed ≡ true) }
 {
-    let tag = from.bunser.peek()?;
+    let tag = bunser_mut(from).peek()?;
     match part {
         Part::Item => skip_node(from, tag, levels),
         Part::Field => skip_field(from, tag, levels),
         Part::Entry => {
             skip_key(from, tag, true, Kind::MapKey)?;
-            let tag = from.bunser.peek()?;
+            let tag = bunser_mut(from).peek()?;
             skip_node(from, tag, levels)
         }
     }
@@ -253,12 +220,12 @@ fn skip_field<R: DeRead>(
 ) -> Result<Option<Frame>>
     requires { TagSeen tag (state R.state R.Lent.kept from.old) }
     ensures found { IfOk result (λ f. SkipsField levels (SkipsOpened f) (state R.state R.Lent.kept from.old) (state R.state R.Lent.kept from.new)) }
-    ensures frames { OnOk result (from.new.frames ≡ from.old.frames) }
+    ensures frames { OnOk result (frames_in from.new ≡ frames_in from.old) }
     ensures refused { IfErr result (λ e. RefusesFront owned (SkippedField levels) e (state R.state R.Lent.kept from.old).source (state R.state R.Lent.kept from.new).source) }
     ensures failed { OnErr result ((state R.state R.Lent.kept from.new).source.failed ≡ true) }
 {
     if tag == BSER_SKIP {
-        from.bunser.discard();
+        bunser_mut(from).discard();
         return Ok(None);
     }
     skip_node(from, tag, levels)
@@ -268,7 +235,7 @@ fn skip_field<R: DeRead>(
 fn skip_node<R: DeRead>(from: &mut Deserializer<R>, tag: u8, levels: usize) -> Result<Option<Frame>>
     requires { TagSeen tag (state R.state R.Lent.kept from.old) }
     ensures found { IfOk result (λ f. SkipsNode levels (SkipsOpened f) (state R.state R.Lent.kept from.old) (state R.state R.Lent.kept from.new)) }
-    ensures frames { OnOk result (from.new.frames ≡ from.old.frames) }
+    ensures frames { OnOk result (frames_in from.new ≡ frames_in from.old) }
     ensures refused { IfErr result (λ e. RefusesFront owned (Skipped levels) e (state R.state R.Lent.kept from.old).source (state R.state R.Lent.kept from.new).source) }
     ensures failed { OnErr result ((state R.state R.Lent.kept from.new).source.failed ≡ true) }
 {
@@ -285,15 +252,15 @@ fn skip_node<R: DeRead>(from: &mut Deserializer<R>, tag: u8, levels: usize) -> R
             Ok(None)
         }
         BSER_INT8 | BSER_INT16 | BSER_INT32 | BSER_INT64 => {
-            from.bunser.check_next_int()?;
+            bunser_mut(from).check_next_int()?;
             Ok(None)
         }
         BSER_REAL => {
-            from.bunser.next_f64()?;
+            bunser_mut(from).next_f64()?;
             Ok(None)
         }
         BSER_TRUE | BSER_FALSE | BSER_NULL => {
-            from.bunser.discard();
+            bunser_mut(from).discard();
             Ok(None)
         }
         byte => Err(stray_tag(from, Kind::NextItem, byte)),
@@ -318,7 +285,7 @@ pub fn skip_key<R: DeRead>(
 ) -> Result<()>
     requires { TagSeen tag (state R.state R.Lent.kept from.old) }
     ensures found { OnOk result (SkipsFrom tag (SkippedKey utf8) (Bytes []) (state R.state R.Lent.kept from.old) (state R.state R.Lent.kept from.new)) }
-    ensures frames { OnOk result (from.new.frames ≡ from.old.frames) }
+    ensures frames { OnOk result (frames_in from.new ≡ frames_in from.old) }
     ensures refused { IfErr result (λ e. RefusesFront owned (SkippedKey utf8) e (state R.state R.Lent.kept from.old).source (state R.state R.Lent.kept from.new).source) }
     ensures failed { OnErr result ((state R.state R.Lent.kept from.new).source.failed ≡ true) }
 {
@@ -333,34 +300,14 @@ pub fn skip_key<R: DeRead>(
 fn skip_string<R: DeRead>(from: &mut Deserializer<R>, tag: u8, utf8: bool) -> Result<()>
     requires { TagSeen tag (state R.state R.Lent.kept from.old) }
     ensures found { OnOk result (SkipsString tag utf8 (state R.state R.Lent.kept from.old) (state R.state R.Lent.kept from.new)) }
-    ensures frames { OnOk result (from.new.frames ≡ from.old.frames) }
+    ensures frames { OnOk result (frames_in from.new ≡ frames_in from.old) }
     ensures refused { IfErr result (λ e. RefusesFront owned (SkippedString tag utf8) e (state R.state R.Lent.kept from.old).source (state R.state R.Lent.kept from.new).source) }
     ensures failed { OnErr result ((state R.state R.Lent.kept from.new).source.failed ≡ true) }
 {
-    from.bunser.discard();
-    let len = from.bunser.check_next_int()?;
+    bunser_mut(from).discard();
+    let len = bunser_mut(from).check_next_int()?;
     match tag {
         BSER_UTF8STRING => skip_counted(from, len, true),
         _ => skip_counted(from, len, utf8),
-    }
-}
-
-/// Skips `len` bytes. Where `utf8`, they have to be UTF-8.
-fn skip_counted<R: DeRead>(from: &mut Deserializer<R>, len: i64, utf8: bool) -> Result<()>
-    ensures found { OnOk result (SkipsBytes len utf8 (state R.state R.Lent.kept from.old) (state R.state R.Lent.kept from.new)) }
-    ensures frames { OnOk result (from.new.frames ≡ from.old.frames) }
-    ensures refused { IfErr result (λ e. RefusesFront owned (SkippedBytes len utf8) e (state R.state R.Lent.kept from.old).source (state R.state R.Lent.kept from.new).source) }
-    ensures failed { OnErr result ((state R.state R.Lent.kept from.new).source.failed ≡ true) }
-{
-    let bytes = from.bunser.read_bytes(len, &mut from.scratch)?;
-    if !utf8 {
-        return Ok(());
-    }
-    match str::from_utf8(bytes.get_ref()) {
-        Ok(_) => Ok(()),
-        Err(_) => {
-            from.bunser.fail();
-            Err(Error::de_reader_error(ReadCause::Utf8))
-        }
     }
 }

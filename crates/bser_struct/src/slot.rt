@@ -11,6 +11,7 @@ use crate::ignored::pass_value;
 use bser_base::de::read::{DeRead, LendsText};
 use bser_base::errors::Error;
 use bser_cursor::deserializer::Deserializer;
+use bser_de::access::read_once;
 use bser_de::front::field_once_at_hand;
 use bser_de::map::MapAccess;
 use bser_de::reading::{Deserialize, Shape};
@@ -96,7 +97,7 @@ impl<L: LendsText, T: Deserialize<L>> Slot<L> for Required<T> {
         map: &mut MapAccess<'a, R>,
         refusal: &mut Option<Error>,
     ) -> bool {
-        map.read_once(alloc, &mut self.value, refusal)
+        read_once(map, alloc, &mut self.value, refusal)
     }
 
     #[inline(always)]
@@ -143,7 +144,7 @@ impl<L: LendsText, T: Deserialize<L>> Slot<L> for Optional<T> {
         map: &mut MapAccess<'a, R>,
         refusal: &mut Option<Error>,
     ) -> bool {
-        map.read_once(alloc, &mut self.value, refusal)
+        read_once(map, alloc, &mut self.value, refusal)
     }
 
     #[inline(always)]

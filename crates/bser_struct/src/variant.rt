@@ -2,21 +2,21 @@
 ghost use Rattle.std.specs.Prelude.{◌≡◌, ℕ, List, map, IfOk, IfErr, OnErr, true, false};
 ghost use Rattle.bser_state.specs.Reading.{Answers, Refuses, RefusesFront, IsRefusal, bare};
 ghost use Rattle.bser_cursor.specs.View.{state};
-ghost use Rattle.bser_state.specs.Dues.{due_of};
 ghost use Rattle.bser_struct.specs.Variants.{reads_place, HoldsPlace, IsVariantKind, BeginsEntry, BeginsVariant, BeginsVariantKind, SeesVariant, OpensEntry, OpensVariant, payload_due};
 ghost use Rattle.bser_state.specs.Access.{IsPairsHead, closed};
 ghost use Rattle.bser_cursor.specs.Frames.{pairs_head};
-ghost use Rattle.bser_state.specs.Parts.{pairs_left, pair_key, wanted_pairs};
+ghost use Rattle.bser_state.specs.Parts.{pairs_left, pair_key};
 ghost use Rattle.bser_state.specs.State.{awaiting, refused};
 ghost use Rattle.bser_struct.specs.EnumAccess.{variant_head, enum_head};
 
 use bser_base::de::read::{DeRead, LendsText};
 use bser_base::errors::{Complaint, EnumName, Error, Kind, Result};
-use bser_cursor::cursor::Head;
+use bser_cursor::cursor::{Cursor, Head};
 use bser_cursor::deserializer::{Deserializer, Due};
-use bser_cursor::open::MapHead;
+use bser_cursor::open::{Containers, MapHead, SeqHead};
+use bser_cursor::parts::keys_of;
 use bser_state::field::{Field, find_field};
-use bser_state::node::Node;
+use bser_state::node::{Node, kind_at};
 use std::alloc::Global;
 
 /// An object of one entry, of which the key was read: whether it is a row, and the levels and the
@@ -36,24 +36,6 @@ fn names_variant(node: Node) -> bool
     matches!(node, Node::Bytes | Node::Text | Node::Key | Node::Object)
 }
 
-/// What is due as the first key of an object or a row.
-fn first_key(head: MapHead) -> Due
-    ensures { (ks : List (List ℕ)) → due_of ks result ≡ pair_key (wanted_pairs ks head.row head.at) }
-{
-    if head.row {
-        Due::Name(head.at)
-    } else {
-        Due::Key
-    }
-}
-
-/// What is due as the value of the only entry of an object, or of a row.
-fn payload(row: bool) -> Due
-    ensures { (ks : List (List ℕ)) → due_of ks result ≡ payload_due row }
-{
-    if row { Due::Field } else { Due::Node }
-}
-
 /// The kind of what is due, which must be a string, a key or an object. It is not taken.
 fn variant_kind<R: DeRead>(from: &mut Deserializer<R>, name: &str) -> Result<Node>
     ensures found { IfOk result (SeesVariant (state R.state R.Lent.kept from.old) (state R.state R.Lent.kept from.new)) }
@@ -61,7 +43,7 @@ fn variant_kind<R: DeRead>(from: &mut Deserializer<R>, name: &str) -> Result<Nod
     ensures failed { OnErr result ((state R.state R.Lent.kept from.new).source.failed ≡ true) }
 {
     let head = from.head()?;
-    match Node::at(from.due, head) {
+    match kind_at(from.due(), head) {
         Some(node) => {
             if names_variant(node) {
                 Ok(node)
@@ -78,8 +60,8 @@ fn refuse_form<R: DeRead>(from: &mut Deserializer<R>, name: &str, head: Head) ->
     ensures kind { IsRefusal result }
     ensures state { state R.state R.Lent.kept from.new ≡ refused (state R.state R.Lent.kept from.old) }
 {
-    from.bunser.fail();
-    match (from.due, head) {
+    from.fail();
+    match (from.due(), head) {
         (Due::Key, Head::Tag(byte)) => Error::DeInvalidStartByte {
             kind: Kind::MapKey,
             byte,
@@ -96,9 +78,9 @@ fn refuse_form<R: DeRead>(from: &mut Deserializer<R>, name: &str, head: Head) ->
 fn is_too_deep<R: DeRead>(from: &Deserializer<R>) -> bool
     ensures { result ≡ true → (text : List ℕ) → IsPairsHead (state R.state R.Lent.kept from.now) text → ⊥ }
 {
-    match from.due {
+    match from.due() {
         Due::Row => false,
-        _ => from.levels == 0,
+        _ => from.levels() == 0,
     }
 }
 
@@ -107,7 +89,7 @@ fn refuse_depth<R: DeRead>(from: &mut Deserializer<R>, name: &str) -> Error
     ensures kind { IsRefusal result }
     ensures state { state R.state R.Lent.kept from.new ≡ refused (state R.state R.Lent.kept from.old) }
 {
-    from.bunser.fail();
+    from.fail();
     Error::DeRecursionLimitExceeded {
         kind: Kind::ObjectLikeEnum(EnumName::new(name)),
     }
@@ -118,7 +100,7 @@ fn entries_in<R: DeRead>(from: &Deserializer<R>, head: MapHead) -> usize
     ensures { result ≡ pairs_left (pairs_head head (state R.state R.Lent.kept from.now)).wanted }
 {
     if head.row {
-        from.keys.len().saturating_sub(head.at)
+        keys_of(from).len().saturating_sub(head.at)
     } else {
         head.at
     }
@@ -128,23 +110,53 @@ fn entries_in<R: DeRead>(from: &Deserializer<R>, head: MapHead) -> usize
 fn await_name<R: DeRead>(from: &mut Deserializer<R>, head: MapHead)
     ensures { state R.state R.Lent.kept from.new ≡ awaiting (pair_key (pairs_head head (state R.state R.Lent.kept from.old)).wanted) (state R.state R.Lent.kept from.old) }
 {
-    from.due = first_key(head);
+    if head.row {
+        from.await_name(head.at);
+    } else {
+        from.await_key();
+    }
 }
 
 /// Makes the payload due.
 pub(crate) fn await_payload<R: DeRead>(from: &mut Deserializer<R>, head: VariantHead)
     ensures { state R.state R.Lent.kept from.new ≡ awaiting (payload_due head.row) (state R.state R.Lent.kept from.old) }
 {
-    from.due = payload(head.row);
+    if head.row {
+        from.await_field();
+    } else {
+        from.await_node();
+    }
 }
 
 /// Closes the object of a variant whose payload was read.
 pub(crate) fn close_variant<R: DeRead>(from: &mut Deserializer<R>, head: VariantHead)
     ensures { state R.state R.Lent.kept from.new ≡ closed head.levels head.opened (state R.state R.Lent.kept from.old) }
 {
-    from.due = Due::Nothing;
-    from.levels = head.levels;
-    from.opened = head.opened;
+    from.close_pairs(head.levels, head.opened);
+}
+
+/// The head of the array that is a variant's payload, by what is outside the variant's object.
+pub(crate) fn items_outside(head: VariantHead, items: SeqHead) -> SeqHead
+    ensures { result ≡ record items { levels = head.levels; opened = head.opened } }
+{
+    SeqHead {
+        remaining: items.remaining,
+        rows: items.rows,
+        levels: head.levels,
+        opened: head.opened,
+    }
+}
+
+/// The head of the object that is a variant's payload, by what is outside the variant's object.
+pub(crate) fn pairs_outside(head: VariantHead, pairs: MapHead) -> MapHead
+    ensures { result ≡ record pairs { levels = head.levels; opened = head.opened } }
+{
+    MapHead {
+        at: pairs.at,
+        row: pairs.row,
+        levels: head.levels,
+        opened: head.opened,
+    }
 }
 
 /// Reads the variant's name.

@@ -9,10 +9,13 @@ ghost use Rattle.bser_state.specs.Access.{RefusesItems, RefusesOpening, IsPairsH
 ghost use Rattle.bser_base.specs.ReadsScalars.{reads_unit};
 ghost use Rattle.bser_base.specs.Content.{one};
 
-use crate::variant::{VariantHead, await_payload, close_variant};
+use crate::variant::{VariantHead, await_payload, close_variant, items_outside, pairs_outside};
 use bser_base::de::read::{DeRead, LendsText};
 use bser_base::errors::{Complaint, Result};
+use bser_cursor::cursor::Cursor;
 use bser_cursor::deserializer::Deserializer;
+use bser_cursor::open::Containers;
+use bser_de::access::{items_of, pairs_of};
 use bser_de::map::MapAccess;
 use bser_de::reading::Deserialize;
 use bser_de::seq::SeqAccess;
@@ -105,13 +108,7 @@ impl<'a, R: DeRead> VariantAccess<'a, R> {
         let VariantAccess { from, head } = self;
         await_payload(from, head);
         let items = from.open_items(alloc)?;
-        Ok(SeqAccess {
-            from,
-            remaining: items.remaining,
-            rows: items.rows,
-            levels: head.levels,
-            opened: head.opened,
-        })
+        Ok(items_of(from, items_outside(head, items)))
     }
 
     /// Reads the payload as an object or a row.
@@ -126,14 +123,7 @@ impl<'a, R: DeRead> VariantAccess<'a, R> {
         let VariantAccess { from, head } = self;
         await_payload(from, head);
         let pairs = from.open_pairs()?;
-        Ok(MapAccess {
-            from,
-            at: pairs.at,
-            row: pairs.row,
-            pending: false,
-            levels: head.levels,
-            opened: head.opened,
-        })
+        Ok(pairs_of(from, pairs_outside(head, pairs)))
     }
 }
 

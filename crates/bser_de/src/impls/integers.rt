@@ -9,6 +9,7 @@ use crate::reading::{Deserialize, OwnedShape, Shape};
 use bser_base::de::bunser::integer_front;
 use bser_base::de::read::{DeRead, LendsText};
 use bser_base::errors::{Complaint, Result};
+use bser_cursor::cursor::Cursor;
 use bser_cursor::deserializer::Deserializer;
 use std::alloc::Global;
 

@@ -12,6 +12,7 @@ use crate::opening::ReadsContainers;
 use crate::reading::{Deserialize, OwnedShape, Shape};
 use bser_base::de::read::{DeRead, LendsText};
 use bser_base::errors::Result;
+use bser_cursor::cursor::Cursor;
 use bser_cursor::deserializer::Deserializer;
 use std::alloc::Global;
 

@@ -12,6 +12,7 @@ use bser_base::de::bunser::string_front;
 use bser_base::de::read::{DeRead, LendsFrom, LendsText, Reference, TextReference};
 use bser_base::de::text::as_text;
 use bser_base::errors::{Complaint, Result};
+use bser_cursor::cursor::Cursor;
 use bser_cursor::deserializer::Deserializer;
 use bser_cursor::strings::may_stand;
 use bser_state::node::Node;

@@ -3,7 +3,7 @@ ghost use Rattle.std.specs.Prelude.{◌≡◌, ℕ, true, false, [], ◌∷◌, 
 ghost use Rattle.bser_base.specs.Grammar.{Bytes, ◌then◌};
 ghost use Rattle.bser_base.specs.Hand.{bunser_hand};
 ghost use Rattle.bser_struct.specs.Skip.{SkipsPart, SkipsFrame, SkipsFrames, Skips, SkipsNode};
-ghost use Rattle.bser_cursor.specs.View.{state};
+ghost use Rattle.bser_cursor.specs.View.{state, bunser_in, frames_in};
 
 use crate::skip::{Frame, Part, next};
 use bser_base::de::read::DeRead;
@@ -12,13 +12,14 @@ use bser_base::header::{
     BSER_SKIP, BSER_TRUE, BSER_UTF8STRING,
 };
 use bser_cursor::deserializer::Deserializer;
+use bser_cursor::parts::{bunser_mut, bunser_of};
 use bser_cursor::strings::may_stand;
 
 /// Skips the next parts of a container that are at hand whole, up to one that is a container or
 /// an entry.
 pub fn skip_ready<R: DeRead>(from: &mut Deserializer<R>, frame: &mut Frame)
     requires { (state R.state R.Lent.kept from.old).source.failed ≡ false }
-    ensures { Skips (SkipsFrame frame.old then SkipsFrames from.old.frames.items) (SkipsFrame frame.new then SkipsFrames from.new.frames.items) (state R.state R.Lent.kept from.old) (state R.state R.Lent.kept from.new) }
+    ensures { Skips (SkipsFrame frame.old then SkipsFrames (frames_in from.old)) (SkipsFrame frame.new then SkipsFrames (frames_in from.new)) (state R.state R.Lent.kept from.old) (state R.state R.Lent.kept from.new) }
 {
     for _ in 0..u64::MAX {
         let mut left = frame.left;
@@ -36,11 +37,11 @@ pub fn skip_ready<R: DeRead>(from: &mut Deserializer<R>, frame: &mut Frame)
 /// changes.
 #[inline(always)]
 fn skip_at_hand<R: DeRead>(from: &mut Deserializer<R>, part: Part) -> bool
-    ensures frames { from.new.frames ≡ from.old.frames }
+    ensures frames { frames_in from.new ≡ frames_in from.old }
     ensures skipped { (levels : ℕ) → result ≡ true → Skips (SkipsPart levels part) (Bytes []) (state R.state R.Lent.kept from.old) (state R.state R.Lent.kept from.new) }
     ensures same { result ≡ false → state R.state R.Lent.kept from.new ≡ state R.state R.Lent.kept from.old }
 {
-    let bytes = from.bunser.at_hand();
+    let bytes = bunser_of(from).at_hand();
     if bytes.is_empty() {
         return false;
     }
@@ -50,7 +51,7 @@ fn skip_at_hand<R: DeRead>(from: &mut Deserializer<R>, part: Part) -> bool
         Part::Item => skip_scalar(from, tag),
         Part::Field => {
             if tag == BSER_SKIP {
-                from.bunser.advance(1);
+                bunser_mut(from).advance(1);
                 return true;
             }
             skip_scalar(from, tag)
@@ -61,15 +62,15 @@ fn skip_at_hand<R: DeRead>(from: &mut Deserializer<R>, part: Part) -> bool
 /// Skips a value that is at hand whole, and is no container. Else nothing changes.
 #[inline(always)]
 fn skip_scalar<R: DeRead>(from: &mut Deserializer<R>, tag: u8) -> bool
-    requires { bunser_hand R.hand from.old.bunser ≡ tag ∷ drop 1 (bunser_hand R.hand from.old.bunser) }
-    ensures frames { from.new.frames ≡ from.old.frames }
+    requires { bunser_hand R.hand (bunser_in from.old) ≡ tag ∷ drop 1 (bunser_hand R.hand (bunser_in from.old)) }
+    ensures frames { frames_in from.new ≡ frames_in from.old }
     ensures skipped { (levels : ℕ) → result ≡ true → SkipsNode levels (Bytes []) (state R.state R.Lent.kept from.old) (state R.state R.Lent.kept from.new) }
     ensures same { result ≡ false → state R.state R.Lent.kept from.new ≡ state R.state R.Lent.kept from.old }
 {
     match tag {
         BSER_INT8 | BSER_INT16 | BSER_INT32 | BSER_INT64 => skip_int(from),
         BSER_TRUE | BSER_FALSE | BSER_NULL => {
-            from.bunser.advance(1);
+            bunser_mut(from).advance(1);
             true
         }
         BSER_BYTESTRING | BSER_UTF8STRING => skip_whole_string(from),
@@ -80,11 +81,11 @@ fn skip_scalar<R: DeRead>(from: &mut Deserializer<R>, tag: u8) -> bool
 /// Skips an integer that is at hand whole. Else nothing changes.
 #[inline(always)]
 fn skip_int<R: DeRead>(from: &mut Deserializer<R>) -> bool
-    ensures frames { from.new.frames ≡ from.old.frames }
+    ensures frames { frames_in from.new ≡ frames_in from.old }
     ensures skipped { (levels : ℕ) → result ≡ true → SkipsNode levels (Bytes []) (state R.state R.Lent.kept from.old) (state R.state R.Lent.kept from.new) }
     ensures same { result ≡ false → state R.state R.Lent.kept from.new ≡ state R.state R.Lent.kept from.old }
 {
-    match from.bunser.int_at_hand() {
+    match bunser_mut(from).int_at_hand() {
         Some(_) => true,
         None => false,
     }
@@ -93,17 +94,17 @@ fn skip_int<R: DeRead>(from: &mut Deserializer<R>) -> bool
 /// Skips a string that is at hand whole, and is UTF-8 where it is a text. Else nothing changes.
 #[inline(always)]
 fn skip_whole_string<R: DeRead>(from: &mut Deserializer<R>) -> bool
-    ensures frames { from.new.frames ≡ from.old.frames }
+    ensures frames { frames_in from.new ≡ frames_in from.old }
     ensures skipped { (levels : ℕ) → result ≡ true → SkipsNode levels (Bytes []) (state R.state R.Lent.kept from.old) (state R.state R.Lent.kept from.new) }
     ensures same { result ≡ false → state R.state R.Lent.kept from.new ≡ state R.state R.Lent.kept from.old }
 {
-    match from.bunser.string_at_hand() {
+    match bunser_of(from).string_at_hand() {
         Some(place) => {
-            let bytes = from.bunser.at_hand();
+            let bytes = bunser_of(from).at_hand();
             if !may_stand(place.is_text, &bytes[place.at..place.end]) {
                 return false;
             }
-            from.bunser.advance(place.end);
+            bunser_mut(from).advance(place.end);
             true
         }
         None => false,

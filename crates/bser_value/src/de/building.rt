@@ -11,8 +11,10 @@ use crate::de::gathered::Gathered;
 use crate::value::Value;
 use bser_base::de::read::{DeRead, LendsText};
 use bser_base::errors::{Error, Result};
-use bser_cursor::deserializer::{Deserializer, Due};
-use bser_cursor::open::{MapHead, SeqHead};
+use bser_cursor::cursor::Cursor;
+use bser_cursor::deserializer::Deserializer;
+use bser_cursor::open::{Containers, MapHead, SeqHead};
+use bser_cursor::parts::keys_of;
 use std::alloc::Global;
 use std::collections::BTreeMap;
 use std::marker::Model;
@@ -125,7 +127,11 @@ where
         return false;
     }
     head.remaining -= 1;
-    from.due = if head.rows { Due::Row } else { Due::Node };
+    if head.rows {
+        from.await_row();
+    } else {
+        from.await_node();
+    }
     true
 }
 
@@ -162,10 +168,10 @@ where
     if head.at == 0 {
         return Ok(None);
     }
-    from.due = Due::Key;
+    from.await_key();
     let name = from.read_string(alloc)?;
     head.at -= 1;
-    from.due = Due::Node;
+    from.await_node();
     Ok(Some(name))
 }
 
@@ -182,13 +188,13 @@ where
     ensures refused { IfErr result (λ e. RefusesName e head.old (state R.state R.Lent.kept from.old) (state R.state R.Lent.kept from.new)) }
 {
     let place = head.at;
-    if place >= from.keys.len() {
+    if place >= keys_of(from).len() {
         return Ok(None);
     }
-    from.due = Due::Name(place);
+    from.await_name(place);
     let name = from.read_string(alloc)?;
     head.at = place + 1;
-    from.due = Due::Field;
+    from.await_field();
     Ok(Some(name))
 }
 

@@ -19,8 +19,10 @@ use crate::de::value_at_hand::Step;
 use crate::de::value_front::value_front;
 use crate::value::Value;
 use bser_base::de::read::{DeRead, Lending};
-use bser_cursor::deserializer::{Deserializer, Due};
+use bser_cursor::cursor::Cursor;
+use bser_cursor::deserializer::Deserializer;
 use bser_cursor::open::SeqHead;
+use bser_cursor::parts::{bunser_mut, bunser_of, keys_of};
 use std::alloc::Global;
 use std::collections::BTreeMap;
 use std::mem;
@@ -121,18 +123,18 @@ fn row_at_hand_whole<R: DeRead>(
     ensures { MatchOption result (state R.state R.Lent.kept from.new ≡ state R.state R.Lent.kept from.old)
         (Answers reads_value HoldsTree (awaiting (row_due (state R.state R.Lent.kept from.old).keys) (state R.state R.Lent.kept from.old)) (state R.state R.Lent.kept from.new)) }
 {
-    let count = from.keys.len();
-    let len = match row_front(alloc, from.bunser.at_hand(), count, row) {
+    let count = keys_of(from).len();
+    let len = match row_front(alloc, bunser_of(from).at_hand(), count, row) {
         Some(len) => len,
         None => return None,
     };
     if len == 0 {
         return None;
     }
-    match row_entries::<R::Lent>(&from.keys, places, row) {
+    match row_entries::<R::Lent>(keys_of(from), places, row) {
         Some(entries) => {
-            from.bunser.advance(len);
-            from.due = Due::Nothing;
+            bunser_mut(from).advance(len);
+            from.await_nothing();
             Some(Value::Object(entries))
         }
         None => None,
@@ -161,10 +163,11 @@ pub fn rows_at_hand<R: DeRead>(
         return Step::Absent;
     }
     let mut row = Vec::new(alloc);
-    if row_front(alloc, from.bunser.at_hand(), from.keys.len(), &mut row).is_none() {
+    let count = keys_of(from).len();
+    if row_front(alloc, bunser_of(from).at_hand(), count, &mut row).is_none() {
         return Step::Absent;
     }
-    match places_of::<R::Lent>(alloc, &from.keys) {
+    match places_of::<R::Lent>(alloc, keys_of(from)) {
         Some(places) => put_rows(from, alloc, &places, &mut row, items, head),
         None => Step::Absent,
     }

@@ -12,8 +12,10 @@ use crate::de::rows_at_hand::rows_at_hand;
 use crate::de::scalar_at_hand::{key_at_hand, row_field_at_hand, scalar_at_hand};
 use crate::value::Value;
 use bser_base::de::read::{DeRead, Lending};
-use bser_cursor::deserializer::{Deserializer, Due};
-use bser_cursor::open::{MapHead, SeqHead};
+use bser_cursor::cursor::Cursor;
+use bser_cursor::deserializer::Deserializer;
+use bser_cursor::open::{MapHead, SeqHead, open_row};
+use bser_cursor::parts::{bunser_mut, keys_of};
 use std::alloc::Global;
 use std::collections::BTreeMap;
 use std::mem;
@@ -47,17 +49,17 @@ fn entry_at_hand<R: DeRead>(
         (RefusesEntry head.old head.new (state R.state R.Lent.kept from.old) (state R.state R.Lent.kept from.new)) }
 {
     let place = head.at;
-    if !head.row || place >= from.keys.len() {
+    if !head.row || place >= keys_of(from).len() {
         return Step::Absent;
     }
-    let key = <R::Lent as Lending>::kept_text(&from.keys[place]);
+    let key = <R::Lent as Lending>::kept_text(&keys_of(from)[place]);
     let name = match String::from_str(alloc, key) {
         Ok(name) => name,
         Err(_) => return Step::Absent,
     };
-    match row_field_at_hand(alloc, &mut from.bunser) {
+    match row_field_at_hand(alloc, bunser_mut(from)) {
         Some(value) => {
-            from.due = Due::Nothing;
+            from.await_nothing();
             head.at = place + 1;
             match entries.insert(name, value) {
                 Ok(_) => Step::Taken,
@@ -88,21 +90,21 @@ fn object_entry_at_hand<R: DeRead>(
     if head.row || head.at == 0 {
         return Step::Absent;
     }
-    let name = match key_at_hand(alloc, &mut from.bunser) {
+    let name = match key_at_hand(alloc, bunser_mut(from)) {
         Some(name) => name,
         None => return Step::Absent,
     };
     head.at -= 1;
-    match scalar_at_hand(alloc, &mut from.bunser) {
+    match scalar_at_hand(alloc, bunser_mut(from)) {
         Some(value) => {
-            from.due = Due::Nothing;
+            from.await_nothing();
             match entries.insert(name, value) {
                 Ok(_) => Step::Taken,
                 Err(_) => Step::Refused,
             }
         }
         None => {
-            from.due = Due::Node;
+            from.await_node();
             *key = Some(name);
             Step::Due
         }
@@ -127,9 +129,9 @@ fn item_at_hand<R: DeRead>(
     if head.rows || head.remaining == 0 {
         return Step::Absent;
     }
-    match scalar_at_hand(alloc, &mut from.bunser) {
+    match scalar_at_hand(alloc, bunser_mut(from)) {
         Some(value) => {
-            from.due = Due::Nothing;
+            from.await_nothing();
             head.remaining -= 1;
             match items.push(value) {
                 Ok(()) => Step::Taken,
@@ -176,8 +178,8 @@ fn row_at_hand<R: DeRead>(from: &mut Deserializer<R>, inner: &mut Building) -> O
                 return None;
             }
             head.remaining -= 1;
-            from.due = Due::Row;
-            Some(from.open_row())
+            from.await_row();
+            Some(open_row(from))
         }
         Building::Pairs {
             entries: _,
@@ -201,7 +203,7 @@ fn is_read<R: DeRead>(from: &Deserializer<R>, inner: &Building) -> bool
             head,
         } => {
             if head.row {
-                head.at >= from.keys.len()
+                head.at >= keys_of(from).len()
             } else {
                 head.at == 0
             }

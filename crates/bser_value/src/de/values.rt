@@ -19,8 +19,10 @@ use crate::value::Value;
 use bser_base::de::read::{DeRead, LendsText};
 use bser_base::errors::{Error, Result};
 use bser_base::header::BSER_SKIP;
-use bser_cursor::cursor::Head;
+use bser_cursor::cursor::{Cursor, Head};
 use bser_cursor::deserializer::{Deserializer, Due};
+use bser_cursor::open::Containers;
+use bser_cursor::parts::bunser_mut;
 use bser_de::front::Front;
 use bser_de::reading::{Deserialize, OwnedShape, Shape};
 use bser_state::node::Node;
@@ -39,7 +41,7 @@ fn read_scalar<R: DeRead>(from: &mut Deserializer<R>, alloc: Global) -> Result<V
     ensures found { IfOk result (Answers reads_scalar HoldsTree (state R.state R.Lent.kept from.old) (state R.state R.Lent.kept from.new)) }
     ensures refused { IfErr result (λ e. Refuses reads_scalar owned e (state R.state R.Lent.kept from.old) (state R.state R.Lent.kept from.new)) }
 {
-    if matches!(from.due, Due::Key | Due::Name(_)) {
+    if matches!(from.due(), Due::Key | Due::Name(_)) {
         return read_key(from, alloc);
     }
     match from.head()? {
@@ -56,13 +58,13 @@ fn read_tagged<R: DeRead>(from: &mut Deserializer<R>, alloc: Global, tag: u8) ->
     ensures found { IfOk result (TookValue (state R.state R.Lent.kept from.old) (state R.state R.Lent.kept from.new)) }
     ensures refused { IfErr result (λ e. Refuses reads_scalar owned e (state R.state R.Lent.kept from.old) (state R.state R.Lent.kept from.new)) }
 {
-    if is_skip(from.due, tag) {
-        from.bunser.discard();
-        from.due = Due::Nothing;
+    if is_skip(from.due(), tag) {
+        bunser_mut(from).discard();
+        from.await_nothing();
         return Ok(Value::Null);
     }
-    let value = scalar::read_scalar(alloc, &mut from.bunser, tag)?;
-    from.due = Due::Nothing;
+    let value = scalar::read_scalar(alloc, bunser_mut(from), tag)?;
+    from.await_nothing();
     Ok(value)
 }
 

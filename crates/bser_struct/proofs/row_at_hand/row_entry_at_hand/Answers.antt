@@ -16,10 +16,10 @@ returns-clause-taken g c =
     let key : List ℕ = kept c.index.result.now in
     let o : State = state g.R.DeRead.state kept c.args.from.now in
     let t : State = state g.R.DeRead.state kept c.fill_at_hand.new.from in
-    let inside : c.args.place.now < length (map kept items) = omega (arith, length-map items kept, c.if-at-len.false, c.len.ensures) in
+    let inside : c.args.place.now < length (map kept items) = omega (arith, length-map items kept, c.if-at-len.false, rw c.keys_of.ensures at c.len.ensures) in
     λ same ss keeps. record {
       key = key;
-      named = named_at kept c.args.place.now items c.index.result.now inside c.index.ensures;
+      named = named_at kept c.args.place.now items c.index.result.now inside (rw c.keys_of-2.ensures at c.index.ensures);
       utf8 = subst IsUtf8 c.kept_bytes-name.ensures c.in-Some.ensures.0;
       steps = field_filled names (g.F.Slots.keeps c.fill_at_hand.new.self) c.in-Some.known key ss o t (c.in-Some.ensures.1 ∙ ap (field_of names) c.kept_bytes-name.ensures) (c.fill_at_hand.ensures.taken c.if-not-fill_at_hand.false ss keeps);
       passed = omega arith;

@@ -9,7 +9,7 @@ use Rattle.bser_struct.proofs.SkippedNodes.{each_ok}
 use Rattle.bser_struct.proofs.skip.skip_field.Goals as goal
 
 pub returns-then-tag-eq-BSER_SKIP-clause-found : goal.returns-then-tag-eq-BSER_SKIP-clause-found
-returns-then-tag-eq-BSER_SKIP-clause-found g c = (let e : c.args.tag ≡ 0x0c = omega (arith, c.if-tag-eq-BSER_SKIP.true) in field_skip c.args.levels _ _ (c.requires.sight ∙ ap Some e) c.discard.ensures refl)
+returns-then-tag-eq-BSER_SKIP-clause-found g c = (let e : c.args.tag ≡ 0x0c = omega (arith, c.if-tag-eq-BSER_SKIP.true) in field_skip c.args.levels _ _ (c.requires.sight ∙ ap Some e) (rw c.bunser_mut.ensures.value at c.discard.ensures) refl)
 
 pub returns-clause-found : goal.returns-clause-found
 returns-clause-found g c = each_ok c.skip_node.result _ _ (λ f w. field_node c.args.levels (SkipsOpened f) _ _ w) c.skip_node.ensures.found

@@ -22,12 +22,12 @@ returns-in_err-skip_string-in-13-clause-refused g c =
 pub returns-in_err-next_f64-in-7-clause-refused : goal.returns-in_err-next_f64-in-7-clause-refused
 returns-in_err-next_f64-in-7-clause-refused g c =
     let p = err_from_is_err_and c.from_residual-in_err-next_f64-in-7.result c.from_residual-in_err-next_f64-in-7.ensures.1 in
-    rw (p.1, p.2) (real_refused c.args.levels _ _ _ (rw c.in-7.is at c.requires.next) c.in_err-next_f64-in-7.ensures.err)
+    rw (p.1, p.2) (real_refused c.args.levels _ _ _ (rw c.in-7.is at c.requires.next) (rw c.bunser_mut.ensures.value at c.in_err-next_f64-in-7.ensures.err))
 
 pub returns-in_err-check_next_int-in-3-clause-refused : goal.returns-in_err-check_next_int-in-3-clause-refused
 returns-in_err-check_next_int-in-3-clause-refused g c =
     let p = err_from_is_err_and c.from_residual-in_err-check_next_int-in-3.result c.from_residual-in_err-check_next_int-in-3.ensures.1 in
-    rw (p.1, p.2) (integer_refused c.args.levels c.args.tag _ _ _ (omega arith) (omega arith) c.requires.next c.in_err-check_next_int-in-3.ensures.err)
+    rw (p.1, p.2) (integer_refused c.args.levels c.args.tag _ _ _ (omega arith) (omega arith) c.requires.next (rw c.bunser_mut-in-3.ensures.value at c.in_err-check_next_int-in-3.ensures.err))
 
 pub returns-in_ok-skip_string-in-2-clause-found : goal.returns-in_ok-skip_string-in-2-clause-found
 returns-in_ok-skip_string-in-2-clause-found g c = node_string c.args.levels c.args.tag false _ _ (inl c.in-2.is) c.in_ok-skip_string-in-2.ensures.found
@@ -36,13 +36,13 @@ pub returns-in_ok-skip_string-in-13-clause-found : goal.returns-in_ok-skip_strin
 returns-in_ok-skip_string-in-13-clause-found g c = node_string c.args.levels c.args.tag true _ _ (inr c.in-13.is) c.in_ok-skip_string-in-13.ensures.found
 
 pub returns-in_ok-next_f64-in-7-clause-found : goal.returns-in_ok-next_f64-in-7-clause-found
-returns-in_ok-next_f64-in-7-clause-found g c = node_real c.args.levels c.in_ok-next_f64-in-7.field-0 _ _ (c.requires.sight ∙ ap Some c.in-7.is) (search rules) c.in_ok-next_f64-in-7.ensures.ok refl
+returns-in_ok-next_f64-in-7-clause-found g c = node_real c.args.levels c.in_ok-next_f64-in-7.field-0 _ _ (c.requires.sight ∙ ap Some c.in-7.is) (search rules) (rw c.bunser_mut.ensures.value at c.in_ok-next_f64-in-7.ensures.ok) refl
 
 pub returns-in_ok-check_next_int-in-3-clause-found : goal.returns-in_ok-check_next_int-in-3-clause-found
-returns-in_ok-check_next_int-in-3-clause-found g c = node_integer c.args.levels c.in_ok-check_next_int-in-3.field-0 _ _ c.in_ok-check_next_int-in-3.ensures.ok refl
+returns-in_ok-check_next_int-in-3-clause-found g c = node_integer c.args.levels c.in_ok-check_next_int-in-3.field-0 _ _ (rw c.bunser_mut-in-3.ensures.value at c.in_ok-check_next_int-in-3.ensures.ok) refl
 
 pub returns-in-8-clause-found : goal.returns-in-8-clause-found
-returns-in-8-clause-found g c = took_one c.args.levels c.args.tag _ _ (λ e. omega arith) (one_byte c.args.levels c.args.tag (eight c.args.tag (omega arith) (omega arith))) c.requires.sight c.discard.ensures refl
+returns-in-8-clause-found g c = took_one c.args.levels c.args.tag _ _ (λ e. omega arith) (one_byte c.args.levels c.args.tag (eight c.args.tag (omega arith) (omega arith))) c.requires.sight (rw c.bunser_mut-in-8.ensures.value at c.discard.ensures) refl
 
 pub returns-in_default-clause-refused : goal.returns-in_default-clause-refused
 returns-in_default-clause-refused g c =

@@ -15,7 +15,7 @@ pub returns-else-names_variant-clause-refused : goal.returns-else-names_variant-
 returns-else-names_variant-clause-refused g c =
     no_variant_kind (state g.R.DeRead.state g.R.Lent.Lending.kept c.args.from.now) (state g.R.DeRead.state g.R.Lent.Lending.kept c.head.new.self) c.in_ok-head.head c.refuse_form.result _ c.in_ok-head.ensures.ok
     (λ k v is.
-    let same : Some c.in-Some.node ≡ Some k = c.in-Some.ensures _ ∙ is in
+    let same : Some c.in-Some.node ≡ Some k = (rw c.due.ensures at c.in-Some.ensures) _ ∙ is in
     let node : c.in-Some.node ≡ k = cc in
     c.if-names_variant.ensures.no refl (subst IsVariantKind (sym node) v))
     c.refuse_form.ensures.kind (ap (λ s. s.source) c.refuse_form.ensures.state)
@@ -23,4 +23,4 @@ returns-else-names_variant-clause-refused g c =
 pub returns-in-None-clause-refused : goal.returns-in-None-clause-refused
 returns-in-None-clause-refused g c =
     no_variant_kind (state g.R.DeRead.state g.R.Lent.Lending.kept c.args.from.now) (state g.R.DeRead.state g.R.Lent.Lending.kept c.head.new.self) c.in_ok-head.head c.refuse_form-in-None.result _ c.in_ok-head.ensures.ok
-    (λ k v is. let no : None ≡ Some k = c.in-None.ensures _ ∙ is in cc) c.refuse_form-in-None.ensures.kind (ap (λ s. s.source) c.refuse_form-in-None.ensures.state)
+    (λ k v is. let no : None ≡ Some k = (rw c.due.ensures at c.in-None.ensures) _ ∙ is in cc) c.refuse_form-in-None.ensures.kind (ap (λ s. s.source) c.refuse_form-in-None.ensures.state)

@@ -13,7 +13,7 @@ returns-in-Null g c =
     let hand = c.at_hand-bytes.result.now in
     let some : 0 < length hand = search rules in
     let s = state g.R.DeRead.state g.R.Lent.Lending.kept c.args.self.now in
-    let kind : node_at s.due (Tag (get_or hand 0 0)) ≡ Some kinds.Null = sym (c.at.ensures s.keys) ∙ c.in-Some.is ∙ ap Some c.in-Null.is in
+    let kind : node_at s.due (Tag (get_or hand 0 0)) ≡ Some kinds.Null = sym (c.kind_at.ensures s.keys) ∙ c.in-Some.is ∙ ap Some c.in-Null.is in
     let took = subst (λ l. Took (bunser_state g.R.DeRead.state c.args.self.now.bunser) (bunser_state g.R.DeRead.state c.advance.new.self) (take 1 l) None) (sym c.at_hand-bytes.ensures) c.advance.ensures in
     null_at_hand s _ hand (c.is_value_due.ensures c.if-not-is_value_due.false) some kind took refl
 
@@ -21,6 +21,6 @@ pub returns-in_default : goal.returns-in_default
 returns-in_default g c =
     let hand = c.at_hand-bytes.result.now in
     let s = state g.R.DeRead.state g.R.Lent.Lending.kept c.args.self.now in
-    let kind : node_at s.due (Tag (get_or hand 0 0)) ≡ Some c.in-Some.node = sym (c.at.ensures s.keys) ∙ c.in-Some.is in
+    let kind : node_at s.due (Tag (get_or hand 0 0)) ≡ Some c.in-Some.node = sym (c.kind_at.ensures s.keys) ∙ c.in-Some.is in
     let first : hand ≡ c.glance-tag.result ∷ drop 1 hand = subst (λ l. l ≡ c.glance-tag.result ∷ drop 1 l) (sym c.at_hand-bytes.ensures) c.glance-tag.ensures.first in
     other_at_hand s _ hand c.glance-tag.result c.in-Some.node (c.is_value_due.ensures c.if-not-is_value_due.false) first kind c.in_default.not-Null c.glance-tag.ensures.byte c.glance-tag.ensures.took refl

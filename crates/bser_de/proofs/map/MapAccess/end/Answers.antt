@@ -1,4 +1,4 @@
-use Rattle.std.proofs.Common.{sym, ◌∙◌, refl}
+use Rattle.std.proofs.Common.{sym, ◌∙◌}
 use Rattle.bser_de.proofs.map.MapAccess.end.Goals as goal
 
 pub returns-clause-ok : goal.returns-clause-ok
@@ -6,5 +6,5 @@ returns-clause-ok g c = record {
   working = sym c.is_failed.ensures ∙ c.if-is_failed.false;
   read = c.if-self.false;
   counted = sym c.remaining.ensures ∙ c.if-remaining-ne0.false;
-  state = refl;
+  state = c.close_pairs.ensures;
 }

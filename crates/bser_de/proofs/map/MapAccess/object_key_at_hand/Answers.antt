@@ -13,5 +13,5 @@ returns-in-Some-clause-answer g c =
     let a = c.args.self.now in
     let names : List (List ℕ) = map (λ r. r.now) c.args.names.now in
     let u : OpenPairs = open_pairs g.R.DeRead.state g.R.Lent.Lending.kept a in
-    let t : State = state g.R.DeRead.state g.R.Lent.Lending.kept c.name_at_hand.new.self in
+    let t : State = state g.R.DeRead.state g.R.Lent.Lending.kept c.name_at_hand.new.from in
     entry_key_read reads_string (HoldsField names) u a.row a.at t c.in-Some.field c.requires.row refl c.requires.read (omega (arith, c.if-self-eq0.false)) c.in-Some.ensures

@@ -109,10 +109,10 @@ returns-in-Some-finish-clause-found g c =
     let k = c.read_row_at_hand.ensures.taken i.found i.kept in
     let begun = entries_read names g.F.Slots.fields o k.count i.found k.next (open_pairs g.R.DeRead.state g.R.Lent.Lending.kept c.loop-refusal.map) u i.at k.led in
     let m : OpenPairs = open_pairs g.R.DeRead.state g.R.Lent.Lending.kept c.next_field.new.self in
-    let z : State = state g.R.DeRead.state g.R.Lent.Lending.kept c.close_pairs.new.self in
+    let z : State = state g.R.DeRead.state g.R.Lent.Lending.kept c.close_pairs_of.new.access.from.now in
     let n = (rw c.in-Some-finish.is at c.finish.ensures) k.next k.kept in
-    rw (c.self-2-1.given.1 (sym (c.in_ok-field.ensures.same_reference ∙ c.read_row_at_hand.ensures.same_reference ∙ i.same_reference ∙ c.in_ok-map.ensures.same_reference)))
-    (struct_end names fill_field g.F.Slots.fields all_at_end (λ v d. HoldsTuple (g.F.Slots.holds v) d) o z k.next u m (list_of n.0) c.in-Some-finish.values begun (rw c.in-None.is at c.in_ok-field.ensures.found) (over_closes u m z (rw c.in-None.is at c.in_ok-field.ensures.found) c.close_pairs.ensures)
+    rw (c.self-2-1.given.1 (sym (c.close_pairs_of.ensures.same_reference ∙ c.in_ok-field.ensures.same_reference ∙ c.read_row_at_hand.ensures.same_reference ∙ i.same_reference ∙ c.in_ok-map.ensures.same_reference)))
+    (struct_end names fill_field g.F.Slots.fields all_at_end (λ v d. HoldsTuple (g.F.Slots.holds v) d) o z k.next u m (list_of n.0) c.in-Some-finish.values begun (rw c.in-None.is at c.in_ok-field.ensures.found) (over_closes u m z (rw c.in-None.is at c.in_ok-field.ensures.found) c.close_pairs_of.ensures.closed)
     (ap (option_map list_of) n.1) (record { contents = n.0; list = refl; held = n.2 }))
 
 pub returns-in-None-finish-clause-refused : goal.returns-in-None-finish-clause-refused
@@ -125,8 +125,8 @@ returns-in-None-finish-clause-refused g c =
     let k = c.read_row_at_hand.ensures.taken i.found i.kept in
     let begun = entries_read names g.F.Slots.fields o k.count i.found k.next (open_pairs g.R.DeRead.state g.R.Lent.Lending.kept c.loop-refusal.map) u i.at k.led in
     let m : OpenPairs = open_pairs g.R.DeRead.state g.R.Lent.Lending.kept c.next_field.new.self in
-    let z : State = state g.R.DeRead.state g.R.Lent.Lending.kept c.close_pairs.new.self in
+    let z : State = state g.R.DeRead.state g.R.Lent.Lending.kept c.close_pairs_of.new.access.from.now in
     let y : State = state g.R.DeRead.state g.R.Lent.Lending.kept c.lacks_field.new.from in
     let n = (rw c.in-None-finish.is at c.finish.ensures) k.next k.kept in
-    let same = rw (c.self-2-1.given.1 (sym (c.in_ok-field.ensures.same_reference ∙ c.read_row_at_hand.ensures.same_reference ∙ i.same_reference ∙ c.in_ok-map.ensures.same_reference))) at c.lacks_field.ensures.state in
-    fields_missing names fill_field g.F.Slots.fields all_at_end needs c.given-in-None-finish.result o y k.next u m begun (rw c.in-None.is at c.in_ok-field.ensures.found) (ap (option_map list_of) n) (MatchOption-at_some ⊥ IsRefusal c.given-in-None-finish.result c.given-in-None-finish.ensures c.lacks_field.ensures.kind) (closed_refused m z y (over_closes u m z (rw c.in-None.is at c.in_ok-field.ensures.found) c.close_pairs.ensures) same)
+    let same = rw (c.self-2-1.given.1 (sym (c.close_pairs_of.ensures.same_reference ∙ c.in_ok-field.ensures.same_reference ∙ c.read_row_at_hand.ensures.same_reference ∙ i.same_reference ∙ c.in_ok-map.ensures.same_reference))) at c.lacks_field.ensures.state in
+    fields_missing names fill_field g.F.Slots.fields all_at_end needs c.given-in-None-finish.result o y k.next u m begun (rw c.in-None.is at c.in_ok-field.ensures.found) (ap (option_map list_of) n) (MatchOption-at_some ⊥ IsRefusal c.given-in-None-finish.result c.given-in-None-finish.ensures c.lacks_field.ensures.kind) (closed_refused m z y (over_closes u m z (rw c.in-None.is at c.in_ok-field.ensures.found) c.close_pairs_of.ensures.closed) same)

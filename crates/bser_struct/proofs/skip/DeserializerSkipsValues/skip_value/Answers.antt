@@ -1,5 +1,5 @@
 -- What is due is skipped from its head on.
-use Rattle.std.proofs.Common.{refl, []}
+use Rattle.std.proofs.Common.{[]}
 use Rattle.std.proofs.lemmas.Result.{err_from_is_err_and}
 use Rattle.bser_base.specs.Grammar.{Bytes}
 use Rattle.bser_state.specs.Scalar.{owned}
@@ -14,4 +14,4 @@ returns-in_err-skip_opened-clause-refused g c =
     rw (p.1, p.2) (refused_later owned _ (SkipsOpened c.in_ok-opened.opened) _ _ _ _ c.in_ok-opened.ensures.found c.in_err-skip_opened.ensures.refused)
 
 pub returns-clause-found : goal.returns-clause-found
-returns-clause-found g c = skipped_whole _ _ _ _ (skips_then _ (SkipsOpened c.in_ok-opened.opened) (Bytes []) _ _ _ c.in_ok-opened.ensures.found c.in_ok-skip_opened.ensures.found) refl
+returns-clause-found g c = skipped_whole _ _ _ _ (skips_then _ (SkipsOpened c.in_ok-opened.opened) (Bytes []) _ _ _ c.in_ok-opened.ensures.found c.in_ok-skip_opened.ensures.found) c.await_nothing.ensures

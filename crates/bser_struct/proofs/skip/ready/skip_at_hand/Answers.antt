@@ -10,7 +10,7 @@ pub returns-then-tag-eq-BSER_SKIP-clause-skipped :
 returns-then-tag-eq-BSER_SKIP-clause-skipped g c = λ levels e.
     let hand = c.at_hand-bytes.result.now in
     let some : 0 < length hand = search rules in
-    let took = subst (λ l. Took (bunser_state g.R.DeRead.state c.args.from.now.bunser) (bunser_state g.R.DeRead.state c.advance.new.self) (take 1 l) None) (sym c.at_hand-bytes.ensures) c.advance.ensures in
+    let took = subst (λ l. Took (bunser_state g.R.DeRead.state c.args.from.now.bunser) (bunser_state g.R.DeRead.state c.advance.new.self) (take 1 l) None) (sym (rw c.bunser_of.ensures at c.at_hand-bytes.ensures)) (rw c.bunser_mut.ensures.value at c.advance.ensures) in
     rw c.in-Field.is (skip_skipped levels (state g.R.DeRead.state g.R.Lent.Lending.kept c.args.from.now) _ hand some c.if-tag-eq-BSER_SKIP.true took refl)
 
 pub returns-in-Item-clause-skipped : goal.returns-in-Item-clause-skipped

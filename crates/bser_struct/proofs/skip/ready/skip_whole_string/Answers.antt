@@ -8,5 +8,5 @@ use Rattle.bser_struct.proofs.skip.ready.skip_whole_string.Goals as goal
 pub returns-else-not-may_stand-clause-skipped : goal.returns-else-not-may_stand-clause-skipped
 returns-else-not-may_stand-clause-skipped g c = λ levels e.
     let hand = bunser_hand g.R.DeRead.hand c.args.from.now.bunser in
-    let good : c.in-Some.place.is_text ≡ true → IsUtf8 (own_bytes hand c.in-Some.place) = λ m. subst IsUtf8 (ap (λ l. own_bytes l c.in-Some.place) c.at_hand-bytes.ensures) (c.may_stand.ensures.good c.if-not-may_stand.false m) in
-    string_skipped_whole levels (state g.R.DeRead.state g.R.Lent.Lending.kept c.args.from.now) _ hand c.in-Some.place c.in-Some.ensures good c.advance.ensures refl
+    let good : c.in-Some.place.is_text ≡ true → IsUtf8 (own_bytes hand c.in-Some.place) = λ m. subst IsUtf8 (ap (λ l. own_bytes l c.in-Some.place) (rw c.bunser_of-in-Some.ensures at c.at_hand-bytes.ensures)) (c.may_stand.ensures.good c.if-not-may_stand.false m) in
+    string_skipped_whole levels (state g.R.DeRead.state g.R.Lent.Lending.kept c.args.from.now) _ hand c.in-Some.place (rw c.bunser_of.ensures at c.in-Some.ensures) good (rw c.bunser_mut.ensures.value at c.advance.ensures) refl

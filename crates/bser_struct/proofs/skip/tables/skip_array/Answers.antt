@@ -17,8 +17,8 @@ returns-then-levels-eq0-clause-refused g c =
 pub returns-in_err-take_count-clause-refused : goal.returns-in_err-take_count-clause-refused
 returns-in_err-take_count-clause-refused g c =
     let p = err_from_is_err_and c.from_residual.result c.from_residual.ensures.1 in
-    rw (p.1, p.2) (refused_discard (λ k. Times k (Skipped (c.args.levels - 1))) (Skipped c.args.levels) _ 0x00 _ _ _ c.requires.sight c.discard.ensures (array_tag c.args.levels (omega (arith, c.if-levels-eq0.false))) c.in_err-take_count.ensures.refused)
+    rw (p.1, p.2) (refused_discard (λ k. Times k (Skipped (c.args.levels - 1))) (Skipped c.args.levels) _ 0x00 _ _ _ c.requires.sight (rw c.bunser_mut.ensures.value at c.discard.ensures) (array_tag c.args.levels (omega (arith, c.if-levels-eq0.false))) c.in_err-take_count.ensures.refused)
 
 pub returns-clause-found : goal.returns-clause-found
 returns-clause-found g c =
-    after_discard (λ k. Times k (Skipped (c.args.levels - 1))) (Skipped c.args.levels) _ 0x00 _ _ _ refl c.requires.sight c.discard.ensures (array_tag c.args.levels (omega (arith, c.if-levels-eq0.false))) c.in_ok-take_count.ensures.found
+    after_discard (λ k. Times k (Skipped (c.args.levels - 1))) (Skipped c.args.levels) _ 0x00 _ _ _ refl c.requires.sight (rw c.bunser_mut.ensures.value at c.discard.ensures) (array_tag c.args.levels (omega (arith, c.if-levels-eq0.false))) c.in_ok-take_count.ensures.found

@@ -18,8 +18,8 @@ returns-in_err-count-clause-refused g c =
     let p = err_from_is_err_and c.from_residual-in_err-count.result c.from_residual-in_err-count.ensures.1 in
     let tag : c.in_ok-tag.tag ≡ 0x00 = omega (arith, c.if-tag-ne-BSER_ARRAY.false) in
     let some : 0 < c.args.levels = omega (arith, c.if-levels-eq0.false) in
-    rw (p.1, p.2) (refused_looked owned (SkippedTable c.args.levels) _ c.in_ok-tag.tag _ _ _ c.in_ok-tag.ensures.ok
-    (refused_discard (Body c.args.levels) (SkippedTable c.args.levels) _ 0x00 _ _ _ (c.in_ok-tag.ensures.ok.sight ∙ ap Some tag) c.discard.ensures (table_within c.args.levels some) c.in_err-count.ensures.refused))
+    rw (p.1, p.2) (refused_looked owned (SkippedTable c.args.levels) _ c.in_ok-tag.tag _ _ _ (rw c.bunser_mut.ensures.value at c.in_ok-tag.ensures.ok)
+    (refused_discard (Body c.args.levels) (SkippedTable c.args.levels) _ 0x00 _ _ _ ((rw c.bunser_mut.ensures.value at c.in_ok-tag.ensures.ok).sight ∙ ap Some tag) (rw c.bunser_mut-2.ensures.value at c.discard.ensures) (table_within c.args.levels some) c.in_err-count.ensures.refused))
 
 pub returns-in_err-skip_keys-clause-refused : goal.returns-in_err-skip_keys-clause-refused
 returns-in_err-skip_keys-clause-refused g c =
@@ -27,8 +27,8 @@ returns-in_err-skip_keys-clause-refused g c =
     let tag : c.in_ok-tag.tag ≡ 0x00 = omega (arith, c.if-tag-ne-BSER_ARRAY.false) in
     let some : 0 < c.args.levels = omega (arith, c.if-levels-eq0.false) in
     rw (p.1, p.2) (refused_later owned (SkippedTable c.args.levels) (Body c.args.levels c.in_ok-count.count) _ _ _ _
-    (skips_from 0x00 _ _ _ _ (looked c.in_ok-tag.tag 0x00 _ _ _ _ _ c.in_ok-tag.ensures.ok refl
-    (after_discard (Body c.args.levels) (SkippedTable c.args.levels) _ 0x00 _ _ _ refl (c.in_ok-tag.ensures.ok.sight ∙ ap Some tag) c.discard.ensures (table_within c.args.levels some) c.in_ok-count.ensures.found)))
+    (skips_from 0x00 _ _ _ _ (looked c.in_ok-tag.tag 0x00 _ _ _ _ _ (rw c.bunser_mut.ensures.value at c.in_ok-tag.ensures.ok) refl
+    (after_discard (Body c.args.levels) (SkippedTable c.args.levels) _ 0x00 _ _ _ refl ((rw c.bunser_mut.ensures.value at c.in_ok-tag.ensures.ok).sight ∙ ap Some tag) (rw c.bunser_mut-2.ensures.value at c.discard.ensures) (table_within c.args.levels some) c.in_ok-count.ensures.found)))
     (refused_first owned (Times c.in_ok-count.count (SkippedKey true)) (SkippedRows c.args.levels c.in_ok-count.count) _ _ _ c.in_err-skip_keys.ensures.refused))
 
 pub returns-clause-found : goal.returns-clause-found
@@ -36,6 +36,6 @@ returns-clause-found g c =
     let tag : c.in_ok-tag.tag ≡ 0x00 = omega (arith, c.if-tag-ne-BSER_ARRAY.false) in
     let some : 0 < c.args.levels = omega (arith, c.if-levels-eq0.false) in
     skips_then (SkippedTable c.args.levels) (Body c.args.levels c.in_ok-count.count) (SkippedRows c.args.levels c.in_ok-count.count) _ _ _
-    (skips_from 0x00 _ _ _ _ (looked c.in_ok-tag.tag 0x00 _ _ _ _ _ c.in_ok-tag.ensures.ok refl
-    (after_discard (Body c.args.levels) (SkippedTable c.args.levels) _ 0x00 _ _ _ refl (c.in_ok-tag.ensures.ok.sight ∙ ap Some tag) c.discard.ensures (table_within c.args.levels some) c.in_ok-count.ensures.found)))
+    (skips_from 0x00 _ _ _ _ (looked c.in_ok-tag.tag 0x00 _ _ _ _ _ (rw c.bunser_mut.ensures.value at c.in_ok-tag.ensures.ok) refl
+    (after_discard (Body c.args.levels) (SkippedTable c.args.levels) _ 0x00 _ _ _ refl ((rw c.bunser_mut.ensures.value at c.in_ok-tag.ensures.ok).sight ∙ ap Some tag) (rw c.bunser_mut-2.ensures.value at c.discard.ensures) (table_within c.args.levels some) c.in_ok-count.ensures.found)))
     (skips_to _ _ _ _ _ (skips_before (Times c.in_ok-count.count (SkippedKey true)) (Bytes []) (SkippedRows c.args.levels c.in_ok-count.count) _ _ c.in_ok-skip_keys.ensures.found) (nothing_before (SkippedRows c.args.levels c.in_ok-count.count)))

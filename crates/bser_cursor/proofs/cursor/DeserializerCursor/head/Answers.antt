@@ -3,7 +3,7 @@ use Rattle.std.proofs.Common.{refl}
 use Rattle.std.proofs.lemmas.Result.{err_from_is_err_and}
 use Rattle.bser_cursor.specs.View.{state}
 use Rattle.bser_state.proofs.Seen.{no_sight, tagged_due}
-use Rattle.bser_cursor.proofs.deserializer.Deserializer.head.Goals as goal
+use Rattle.bser_cursor.proofs.cursor.DeserializerCursor.head.Goals as goal
 
 pub returns-in_err-peek-in_default-clause-err : goal.returns-in_err-peek-in_default-clause-err
 returns-in_err-peek-in_default-clause-err g c =

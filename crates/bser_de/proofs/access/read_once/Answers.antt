@@ -6,11 +6,11 @@ use Rattle.bser_de.specs.Slots.{ReadsOnce, RefusesOnce}
 use Rattle.bser_state.specs.State.{State}
 use Rattle.bser_cursor.specs.View.{state}
 use Rattle.bser_state.proofs.AtFront.{value_read, same_pairs}
-use Rattle.bser_de.proofs.map.MapAccess.read_once.Goals as goal
+use Rattle.bser_de.proofs.access.read_once.Goals as goal
 
 pub returns-in-None-clause-found : goal.returns-in-None-clause-found
 returns-in-None-clause-found g c =
-    let a = c.args.self.now in
+    let a = c.args.access.now in
     let u : OpenPairs = open_pairs g.R.DeRead.state g.R.Lent.Lending.kept a in
     let s : State = state g.R.DeRead.state g.R.Lent.Lending.kept c.typed_at_hand.new.from in
     let t : OpenPairs = open_pairs g.R.DeRead.state g.R.Lent.Lending.kept c.pull_once-in-None.new.self in
@@ -18,7 +18,7 @@ returns-in-None-clause-found g c =
 
 pub returns-in-None-clause-refused : goal.returns-in-None-clause-refused
 returns-in-None-clause-refused g c =
-    let a = c.args.self.now in
+    let a = c.args.access.now in
     let u : OpenPairs = open_pairs g.R.DeRead.state g.R.Lent.Lending.kept a in
     let s : State = state g.R.DeRead.state g.R.Lent.Lending.kept c.typed_at_hand.new.from in
     let z : State = state g.R.DeRead.state g.R.Lent.Lending.kept c.pull_once-in-None.new.self.from.now in
@@ -26,7 +26,7 @@ returns-in-None-clause-refused g c =
 
 pub returns-in-Some-clause-found : goal.returns-in-Some-clause-found
 returns-in-Some-clause-found g c =
-    let a = c.args.self.now in
+    let a = c.args.access.now in
     let u : OpenPairs = open_pairs g.R.DeRead.state g.R.Lent.Lending.kept a in
     let t : State = state g.R.DeRead.state g.R.Lent.Lending.kept c.typed_at_hand.new.from in
     λ read. record {

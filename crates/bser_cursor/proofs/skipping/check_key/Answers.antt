@@ -1,8 +1,8 @@
 -- The key at the place, lent or copied.
 use Rattle.std.proofs.Common.{◌∙◌, sym, subst, IsUtf8}
 use Rattle.bser_state.proofs.TextRefusals.{named_at}
-use Rattle.bser_struct.proofs.SkippedKeys.{named_text}
-use Rattle.bser_struct.proofs.skip.check_key.Goals as goal
+use Rattle.bser_cursor.proofs.Passed.{named_text}
+use Rattle.bser_cursor.proofs.skipping.check_key.Goals as goal
 
 pub returns-in-Ok-from_utf8-clause-found : goal.returns-in-Ok-from_utf8-clause-found
 returns-in-Ok-from_utf8-clause-found g c =
