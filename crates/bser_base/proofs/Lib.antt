@@ -31,3 +31,11 @@ pub use Rattle.bser_format.proofs.RoundTrip
 pub use Rattle.bser_format.proofs.KeyNames
 pub use Rattle.bser_source.proofs.NumberBytes
 pub use Rattle.bser_source.proofs.Advance
+pub use Rattle.bser_format.proofs.Lengths
+pub use Rattle.bser_format.proofs.TemplateRows
+pub use Rattle.bser_format.proofs.Folded
+pub use Rattle.bser_format.proofs.FoldedFits
+pub use Rattle.bser_format.proofs.CompactMessages
+pub use Rattle.bser_format.proofs.Shorter
+pub use Rattle.bser_format.proofs.LastKeys
+pub use Rattle.bser_format.proofs.LeastCompact

@@ -1,56 +1,13 @@
 //! Reads one BSER message from standard input, and writes its value to standard output in the
-//! canonical form.
+//! canonical form, or with the argument `--compact` in the compact form.
 //!
-//! It takes no arguments. The status is 0, 1 after a refusal, or 2 for an argument; each but the
+//! The status is 0, 1 after a refusal, or 2 for another argument or a second one; each but the
 //! first comes with a line on standard error.
 #![tactic(auto)]
 
-mod engine;
-mod program;
-#[cfg(test)]
-mod tests;
-
-use bser_base::device::Watched;
-use bser_base::errors::Error;
-use std::alloc::{AllocError, Global};
-use std::env::{Env, FillError};
-use std::io::Write;
+use bser_rewriting::standard::rewrite;
 use std::process::ExitCode;
 
-/// Arguments longer than this many bytes count as the empty text.
-const LONGEST: usize = 64;
-
 fn main(rt: HostRuntime) -> ExitCode {
-    let mut errors = Watched::new(rt.stderr());
-    let Ok(args) = arguments(rt.alloc(), &rt) else {
-        program::report(rt.alloc(), &mut errors, &Error::OutOfMemory);
-        return ExitCode::FAILURE;
-    };
-    let mut reader = Watched::new(rt.stdin());
-    let mut writer = Watched::new(rt.stdout());
-    let status = program::run(rt.alloc(), &args, &mut reader, &mut writer, &mut errors);
-    if status == program::DONE {
-        if let Err(fault) = writer.into_inner().flush() {
-            program::report(rt.alloc(), &mut errors, &Error::Io(fault));
-            return ExitCode::FAILURE;
-        }
-    }
-    ExitCode::from(status)
-}
-
-/// The arguments after the program's name. One that is not UTF-8, or is longer than any that the
-/// program could know, counts as the empty text.
-fn arguments<R: Env>(alloc: Global, rt: &R) -> Result<Vec<String>, AllocError> {
-    let mut args = Vec::new(alloc);
-    let mut bytes = [0; LONGEST];
-    for i in 1..usize::MAX {
-        let len = match rt.arg(i, &mut bytes) {
-            Ok(len) => len,
-            Err(FillError::TooLong) => 0,
-            Err(FillError::NotPresent) => break,
-        };
-        let text = str::from_utf8(&bytes[..len]).unwrap_or("");
-        args.push(String::from_str(alloc, text)?)?;
-    }
-    Ok(args)
+    rewrite(rt)
 }

@@ -1,44 +1,24 @@
 -- Bounds on the value that a body reads as, and the one tree of a template written out.
-use Rattle.std.proofs.Common.{◌≡◌, ℕ, suc, ◌+◌, ◌-◌, ◌*◌, ◌^◌, ◌<◌, ◌≤◌, List, [], ◌++◌, length, Some, refl, sym, ap, ◌∙◌, arith}
-use Rattle.std.proofs.lemmas.List.{length-append}
+use Rattle.std.proofs.Common.{◌≡◌, ℕ, suc, ◌-◌, ◌*◌, ◌^◌, ◌<◌, ◌≤◌, List, [], length, Some, refl, sym, ap, ◌∙◌, arith}
 use Rattle.std.proofs.Math.Nat.{mul-le-mul_left}
-use Rattle.std.specs.Int.{w32, to_le_bytes}
 use Rattle.bser_format.specs.Tree.{Tree, Rows, template}
 use Rattle.bser_format.specs.Grammar.{Spells}
 use Rattle.bser_format.specs.Message.{IsMessage}
 use Rattle.bser_format.specs.Expand.{expand, IsTemplateFree}
 use Rattle.bser_format.specs.Normal.{normal}
 use Rattle.bser_format.specs.Measures.{depth, nodes}
-use Rattle.bser_format.specs.Canonical.{least_count, canonical_body, canonical_message}
+use Rattle.bser_format.specs.Canonical.{canonical_body, canonical_message}
 use Rattle.bser_format.specs.WrittenOut.{written_out, row_objects}
-use Rattle.bser_format.proofs.Canon.{least_integer_least}
 use Rattle.bser_format.proofs.Fronts.{one_value}
-use Rattle.bser_format.proofs.Sizes.{length_then, nodes_below}
+use Rattle.bser_format.proofs.Sizes.{nodes_below}
 use Rattle.bser_format.proofs.Squares.{depth_below, text_squared}
-use Rattle.bser_format.proofs.Least.{text_least, least_count_grows}
+use Rattle.bser_format.proofs.Least.{text_least}
+use Rattle.bser_format.proofs.Lengths.{message_least}
 use Rattle.bser_format.proofs.Values.{normal_within, expand_free}
 use Rattle.bser_format.proofs.Written.{written_out_spelled}
 
-length-message : (v : Tree) → length (canonical_message v) ≡ 6 + length (least_count (length (canonical_body v))) + length (canonical_body v)
-length-message v = omega (arith, length-append (least_count (length (canonical_body v))) (canonical_body v), length-append (to_le_bytes w32 0) (least_count (length (canonical_body v)) ++ canonical_body v))
-
 pub least_message : (n c : ℕ) (u v : Tree) (b : List ℕ) → IsMessage n c u b → IsTemplateFree u → normal (expand u) ≡ Some v → length (canonical_message v) ≤ length b
-least_message n c u v b m free e =
-    let body = text_least n u m.body v m.value (ap normal (sym (expand_free u free)) ∙ e) in
-    let h = m.whole in
-    omega (
-      arith,
-      body,
-      length-message v,
-      least_count_grows (length (canonical_body v)) (length m.body) body,
-      least_integer_least _ _ h.second.second.first,
-      length_then h,
-      ap length h.first,
-      length_then h.second,
-      ap length h.second.first,
-      length_then h.second.second,
-      ap length h.second.second.second,
-    )
+least_message n c u v b m free e = message_least n c v u b m (text_least n u m.body v m.value (ap normal (sym (expand_free u free)) ∙ e))
 
 pub value_nodes : (n : ℕ) (u v : Tree) (b : List ℕ) → Spells n u b → normal (expand u) ≡ Some v → nodes v ≤ 2 * length b
 value_nodes n u v b h e = let within = normal_within (expand u) v e in omega (arith, nodes_below n u b h)

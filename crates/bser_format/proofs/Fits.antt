@@ -1,55 +1,24 @@
 -- A value whose body fits has its counts in range, so its canonical message is a message.
-use Rattle.std.proofs.Common.{◌≡◌, ℕ, max, ◌+◌, ◌<◌, ◌≤◌, ◌^◌, ℤ, List, [], ◌∷◌, ◌++◌, length, Some, refl, sym, ap, ◌∙◌, arith}
+use Rattle.std.proofs.Common.{◌≡◌, ℕ, max, ◌<◌, ◌≤◌, ◌^◌, List, [], ◌∷◌, ◌++◌, length, Some, refl, sym, ap, ◌∙◌, arith}
 use Rattle.std.proofs.lemmas.List.{length-append}
 use Rattle.std.proofs.lemmas.Option.{some_pair_parts, same_Some}
 use Rattle.std.specs.Int.{w32, to_le_bytes}
-use Rattle.std.specs.Str.{is_utf8}
 use Rattle.bser_format.specs.Tree.{Tree, null, boolean, integer, real, bytes, text, array, object, template, Items, no_items, item, Entries, no_entries, entry, items, entries}
 use Rattle.bser_format.specs.Grammar.{Bytes, SpellsCount}
 use Rattle.bser_format.specs.Expand.{expand}
 use Rattle.bser_format.specs.Normal.{normal}
-use Rattle.bser_format.specs.Canonical.{least_integer, least_size, least_count, canonical_key, canonical_body, canonical_items, canonical_entries, canonical_message, IsWritable, ItemsAreWritable, EntriesAreWritable}
+use Rattle.bser_format.specs.Canonical.{least_count, canonical_body, canonical_items, canonical_entries, canonical_message, IsWritable, ItemsAreWritable, EntriesAreWritable}
 use Rattle.bser_format.specs.Measures.{depth}
 use Rattle.bser_format.specs.Message.{IsMessage}
 use Rattle.bser_format.specs.Plain.{parts}
 use Rattle.bser_format.specs.ValueTree.{IsValueTree, ItemsAreValueTrees, EntriesAreValueTrees}
-use Rattle.bser_format.proofs.Canon.{joined, count_spelled, text_spelled, length-int_bytes}
-use Rattle.bser_format.proofs.Least.{length-key}
+use Rattle.bser_format.proofs.Canon.{joined, count_spelled, text_spelled}
+use Rattle.bser_format.proofs.Lengths.{length-entry, key_long, items_few, entries_few, length-message}
 use Rattle.bser_format.proofs.Fronts.{one_value}
 use Rattle.bser_format.proofs.Laws.{Frame, parts_reads, one_message}
 use Rattle.bser_format.proofs.Back.{canon_message, normal_settled}
 
 -- ---- counts
-
-integer_nonempty : (v : ℤ) → 1 ≤ length (least_integer v)
-unfolding least_integer
-integer_nonempty v = omega (arith, length-int_bytes (least_size v) v)
-
-body_nonempty : (t : Tree) → 1 ≤ length (canonical_body t)
-body_nonempty null = omega arith
-body_nonempty (boolean v) = omega arith
-body_nonempty (integer v) = integer_nonempty v
-body_nonempty (real r) = omega arith
-body_nonempty (bytes s) = omega arith
-body_nonempty (text s) = omega arith
-body_nonempty (array ts) = omega arith
-body_nonempty (object es) = omega arith
-body_nonempty (template ks rs) = omega arith
-
-key_long : (k : List ℕ) → length k ≤ length (canonical_key k)
-unfolding canonical_key
-key_long k = omega (arith, length-key (is_utf8 k) k, length-append (least_count (length k)) k)
-
-items_few : (ts : Items) → length (items ts) ≤ length (canonical_items ts)
-items_few no_items = omega arith
-items_few (item t ts) = omega (arith, length-append (canonical_body t) (canonical_items ts), body_nonempty t, items_few ts)
-
-length-entry : (k : List ℕ) (t : Tree) (es : Entries) → length (canonical_entries (entry k t es)) ≡ length (canonical_key k) + length (canonical_body t) + length (canonical_entries es)
-length-entry k t es = omega (arith, length-append (canonical_key k ++ canonical_body t) (canonical_entries es), length-append (canonical_key k) (canonical_body t))
-
-entries_few : (es : Entries) → length (entries es) ≤ length (canonical_entries es)
-entries_few no_entries = omega arith
-entries_few (entry k t es) = omega (arith, length-entry k t es, body_nonempty t, entries_few es)
 
 mutual
   pub writable : (t : Tree) → IsValueTree t → length (canonical_body t) < 2 ^ 63 → IsWritable t
@@ -91,7 +60,7 @@ mutual
 -- ---- messages
 
 pub body_fits : (t : Tree) → length (canonical_message t) < 2 ^ 63 → length (canonical_body t) < 2 ^ 63
-body_fits t short = omega (arith, length-append (least_count (length (canonical_body t))) (canonical_body t), length-append (to_le_bytes w32 0) (least_count (length (canonical_body t)) ++ canonical_body t))
+body_fits t short = omega (arith, length-message t)
 
 pub value_message : (n : ℕ) (t : Tree) → IsValueTree t → depth t ≤ n → length (canonical_message t) < 2 ^ 63 → IsMessage n 0 t (canonical_message t)
 value_message n t h l short = canon_message n t (writable t h (body_fits t short)) l short
@@ -116,11 +85,15 @@ frame : (t : Tree) → length (canonical_body t) < 2 ^ 63 → Frame (0, canonica
 frame t l = joined (Bytes (0 ∷ 2 ∷ [])) _ (0 ∷ 2 ∷ []) _ refl (joined (Bytes (to_le_bytes w32 0)) _ (to_le_bytes w32 0) _ refl
     (joined (SpellsCount (length (canonical_body t))) (Bytes (canonical_body t)) (least_count (length (canonical_body t))) (canonical_body t) (count_spelled _ l) refl))
 
-pub equal_values : (t u : Tree) → IsValueTree t → IsValueTree u → length (canonical_body t) < 2 ^ 63 → length (canonical_body u) < 2 ^ 63 → canonical_message t ≡ canonical_message u → t ≡ u
-equal_values t u h k l m e =
+-- trees that can be written, templates among them, have equal messages only where they are equal
+pub equal_trees : (t u : Tree) → IsWritable t → IsWritable u → length (canonical_body t) < 2 ^ 63 → length (canonical_body u) < 2 ^ 63 → canonical_message t ≡ canonical_message u → t ≡ u
+equal_trees t u h k l m e =
     let n : ℕ = max (depth t) (depth u) in
     let zero_fits : 0 < 2 ^ 32 = omega arith in
     let parts_same = some_pair_parts (0, canonical_body t) (0, canonical_body u) [] []
     (sym (parts_reads 0 (canonical_body t) zero_fits (canonical_message t) [] (frame t l)) ∙ ap (λ b. parts (b ++ [])) e ∙ parts_reads 0 (canonical_body u) zero_fits (canonical_message u) [] (frame u m)) in
     let bodies : canonical_body t ≡ canonical_body u = ap (λ p. p.1) parts_same.0 in
-    (one_value n (canonical_body t) (canonical_body u) [] [] t u (text_spelled n t (writable t h l) (omega arith)) (text_spelled n u (writable u k m) (omega arith)) (ap (λ b. b ++ []) bodies)).1
+    (one_value n (canonical_body t) (canonical_body u) [] [] t u (text_spelled n t h (omega arith)) (text_spelled n u k (omega arith)) (ap (λ b. b ++ []) bodies)).1
+
+pub equal_values : (t u : Tree) → IsValueTree t → IsValueTree u → length (canonical_body t) < 2 ^ 63 → length (canonical_body u) < 2 ^ 63 → canonical_message t ≡ canonical_message u → t ≡ u
+equal_values t u h k l m e = equal_trees t u (writable t h l) (writable u k m) l m e

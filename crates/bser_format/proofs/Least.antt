@@ -75,9 +75,20 @@ key_least k b h = elim h [
 
 -- ---- entries
 
+-- what the entries weigh, each by its key and its value
+abbrev pub weigh : (List ℕ → ℕ) → (Tree → ℕ) → List (List ℕ × Tree) → ℕ
+weigh of_key of_value [] = 0
+weigh of_key of_value (e ∷ es) = of_key e.0 + of_value e.1 + weigh of_key of_value es
+
+abbrev pub key_size : List ℕ → ℕ
+key_size k = length (canonical_key k)
+
+abbrev pub body_size : Tree → ℕ
+body_size t = length (canonical_body t)
+
+-- how long the entries are in the canonical form
 abbrev pub weight : List (List ℕ × Tree) → ℕ
-weight [] = 0
-weight (e ∷ es) = length (canonical_key e.0) + length (canonical_body e.1) + weight es
+weight es = weigh key_size body_size es
 
 pub weight_is : (es : List (List ℕ × Tree)) → length (canonical_entries (entries_of es)) ≡ weight es
 weight_is [] = refl
@@ -90,27 +101,29 @@ length-entries_of (e ∷ es) = ap suc (length-entries_of es)
 abbrev pub put : List (List ℕ × Tree) → List ℕ → Tree → List (List ℕ × Tree)
 put es k t = insert_entry (slice_cmp nat_cmp) es k t
 
-abbrev pub Lighter : List (List ℕ × Tree) → List ℕ → Tree → List (List ℕ × Tree) → Type 0
-Lighter es k t new = (weight new ≤ weight es + length (canonical_key k) + length (canonical_body t)) × (length new ≤ suc (length es))
+abbrev Lighter : (List ℕ → ℕ) → (Tree → ℕ) → List (List ℕ × Tree) → List ℕ → Tree → List (List ℕ × Tree) → Type 0
+Lighter of_key of_value es k t new = (weigh of_key of_value new ≤ weigh of_key of_value es + of_key k + of_value t) × (length new ≤ suc (length es)) × (length es ≤ length new)
 
-put_lighter : (es : List (List ℕ × Tree)) (k : List ℕ) (t : Tree) → Lighter es k t (put es k t)
-put_lighter [] k t = (omega arith, omega arith)
-put_lighter (e ∷ es) k t = go (slice_cmp nat_cmp k e.0) (put_lighter es k t)
+put_lighter : (of_key : List ℕ → ℕ) (of_value : Tree → ℕ) (es : List (List ℕ × Tree)) (k : List ℕ) (t : Tree) → Lighter of_key of_value es k t (put es k t)
+put_lighter of_key of_value [] k t = (omega arith, omega arith, omega arith)
+put_lighter of_key of_value (e ∷ es) k t = go (slice_cmp nat_cmp k e.0) (put_lighter of_key of_value es k t)
   where
-    go : (o : Ordering) → Lighter es k t (put es k t) → Lighter (e ∷ es) k t (match_ordering o ((k, t) ∷ e ∷ es) ((e.0, t) ∷ es) (e ∷ put es k t))
-    go Less h = (omega arith, omega arith)
-    go Equal h = (omega arith, omega arith)
-    go Greater h = (omega arith, omega arith)
+    go : (o : Ordering) → Lighter of_key of_value es k t (put es k t) → Lighter of_key of_value (e ∷ es) k t (match_ordering o ((k, t) ∷ e ∷ es) ((e.0, t) ∷ es) (e ∷ put es k t))
+    go Less h = (omega arith, omega arith, omega arith)
+    go Equal h = (omega arith, omega arith, omega arith)
+    go Greater h = (omega arith, omega arith, omega arith)
 
 abbrev pub put_all : List (List ℕ × Tree) → List (List ℕ × Tree) → List (List ℕ × Tree)
 put_all m es = fold (λ n e. put n e.0 e.1) m es
 
-pub puts_lighter : (m es : List (List ℕ × Tree)) → (weight (put_all m es) ≤ weight m + weight es) × (length (put_all m es) ≤ length m + length es)
-puts_lighter m [] = (omega arith, omega arith)
-puts_lighter m (e ∷ es) =
-    let one = put_lighter m e.0 e.1 in
-    let more = puts_lighter (put m e.0 e.1) es in
-    (omega arith, omega arith)
+-- what stays where each key is kept once weighs no more
+pub puts_lighter : (of_key : List ℕ → ℕ) (of_value : Tree → ℕ) (m es : List (List ℕ × Tree))
+    → (weigh of_key of_value (put_all m es) ≤ weigh of_key of_value m + weigh of_key of_value es) × (length (put_all m es) ≤ length m + length es) × (length m ≤ length (put_all m es))
+puts_lighter of_key of_value m [] = (omega arith, omega arith, omega arith)
+puts_lighter of_key of_value m (e ∷ es) =
+    let one = put_lighter of_key of_value m e.0 e.1 in
+    let more = puts_lighter of_key of_value (put m e.0 e.1) es in
+    (omega arith, omega arith, omega arith)
 
 -- ---- values
 
@@ -159,7 +172,7 @@ text_least (suc n) (array ts) b u h e = map_some array (normal_items ts) u e λ 
 text_least zero (object es) b u h e = absurd h
 text_least (suc n) (object es) b u h e = map_some (λ m. object (entries_of (last_entries m))) (normal_entries es) u e λ m some same.
     let inside = entries_least (Spells n) (text_least n) es h.second.rest m h.second.second some in
-    let fewer = puts_lighter [] m in
+    let fewer = puts_lighter key_size body_size [] m in
     let k : ℕ = length (entries (entries_of (last_entries m))) in
     let counted : k ≤ length (entries es) = omega (arith, length-entries_of (last_entries m)) in
     subst (λ v. length (canonical_body v) ≤ length b) same

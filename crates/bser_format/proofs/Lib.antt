@@ -22,3 +22,11 @@ pub mod Cuts
 pub mod Settled
 pub mod RoundTrip
 pub mod KeyNames
+pub mod Lengths
+pub mod TemplateRows
+pub mod Folded
+pub mod FoldedFits
+pub mod CompactMessages
+pub mod Shorter
+pub mod LastKeys
+pub mod LeastCompact

@@ -5,14 +5,15 @@ use Rattle.std.proofs.lemmas.Option.{same_Some}
 use Rattle.std.proofs.Math.Nat.{mul-le-mul_left}
 use Rattle.std.specs.Str.{is_utf8}
 use Rattle.bser_format.specs.Tree.{Tree, null, boolean, integer, real, bytes, text, array, object, template, Items, no_items, item, Entries, no_entries, entry, Rows, no_rows, row, Fields, no_fields, skip, field, items, entries, fields, rows, entries_of}
-use Rattle.bser_format.specs.Grammar.{Format, Each, SpellsKey, SpellsEntry, SpellsField, IsTemplate, Spells}
+use Rattle.bser_format.specs.Grammar.{Format, Each, SpellsEntry, SpellsField, IsTemplate, Spells}
 use Rattle.bser_format.specs.Expand.{expand, expand_items, expand_entries, expand_rows, expand_fields}
 use Rattle.bser_format.specs.Normal.{normal, normal_items, normal_entries, last_entries}
 use Rattle.bser_format.specs.Canonical.{least_count, canonical_key, canonical_body, canonical_items, canonical_entries}
 use Rattle.bser_format.specs.Measures.{depth, items_depth, entries_depth}
 use Rattle.bser_format.proofs.Canon.{least_integer_least}
 use Rattle.bser_format.proofs.Sizes.{length_then, nodes_below}
-use Rattle.bser_format.proofs.Least.{map_some, then_some, guard_some, least_count_grows, bytes_least, utf8_least, key_least, weight, weight_is, length-entries_of, puts_lighter}
+use Rattle.bser_format.proofs.Least.{map_some, then_some, guard_some, least_count_grows, bytes_least, utf8_least, key_least, key_size, body_size, weight, weight_is, length-entries_of, puts_lighter}
+use Rattle.bser_format.proofs.Lengths.{names, keys_least, head_size}
 
 -- ---- depth
 
@@ -97,14 +98,6 @@ entries_squared F one (entry k t es) b m h e =
 
 -- ---- templates
 
-abbrev pub names : List (List ℕ) → ℕ
-names [] = 0
-names (k ∷ ks) = length (canonical_key k) + names ks
-
-keys_least : (ks : List (List ℕ)) (b : List ℕ) → Each SpellsKey ks b → names ks ≤ length b
-keys_least [] b h = omega arith
-keys_least (k ∷ ks) b h = omega (arith, length_then h, key_least k h.front h.first.1, keys_least ks h.rest h.second)
-
 fields_squared : (F : Tree → Format) → Squared F → (ks : List (List ℕ)) (fs : Fields) (b : List ℕ) (m : List (List ℕ × Tree)) → Each (SpellsField F) (fields fs) b
     → normal_entries (expand_fields ks fs) ≡ Some m → (weight m ≤ names ks + length b * length b) × (length m ≤ length ks)
 fields_squared F one [] fs b m h e = let same : [] ≡ m = same_Some [] m e in
@@ -126,13 +119,10 @@ fields_squared F one (k ∷ ks) (field t fs) b m h e =
 
 object_text : (m : List (List ℕ × Tree)) (c w : ℕ) → length m ≤ c → weight m ≤ w → length (canonical_body (object (entries_of (last_entries m)))) ≤ 1 + length (least_count c) + w
 object_text m c w l k =
-    let fewer = puts_lighter [] m in
+    let fewer = puts_lighter key_size body_size [] m in
     let n : ℕ = length (entries (entries_of (last_entries m))) in
     let few : n ≤ c = omega (arith, length-entries_of (last_entries m)) in
     omega (arith, least_count_grows n c few, weight_is (last_entries m), length-append (least_count n) (canonical_entries (entries_of (last_entries m))))
-
-abbrev pub head_size : List (List ℕ) → ℕ
-head_size ks = 1 + length (least_count (length ks)) + names ks
 
 rows_squared : (F : Tree → Format) → Squared F → (ks : List (List ℕ)) (rs : Rows) (b : List ℕ) (us : Items) → Each (Each (SpellsField F)) (rows rs) b → normal_items (expand_rows ks rs) ≡ Some us
     → (length (canonical_items us) ≤ length (rows rs) * head_size ks + length b * length b) × (length (items us) ≡ length (rows rs))

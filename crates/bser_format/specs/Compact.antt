@@ -1,7 +1,7 @@
 -- Arrays of at least two objects that have one nonempty list of keys, as templates.
 use Rattle.std.specs.Prelude.{ℕ, Bool, true, false, ◌&&◌, List, [], ◌∷◌, Option, Some, None, option_map, unwrap_or, bytes_eq, if◌then◌else◌}
 use Rattle.bser_format.specs.Tree.{Tree, null, boolean, integer, real, bytes, text, array, object, template, Items, no_items, item, Entries, no_entries, entry, Rows, no_rows, row, Fields, no_fields, field}
-use Rattle.bser_format.specs.Canonical.{canonical_body}
+use Rattle.bser_format.specs.Canonical.{canonical_body, canonical_message}
 
 abbrev pub keys : Entries → List (List ℕ)
 keys no_entries = []
@@ -52,3 +52,7 @@ abbrev mutual
 
 abbrev pub compact_body : Tree → List ℕ
 compact_body t = canonical_body (fold_templates t)
+
+-- the compact message
+abbrev pub compact_message : Tree → List ℕ
+compact_message t = canonical_message (fold_templates t)

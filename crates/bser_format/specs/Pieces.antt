@@ -1,5 +1,5 @@
 -- What each put of a serializer appends.
-use Rattle.std.specs.Prelude.{ℕ, ℤ, Bool, List, ◌∷◌, ◌++◌}
+use Rattle.std.specs.Prelude.{ℕ, ℤ, Bool, List, [], ◌∷◌, ◌++◌}
 use Rattle.bser_format.specs.Tree.{null, boolean, real}
 use Rattle.bser_format.specs.Canonical.{least_integer, least_count, canonical_body, canonical_text, canonical_bytes, canonical_key}
 
@@ -38,6 +38,10 @@ array_head n = 0x00 ∷ least_count n
 -- an object's tag and the count of its entries
 abbrev pub object_head : ℕ → List ℕ
 object_head n = 0x01 ∷ least_count n
+
+-- a template's tag; the keys follow as an array of texts, then the count of its rows and their fields
+abbrev pub template_tag : List ℕ
+template_tag = 0x0b ∷ []
 
 -- a variant with one value: an object of one entry, and the variant's name as its key
 abbrev pub newtype_variant_head : List ℕ → List ℕ

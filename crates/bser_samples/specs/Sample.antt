@@ -5,7 +5,9 @@ use Rattle.std.specs.Str.Parse.{ParsesUnsigned}
 use Rattle.std.specs.declared.num.ParseIntError.{ParseIntError}
 use Rattle.hex.specs.Hex.{encode_lower, decode_of}
 use Rattle.sha2.specs.Sha256.{sha256}
+use Rattle.bser_base.specs.Tree.{Tree}
 use Rattle.bser_base.specs.Canonical.{canonical_message}
+use Rattle.bser_base.specs.Compact.{compact_message}
 use Rattle.bser_base.specs.Content.{Meaning, Needs}
 use Rattle.serde_bser.specs.ValueView.{tree_of}
 use Rattle.bser_value.specs.declared.value.Value.{Value}
@@ -24,8 +26,7 @@ pub record HasColumns (line : List ℕ) (sample : Sample) : Type 0 where
   pub taken : List ℕ
   pub nodes : List ℕ
   pub depth : List ℕ
-  pub more : List (List ℕ)
-  pub columns : columns_of line ≡ sample.class.now ∷ message ∷ verdict ∷ sample.answer.now ∷ taken ∷ nodes ∷ depth ∷ sample.canonical.now ∷ more
+  pub columns : columns_of line ≡ sample.class.now ∷ message ∷ verdict ∷ sample.answer.now ∷ taken ∷ nodes ∷ depth ∷ sample.canonical.now ∷ columns_of sample.compact.now
   pub bytes : decode_of message ≡ Ok sample.message.items
   pub accepted : IsTrue sample.accepted ↔ (verdict ≡ codes "ok")
   pub number : ParsesUnsigned {E = ParseIntError} 64 10 taken (Ok sample.taken)
@@ -34,13 +35,14 @@ pub record HasColumns (line : List ℕ) (sample : Sample) : Type 0 where
 abbrev pub IsShown : List ℕ → List ℕ → Type 0
 IsShown bytes column = (column ≡ encode_lower bytes) ⊎ (column ≡ codes "#" ++ (decimal (length bytes) ++ (codes ":" ++ encode_lower (sha256 bytes))))
 
--- a value has this notation, and its canonical message is shown so
-pub record IsWritten (answer column : List ℕ) : Type 0 where
+-- a value has this notation, and its message, the canonical or the compact one, is shown so
+pub record IsWritten (message : Tree → List ℕ) (answer column : List ℕ) : Type 0 where
   pub value : Value
   pub named : notation (tree_of value) ≡ answer
-  pub shown : IsShown (canonical_message (tree_of value)) column
+  pub shown : IsShown (message (tree_of value)) column
 
 -- reading answers as the line says, and what is accepted is written as the line says
 pub record Holds (reads : Meaning) (needs : Needs) (sample : Sample) : Type 0 where
   pub read : Agrees reads needs sample.message.items sample.answer.now sample.taken
-  pub written : IsTrue sample.accepted → IsWritten sample.answer.now sample.canonical.now
+  pub written : IsTrue sample.accepted → IsWritten canonical_message sample.answer.now sample.canonical.now
+  pub compact : IsTrue sample.accepted → IsWritten compact_message sample.answer.now sample.compact.now

@@ -1,5 +1,7 @@
 //! One line of the list of messages.
 ghost use Rattle.std.specs.Prelude.{◌≡◌, ◌∷◌, IfOk, IfNone, IsTrue};
+ghost use Rattle.bser_base.specs.Canonical.{canonical_message};
+ghost use Rattle.bser_base.specs.Compact.{compact_message};
 ghost use Rattle.bser_vectors.specs.Ways.{Agrees};
 ghost use Rattle.bser_samples.specs.Sample.{columns_of, HasColumns, Holds, IsShown, IsWritten};
 
@@ -8,7 +10,7 @@ use bser_vectors::notation::parse_value;
 use bser_vectors::ways;
 use serde_bser::de::Shape;
 use serde_bser::device::Watched;
-use serde_bser::ser::serialize;
+use serde_bser::ser::{serialize, serialize_compact};
 use serde_bser::value::Value;
 use sha2::{Digest, Sha256};
 use std::alloc::{AllocError, Global};
@@ -24,6 +26,7 @@ pub struct Sample<'a> {
     answer: &'a str,
     taken: usize,
     canonical: &'a str,
+    compact: &'a str,
 }
 
 impl<'a> Sample<'a> {
@@ -38,7 +41,7 @@ impl<'a> Sample<'a> {
         let (taken, rest) = cut(rest)?;
         let (_nodes, rest) = cut(rest)?;
         let (_depth, rest) = cut(rest)?;
-        let (canonical, _compact) = cut(rest)?;
+        let (canonical, compact) = cut(rest)?;
         let accepted = verdict == "ok";
         let message = hex::decode(alloc, message)?;
         let taken = taken.parse::<usize>()?;
@@ -49,6 +52,7 @@ impl<'a> Sample<'a> {
             answer,
             taken,
             canonical,
+            compact,
         })
     }
 
@@ -62,6 +66,9 @@ impl<'a> Sample<'a> {
         if self.accepted && !self.is_written(alloc)? {
             return Ok(Some("written"));
         }
+        if self.accepted && !self.is_written_compactly(alloc)? {
+            return Ok(Some("written compactly"));
+        }
         Ok(None)
     }
 
@@ -74,13 +81,27 @@ impl<'a> Sample<'a> {
 
     /// Whether the message that is written for the value is the one that the list says.
     fn is_written(&self, alloc: Global) -> Result<bool>
-        ensures { IfOk result (λ same. IsTrue same → IsWritten self.now.answer.now self.now.canonical.now) }
+        ensures { IfOk result (λ same.
+            IsTrue same → IsWritten canonical_message self.now.answer.now self.now.canonical.now) }
     {
         let value = parse_value(alloc, self.answer)?;
         match serialize(alloc, Watched::new(Vec::new(alloc)), &value) {
             Ok(writer) => Ok(is_shown(alloc, writer.into_inner().as_slice(), self.canonical)?),
             Err((_, error)) => Err(error.into()),
         }
+    }
+
+    /// Whether the message that is written for the value in the compact form is the one that the
+    /// list says.
+    fn is_written_compactly(&self, alloc: Global) -> Result<bool>
+        ensures { IfOk result
+            (λ same. IsTrue same →
+            IsWritten compact_message self.now.answer.now self.now.compact.now) }
+    {
+        let value = parse_value(alloc, self.answer)?;
+        let mut writer = Watched::new(Vec::new(alloc));
+        serialize_compact(alloc, &mut writer, &value)?;
+        Ok(is_shown(alloc, writer.into_inner().as_slice(), self.compact)?)
     }
 }
 

@@ -6,3 +6,4 @@ pub mod Ends
 pub mod Texts
 pub mod Messages
 pub mod Structs
+pub mod AllBut

@@ -2,7 +2,7 @@
 ghost use Rattle.std.specs.Prelude.{◌≡◌, ◌<◌, ◌≤◌, ◌^◌, ◌∷◌, ◌++◌, [], length, take};
 ghost use Rattle.std.specs.Int.{w32, to_le_bytes};
 ghost use Rattle.bser_format.specs.Canonical.{least_integer, least_count};
-ghost use Rattle.bser_format.specs.Pieces.{null_piece, bool_piece, integer_piece, real_piece, text_piece, bytes_piece, key_piece, array_head, object_head, newtype_variant_head};
+ghost use Rattle.bser_format.specs.Pieces.{null_piece, bool_piece, integer_piece, real_piece, text_piece, bytes_piece, key_piece, array_head, object_head, template_tag, newtype_variant_head};
 ghost use Rattle.bser_ser.specs.Sent.{Adds, refusal_of};
 
 use crate::integer::{LONGEST, spell};
@@ -11,7 +11,7 @@ use crate::serializer::{Refused, Serializer};
 use bser_format::errors::Error;
 use bser_format::header::{
     BSER_ARRAY, BSER_BYTESTRING, BSER_FALSE, BSER_INT8, BSER_NULL, BSER_OBJECT, BSER_REAL,
-    BSER_TRUE, BSER_UTF8STRING,
+    BSER_TEMPLATE, BSER_TRUE, BSER_UTF8STRING,
 };
 use bser_source::device::Sink;
 use byteorder::{ByteOrder, LittleEndian};
@@ -114,6 +114,16 @@ impl<W: Sink> Serializer<W> {
         ensures { Adds W.took W.failures self.old self.new (object_head count) result }
     {
         self.add_head(BSER_OBJECT, count)
+    }
+
+    /// Puts a template's tag. The rest of its head follows: [`add_array`](Self::add_array) for the
+    /// count of its keys, each key as a text, and the count of its rows as an integer; then the
+    /// fields of each row.
+    #[inline(always)]
+    pub fn add_template(&mut self) -> Result<(), Refused>
+        ensures { Adds W.took W.failures self.old self.new template_tag result }
+    {
+        self.append(&[BSER_TEMPLATE])
     }
 
     // Puts the head of an enum's variant with one value.

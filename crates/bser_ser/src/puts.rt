@@ -2,7 +2,7 @@
 ghost use Rattle.std.specs.Prelude.{◌≡◌, pos, ◌<◌, ◌^◌, ◌∷◌, ◌++◌, [], length, OnOk, IfOk, IfErr, encode_utf8};
 ghost use Rattle.std.specs.Int.{w32, to_le_bytes};
 ghost use Rattle.bser_format.specs.Canonical.{least_integer, least_count};
-ghost use Rattle.bser_format.specs.Pieces.{null_piece, bool_piece, integer_piece, real_piece, text_piece, bytes_piece, key_piece, array_head, object_head, newtype_variant_head, tuple_variant_head, struct_variant_head};
+ghost use Rattle.bser_format.specs.Pieces.{null_piece, bool_piece, integer_piece, real_piece, text_piece, bytes_piece, key_piece, array_head, object_head, template_tag, newtype_variant_head, tuple_variant_head, struct_variant_head};
 ghost use Rattle.bser_format.specs.declared.errors.Collection.TheVariants.{Sequence, Map};
 ghost use Rattle.bser_ser.specs.Sent.{Puts, PutsOr, IsTooBig, IsTooMany, IsMiscounted, IsCounted, count_or_zero};
 
@@ -149,6 +149,20 @@ impl<W: Sink> Serializer<W> {
         };
         let count = checked(n)?;
         match self.add_object(count) {
+            Ok(()) => Ok(()),
+            Err(_) => Err(self.refusal()),
+        }
+    }
+
+    /// Puts a template's tag. The rest of its head follows: [`put_seq`](Self::put_seq) for the count
+    /// of its keys, [`put_key`](Self::put_key) for each key, and [`put_i64`](Self::put_i64) for the
+    /// count of its rows; then for each row a value for each key.
+    ///
+    /// Nothing checks that what follows makes a template. The crate never writes one.
+    pub fn put_template(&mut self) -> Result<()>
+        ensures { Puts W.took W.failures self.old self.new template_tag result }
+    {
+        match self.add_template() {
             Ok(()) => Ok(()),
             Err(_) => Err(self.refusal()),
         }

@@ -1,27 +1,24 @@
-use Rattle.std.proofs.Common.{◌≡◌, ℕ, ◌+◌, ◌<◌, suc, List, ◌∷◌, length, drop, get_or, sym, ◌∙◌, ap, add-one}
-use Rattle.std.proofs.Math.Seq.{drop-cons}
+use Rattle.std.proofs.Common.{length}
 use Rattle.std.proofs.lemmas.List.{drop_all}
 use Rattle.std.proofs.lemmas.Result.{err_from_is_err_and}
 use Rattle.bser_format.specs.Pieces.{array_head}
+use Rattle.bser_source.proofs.Lists.{item_here}
 use Rattle.bser_ser.proofs.Ends.{UpTo-more}
 use Rattle.bser_ser.proofs.Texts.{item_text, Ends-array, Stops-array}
 use Rattle.bser_ser.proofs.holders.VecSerialize.serialize.Goals as goal
-
-here : {A : Type 0} (xs : List A) (i : ℕ) (x : A) → i < length xs → x ≡ get_or xs i x → drop i xs ≡ x ∷ drop (i + 1) xs
-here xs i x h e = rw add-one (drop-cons xs i x h ∙ ap (λ y. y ∷ drop (suc i) xs) (sym e))
 
 pub returns-in_err-serialize-clause-err : goal.returns-in_err-serialize-clause-err
 returns-in_err-serialize-clause-err g c =
     let p = err_from_is_err_and c.from_residual-in_err-serialize.result c.from_residual-in_err-serialize.ensures.1 in
     rw (p.1, p.2) (Stops-array g.W.Sink.took g.W.Sink.failures g.T.Serialize.meaning c.args.self.now.items g.met.W.Sink.took_both _ _ c.item-item.result
     c.args.out.now c.loop-item.out c.serialize.new.out c.in_err-serialize.field-0.0 c.loop-item.invariant
-    (here c.deref-item-items.result.now c.loop-item.item-index c.item-item.result c.loop-item-test.true c.item-item.is) c.in_err-serialize.ensures.err)
+    (item_here c.deref-item-items.result.now c.loop-item.item-index c.item-item.result c.loop-item-test.true c.item-item.is) c.in_err-serialize.ensures.err)
 
 pub loop-item-preserved : goal.loop-item-preserved
 loop-item-preserved g c =
     UpTo-more g.W.Sink.took g.W.Sink.failures g.met.W.Sink.took_both (array_head (length c.args.self.now.items)) (item_text g.T.Serialize.meaning) c.args.self.now.items _ _ c.item-item.result
     c.args.out.now c.loop-item.out c.serialize.new.out c.loop-item.invariant
-    (here c.deref-item-items.result.now c.loop-item.item-index c.item-item.result c.loop-item-test.true c.item-item.is) c.in_ok-serialize.ensures.ok
+    (item_here c.deref-item-items.result.now c.loop-item.item-index c.item-item.result c.loop-item-test.true c.item-item.is) c.in_ok-serialize.ensures.ok
 
 pub returns-clause-ok : goal.returns-clause-ok
 returns-clause-ok g c =

@@ -1,2 +1,0 @@
-pub mod Canon
-pub mod Line

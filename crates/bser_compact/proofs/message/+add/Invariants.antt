@@ -1,0 +1,19 @@
+use Rattle.std.proofs.Common.{drop}
+use Rattle.bser_base.specs.Canonical.{canonical_items, canonical_entries, canonical_fields}
+use Rattle.bser_base.specs.Compact.{values, fold_items, fold_entries}
+use Rattle.bser_ser.proofs.AllBut.{AllBut}
+use Rattle.bser_value.specs.ValueView.{items_view, entries_view}
+use Rattle.bser_compact.specs.Texts.{items_text, entries_text, row_text, rows_text}
+use Rattle.bser_compact.proofs.message.+add.Given as goal
+
+abbrev pub invariant-add_items-loop-item : goal.invariant-add_items-loop-item
+invariant-add_items-loop-item g l = AllBut g.W.Sink.took g.W.Sink.failures (items_text l.items.items) (canonical_items (fold_items (items_view (drop l.item-index l.item-items)))) l.fn.out l.out
+
+abbrev pub invariant-add_entries-loop-key : goal.invariant-add_entries-loop-key
+invariant-add_entries-loop-key g l = AllBut g.W.Sink.took g.W.Sink.failures (entries_text l.entries.entries) (canonical_entries (fold_entries (entries_view l.key-iterator))) l.fn.out l.out
+
+abbrev pub invariant-add_rows-loop-item : goal.invariant-add_rows-loop-item
+invariant-add_rows-loop-item g l = AllBut g.W.Sink.took g.W.Sink.failures (rows_text l.items.items) (rows_text (drop l.item-index l.item-items)) l.fn.out l.out
+
+abbrev pub invariant-add_row-loop-value : goal.invariant-add_row-loop-value
+invariant-add_row-loop-value g l = AllBut g.W.Sink.took g.W.Sink.failures (row_text l.item) (canonical_fields (values (fold_entries (entries_view l.value-iterator)))) l.fn.out l.out

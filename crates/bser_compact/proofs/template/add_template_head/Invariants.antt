@@ -1,0 +1,8 @@
+use Rattle.std.proofs.Common.{◌++◌, flat_map}
+use Rattle.bser_base.specs.Canonical.{least_count, canonical_text}
+use Rattle.bser_ser.proofs.AllBut.{AllBut}
+use Rattle.bser_compact.specs.Texts.{names_of, head_text}
+use Rattle.bser_compact.proofs.template.add_template_head.Given as goal
+
+abbrev pub invariant-loop-key : goal.invariant-loop-key
+invariant-loop-key g l = AllBut g.W.Sink.took g.W.Sink.failures (head_text l.first.entries l.rows) (flat_map canonical_text (names_of l.key-iterator) ++ least_count l.rows) l.fn.out l.out

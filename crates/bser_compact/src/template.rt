@@ -1,0 +1,76 @@
+//! Which arrays are templates, and the heads of templates.
+ghost use Rattle.std.specs.Prelude.{◌≡◌, ◌<◌, ◌^◌, OnOk, OnErr, option_map};
+ghost use Rattle.bser_base.specs.Compact.{same_keys};
+ghost use Rattle.bser_ser.specs.Sent.{Sent};
+ghost use Rattle.bser_compact.specs.Texts.{Breaks, has_keys, head_text, names_of, template_names};
+
+use bser_base::device::Sink;
+use bser_ser::{Refused, Serializer};
+use bser_value::value::Value;
+use std::collections::BTreeMap;
+
+/// Puts a template's tag, its keys and the count of its rows.
+#[inline(never)]
+pub fn add_template_head<W: Sink>(
+    first: &BTreeMap<String, Value>,
+    rows: usize,
+    out: &mut Serializer<W>,
+) -> Result<(), Refused>
+    requires { rows < 2 ^ 63 }
+    ensures ok { OnOk result
+        (Sent W.took W.failures out.old out.new (head_text first.now.entries rows)) }
+    ensures err { OnErr result
+        (Breaks W.took W.failures out.old out.new (head_text first.now.entries rows)) }
+{
+    out.add_template()?;
+    out.add_array(first.len())?;
+    for (key, _) in first.iter() {
+        out.add_text(key.as_str())?;
+    }
+    out.add_i64(rows as i64)?;
+    Ok(())
+}
+
+/// The first of the items, where they are a template's rows: at least two objects that all have its
+/// keys, of which there is one at least. It looks at no key twice, and at none after the first
+/// that differs.
+pub fn shared_keys(items: &[Value]) -> Option<&BTreeMap<String, Value>>
+    ensures { option_map (λ first. names_of first.now.entries) result ≡ template_names items.now }
+{
+    let (head, rest) = items.split_first()?;
+    let Value::Object(first) = head else {
+        return None;
+    };
+    if first.is_empty() || rest.is_empty() {
+        return None;
+    }
+    for item in rest {
+        if !is_object_of(item, first) {
+            return None;
+        }
+    }
+    Some(first)
+}
+
+// Whether it is an object with the keys of this one.
+fn is_object_of(item: &Value, first: &BTreeMap<String, Value>) -> bool
+    ensures { result ≡ has_keys (names_of first.now.entries) item.now }
+{
+    match item {
+        Value::Object(entries) => are_same_keys(entries, first),
+        _ => false,
+    }
+}
+
+fn are_same_keys(entries: &BTreeMap<String, Value>, others: &BTreeMap<String, Value>) -> bool
+    ensures { result ≡ same_keys (names_of entries.now.entries) (names_of others.now.entries) }
+{
+    let mut rest = others.iter();
+    for (key, _) in entries.iter() {
+        match rest.next() {
+            Some((other, _)) if key == other => {}
+            _ => return false,
+        }
+    }
+    rest.next().is_none()
+}

@@ -1,0 +1,50 @@
+//! One message in, and its canonical or its compact message out.
+ghost use Rattle.std.specs.Prelude.{OnOk, IfErr};
+ghost use Rattle.bser_base.specs.Compact.{fold_templates};
+ghost use Rattle.bser_rewriting.specs.Canon.{Rewrote, Refuses, canonical_form};
+
+use bser_base::device::{Sink, Source};
+use bser_base::errors::Result;
+use serde_bser::de::{Shape, from_reader};
+use serde_bser::ser::{serialize_compact, serialize_to};
+use serde_bser::value::Value;
+use std::alloc::Global;
+
+/// Reads the reader's next message, of at most 128 levels, as a `Value`, and writes the canonical
+/// message of that value. What follows the message is left in the reader.
+///
+/// Answers `Ok` exactly where a front of the bytes left is such a message, want of memory, faults
+/// that the reader or the writer counted and a body above `i64::MAX` bytes aside. Where reading is
+/// refused, nothing is written; where writing is refused, the writer took a beginning of the
+/// message, or nothing where its body could not be measured.
+#[tactic(auto, using(crate::proofs::Writing::writing_refused))]
+pub fn canon<R: Source, W: Sink>(alloc: Global, reader: &mut R, writer: &mut W) -> Result<()>
+    ensures ok { OnOk result
+        (Rewrote canonical_form ⟦<Value as Shape>⟧.reads R.remaining W.took
+        reader.old reader.new writer.old writer.new) }
+    ensures refused { IfErr result
+        (Refuses canonical_form ⟦<Value as Shape>⟧.reads R.remaining R.failures W.took
+        W.failures reader.old reader.new writer.old writer.new) }
+{
+    let value: Value = from_reader(alloc, reader)?;
+    serialize_to(alloc, writer, &value)
+}
+
+/// As [`canon`], but writes the compact message of the value. No message that reads as the value is
+/// shorter.
+#[tactic(auto, using(crate::proofs::Writing::writing_refused))]
+pub fn canon_compact<R: Source, W: Sink>(
+    alloc: Global,
+    reader: &mut R,
+    writer: &mut W,
+) -> Result<()>
+    ensures ok { OnOk result
+        (Rewrote fold_templates ⟦<Value as Shape>⟧.reads R.remaining W.took
+        reader.old reader.new writer.old writer.new) }
+    ensures refused { IfErr result
+        (Refuses fold_templates ⟦<Value as Shape>⟧.reads R.remaining R.failures W.took
+        W.failures reader.old reader.new writer.old writer.new) }
+{
+    let read: Value = from_reader(alloc, reader)?;
+    serialize_compact(alloc, writer, &read)
+}
