@@ -1,5 +1,7 @@
 pub mod Gathered
 pub mod Views
+pub mod Displays
+pub mod Lookups
 pub mod Places
 pub mod ValueScalars
 pub mod ValuesAtHand

@@ -1,5 +1,6 @@
 -- Lemmas on the trees of the parts of a value.
-use Rattle.std.proofs.Common.{◌≡◌, ℕ, suc, List, [], ◌∷◌, ◌++◌, map, length, String, Vec, BTreeMap, Ordering, Less, Equal, Greater, nat_cmp, string_bytes, refl, sym, ap, ◌∙◌, rules}
+use Rattle.std.proofs.Common.{◌≡◌, ℕ, suc, ◌+◌, ◌<◌, drop, get_or, add-one, List, [], ◌∷◌, ◌++◌, map, length, String, Vec, BTreeMap, Ordering, Less, Equal, Greater, nat_cmp, string_bytes, refl, sym, ap, ◌∙◌, rules}
+use Rattle.std.proofs.Math.Seq.{drop-cons}
 use Rattle.std.proofs.lemmas.Cmp.{nat_list_cmp_total}
 use Rattle.std.specs.declared.alloc.Global.{Global}
 use Rattle.std.specs.Cmp.Lexicographic.{slice_cmp}
@@ -17,6 +18,10 @@ use Rattle.bser_base.specs.Written.{item_before, entry_before, written_items, wr
 use Rattle.bser_value.specs.declared.value.Value as value
 use Rattle.bser_value.specs.declared.value.Value.{Value, Array, Object, Integer, Null, Utf8String, the_lemmas}
 use Rattle.bser_value.specs.ValueView.{tree_of, items_view, entries_view}
+
+-- a list from the place of an item on
+pub drop-item : {A : Type 0} (xs : List A) (i : ℕ) (x : A) → i < length xs → x ≡ get_or xs i x → drop i xs ≡ x ∷ drop (i + 1) xs
+drop-item xs i x h e = rw add-one (drop-cons xs i x h ∙ ap (λ y. y ∷ drop (suc i) xs) (sym e))
 
 -- an entry of an object's map
 abbrev pub Entry : Type 0

@@ -1,4 +1,6 @@
 pub mod ValueView
+pub mod Contents
+pub mod Displayed
 pub mod Gathered
 pub mod ScalarAnswer
 pub mod Building

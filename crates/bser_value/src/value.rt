@@ -8,7 +8,9 @@ ghost use Rattle.bser_base.specs.ValueTree.{IsValueTree};
 ghost use Rattle.bser_base.proofs.Same.{same_tree_equiv, same_tree_partial_equiv};
 ghost use Rattle.bser_value.specs.ValueView.{tree_of, items_view, entries_view};
 
+mod access;
 mod clone;
+mod display;
 mod writing;
 
 use bser_base::bytestring::ByteString;

@@ -15,6 +15,8 @@ pub use Rattle.bser_state.proofs.Ranges
 pub mod Messages
 pub use Rattle.bser_state.proofs.Strings
 pub use Rattle.bser_value.proofs.Views
+pub use Rattle.bser_value.proofs.Displays
+pub use Rattle.bser_value.proofs.Lookups
 pub use Rattle.bser_value.proofs.Places
 pub use Rattle.bser_state.proofs.Scalars
 pub use Rattle.bser_state.proofs.Dues

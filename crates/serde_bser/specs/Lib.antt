@@ -20,7 +20,10 @@ pub use Rattle.bser_state.specs.Tables
 pub use Rattle.bser_state.specs.Openings
 pub mod Holds
 pub mod Laws
+pub mod CompactLaws
 pub use Rattle.bser_value.specs.ValueView
+pub use Rattle.bser_value.specs.Contents
+pub use Rattle.bser_value.specs.Displayed
 pub use Rattle.bser_struct.specs.Skip
 pub use Rattle.bser_state.specs.Strings
 pub use Rattle.bser_state.specs.HoldsTexts

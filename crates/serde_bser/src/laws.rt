@@ -2,6 +2,7 @@
 //! contract is the law.
 
 ghost use Rattle.bser_base.specs.GrammarLaws.{OneFront};
+ghost use Rattle.serde_bser.specs.CompactLaws.{CompactIsMessage, CompactIsNoDeeper, CompactIsNoLonger, CompactIsTheFront, CompactIsWritable, CompactMeaningStays, CompactReadsAsItself, EqualCompactMessages, FoldedStandsForTheSame, LeastCompact, ShortCompactIsWritable};
 ghost use Rattle.serde_bser.specs.Laws.{BodyBound, CanonicalIsMessage, CanonicalIsTheFront, DepthBound, EqualMessages, LeastLength, MeaningStays, NodesBound, ReadIsValueTree, ShortBodiesFit, StandsForItself, TwiceIsOnce, ValueIsReturned, ValueReadsAsItself, WrittenIsMessage, WrittenIsTheFront, WrittenOutIsOneTree, WrittenOutIsSpelled, WrittenOutReadsAlike};
 
 /// A byte list begins with one message at most, of one tree and one number of capabilities.
@@ -69,4 +70,38 @@ pub fn written_out()
     ensures spelled { WrittenOutIsSpelled }
     ensures one_tree { WrittenOutIsOneTree }
     ensures alike { WrittenOutReadsAlike }
+{}
+
+/// The compact tree of any tree stands for what the tree stands for, so every type reads both alike,
+/// and it is no deeper. Where a value can be written its compact tree can, also where only the
+/// compact body is at most `i64::MAX` bytes.
+pub fn compact_tree()
+    ensures same { FoldedStandsForTheSame }
+    ensures depth { CompactIsNoDeeper }
+    ensures writable { CompactIsWritable }
+    ensures short { ShortCompactIsWritable }
+{}
+
+/// The compact message of a value is a message, whatever follows it, reads as that value, and means to
+/// every type what the value does: for values of at most as many levels as are read, whose compact
+/// message is at most `i64::MAX` bytes. The canonical message may be longer than that.
+pub fn compact_reads_back()
+    ensures message { CompactIsMessage }
+    ensures front { CompactIsTheFront }
+    ensures value { CompactReadsAsItself }
+    ensures meaning { CompactMeaningStays }
+{}
+
+/// Values whose compact bodies are at most `i64::MAX` bytes have equal compact messages exactly where
+/// they are equal.
+pub fn equal_compact_messages()
+    ensures { EqualCompactMessages }
+{}
+
+/// No message at all that reads as a value is shorter than its compact message, whatever limit,
+/// capabilities, templates, sizes of integers, tags of strings, repeated keys and skipped fields it
+/// has; so neither is the canonical message.
+pub fn least_compact()
+    ensures least { LeastCompact }
+    ensures canonical { CompactIsNoLonger }
 {}

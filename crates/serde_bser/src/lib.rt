@@ -1,8 +1,8 @@
 //! Reads and writes BSER version 2, the binary messages of the Watchman file watcher.
 //!
 //! [`from_slice`] and [`from_reader`] read one message as a value of a type that is
-//! [`Deserialize`](de::Deserialize); [`ser::serialize`] and [`ser::serialize_to`] write one. The
-//! modules of the crates below stand here under the names that users know.
+//! [`Deserialize`](de::Deserialize); [`ser::to_vec`], [`ser::serialize`] and [`ser::serialize_to`]
+//! write one. The modules of the crates below stand here under the names that users know.
 #![tactic(auto)]
 
 pub mod de;
@@ -12,4 +12,5 @@ pub mod ser;
 
 pub use crate::de::{from_reader, from_slice};
 pub use bser_base::{bytestring, device, errors, header};
+pub use bser_text::escaped;
 pub use bser_value::value;

@@ -1,3 +1,26 @@
 //! Writing.
+ghost use Rattle.std.specs.Prelude.{◌≡◌, Some, IfOk, IfErr};
+ghost use Rattle.bser_ser.specs.Message.{message_of, IsUnmeasured};
+
+use bser_base::device::Watched;
+use bser_base::errors::{Error, Result};
+pub use bser_compact::message::serialize_compact;
 pub use bser_ser::message::{serialize, serialize_to};
 pub use bser_ser::{CountWrite, Serialize, Serializer};
+use std::alloc::Global;
+
+/// The value's message in a new vector.
+///
+/// Refused where the value has no tree, as a `u64` above `i64::MAX` (`SerU64TooBig`), where its body
+/// is longer than `i64::MAX` bytes (`SerCustom` `CountTooGreat`), and for memory, that of the vector
+/// included (`OutOfMemory`). No other error comes of a value that has a tree.
+pub fn to_vec<T: Serialize>(alloc: Global, value: &T) -> Result<Vec<u8>>
+    ensures ok { IfOk result (λ message. message_of (T.meaning value.now) ≡ Some message.items) }
+    ensures err { IfErr result (IsUnmeasured (T.meaning value.now)) }
+{
+    match serialize(alloc, Watched::new(Vec::new(alloc)), value) {
+        Ok(writer) => Ok(writer.into_inner()),
+        Err((_, Error::Io(_))) => Err(Error::OutOfMemory),
+        Err((_, error)) => Err(error),
+    }
+}

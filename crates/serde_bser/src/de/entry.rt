@@ -7,6 +7,7 @@ use bser_base::de::read::{DeRead, IoRead, LendsText, SliceRead};
 use bser_base::device::Source;
 use bser_base::errors::Result;
 use bser_cursor::deserializer::{Deserializer, LEVELS};
+use bser_cursor::message::{read_head, unread};
 use bser_de::reading::{Deserialize, DeserializeOwned};
 use std::alloc::Global;
 
@@ -36,7 +37,7 @@ pub fn from_slice_within<'de, T: Deserialize<&'de [u8]>>(
     ensures found { IfOk result (BeginsWith limit T.reads T.holds bytes.now) }
     ensures refused { IfErr result (λ e. RefusesSlice limit T.reads T.needs e bytes.now) }
 {
-    let mut from = Deserializer::unread(alloc, SliceRead::new(bytes));
+    let mut from = unread(alloc, SliceRead::new(bytes));
     read_message(alloc, limit, &mut from)
 }
 
@@ -65,7 +66,7 @@ pub fn from_reader_within<S: Source, T: DeserializeOwned>(
     ensures found { IfOk result (TookMessage limit T.reads T.holds (S.remaining reader.old) (S.remaining reader.new)) }
     ensures refused { IfErr result (λ e. RefusesReader limit T.reads e (S.remaining reader.old) (S.failures reader.old) (S.failures reader.new)) }
 {
-    let mut from = Deserializer::unread(alloc, IoRead::new(reader));
+    let mut from = unread(alloc, IoRead::new(reader));
     let answer = read_message(alloc, limit, &mut from);
     let _reader = from.into_inner().into_inner();
     answer
@@ -86,7 +87,7 @@ where
     ensures found { IfOk result (ReadsMessage limit T.reads T.holds (state R.state R.Lent.kept from.old).source (state R.state R.Lent.kept from.new).source) }
     ensures refused { IfErr result (λ e. RefusesMessage limit T.reads T.needs e (state R.state R.Lent.kept from.old).source (state R.state R.Lent.kept from.new).source) }
 {
-    from.read_head(limit)?;
+    read_head(from, limit)?;
     let value = T::deserialize(alloc, from)?;
     from.end()?;
     Ok(value)

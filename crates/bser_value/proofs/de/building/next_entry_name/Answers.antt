@@ -6,4 +6,4 @@ use Rattle.bser_value.proofs.de.building.next_entry_name.Goals as goal
 
 pub returns-clause-found : goal.returns-clause-found
 returns-clause-found g c =
-    entry_named c.args.head.now (state g.R.DeRead.state g.R.Lent.Lending.kept c.args.from.now) (state g.R.DeRead.state g.R.Lent.Lending.kept c.read_string.new.self) c.in_ok-name.name c.requires (omega (arith, c.if-head-eq0.false)) c.in_ok-name.ensures.found
+    rw c.await_node.ensures (entry_named c.args.head.now (state g.R.DeRead.state g.R.Lent.Lending.kept c.args.from.now) (state g.R.DeRead.state g.R.Lent.Lending.kept c.read_string.new.self) c.in_ok-name.name c.requires (omega (arith, c.if-head-eq0.false)) (rw c.await_key.ensures at c.in_ok-name.ensures.found))

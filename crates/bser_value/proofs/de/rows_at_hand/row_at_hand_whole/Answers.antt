@@ -14,7 +14,8 @@ returns-in-Some-row_entries g c =
     let hand = bunser_hand g.R.DeRead.hand c.args.from.now.bunser in
     let len = c.in-Some.len in
     let values = c.row_front.new.row.items in
-    let made = c.in-Some-row_entries.ensures in
-    let front = subst (λ l. RowFront c.len-count.result l len values) c.at_hand.ensures c.in-Some.ensures in
+    let made = rw c.keys_of-2.ensures at c.in-Some-row_entries.ensures in
+    let front = subst (λ l. RowFront c.len-count.result l len values) (rw c.bunser_of.ensures at c.at_hand.ensures) c.in-Some.ensures in
+    let took = rw c.bunser_mut.ensures.value at c.advance.ensures in
     let some : 0 < len = omega (arith, c.if-len-eq0.false) in
-    row_taken s _ hand c.len-count.result len values c.in-Some-row_entries.entries c.requires.utf8 (made.0 ∙ sym (length-map c.args.from.now.keys.items kept)) front some made.1 c.advance.ensures refl
+    rw c.await_nothing.ensures (row_taken s _ hand c.len-count.result len values c.in-Some-row_entries.entries c.requires.utf8 (made.0 ∙ sym (length-map c.args.from.now.keys.items kept)) front some made.1 took refl)

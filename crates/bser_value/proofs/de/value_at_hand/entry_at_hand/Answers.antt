@@ -16,19 +16,19 @@ returns-in-Ok-insert g c =
     let a = c.args.from.now in
     let kept = g.R.Lent.Lending.kept in
     let s : State = state g.R.DeRead.state kept a in
-    let inside : c.args.head.now.at < length (map kept a.keys.items) = omega (arith, length-map a.keys.items kept, c.if-place-len.false, c.len.ensures) in
-    let named : name_at c.args.head.now.at s.keys ≡ name_due (kept c.index.result.now) = named_at kept c.args.head.now.at a.keys.items c.index.result.now inside c.index.ensures in
+    let inside : c.args.head.now.at < length (map kept a.keys.items) = omega (arith, length-map a.keys.items kept, c.if-place-len.false, rw c.keys_of.ensures at c.len.ensures) in
+    let named : name_at c.args.head.now.at s.keys ≡ name_due (kept c.index.result.now) = named_at kept c.args.head.now.at a.keys.items c.index.result.now inside (rw c.keys_of-2.ensures at c.index.ensures) in
     let holds : HoldsWithin s.source = holds_refused a.bunser.failed (g.R.DeRead.state a.bunser.read) (g.met.R.DeRead.holding a.bunser.read) in
     let same : string_bytes c.in-Ok.name ≡ kept c.index.result.now = c.in-Ok.ensures.ok ∙ c.kept_text-key.ensures in
-    row_entry s _ c.args.head.now c.in-Ok.name (kept c.index.result.now) c.in-Some.value _ _ c.if-not-head.false inside holds named same (subst IsUtf8 c.kept_text-key.ensures c.kept_text-key.utf8) c.in-Some.ensures refl c.in-Ok-insert.ensures.entries
+    rw c.await_nothing.ensures (row_entry s _ c.args.head.now c.in-Ok.name (kept c.index.result.now) c.in-Some.value _ _ c.if-not-head.false inside holds named same (subst IsUtf8 c.kept_text-key.ensures c.kept_text-key.utf8) (rw c.bunser_mut.ensures.value at c.in-Some.ensures) refl c.in-Ok-insert.ensures.entries)
 
 pub returns-in-Some : goal.returns-in-Some
 returns-in-Some g c =
     let a = c.args.from.now in
     let kept = g.R.Lent.Lending.kept in
     let s : State = state g.R.DeRead.state kept a in
-    let inside : c.args.head.now.at < length (map kept a.keys.items) = omega (arith, length-map a.keys.items kept, c.if-place-len.false, c.len.ensures) in
-    let named : name_at c.args.head.now.at s.keys ≡ name_due (kept c.index.result.now) = named_at kept c.args.head.now.at a.keys.items c.index.result.now inside c.index.ensures in
+    let inside : c.args.head.now.at < length (map kept a.keys.items) = omega (arith, length-map a.keys.items kept, c.if-place-len.false, rw c.keys_of.ensures at c.len.ensures) in
+    let named : name_at c.args.head.now.at s.keys ≡ name_due (kept c.index.result.now) = named_at kept c.args.head.now.at a.keys.items c.index.result.now inside (rw c.keys_of-2.ensures at c.index.ensures) in
     let holds : HoldsWithin s.source = holds_refused a.bunser.failed (g.R.DeRead.state a.bunser.read) (g.met.R.DeRead.holding a.bunser.read) in
     let same : string_bytes c.in-Ok.name ≡ kept c.index.result.now = c.in-Ok.ensures.ok ∙ c.kept_text-key.ensures in
-    row_entry_refused s _ c.args.head.now c.in-Ok.name (kept c.index.result.now) c.in-Some.value c.if-not-head.false inside holds named same (subst IsUtf8 c.kept_text-key.ensures c.kept_text-key.utf8) c.in-Some.ensures refl
+    rw c.await_nothing.ensures (row_entry_refused s _ c.args.head.now c.in-Ok.name (kept c.index.result.now) c.in-Some.value c.if-not-head.false inside holds named same (subst IsUtf8 c.kept_text-key.ensures c.kept_text-key.utf8) (rw c.bunser_mut.ensures.value at c.in-Some.ensures) refl)

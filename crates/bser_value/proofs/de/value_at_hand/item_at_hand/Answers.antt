@@ -8,10 +8,10 @@ pub returns-in-Ok : goal.returns-in-Ok
 returns-in-Ok g c =
     let s = state g.R.DeRead.state g.R.Lent.Lending.kept c.args.from.now in
     let some : 0 < c.args.head.now.remaining = omega (arith, c.if-head-eq0.false) in
-    item_put s _ c.args.head.now c.in-Some.value _ _ c.if-head.false some c.in-Some.ensures refl c.in-Ok.ensures.items
+    rw c.await_nothing.ensures (item_put s _ c.args.head.now c.in-Some.value _ _ c.if-head.false some (rw c.bunser_mut.ensures.value at c.in-Some.ensures) refl c.in-Ok.ensures.items)
 
 pub returns-in-Err : goal.returns-in-Err
 returns-in-Err g c =
     let s = state g.R.DeRead.state g.R.Lent.Lending.kept c.args.from.now in
     let some : 0 < c.args.head.now.remaining = omega (arith, c.if-head-eq0.false) in
-    item_refused s _ c.args.head.now c.in-Some.value c.if-head.false some c.in-Some.ensures refl
+    rw c.await_nothing.ensures (item_refused s _ c.args.head.now c.in-Some.value c.if-head.false some (rw c.bunser_mut.ensures.value at c.in-Some.ensures) refl)

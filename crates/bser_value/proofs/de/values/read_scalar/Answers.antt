@@ -9,7 +9,7 @@ use Rattle.bser_value.proofs.de.values.read_scalar.Goals as goal
 pub read_key-requires : goal.read_key-requires
 read_key-requires g c =
     elim c.match-matches.branch [
-      | in-Key w ↦ no_value _ _ w.in-Key.is
+      | in-Key w ↦ no_value _ _ (rw c.due.ensures at w.in-Key.is)
       | in_default w ↦ (let f = w.matches-is in let t = c.if-matches.true in absurd cc)
     ]
 
@@ -17,7 +17,7 @@ pub returns-in_default-2 : goal.returns-in_default-2
 returns-in_default-2 g c =
     elim c.match-matches.branch [
       | in-Key w ↦ (let f = w.matches-is in let t = c.if-matches.false in absurd cc)
-      | in_default w ↦ record { found = tt; refused = row_refuses c.args.from.now.due (state g.R.DeRead.state g.R.Lent.Lending.kept c.args.from.now) _ (state g.R.DeRead.state g.R.Lent.Lending.kept c.refuse_head.new.self) c.in_ok-head.head _ refl c.in_ok-head.ensures.ok c.in_default-2.not-Tag w.in_default.not-Key w.in_default.not-Name c.refuse_head.ensures.kind c.refuse_head.ensures.state }
+      | in_default w ↦ record { found = tt; refused = row_refuses c.args.from.now.due (state g.R.DeRead.state g.R.Lent.Lending.kept c.args.from.now) _ (state g.R.DeRead.state g.R.Lent.Lending.kept c.refuse_head.new.self) c.in_ok-head.head _ refl c.in_ok-head.ensures.ok c.in_default-2.not-Tag (rw c.due.ensures at w.in_default.not-Key) (rw c.due.ensures at w.in_default.not-Name) c.refuse_head.ensures.kind c.refuse_head.ensures.state }
     ]
 
 pub returns-in-Tag-clause-refused : goal.returns-in-Tag-clause-refused

@@ -11,13 +11,13 @@ pub returns-in_err-value-clause-refused : goal.returns-in_err-value-clause-refus
 returns-in_err-value-clause-refused g c =
     let p = err_from_is_err_and c.from_residual.result c.from_residual.ensures.1 in
     rw (p.1, p.2) (scalar_refuses (state g.R.DeRead.state g.R.Lent.Lending.kept c.args.from.now) _ c.args.tag _ c.requires.due c.requires.next
-    (λ due tag. c.is_skip.ensures.other c.if-is_skip.false (field_only _ _ due) tag) c.in_err-value.ensures.err)
+    (λ due tag. (rw c.due.ensures at c.is_skip.ensures.other) c.if-is_skip.false (field_only _ _ due) tag) (rw c.bunser_mut-2.ensures.value at c.in_err-value.ensures.err))
 
 pub returns-then-is_skip-clause-found : goal.returns-then-is_skip-clause-found
 returns-then-is_skip-clause-found g c =
-    let skip = c.is_skip.ensures.skip c.if-is_skip.true in
-    took_skip _ _ _ (ap (due_of _) skip.0) tree_of-Null (c.requires.sight ∙ ap Some skip.1) c.discard.ensures refl
+    let skip = rw c.due.ensures at c.is_skip.ensures.skip c.if-is_skip.true in
+    rw c.await_nothing.ensures (took_skip _ _ _ (ap (due_of _) skip.0) tree_of-Null (c.requires.sight ∙ ap Some skip.1) (rw c.bunser_mut.ensures.value at c.discard.ensures) refl)
 
 pub returns-clause-found : goal.returns-clause-found
 returns-clause-found g c =
-    took_scalar _ _ c.in_ok-value.value c.requires.due c.in_ok-value.ensures.ok refl
+    rw c.await_nothing-2.ensures (took_scalar _ _ c.in_ok-value.value c.requires.due (rw c.bunser_mut-2.ensures.value at c.in_ok-value.ensures.ok) refl)

@@ -1,6 +1,5 @@
 -- A container is written as its parts are.
-use Rattle.std.proofs.Common.{rules, ◌≡◌, ℕ, ◌+◌, ◌<◌, suc, List, ◌∷◌, length, drop, get_or, sym, ◌∙◌, ap, add-one, subst, Option, Some, OnOk, OnErr, string_bytes}
-use Rattle.std.proofs.Math.Seq.{drop-cons}
+use Rattle.std.proofs.Common.{rules, length, sym, subst, Option, Some, OnOk, OnErr, string_bytes}
 use Rattle.std.proofs.lemmas.List.{drop_all}
 use Rattle.std.proofs.lemmas.Result.{err_from_is_err_and}
 use Rattle.bser_base.specs.Tree.{Tree}
@@ -8,15 +7,13 @@ use Rattle.bser_base.specs.Pieces.{array_head, object_head}
 use Rattle.bser_base.specs.Canonical.{canonical_key}
 use Rattle.bser_ser.specs.Ends.{Ends, Stops, text_of}
 use Rattle.bser_ser.specs.Sent.{refusal_of}
+use Rattle.bser_base.proofs.Lists.{item_here}
 use Rattle.bser_ser.proofs.Ends.{UpTo-more, Ends-both, Stops-second, Stops-none}
 use Rattle.bser_ser.proofs.Texts.{item_text, entry_text, Ends-array, Stops-array, Ends-object, Stops-object}
 use Rattle.bser_value.specs.ValueView.{tree_of}
 use Rattle.bser_value.specs.declared.value.Value.{Value}
-use Rattle.bser_value.proofs.Views.{written-Array, written-Object}
+use Rattle.bser_value.proofs.Views.{drop-item, written-Array, written-Object}
 use Rattle.bser_value.proofs.value.writing.+add.Goals as goal
-
-here : {A : Type 0} (xs : List A) (i : ℕ) (x : A) → i < length xs → x ≡ get_or xs i x → drop i xs ≡ x ∷ drop (i + 1) xs
-here xs i x h e = rw add-one (drop-cons xs i x h ∙ ap (λ y. y ∷ drop (suc i) xs) (sym e))
 
 abbrev told : Value → Option Tree
 told v = Some (tree_of v)
@@ -26,13 +23,13 @@ add_items-returns-in_err-add_value-clause-err g t c =
     let p = err_from_is_err_and c.from_residual-in_err-add_value.result c.from_residual-in_err-add_value.ensures.1 in
     rw p.1 (Stops-array g.W.Sink.took g.W.Sink.failures told c.args.items.now.items g.met.W.Sink.took_both _ _ c.item-item.result
     c.args.out.now c.loop-item.out c.add_value.new.out (refusal_of c.add_value.new.out) c.loop-item.invariant
-    (here c.deref-item-items.result.now c.loop-item.item-index c.item-item.result c.loop-item-test.true c.item-item.is) c.in_err-add_value.ensures.err)
+    (item_here c.deref-item-items.result.now c.loop-item.item-index c.item-item.result c.loop-item-test.true c.item-item.is) c.in_err-add_value.ensures.err)
 
 pub add_items-loop-item-preserved : goal.add_items-loop-item-preserved
 add_items-loop-item-preserved g t c =
     UpTo-more g.W.Sink.took g.W.Sink.failures g.met.W.Sink.took_both (array_head (length c.args.items.now.items)) (item_text told) c.args.items.now.items _ _ c.item-item.result
     c.args.out.now c.loop-item.out c.add_value.new.out c.loop-item.invariant
-    (here c.deref-item-items.result.now c.loop-item.item-index c.item-item.result c.loop-item-test.true c.item-item.is) c.in_ok-add_value.ensures.ok
+    (item_here c.deref-item-items.result.now c.loop-item.item-index c.item-item.result c.loop-item-test.true c.item-item.is) c.in_ok-add_value.ensures.ok
 
 pub add_items-returns-clause-ok : goal.add_items-returns-clause-ok
 add_items-returns-clause-ok g t c =

@@ -1,0 +1,2 @@
+pub mod QuotedText
+pub mod RealText

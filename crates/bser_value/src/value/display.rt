@@ -1,0 +1,76 @@
+//! Printing a `Value`.
+ghost use Rattle.std.specs.Prelude.{[], Some, codes};
+ghost use Rattle.std.specs.Fmt.{DisplaysOnOk, ◌++?◌, debug_items};
+ghost use Rattle.bser_value.specs.Displayed.{displayed, member_text};
+
+use crate::value::Value;
+use bser_text::quoted::write_quoted;
+use bser_text::real::write_real;
+use std::collections::BTreeMap;
+use std::fmt;
+
+/// The value on one line, as JSON where JSON can say it: `[1, 2]`, `{"name": true}`, `null`, texts
+/// and keys in quotes with JSON's escapes. A byte string is as `{}` of a `ByteString`, a real as
+/// `{}` of an `f64`, and a NaN is `NaN(0x7ff8000000000000)`, by its bits.
+///
+/// Width and the like have no effect. Printing calls itself once for each level.
+impl fmt::Display for Value {
+    ghost output = { displayed };
+
+    fn fmt<W: fmt::Write>(&self, f: &mut fmt::Formatter<W>) -> fmt::Result {
+        show(self, f)
+    }
+}
+
+#[cycle(show)]
+fn show<W: fmt::Write>(value: &Value, f: &mut fmt::Formatter<W>) -> fmt::Result
+    ensures { DisplaysOnOk W.write_str_gives f.old result (displayed value.now) f.new }
+{
+    match value {
+        Value::Array(items) => show_items(items, f),
+        Value::Object(entries) => show_entries(entries, f),
+        Value::ByteString(bytes) => write!(f, "{bytes}"),
+        Value::Integer(number) => write!(f, "{number}"),
+        Value::Real(bits) => write_real(*bits, f),
+        Value::Bool(truth) => write!(f, "{truth}"),
+        Value::Null => f.write_str("null"),
+        Value::Utf8String(text) => write_quoted(text.as_str(), f),
+    }
+}
+
+#[cycle(show)]
+fn show_items<W: fmt::Write>(items: &Vec<Value>, f: &mut fmt::Formatter<W>) -> fmt::Result
+    ensures { DisplaysOnOk W.write_str_gives f.old result
+        (Some (codes "[") ++? debug_items displayed [] items.now.items ++? Some (codes "]"))
+        f.new }
+{
+    f.write_str("[")?;
+    let mut before = "";
+    for item in items {
+        f.write_str(before)?;
+        show(item, f)?;
+        before = ", ";
+    }
+    f.write_str("]")
+}
+
+#[cycle(show)]
+fn show_entries<W: fmt::Write>(
+    entries: &BTreeMap<String, Value>,
+    f: &mut fmt::Formatter<W>,
+) -> fmt::Result
+    ensures { DisplaysOnOk W.write_str_gives f.old result
+        (Some (codes "{") ++? debug_items member_text [] entries.now.entries ++? Some (codes "}"))
+        f.new }
+{
+    f.write_str("{")?;
+    let mut before = "";
+    for (key, member) in entries {
+        f.write_str(before)?;
+        write_quoted(key.as_str(), f)?;
+        f.write_str(": ")?;
+        show(member, f)?;
+        before = ", ";
+    }
+    f.write_str("}")
+}
