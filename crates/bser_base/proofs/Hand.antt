@@ -11,7 +11,7 @@ use Rattle.bser_format.specs.Grammar.{SpellsInteger}
 use Rattle.bser_base.specs.Hand.{NumberFront, IntegerAfter, IntFront, LengthFront, StringFront, tag_of_string}
 use Rattle.bser_base.specs.declared.de.hand.SeenInt.{SeenInt}
 use Rattle.bser_base.specs.declared.de.hand.StringPlace.{StringPlace}
-use Rattle.bser_source.specs.Source.{State, Took}
+use Rattle.bser_source.specs.Source.{SourceState, Took}
 use Rattle.bser_base.specs.Tagged.{TookInt}
 use Rattle.bser_source.proofs.NumberBytes.{AreOf}
 
@@ -46,7 +46,7 @@ small_front (x ∷ xs) (suc k) small zero = small 0
 small_front (x ∷ xs) (suc k) small (suc i) = small_front xs k (λ j. small (suc j)) i
 
 -- an integer at hand, and then its bytes were taken
-pub int_taken : (a b : State) (hand : List ℕ) (v out : ℤ) (k : ℕ) → out ≡ v → 0 < length hand → IntegerAfter (get_or hand 0 0) (drop 1 hand) v k → Took a b (take (1 + k) hand) None → TookInt a b out
+pub int_taken : (a b : SourceState) (hand : List ℕ) (v out : ℤ) (k : ℕ) → out ≡ v → 0 < length hand → IntegerAfter (get_or hand 0 0) (drop 1 hand) v k → Took a b (take (1 + k) hand) None → TookInt a b out
 int_taken a b hand v out k same some is took =
     subst (TookInt a b) (sym same) (record {
       text = get_or hand 0 0 ∷ take k (drop 1 hand);

@@ -5,10 +5,10 @@ use Rattle.std.specs.Prelude.{IsSomeAnd}
 use Rattle.std.specs.Int.{w32, byte_len, to_le_bytes}
 use Rattle.std.specs.Io.KnownBytes.{Consumes}
 use Rattle.bser_format.specs.Grammar.{Format, Bytes, SpellsInteger, SpellsCount, IntSize, int8, int16, int32, int64, tag_of, width_of, int_bytes, ◌then◌}
-use Rattle.bser_source.specs.Source.{State, Took, IsNext}
+use Rattle.bser_source.specs.Source.{SourceState, Took, IsNext}
 use Rattle.bser_source.specs.Refusal.{Excuse}
 use Rattle.bser_base.specs.Tagged.{TookInt, IsInteger, IsLength, IsMagic, IsCapabilities, IsHead, with_failure}
-use Rattle.bser_base.specs.TaggedRefusal.{Unwanted, ShortOf, Outside, MayAnswer, NamesTag, failures_by, cause_of}
+use Rattle.bser_base.specs.TaggedRefusal.{Unwanted, ShortOf, OutsideCause, MayAnswer, NamesTag, failures_by, cause_of}
 use Rattle.bser_format.specs.declared.errors.Kind.TheVariants as kinds
 use Rattle.bser_format.specs.declared.errors.Error.{Error}
 use Rattle.bser_format.specs.declared.errors.Error.TheVariants.{DeInvalidStartByte, DeReaderError, DeCustom, OutOfMemory}
@@ -22,7 +22,7 @@ weaken : {A : Type 0} (P Q : A → Type 0) (o : Option A) → ((a : A) → P a �
 weaken P Q None f h = absurd h
 weaken P Q (Some a) f h = f a h
 
-more_wanted : (s : State) (n m : ℕ) → n ≤ m → (c : ReadCause) → Outside c s n → Outside c s m
+more_wanted : (s : SourceState) (n m : ℕ) → n ≤ m → (c : ReadCause) → OutsideCause c s n → OutsideCause c s m
 more_wanted s n m le Eof h = absurd h
 more_wanted s n m le Utf8 h = absurd h
 more_wanted s n m le (Reader e) h = h
@@ -31,19 +31,19 @@ more_wanted s n m le Failed (inl h) = inl h
 more_wanted s n m le Failed (inr (l, k)) = inr (l, omega (arith, le, k))
 
 -- a refusal of a front
-pub first_part : (V W : List ℕ → Type 0) (e : Error) (a b : State) → ((text : List ℕ) → W text → (first : List ℕ) × (second : List ℕ) × (text ≡ first ++ second) × V first)
+pub first_part : (V W : List ℕ → Type 0) (e : Error) (a b : SourceState) → ((text : List ℕ) → W text → (first : List ℕ) × (second : List ℕ) × (text ≡ first ++ second) × V first)
     → Unwanted V e a b → Unwanted W e a b
 first_part V W e a b split u = record {
   excuse = λ text rest wanted left.
       let p = split text wanted in
       let at : a.left ≡ Some (p.0 ++ (p.1 ++ rest)) = left ∙ ap Some (ap (λ l. l ++ rest) p.2 ∙ append_assoc p.0 p.1 rest) in
-      weaken (λ c. Outside c a (length p.0)) (λ c. Outside c a (length text)) (cause_of e) (more_wanted a (length p.0) (length text) (omega (arith, ap length p.2, length-append p.0 p.1))) (u.excuse p.0 (p.1 ++ rest) p.3 at);
+      weaken (λ c. OutsideCause c a (length p.0)) (λ c. OutsideCause c a (length text)) (cause_of e) (more_wanted a (length p.0) (length text) (omega (arith, ap length p.2, length-append p.0 p.1))) (u.excuse p.0 (p.1 ++ rest) p.3 at);
   may = u.may;
   before = u.before;
   fails = u.fails;
 }
 
-outside_before : (a b : State) (taken : List ℕ) (seen : Option ℕ) (n m : ℕ) → Took a b taken seen → m ≡ length taken + n → (c : ReadCause) → Outside c b n → Outside c a m
+outside_before : (a b : SourceState) (taken : List ℕ) (seen : Option ℕ) (n m : ℕ) → Took a b taken seen → m ≡ length taken + n → (c : ReadCause) → OutsideCause c b n → OutsideCause c a m
 outside_before a b taken seen n m took e Eof h = absurd h
 outside_before a b taken seen n m took e Utf8 h = absurd h
 outside_before a b taken seen n m took e (Reader x) h = sym took.lends ∙ h
@@ -57,7 +57,7 @@ rest_of (Some xs) None taken all e h = absurd h
 rest_of (Some xs) (Some ys) taken all e h = (ys, refl, (let k : xs ≡ all = cc in sym k ∙ h))
 
 -- a refusal of the rest, after a front was taken
-pub sequel : (V W : List ℕ → Type 0) (e : Error) (a b c : State) (taken : List ℕ) (seen : Option ℕ) → Took a b taken seen
+pub sequel : (V W : List ℕ → Type 0) (e : Error) (a b c : SourceState) (taken : List ℕ) (seen : Option ℕ) → Took a b taken seen
     → ((text rest ys : List ℕ) → W text → text ++ rest ≡ taken ++ ys → b.left ≡ Some ys → (second : List ℕ) × (text ≡ taken ++ second) × V second)
     → Unwanted V e b c → Unwanted W e a c
 sequel V W e a b c taken seen took split u = record {
@@ -65,7 +65,7 @@ sequel V W e a b c taken seen took split u = record {
       let r = rest_of a.left b.left taken (text ++ rest) left took.bytes in
       let p = split text rest r.0 wanted r.2 r.1 in
       let same : p.0 ++ rest ≡ r.0 = append_cancel_left taken _ _ (sym (append_assoc taken p.0 rest) ∙ sym (ap (λ l. l ++ rest) p.1) ∙ r.2) in
-      weaken (λ k. Outside k b (length p.0)) (λ k. Outside k a (length text)) (cause_of e)
+      weaken (λ k. OutsideCause k b (length p.0)) (λ k. OutsideCause k a (length text)) (cause_of e)
       (outside_before a b taken seen (length p.0) (length text) took (omega (arith, ap length p.1, length-append taken p.0))) (u.excuse p.0 rest p.2 (r.1 ∙ ap Some (sym same)));
   may = subst (MayAnswer e) took.lends u.may;
   before = λ f. (let w = took.working in absurd cc);
@@ -74,7 +74,7 @@ sequel V W e a b c taken seen took split u = record {
 
 -- ---- calls that only want bytes
 
-outside_if_enough : (s : State) (n m : ℕ) (xs : List ℕ) → n ≤ m → m ≤ length xs → s.left ≡ Some xs → (c : ReadCause) → Excuse c s n → Outside c s m
+outside_if_enough : (s : SourceState) (n m : ℕ) (xs : List ℕ) → n ≤ m → m ≤ length xs → s.left ≡ Some xs → (c : ReadCause) → Excuse c s n → OutsideCause c s m
 outside_if_enough s n m xs le fits left Eof h = (let k : length xs < n = rw left at h in omega (arith, k, le, fits))
 outside_if_enough s n m xs le fits left Utf8 h = absurd h
 outside_if_enough s n m xs le fits left (Reader e) h = h
@@ -82,7 +82,7 @@ outside_if_enough s n m xs le fits left Memory h = h
 outside_if_enough s n m xs le fits left Failed (inl h) = inl h
 outside_if_enough s n m xs le fits left Failed (inr (l, k)) = inr (l, omega (arith, le, k))
 
-may_short : (s : State) (n : ℕ) (e : Error) → IsSomeAnd (cause_of e) (λ c. Excuse c s n) → MayAnswer e s.lends
+may_short : (s : SourceState) (n : ℕ) (e : Error) → IsSomeAnd (cause_of e) (λ c. Excuse c s n) → MayAnswer e s.lends
 may_short s n (DeReaderError Eof) h = tt
 may_short s n (DeReaderError Utf8) h = tt
 may_short s n (DeReaderError (Reader fault)) h = h
@@ -92,10 +92,10 @@ may_short s n OutOfMemory h = h
 may_short s n e h = absurd h
 
 -- a call that wants fewer bytes than there are in each that is wanted
-pub short_of : (W : List ℕ → Type 0) (n : ℕ) (e : Error) (a b : State) → ((text : List ℕ) → W text → n ≤ length text) → ShortOf n e a b → Unwanted W e a b
+pub short_of : (W : List ℕ → Type 0) (n : ℕ) (e : Error) (a b : SourceState) → ((text : List ℕ) → W text → n ≤ length text) → ShortOf n e a b → Unwanted W e a b
 short_of W n e a b enough short = record {
   excuse = λ text rest wanted left.
-      weaken (λ c. Excuse c a n) (λ c. Outside c a (length text)) (cause_of e) (outside_if_enough a n (length text) (text ++ rest) (enough text wanted) (omega (arith, length-append text rest)) left) short.excuse;
+      weaken (λ c. Excuse c a n) (λ c. OutsideCause c a (length text)) (cause_of e) (outside_if_enough a n (length text) (text ++ rest) (enough text wanted) (omega (arith, length-append text rest)) left) short.excuse;
   may = may_short a n e short.excuse;
   before = short.before;
   fails = short.fails;
@@ -138,7 +138,7 @@ pub int_first : (text : List ℕ) → IsInteger text → 1 ≤ length text
 int_first text (v, p) = omega (arith, ap length p.spelled, length-int_bytes p.size v)
 
 -- the number after a tag is cut short
-pub short_number : (s : IntSize) (b : ℕ) (e : Error) (old mid new : State) → b ≡ tag_of s → Took old mid [] (Some b) → IsNext mid.left b → ShortOf (1 + byte_len (width_of s)) e mid new → Unwanted IsInteger e old new
+pub short_number : (s : IntSize) (b : ℕ) (e : Error) (old mid new : SourceState) → b ≡ tag_of s → Took old mid [] (Some b) → IsNext mid.left b → ShortOf (1 + byte_len (width_of s)) e mid new → Unwanted IsInteger e old new
 short_number s b e old mid new is look next short =
     sequel (λ text. 1 + byte_len (width_of s) ≤ length text) IsInteger e old mid new [] (Some b) look
     (λ text rest ys (v, p) all left.
@@ -148,7 +148,7 @@ short_number s b e old mid new is look next short =
     (short_of (λ text. 1 + byte_len (width_of s) ≤ length text) (1 + byte_len (width_of s)) e mid new (λ text h. h) short)
 
 -- another tag stands where an integer is wanted
-pub no_integer : (b : ℕ) (old mid : State) → ((s : IntSize) → tag_of s ≡ b → ⊥) → Took old mid [] (Some b) → IsNext mid.left b → Unwanted IsInteger (DeInvalidStartByte kinds.Integer b) old (with_failure true mid)
+pub no_integer : (b : ℕ) (old mid : SourceState) → ((s : IntSize) → tag_of s ≡ b → ⊥) → Took old mid [] (Some b) → IsNext mid.left b → Unwanted IsInteger (DeInvalidStartByte kinds.Integer b) old (with_failure true mid)
 no_integer b old mid other look next = record {
   excuse = λ text rest (v, p) left.
       let r = rest_of old.left mid.left [] (text ++ rest) left look.bytes in
@@ -159,7 +159,7 @@ no_integer b old mid other look next = record {
 }
 
 -- an integer's tag stands there
-pub named : (s : IntSize) (b : ℕ) (e : Error) (old mid : State) → b ≡ tag_of s → Took old mid [] (Some b) → IsNext mid.left b → NamesTag e old
+pub named : (s : IntSize) (b : ℕ) (e : Error) (old mid : SourceState) → b ≡ tag_of s → Took old mid [] (Some b) → IsNext mid.left b → NamesTag e old
 named s b e old mid is look next c rest other left =
     let r = rest_of old.left mid.left [] (c ∷ rest) left look.bytes in
     let at : r.0 ≡ b ∷ drop 1 r.0 = rw r.1 at next in
@@ -167,7 +167,7 @@ named s b e old mid is look next c rest other left =
     absurd (other s (sym is ∙ sym same))
 
 -- a negative number was taken where a length was wanted
-pub negative_len : (a b : State) (k : ℤ) → ((n : ℕ) → k ≡ pos n → ⊥) → TookInt a b k → Unwanted IsLength (DeCustom (Fixed NegativeLength)) a (with_failure true b)
+pub negative_len : (a b : SourceState) (k : ℤ) → ((n : ℕ) → k ≡ pos n → ⊥) → TookInt a b k → Unwanted IsLength (DeCustom (Fixed NegativeLength)) a (with_failure true b)
 negative_len a b k negative took = record {
   excuse = λ text rest (n, p) left.
       let r = rest_of a.left b.left took.text (text ++ rest) left took.took.bytes in

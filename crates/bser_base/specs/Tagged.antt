@@ -3,15 +3,15 @@ use Rattle.std.specs.Prelude.{◌≡◌, ◌<◌, ◌+ℤ◌, ◌≤ℤ◌, ◌�
 use Rattle.std.specs.Int.{Width, w32, w64, to_le_bytes, cast_unsigned}
 use Rattle.bser_format.specs.Grammar.{Format, Bytes, SpellsInteger, SpellsCount}
 use Rattle.bser_format.specs.Message.{Head}
-use Rattle.bser_source.specs.Source.{State, Took, bytes_in_sight, with_limit}
+use Rattle.bser_source.specs.Source.{SourceState, Took, bytes_in_sight, with_limit}
 use Rattle.bser_base.specs.declared.de.bunser.Bunser.{Bunser}
 
 -- what has failed has no byte in sight
-abbrev pub with_failure : Bool → State → State
+abbrev pub with_failure : Bool → SourceState → SourceState
 with_failure failed s = record s { failed = if failed then true else s.failed; sight = if failed then None else s.sight }
 
 -- a reader of tagged values, as its byte source
-abbrev pub bunser_state : {R : Type 0} → (R → State) → Bunser R → State
+abbrev pub bunser_state : {R : Type 0} → (R → SourceState) → Bunser R → SourceState
 bunser_state state b = with_failure b.failed (state b.read)
 
 -- whether it refused a call itself, and not its byte source alone
@@ -23,16 +23,16 @@ abbrev pub bunser_source : {R : Type 0} → Bunser R → R
 bunser_source b = b.read
 
 -- the byte in sight was taken, and after it a number of this width in two's complement, the lowest byte first
-pub record TookNumber (w : Width) (old new : State) (v : ℤ) : Type 0 where
+pub record TookNumber (w : Width) (old new : SourceState) (v : ℤ) : Type 0 where
   pub fits : FitsSigned w v
   pub took : Took old new (bytes_in_sight old.sight ++ to_le_bytes w (cast_unsigned w v)) None
 
 -- the byte in sight was taken, and after it the eight bytes of a number, the lowest first
-abbrev pub TookBits : State → State → ℕ → Type 0
+abbrev pub TookBits : SourceState → SourceState → ℕ → Type 0
 TookBits old new n = Took old new (bytes_in_sight old.sight ++ to_le_bytes w64 n) None
 
 -- an integer was taken
-pub record TookInt (old new : State) (v : ℤ) : Type 0 where
+pub record TookInt (old new : SourceState) (v : ℤ) : Type 0 where
   pub text : List ℕ
   pub spelled : SpellsInteger v text
   pub took : Took old new text None
@@ -46,7 +46,7 @@ abbrev pub IsLength : Format
 IsLength text = (n : ℕ) × SpellsCount n text
 
 -- a length was taken
-pub record TookLength (old new : State) (v : ℤ) : Type 0 where
+pub record TookLength (old new : SourceState) (v : ℤ) : Type 0 where
   pub size : ℕ
   pub value : v ≡ pos size
   pub number : TookInt old new v
@@ -64,7 +64,7 @@ abbrev pub IsHead : Format
 IsHead text = (c : ℕ) × (k : ℕ) × Head c k text
 
 -- a message's head was taken, and its body's length was announced
-pub record TookHead (old new : State) (capabilities : ℕ) (len : ℤ) : Type 0 where
+pub record TookHead (old new : SourceState) (capabilities : ℕ) (len : ℤ) : Type 0 where
   pub text : List ℕ
   pub size : ℕ
   pub value : len ≡ pos size

@@ -5,8 +5,8 @@
 //! which has no template. Without arguments each operation is done once with an answer of a few
 //! files.
 //!
-//! `serialize` writes a `Value` to memory, and `value` and `value-reader` read one; they print the
-//! length and a checksum of its message. `typed-lent`, `typed-owned` and `typed-reader` read the
+//! `serialize` writes a `Value` to memory, `serialize-compact` does so in the compact form, and `value`
+//! and `value-reader` read one; they print the length and a checksum of its message. `typed-lent`, `typed-owned` and `typed-reader` read the
 //! files as structs, and print how many there are and the sum of their fields. `skip` keeps
 //! nothing. The operations on a `reader` read from a reader over the bytes, the others from the
 //! bytes themselves.
@@ -21,7 +21,7 @@ use anyhow::{Context, Result, bail};
 use serde_bser::bytestring::ByteString;
 use serde_bser::de::{Deserialize, DeserializeOwned, Ignored};
 use serde_bser::device::Watched;
-use serde_bser::ser::serialize;
+use serde_bser::ser::{serialize, serialize_compact};
 use serde_bser::value::Value;
 use serde_bser::{from_reader, from_slice};
 use std::alloc::Global;
@@ -34,8 +34,9 @@ const FEW: usize = 3;
 const MANY: usize = 500;
 
 /// What is done.
-const OPERATIONS: [&str; 7] = [
+const OPERATIONS: [&str; 8] = [
     "serialize",
+    "serialize-compact",
     "value",
     "value-reader",
     "typed-lent",
@@ -80,6 +81,7 @@ fn main(rt: HostRuntime) -> Result<()> {
 fn repeated(alloc: Global, operation: &str, message: &[u8], count: u32) -> Result<String> {
     match operation {
         "serialize" => written_often(alloc, message, count),
+        "serialize-compact" => compact_often(alloc, message, count),
         "value" => value_told(alloc, &read_often(alloc, message, count)?),
         "value-reader" => value_told(alloc, &copied_often(alloc, message, count)?),
         "typed-lent" => {
@@ -138,6 +140,19 @@ fn written_often(alloc: Global, message: &[u8], count: u32) -> Result<String> {
     let mut last = Vec::new(alloc);
     for _ in 0..count {
         last = written(alloc, &value)?;
+    }
+    bytes_told(alloc, &last)
+}
+
+// Writes the message's value in the compact form `count` times, each time to memory of its own, and
+// tells of what was written last.
+fn compact_often(alloc: Global, message: &[u8], count: u32) -> Result<String> {
+    let value: Value = from_slice(alloc, message)?;
+    let mut last = Vec::new(alloc);
+    for _ in 0..count {
+        let mut writer = Watched::new(Vec::new(alloc));
+        serialize_compact(alloc, &mut writer, &value)?;
+        last = writer.into_inner();
     }
     bytes_told(alloc, &last)
 }

@@ -11,7 +11,7 @@ use Rattle.bser_base.proofs.FoldedFits.{items_stay, folded_keys}
 use Rattle.bser_value.specs.declared.value.Value.{Value, Object}
 use Rattle.bser_value.specs.ValueView.{tree_of, items_view, entries_view}
 use Rattle.bser_value.proofs.Views.{length-items, length-entries}
-use Rattle.bser_compact.specs.Texts.{compact_tree, names_of, tree_has_keys, has_keys, keys_in, template_names}
+use Rattle.bser_compact.specs.Texts.{compact_tree, names_of, tree_has_keys, has_keys, template_keys, template_names}
 use Rattle.bser_compact.proofs.Pieces.{compact-Object}
 
 -- ---- objects of the same keys
@@ -49,11 +49,11 @@ all_rows ks (v ∷ vs) =
 
 -- ---- the first item and the others
 
-keys_made : (ks : List (List ℕ)) (ts : Items) (o : Option Rows) → keys_in (unwrap_or (option_map (template ks) o) (array ts)) ≡ (if is_some o then Some ks else None)
+keys_made : (ks : List (List ℕ)) (ts : Items) (o : Option Rows) → template_keys (unwrap_or (option_map (template ks) o) (array ts)) ≡ (if is_some o then Some ks else None)
 keys_made ks ts None = refl
 keys_made ks ts (Some rs) = refl
 
-first_and_rest : (es : Entries) (ts : Items) → 1 ≤ length (keys es) → 1 ≤ length (items ts) → keys_in (as_template (item (object es) ts)) ≡ (if is_some (rows_with (keys es) ts) then Some (keys es) else None)
+first_and_rest : (es : Entries) (ts : Items) → 1 ≤ length (keys es) → 1 ≤ length (items ts) → template_keys (as_template (item (object es) ts)) ≡ (if is_some (rows_with (keys es) ts) then Some (keys es) else None)
 first_and_rest no_entries ts some more = absurd (omega arith)
 first_and_rest (entry k t es) no_items some more = absurd (omega arith)
 first_and_rest (entry k t es) (item u us) some more =
@@ -64,7 +64,7 @@ first_and_rest (entry k t es) (item u us) some more =
 
 -- an object that has keys, and others of which b says whether they have its keys
 objects_keys : (es : Entries) (vs : List Value) (b : Bool) → 1 ≤ length (keys es) → 1 ≤ length vs → all_have (keys es) vs ≡ b
-    → keys_in (as_template (item (object (fold_entries es)) (fold_items (items_view vs)))) ≡ (if b then Some (keys es) else None)
+    → template_keys (as_template (item (object (fold_entries es)) (fold_items (items_view vs)))) ≡ (if b then Some (keys es) else None)
 objects_keys es vs b some more h =
     let same = folded_keys es in
     let long : 1 ≤ length (keys (fold_entries es)) = omega (arith, ap length same) in
@@ -79,7 +79,7 @@ shared vs rest v m b split is some more h =
     let es : Entries = entries_view m.entries in
     let named : 1 ≤ length (keys es) = omega (arith, length-entries m.entries, keys_length es) in
     ap template_names split
-    ∙ ap (λ t. keys_in (as_template (item t (fold_items (items_view rest))))) (ap compact_tree is ∙ compact-Object m)
+    ∙ ap (λ t. template_keys (as_template (item t (fold_items (items_view rest))))) (ap compact_tree is ∙ compact-Object m)
     ∙ objects_keys es rest b named more h
 
 -- ---- arrays that are no templates
@@ -89,8 +89,8 @@ not_rows (object es) ts ks rs h made = h es refl
 not_rows t ts ks rs h made = made
 
 -- what begins with no object is no template
-pub no_objects : (t : Tree) (ts : Items) → ((es : Entries) → t ≡ object es → ⊥) → keys_in (as_template (item t ts)) ≡ None
-no_objects t ts h = as_template_cases (λ u. keys_in u ≡ None) (item t ts) refl (λ k ks rs two made. absurd (not_rows t ts (k ∷ ks) rs h made))
+pub no_objects : (t : Tree) (ts : Items) → ((es : Entries) → t ≡ object es → ⊥) → template_keys (as_template (item t ts)) ≡ None
+no_objects t ts h = as_template_cases (λ u. template_keys u ≡ None) (item t ts) refl (λ k ks rs two made. absurd (not_rows t ts (k ∷ ks) rs h made))
 
 pub one_lacks : (ks : List (List ℕ)) (vs : List Value) (i : ℕ) (v : Value) → i < length vs → v ≡ get_or vs i v → has_keys ks v ≡ false → all_have ks (drop i vs) ≡ all_have ks vs → all_have ks vs ≡ false
 one_lacks ks vs i v within is lacks same = sym same ∙ ap (all_have ks) (item_here vs i v within is) ∙ ap (λ c. c && all_have ks (drop (i + 1) vs)) lacks

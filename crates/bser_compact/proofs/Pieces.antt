@@ -11,15 +11,15 @@ use Rattle.bser_base.proofs.FoldedFits.{items_stay, entries_stay}
 use Rattle.bser_value.specs.declared.value.Value.{Value, Array, Object}
 use Rattle.bser_value.specs.ValueView.{items_view, entries_view}
 use Rattle.bser_value.proofs.Views.{Entry, tree_of-Array, length-items, length-entries, tree_of-Object}
-use Rattle.bser_compact.specs.Texts.{compact_tree, value_text, items_text, entries_text, names_of, keys_in, template_names, template_head, head_text, row_of, row_text, rows_text}
+use Rattle.bser_compact.specs.Texts.{compact_tree, value_text, items_text, entries_text, names_of, template_keys, template_names, template_head, head_text, row_of, row_text, rows_text}
 
 pub compact-Object : (m : BTreeMap (String Global) Value) → compact_tree (Object m) ≡ object (fold_entries (entries_view m.entries))
 compact-Object m = ap fold_templates (tree_of-Object m)
 
 -- ---- an array that is no template
 
-stays : (ts : Items) → keys_in (as_template ts) ≡ None → as_template ts ≡ array ts
-stays ts = as_template_cases (λ u. keys_in u ≡ None → u ≡ array ts) ts (λ e. refl) (λ k ks rs two made e. cc)
+stays : (ts : Items) → template_keys (as_template ts) ≡ None → as_template ts ≡ array ts
+stays ts = as_template_cases (λ u. template_keys u ≡ None → u ≡ array ts) ts (λ e. refl) (λ k ks rs two made e. cc)
 
 pub compact-Array : (v : Vec Value Global) → template_names v.items ≡ None → compact_tree (Array v) ≡ array (fold_items (items_view v.items))
 compact-Array v h = ap fold_templates (tree_of-Array v) ∙ stays (fold_items (items_view v.items)) h
@@ -48,8 +48,8 @@ head_then : (ks : List (List ℕ)) (n : ℕ) (b : List ℕ) → 0x0b ∷ 0x00 �
 head_then ks n b = ap (λ l. 0x0b ∷ 0x00 ∷ l)
     (ap (λ l. least_count (length ks) ++ l) (sym (append_assoc (flat_map canonical_text ks) (least_count n) b)) ∙ sym (append_assoc (least_count (length ks)) (flat_map canonical_text ks ++ least_count n) b))
 
-template_body : (ts : Items) (ls : List (List ℕ)) → keys_in (as_template ts) ≡ Some ls → canonical_body (as_template ts) ≡ template_head ls (length (items ts)) ++ rows_of_items ts
-template_body ts ls = as_template_cases (λ u. keys_in u ≡ Some ls → canonical_body u ≡ template_head ls (length (items ts)) ++ rows_of_items ts) ts (λ e. cc)
+template_body : (ts : Items) (ls : List (List ℕ)) → template_keys (as_template ts) ≡ Some ls → canonical_body (as_template ts) ≡ template_head ls (length (items ts)) ++ rows_of_items ts
+template_body ts ls = as_template_cases (λ u. template_keys u ≡ Some ls → canonical_body u ≡ template_head ls (length (items ts)) ++ rows_of_items ts) ts (λ e. cc)
     (λ k ks rs two made e.
     let same : k ∷ ks ≡ ls = same_Some (k ∷ ks) ls e in
     let counted = rows_length (k ∷ ks) ts rs made in

@@ -46,13 +46,13 @@ abbrev pub has_keys : List (List ℕ) → Value → Bool
 has_keys ks v = tree_has_keys ks (tree_of v)
 
 -- a template's keys
-abbrev pub keys_in : Tree → Option (List (List ℕ))
-keys_in (template ks rs) = Some ks
-keys_in _ = None
+abbrev pub template_keys : Tree → Option (List (List ℕ))
+template_keys (template ks rs) = Some ks
+template_keys _ = None
 
 -- the keys of the template that an array of these items is written as, where it is written as one
 abbrev pub template_names : List Value → Option (List (List ℕ))
-template_names vs = keys_in (as_template (fold_items (items_view vs)))
+template_names vs = template_keys (as_template (fold_items (items_view vs)))
 
 -- a template's tag, its keys and the count of its rows
 abbrev pub template_head : List (List ℕ) → ℕ → List ℕ

@@ -59,6 +59,7 @@ impl Serialize for Compact<'_> {
 
 // Puts a value. The serializer keeps the reason of a refusal.
 #[cycle(add)]
+#[inline(always)]
 fn add_compact<W: Sink>(value: &Value, out: &mut Serializer<W>) -> Result<(), Refused>
     ensures ok { OnOk result (Sent W.took W.failures out.old out.new (value_text value.now)) }
     ensures err { OnErr result (Breaks W.took W.failures out.old out.new (value_text value.now)) }

@@ -20,13 +20,13 @@ use Rattle.bser_cursor.specs.Passed.{SkippedBytes}
 
 -- ---- the bytes
 
-may_negative : (e : Error) (a : source.State) → NegativeLength e a → MayRefuse owned e a
+may_negative : (e : Error) (a : source.SourceState) → NegativeLength e a → MayRefuse owned e a
 may_negative (DeCustom (Fixed BorrowedFromCopying)) a h = absurd cc
 may_negative (DeReaderError (Reader fault)) a h = absurd h
 may_negative OutOfMemory a h = absurd h
 may_negative _ a h = tt
 
-pub short_bytes : (len : ℤ) (utf8 : Bool) (e : Error) (a b : source.State) → BytesRefused len e a b → RefusesFront owned (SkippedBytes len utf8) e a b
+pub short_bytes : (len : ℤ) (utf8 : Bool) (e : Error) (a b : source.SourceState) → BytesRefused len e a b → RefusesFront owned (SkippedBytes len utf8) e a b
 short_bytes (pos n) utf8 e a b h = unwanted_front owned (SkippedBytes (pos n) utf8) e a b (short_of (SkippedBytes (pos n) utf8) n e a b (λ body w. (let k : length body ≡ n = (let q = w.1 in cc) in omega (arith, k))) h)
 short_bytes (negsuc n) utf8 e a b h = record {
   excuse = λ body rest w left. absurd (let q : pos (length body) ≡ negsuc n = w.1 in cc);
@@ -37,7 +37,7 @@ short_bytes (negsuc n) utf8 e a b h = record {
 }
 
 -- bytes that are not UTF-8
-pub bad_bytes : (len : ℤ) (utf8 : Bool) (e : Error) (got : List ℕ) (a b d : source.State) → utf8 ≡ true → IsRefusal e → pos (length got) ≡ len → Took a b got (sight_after (length got) a.sight) → ¬ (IsUtf8 got) → d.lends ≡ b.lends → d.through ≡ b.through → d.failures ≡ b.failures
+pub bad_bytes : (len : ℤ) (utf8 : Bool) (e : Error) (got : List ℕ) (a b d : source.SourceState) → utf8 ≡ true → IsRefusal e → pos (length got) ≡ len → Took a b got (sight_after (length got) a.sight) → ¬ (IsUtf8 got) → d.lends ≡ b.lends → d.through ≡ b.through → d.failures ≡ b.failures
     → RefusesFront owned (SkippedBytes len utf8) e a d
 bad_bytes len utf8 e got a b d strict kind size took bad lends through failures = record {
   excuse = λ body rest w left. absurd (

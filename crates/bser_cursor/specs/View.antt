@@ -11,7 +11,7 @@ use Rattle.bser_base.specs.declared.de.bunser.Bunser.{Bunser}
 use Rattle.bser_cursor.specs.declared.frame.Frame.{Frame}
 
 -- the state of a deserializer, by the state of its source and the bytes of a kept key
-abbrev pub state : {R L K : Type 0} → (R → source.State) → (K → List ℕ) → Deserializer R L K → State
+abbrev pub state : {R L K : Type 0} → (R → source.SourceState) → (K → List ℕ) → Deserializer R L K → State
 state at kept d =
     let ks = map kept d.keys.items in
     record {

@@ -7,7 +7,7 @@ ghost use Rattle.bser_state.specs.Fields.{HoldsField};
 ghost use Rattle.bser_state.specs.Heads.{IsTagged};
 ghost use Rattle.bser_state.specs.Nodes.{SeesNode, TookNull, IsOther};
 ghost use Rattle.bser_state.specs.Reading.{Answers};
-ghost use Rattle.bser_state.specs.Scalar.{IsValue};
+ghost use Rattle.bser_state.specs.Scalar.{IsValueDue};
 ghost use Rattle.bser_state.specs.Strings.{TookBytes};
 ghost use Rattle.bser_state.specs.State.{awaiting};
 ghost use Rattle.bser_cursor.specs.View.{state};
@@ -24,7 +24,7 @@ impl<R: DeRead> Deserializer<R> {
     /// Whether a value is due.
     #[inline(always)]
     fn is_value_due(&self) -> bool
-        ensures { result ≡ true → IsValue (state R.state R.Lent.kept self.now).due }
+        ensures { result ≡ true → IsValueDue (state R.state R.Lent.kept self.now).due }
     {
         match self.due {
             Due::Node | Due::Field => true,

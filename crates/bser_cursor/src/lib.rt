@@ -2,13 +2,13 @@
 #![tactic(auto)]
 
 pub mod at_hand;
+pub mod container;
 pub mod cursor;
 pub mod deserializer;
 pub mod frame;
 pub mod message;
-pub mod open;
 pub mod parts;
-pub mod pulls;
-pub mod skipping;
-pub mod strings;
-pub mod table;
+pub mod scalar;
+pub mod skip;
+pub mod string;
+pub mod template;

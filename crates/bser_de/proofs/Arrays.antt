@@ -14,7 +14,7 @@ use Rattle.bser_state.specs.State.{State, past, refused, awaiting}
 use Rattle.bser_state.specs.Reading.{TakesMemory, Answers, Refuses, RefusesFront, FillsReadably, IsRefusal}
 use Rattle.bser_state.specs.Scalar.{owned}
 use Rattle.bser_state.specs.Parts.{items_left, item_due, items_after, wanted_items}
-use Rattle.bser_state.specs.Access.{OpenItems, OpensItems, IsItemsHead, inside_items, items_in, IsNext, RefusesItem, ClosesItems, KeysOutside, LeavesItems, closed}
+use Rattle.bser_state.specs.Access.{OpenItems, OpensItems, IsItemsHead, inside_items, items_in, IsNextItem, RefusesItem, ClosesItems, KeysOutside, LeavesItems, closed}
 use Rattle.bser_state.proofs.Refusals.{passed_by, first_part, sequel, rest_of}
 use Rattle.bser_state.proofs.Steps.{unfit, failed_before}
 use Rattle.bser_state.proofs.Within.{Within, within_then, DueAs, due_as, took_then, one_due, wider_needs}
@@ -27,7 +27,7 @@ left_items ks false k = refl
 left_items ks true k = refl
 
 -- one item fewer is left after the next
-pub fewer_left : {A : Type 0} (reads : Meaning) (holds : A → Content → Type 0) (u t : OpenItems) (v : A) → IsNext reads holds u t v → items_left t.wanted < items_left u.wanted
+pub fewer_left : {A : Type 0} (reads : Meaning) (holds : A → Content → Type 0) (u t : OpenItems) (v : A) → IsNextItem reads holds u t v → items_left t.wanted < items_left u.wanted
 fewer_left reads holds u t v next = at u.wanted t.wanted next.counted (ap (λ a. a.wanted) next.after)
   where
     at : (w x : WantedItems) → 0 < items_left w → x ≡ items_after w → items_left x < items_left w
@@ -44,7 +44,7 @@ failed_item reads needs e a t same failed state = record {
 
 -- an item is made due in a, read from there on to y, and passed
 pub item_read : {A : Type 0} (reads : Meaning) (holds : A → Content → Type 0) (u a t : OpenItems) (rows : Bool) (k : ℕ) (y : State) (v : A) → 0 < items_left u.wanted → a ≡ items_in u (awaiting (item_due u.wanted) u.state) u.wanted
-    → a.wanted ≡ wanted_items a.state.keys rows k → Answers reads holds a.state y v → t ≡ items_in a y (items_after (wanted_items y.keys rows k)) → IsNext reads holds u t v
+    → a.wanted ≡ wanted_items a.state.keys rows k → Answers reads holds a.state y v → t ≡ items_in a y (items_after (wanted_items y.keys rows k)) → IsNextItem reads holds u t v
 item_read reads holds u a t rows k y v some due wanted answers passed =
     let same : y.keys ≡ a.state.keys = ap (λ z. z.keys) answers.state in
     let left : wanted_items y.keys rows k ≡ u.wanted = ap (λ ks. wanted_items ks rows k) same ∙ sym wanted ∙ ap (λ z. z.wanted) due in
@@ -180,16 +180,16 @@ inside_start reads k o u by opens = record {
   opened = opens.opened;
 }
 
-levels_inside : (w : WantedItems) (o : State) (r : source.State) → (inside_items w o r).levels ≡ o.levels - 1
+levels_inside : (w : WantedItems) (o : State) (r : source.SourceState) → (inside_items w o r).levels ≡ o.levels - 1
 levels_inside (nodes k) o r = refl
 levels_inside (rows_over ks k) o r = refl
 
-past_item : (w : WantedItems) (o : State) (r x : source.State) → past (awaiting (item_due w) (inside_items w o r)) x ≡ inside_items (items_after w) o x
+past_item : (w : WantedItems) (o : State) (r x : source.SourceState) → past (awaiting (item_due w) (inside_items w o r)) x ≡ inside_items (items_after w) o x
 past_item (nodes k) o r x = refl
 past_item (rows_over ks k) o r x = refl
 
 pub inside_next : {A : Type 0} (T : Meaning) (holds : A → Content → Type 0) (reads : Meaning) (k : List Tree → Option Content) (after : Content → List Tree → Option Content) (o : State) (u t : OpenItems) (v : A)
-    → ReadsNext T k after → Inside reads o k u → (next : IsNext T holds u t v) → Inside reads o (after next.answers.content) t
+    → ReadsNext T k after → Inside reads o k u → (next : IsNextItem T holds u t v) → Inside reads o (after next.answers.content) t
 inside_next T holds reads k after o u t v by h next =
     let a = next.answers in
     let level : u.state.levels ≡ o.levels - 1 = ap (λ z. z.levels) h.state ∙ levels_inside u.wanted o u.state.source in
@@ -208,14 +208,14 @@ inside_next T holds reads k after o u t v by h next =
 
 -- ---- the end
 
-keys_outside : (w : WantedItems) (o z : State) (r : source.State) → KeysOutside w (inside_items w o r) z → (z.keys ≡ o.keys) × (z.outer ≡ o.outer)
+keys_outside : (w : WantedItems) (o z : State) (r : source.SourceState) → KeysOutside w (inside_items w o r) z → (z.keys ≡ o.keys) × (z.outer ≡ o.outer)
 keys_outside (nodes k) o z r h = h
 keys_outside (rows_over ks k) o z r h = h o.keys o.outer refl
 
 abbrev restored : State → ℕ → ℕ → List (List ℕ) → List (List (List ℕ)) → State
 restored s levels opened keys outer = record (closed levels opened s) { keys = keys; outer = outer }
 
-restored_past : (w : WantedItems) (o : State) (r : source.State) → restored (inside_items w o r) o.levels o.opened o.keys o.outer ≡ past o r
+restored_past : (w : WantedItems) (o : State) (r : source.SourceState) → restored (inside_items w o r) o.levels o.opened o.keys o.outer ≡ past o r
 restored_past (nodes k) o r = refl
 restored_past (rows_over ks k) o r = refl
 

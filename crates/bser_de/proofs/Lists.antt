@@ -8,7 +8,7 @@ use Rattle.bser_base.specs.ReadsHolders.{list_of, reads_vec, reads_each, reads_t
 use Rattle.bser_base.specs.declared.errors.Error.{Error}
 use Rattle.bser_state.specs.State.{State}
 use Rattle.bser_state.specs.Reading.{Answers, Refuses}
-use Rattle.bser_state.specs.Access.{OpenItems, OpensItems, RefusesItems, IsNext, RefusesItem, ClosesItems}
+use Rattle.bser_state.specs.Access.{OpenItems, OpensItems, RefusesItems, IsNextItem, RefusesItem, ClosesItems}
 use Rattle.bser_state.specs.HoldsLists.{HoldsAll, HoldsList, HoldsEach, HoldsTuple}
 use Rattle.bser_de.proofs.Arrays.{ReadsArrays, ReadsNext, Inside, inside_start, inside_next, inside_end, opening_refused, item_refused}
 
@@ -97,7 +97,7 @@ pub record ReadsItems {A : Type 0} (T : Meaning) (holds : A → Content → Type
 pub items_start : {A : Type 0} (T : Meaning) (holds : A → Content → Type 0) (o : State) (u : OpenItems) → OpensItems o u → ReadsItems T holds o [] u
 items_start T holds o u opens = record { contents = []; held = tt; inside = inside_start (reads_vec T) (rest_of_list T []) o u (reads_list T) opens }
 
-pub items_next : {A : Type 0} (T : Meaning) (holds : A → Content → Type 0) (o : State) (vs : List A) (u t : OpenItems) (v : A) → ReadsItems T holds o vs u → IsNext T holds u t v → ReadsItems T holds o (vs ++ v ∷ []) t
+pub items_next : {A : Type 0} (T : Meaning) (holds : A → Content → Type 0) (o : State) (vs : List A) (u t : OpenItems) (v : A) → ReadsItems T holds o vs u → IsNextItem T holds u t v → ReadsItems T holds o (vs ++ v ∷ []) t
 items_next T holds o vs u t v h next = record {
   contents = h.contents ++ next.answers.content ∷ [];
   held = holds_last holds vs h.contents v next.answers.content h.held next.answers.held;
@@ -138,7 +138,7 @@ pub record ReadsParts (all Ts : List Meaning) (hs : List (Content → Type 0)) (
 pub parts_start : (Ts : List Meaning) (o : State) (u : OpenItems) → OpensItems o u → ReadsParts Ts Ts [] o u
 parts_start Ts o u opens = record { contents = []; held = tt; inside = inside_start (reads_tuple Ts) (rest_of_tuple Ts []) o u (reads_parts Ts) opens }
 
-pub parts_next : {A : Type 0} (T : Meaning) (holds : A → Content → Type 0) (all Ts : List Meaning) (hs : List (Content → Type 0)) (o : State) (u t : OpenItems) (v : A) → ReadsParts all (T ∷ Ts) hs o u → IsNext T holds u t v
+pub parts_next : {A : Type 0} (T : Meaning) (holds : A → Content → Type 0) (all Ts : List Meaning) (hs : List (Content → Type 0)) (o : State) (u t : OpenItems) (v : A) → ReadsParts all (T ∷ Ts) hs o u → IsNextItem T holds u t v
     → ReadsParts all Ts (hs ++ holds v ∷ []) o t
 parts_next T holds all Ts hs o u t v h next = record {
   contents = h.contents ++ next.answers.content ∷ [];

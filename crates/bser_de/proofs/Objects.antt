@@ -194,11 +194,11 @@ AtKey reads o k u = Inside reads o (PairsLeft k u.state.levels u.wanted) u
 abbrev pub AtValue : Meaning → State → Outlook → List ℕ → OpenPairs → Type 0
 AtValue reads o k name u = Inside reads o (ValueLeft k name u.state.levels u.wanted) u
 
-inner_levels : (w : WantedPairs) (o : State) (r : source.State) → (inside_pairs w o r).levels ≡ levels_inside o.levels w
+inner_levels : (w : WantedPairs) (o : State) (r : source.SourceState) → (inside_pairs w o r).levels ≡ levels_inside o.levels w
 inner_levels (entries_of_object k) o r = refl
 inner_levels (fields_of_row ks) o r = refl
 
-closed_again : (w : WantedPairs) (o : State) (r : source.State) → closed o.levels o.opened (inside_pairs w o r) ≡ past o r
+closed_again : (w : WantedPairs) (o : State) (r : source.SourceState) → closed o.levels o.opened (inside_pairs w o r) ≡ past o r
 closed_again (entries_of_object k) o r = refl
 closed_again (fields_of_row ks) o r = refl
 
@@ -348,7 +348,7 @@ value_refused V some needs reads k name e o z u lent memory takes by h key refus
     (wider_needs some needs W e u.state.source z.source lent memory takes (refuses.refuses key))
 
 -- nothing was taken, and no failure counted
-pub record Stays (a b : source.State) : Type 0 where
+pub record Stays (a b : source.SourceState) : Type 0 where
   pub lends : b.lends ≡ a.lends
   pub through : b.through ≡ a.through
   pub failures : b.failures ≡ a.failures

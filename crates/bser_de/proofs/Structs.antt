@@ -13,7 +13,7 @@ use Rattle.bser_state.specs.Parts.{pairs_left, pair_value, pairs_after}
 use Rattle.bser_state.specs.Access.{OpenPairs, OpensPairs, IsPairsHead, RefusesOpening, IsKey, NoEntry, RefusesKey, IsValue, RefusesValue, ClosesPairs, LeavesPairs, closed}
 use Rattle.bser_state.specs.Fields.{field_of, HoldsField}
 use Rattle.bser_base.specs.Source as source
-use Rattle.bser_de.specs.Fold.{folds, comes_to, by_name, struct_of, read_once, either}
+use Rattle.bser_de.specs.Fold.{folds, comes_to, step_by_name, struct_of, read_once, either}
 use Rattle.bser_de.specs.Slots.{Keeps, Steps, FillsStep, RefusesStep}
 use Rattle.bser_state.specs.declared.field.Field.{Field}
 use Rattle.bser_state.proofs.Steps.{takes_nothing}
@@ -44,7 +44,7 @@ same_text name other e = cc
 module _ {A : Type 0} (names : List (List ℕ)) (step : A → Field → Tree → Option A) (start : A) (finish : A → Option Content) where
   -- what the fields that are left come to
   abbrev pub outlook : A → Outlook
-  outlook = comes_to (by_name names step) finish
+  outlook = comes_to (step_by_name names step) finish
 
   reads_objects : ReadsObjects (struct_of names step start finish) (outlook start)
   reads_objects = record { same = λ us. refl; only = only }
@@ -94,13 +94,13 @@ module _ {A : Type 0} (names : List (List ℕ)) (step : A → Field → Tree →
       }
 
   -- the step that a field makes
-  pub made : (a : A) (f : Field) (name : List ℕ) (t : Tree) (es : List (List ℕ × Tree)) → is_utf8 name ≡ true → f ≡ field_of names name → outlook a ((name, t) ∷ es) ≡ option_and_then finish (option_and_then (λ b. folds (by_name names step) b es) (step a f t))
+  pub made : (a : A) (f : Field) (name : List ℕ) (t : Tree) (es : List (List ℕ × Tree)) → is_utf8 name ≡ true → f ≡ field_of names name → outlook a ((name, t) ∷ es) ≡ option_and_then finish (option_and_then (λ b. folds (step_by_name names step) b es) (step a f t))
   made a f name t es utf8 found = rw (utf8, found) refl
 
   pub struct_value : {V : Type 0} (T : Meaning) (holds : V → Content → Type 0) (o : State) (a b : A) (f : Field) (u t : OpenPairs) (v : V) → AtFieldValue o a f u → (value : IsValue T holds u t v) → step a f value.answers.tree ≡ Some b → AtField o b t
   struct_value T holds o a b f u t v h value next = record {
     inside = inside_value T holds (struct_of names step start finish) (outlook a) (outlook b) h.name o u t v h.inside value
-        (λ es. made a f h.name value.answers.tree es h.utf8 h.found ∙ ap (λ x. option_and_then finish (option_and_then (λ b. folds (by_name names step) b es) x)) next);
+        (λ es. made a f h.name value.answers.tree es h.utf8 h.found ∙ ap (λ x. option_and_then finish (option_and_then (λ b. folds (step_by_name names step) b es) x)) next);
     pending = ap (λ z. z.pending) value.after;
   }
 
@@ -125,8 +125,8 @@ module _ {A : Type 0} (names : List (List ℕ)) (step : A → Field → Tree →
 
   reads_names : (a : A) → ReadsKeys reads_string (outlook a)
   reads_names a name t es c h =
-      let p = and_then_some finish (folds (by_name names step) a ((name, t) ∷ es)) c h in
-      let q = and_then_some (λ b. folds (by_name names step) b es) (by_name names step a name t) p.0 p.1 in
+      let p = and_then_some finish (folds (step_by_name names step) a ((name, t) ∷ es)) c h in
+      let q = and_then_some (λ b. folds (step_by_name names step) b es) (step_by_name names step a name t) p.0 p.1 in
       let r = if_some (is_utf8 name) (step a (field_of names name) t) q.0 q.1 in
       (byte_list name, text_key (is_utf8 name) name r.0)
 
@@ -140,8 +140,8 @@ module _ {A : Type 0} (names : List (List ℕ)) (step : A → Field → Tree →
   field_refused T some needs e o z a f u lent memory takes by h refuses =
       value_refused T some needs (struct_of names step start finish) (outlook a) h.name e o z u lent memory takes
       (λ t es c read.
-      let p = and_then_some finish (option_and_then (λ b. folds (by_name names step) b es) (step a f t)) c (sym (made a f h.name t es h.utf8 h.found) ∙ read) in
-      let q = and_then_some (λ b. folds (by_name names step) b es) (step a f t) p.0 p.1 in
+      let p = and_then_some finish (option_and_then (λ b. folds (step_by_name names step) b es) (step a f t)) c (sym (made a f h.name t es h.utf8 h.found) ∙ read) in
+      let q = and_then_some (λ b. folds (step_by_name names step) b es) (step a f t) p.0 p.1 in
       by t q.0 q.1)
       h.inside h.pending refuses
 
@@ -150,8 +150,8 @@ module _ {A : Type 0} (names : List (List ℕ)) (step : A → Field → Tree →
   step_refused needs e o z a f u h refuses =
       part_refused needs (struct_of names step start finish) (ValueLeft (outlook a) h.name u.state.levels u.wanted) (FillsStep (λ b. step b f) a (awaiting (pair_value u.wanted) u.state)) e o z u h.inside
       (λ c text v.
-      let p = and_then_some finish (option_and_then (λ b. folds (by_name names step) b (entries v.parts)) (step a f v.value)) c (sym (made a f h.name v.value (entries v.parts) h.utf8 h.found) ∙ v.read) in
-      let q = and_then_some (λ b. folds (by_name names step) b (entries v.parts)) (step a f v.value) p.0 p.1 in
+      let p = and_then_some finish (option_and_then (λ b. folds (step_by_name names step) b (entries v.parts)) (step a f v.value)) c (sym (made a f h.name v.value (entries v.parts) h.utf8 h.found) ∙ v.read) in
+      let q = and_then_some (λ b. folds (step_by_name names step) b (entries v.parts)) (step a f v.value) p.0 p.1 in
       (v.filled.front, v.filled.rest, v.filled.whole, record { tree = v.value; next = q.0; made = q.1; filled = v.filled.first }))
       (refuses h.pending)
 
@@ -159,7 +159,7 @@ module _ {A : Type 0} (names : List (List ℕ)) (step : A → Field → Tree →
   pub field_unread : (needs : Needs) (e : Error) (o z : State) (a : A) (f : Field) (u : OpenPairs) → AtFieldValue o a f u → ((t : Tree) → step a f t ≡ None) → IsRefusal e → Stays u.state.source z.source → Refuses (struct_of names step start finish) needs e o z
   field_unread needs e o z a f u h none kind stays =
       key_unread (struct_of names step start finish) (outlook a) h.name needs e o z u h.inside
-      (λ t es. made a f h.name t es h.utf8 h.found ∙ ap (λ x. option_and_then finish (option_and_then (λ b. folds (by_name names step) b es) x)) (none t))
+      (λ t es. made a f h.name t es h.utf8 h.found ∙ ap (λ x. option_and_then finish (option_and_then (λ b. folds (step_by_name names step) b es) x)) (none t))
       kind stays
 
   -- fields that were read, but do not suffice
@@ -235,7 +235,7 @@ takes_right a b (inl m) = inl (either_right a.memory b.memory m)
 takes_right a b (inr k) = inr (either_right a.keys b.keys k)
 
 -- a refusal that leaves the source as it is, or fails it
-pub stays_here : (a : source.State) → Stays a a
+pub stays_here : (a : source.SourceState) → Stays a a
 stays_here a = record { lends = refl; through = refl; failures = refl }
 
 -- an object of which no entry is left is closed

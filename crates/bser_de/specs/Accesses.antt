@@ -11,7 +11,7 @@ use Rattle.bser_de.specs.declared.seq.SeqAccess.{SeqAccess}
 use Rattle.bser_de.specs.declared.map.MapAccess.{MapAccess}
 
 -- the array or template whose items an access reads
-abbrev pub open_items : {R L K : Type 0} → (R → source.State) → (K → List ℕ) → SeqAccess R L K → OpenItems
+abbrev pub open_items : {R L K : Type 0} → (R → source.SourceState) → (K → List ℕ) → SeqAccess R L K → OpenItems
 open_items at kept a =
     let s = state at kept a.from.now in
     record { state = s; wanted = wanted_items s.keys a.rows a.remaining; levels = a.levels; opened = a.opened }
@@ -21,7 +21,7 @@ abbrev pub items_reference : {R L K : Type 0} → SeqAccess R L K → GName
 items_reference a = a.from.ghost_name
 
 -- the object or row whose entries an access reads
-abbrev pub open_pairs : {R L K : Type 0} → (R → source.State) → (K → List ℕ) → MapAccess R L K → OpenPairs
+abbrev pub open_pairs : {R L K : Type 0} → (R → source.SourceState) → (K → List ℕ) → MapAccess R L K → OpenPairs
 open_pairs at kept a =
     let s = state at kept a.from.now in
     record { state = s; wanted = wanted_pairs s.keys a.row a.at; pending = a.pending; levels = a.levels; opened = a.opened }
@@ -43,7 +43,7 @@ abbrev pub with_place : {R L K : Type 0} → MapAccess R L K → ℕ → MapAcce
 with_place a n = record a { at = n }
 
 -- the access is to a row whose next field is at this place; no value is due, and no call was refused
-pub record IsAtRow {R L K : Type 0} (at : R → source.State) (kept : K → List ℕ) (a : MapAccess R L K) (place : ℕ) : Type 0 where
+pub record IsAtRow {R L K : Type 0} (at : R → source.SourceState) (kept : K → List ℕ) (a : MapAccess R L K) (place : ℕ) : Type 0 where
   pub row : a.row ≡ true
   pub read : a.pending ≡ false
   pub working : (state at kept a.from.now).source.failed ≡ false

@@ -21,12 +21,12 @@ object_of step start finish (object es) = comes_to step finish start (entries es
 object_of step start finish _ = None
 
 -- a step by the place of the entry's name; a name that is not UTF-8 is refused
-abbrev pub by_name : {A : Type 0} → List (List ℕ) → (A → Field → Tree → Option A) → A → List ℕ → Tree → Option A
-by_name names step a name t = if is_utf8 name then step a (field_of names name) t else None
+abbrev pub step_by_name : {A : Type 0} → List (List ℕ) → (A → Field → Tree → Option A) → A → List ℕ → Tree → Option A
+step_by_name names step a name t = if is_utf8 name then step a (field_of names name) t else None
 
 -- a struct of fields with these names
 abbrev pub struct_of : {A : Type 0} → List (List ℕ) → (A → Field → Tree → Option A) → A → (A → Option Content) → Meaning
-struct_of names step = object_of (by_name names step)
+struct_of names step = object_of (step_by_name names step)
 
 -- a field that is read once
 abbrev pub read_once : Meaning → Option Content → Tree → Option (Option Content)

@@ -58,12 +58,12 @@ or_absent None absent = absent
 or_absent (Some c) absent = Some c
 
 -- what a field is at the end
-abbrev pub at_end : StructField → Option Content
-at_end s = or_absent s.found s.absent
+abbrev pub field_at_end : StructField → Option Content
+field_at_end s = or_absent s.found s.absent
 
 -- a list of what each field is at the end
 abbrev pub all_at_end : List StructField → Option Content
-all_at_end ss = option_map list_of (each_some at_end ss)
+all_at_end ss = option_map list_of (each_some field_at_end ss)
 
 -- an object that has each of these fields at most once, in any order, and each that is required
 abbrev pub reads_struct : List (List ℕ) → List StructField → Meaning
@@ -95,14 +95,14 @@ KeepsBoth first others [] = ⊥
 KeepsBoth first others (s ∷ ss) = first s × others ss
 
 -- what a field is at the end, or none where it is required and absent
-abbrev pub Finishes : {A : Type 0} → (A → Content → Type 0) → StructField → Option A → Type 0
-Finishes holds s None = at_end s ≡ None
-Finishes holds s (Some v) = (c : Content) × (at_end s ≡ Some c) × holds v c
+abbrev pub FinishesField : {A : Type 0} → (A → Content → Type 0) → StructField → Option A → Type 0
+FinishesField holds s None = field_at_end s ≡ None
+FinishesField holds s (Some v) = (c : Content) × (field_at_end s ≡ Some c) × holds v c
 
 -- what each field is at the end, or none where one is required and absent
 abbrev pub FinishesEach : {A : Type 0} → (A → List (Content → Type 0)) → List StructField → Option A → Type 0
-FinishesEach holds ss None = each_some at_end ss ≡ None
-FinishesEach holds ss (Some v) = (cs : List Content) × (each_some at_end ss ≡ Some cs) × HoldsEach (holds v) cs
+FinishesEach holds ss None = each_some field_at_end ss ≡ None
+FinishesEach holds ss (Some v) = (cs : List Content) × (each_some field_at_end ss ≡ Some cs) × HoldsEach (holds v) cs
 
 -- ---- the value of a field
 

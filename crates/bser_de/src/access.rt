@@ -10,15 +10,15 @@ ghost use Rattle.bser_de.specs.Slots.{ReadsOnce, RefusesOnce};
 ghost use Rattle.bser_de.specs.contracts.map.MapAccess.{the_row as access_row};
 ghost use Rattle.bser_state.specs.Access.{closed, pairs_in};
 
+use crate::deserialize::Deserialize;
 use crate::front::typed_at_hand;
 use crate::map::MapAccess;
-use crate::reading::Deserialize;
 use crate::seq::SeqAccess;
 use bser_base::de::read::{DeRead, LendsText};
 use bser_base::errors::Error;
+use bser_cursor::container::{Containers, MapHead, SeqHead};
 use bser_cursor::cursor::Cursor;
 use bser_cursor::deserializer::Deserializer;
-use bser_cursor::open::{Containers, MapHead, SeqHead};
 use std::alloc::Global;
 
 /// An access to the items of the array or template that this head opened.

@@ -6,7 +6,7 @@ ghost use Rattle.bser_de.specs.RowsAtHand.{ReadsField};
 ghost use Rattle.bser_state.specs.State.{awaiting};
 ghost use Rattle.bser_cursor.specs.View.{state};
 
-use crate::reading::Deserialize;
+use crate::deserialize::Deserialize;
 use bser_base::de::read::{DeRead, LendsText};
 use bser_cursor::cursor::Cursor;
 use bser_cursor::deserializer::Deserializer;

@@ -2,10 +2,10 @@
 #![tactic(auto)]
 
 pub mod access;
+pub mod container;
+pub mod deserialize;
 pub mod front;
 pub mod impls;
 pub mod map;
 pub mod map_at_hand;
-pub mod opening;
-pub mod reading;
 pub mod seq;

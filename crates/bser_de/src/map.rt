@@ -9,12 +9,12 @@ ghost use Rattle.bser_state.specs.Parts.{pairs_left, pairs_after};
 ghost use Rattle.bser_state.specs.Reading.{bare};
 ghost use Rattle.bser_de.specs.Slots.{ReadsOnce, RefusesOnce};
 
-use crate::reading::Deserialize;
+use crate::deserialize::Deserialize;
 use bser_base::de::read::{DeRead, LendsText};
 use bser_base::errors::{Complaint, Error, Result};
+use bser_cursor::container::{Containers, MapHead};
 use bser_cursor::cursor::Cursor;
 use bser_cursor::deserializer::Deserializer;
-use bser_cursor::open::{Containers, MapHead};
 use bser_cursor::parts::keys_of;
 use bser_state::field::{Field, find_field};
 use std::alloc::Global;

@@ -1,16 +1,16 @@
 //! Reading the items of an array.
 ghost use Rattle.std.specs.Prelude.{◌≡◌, ◌<◌, IfOk, IfErr, OnOk};
-ghost use Rattle.bser_state.specs.Access.{NextItem, IsNext, RefusesItem, ClosesItems, LeavesItems, items_in};
+ghost use Rattle.bser_state.specs.Access.{NextItem, IsNextItem, RefusesItem, ClosesItems, LeavesItems, items_in};
 ghost use Rattle.bser_state.specs.Parts.{items_left, item_due, items_after};
 ghost use Rattle.bser_state.specs.Required.{RefusesRequired};
 ghost use Rattle.bser_state.specs.State.{awaiting};
 
-use crate::reading::Deserialize;
+use crate::deserialize::Deserialize;
 use bser_base::de::read::{DeRead, LendsText};
 use bser_base::errors::{Complaint, Error, ReadCause, Result};
+use bser_cursor::container::Containers;
 use bser_cursor::cursor::Cursor;
 use bser_cursor::deserializer::Deserializer;
-use bser_cursor::open::Containers;
 use std::alloc::Global;
 
 /// The items of an open array or template.
@@ -122,7 +122,7 @@ where
     /// Refused else as [`SeqAccess::next_element`] is.
     pub fn required_element<T: Deserialize<R::Lent>>(&mut self, alloc: Global) -> Result<T>
         ensures same_reference { items_reference self.new ≡ items_reference self.old }
-        ensures found { IfOk result (IsNext T.reads T.holds (open_items R.state R.Lent.kept self.old) (open_items R.state R.Lent.kept self.new)) }
+        ensures found { IfOk result (IsNextItem T.reads T.holds (open_items R.state R.Lent.kept self.old) (open_items R.state R.Lent.kept self.new)) }
         ensures refused { IfErr result (λ e. RefusesRequired T.reads T.needs e (open_items R.state R.Lent.kept self.old) (open_items R.state R.Lent.kept self.new).state) }
     {
         match self.next_element(alloc)? {

@@ -13,7 +13,7 @@ use Rattle.std.specs.Int.{w64, to_le_bytes, from_le_bytes, cast_signed, cast_uns
 use mir.Val.{bits}
 use Rattle.bser_format.specs.Tree.{Tree, null, boolean, integer, real, bytes, text, array, object, template, Items, no_items, item, Entries, no_entries, entry, Rows, no_rows, row, Fields, no_fields, skip, field, items, entries, fields, rows, items_of, entries_of, fields_of, rows_of}
 use Rattle.bser_format.specs.Grammar.{Format, Bytes, Given, Each, SpellsInteger, SpellsCount, SpellsString, SpellsKey, SpellsEntry, SpellsField, IsTemplate, Spells, IntSize, int8, int16, int32, int64, width_of, int_bytes, ◌then◌}
-use Rattle.bser_format.specs.Plain.{Reader, give, ◌>>=◌, next, front, many, number, int, natural, count, string, check, utf8, key_after, any_string, key, entry_of, prefer, skipped, field_of, array_body, object_body, rows_body, template_body, leaf, branch, is_positive, value}
+use Rattle.bser_format.specs.Plain.{Reader, give, ◌>>=◌, next, front, many, number, int, natural, count, string, check, utf8, key_after, any_string, key, entry_of, prefer, skipped, field_after, array_body, object_body, rows_body, template_body, leaf, branch, is_positive, value}
 
 -- ---- readers
 
@@ -146,9 +146,9 @@ object_reads r F one es =
     (reads_last (many (entry_of r) (length (entries es))) (λ us. give (object (entries_of us))) (Each (SpellsEntry F) (entries es)) (entries es) (object es)
     (many_all (entry_of r) (SpellsEntry F) (entry_reads r F one) (entries es)) (λ y. ap (λ us. Some (object us, y)) (entries_back es)))
 
-pub field_reads : (r : Reader Tree) (F : Tree → Format) → ((t : Tree) → Reads r (F t) t) → ((y : List ℕ) → r (0x0c ∷ y) ≡ None) → (f : Option Tree) → Reads (field_of r) (SpellsField F f) f
+pub field_reads : (r : Reader Tree) (F : Tree → Format) → ((t : Tree) → Reads r (F t) t) → ((y : List ℕ) → r (0x0c ∷ y) ≡ None) → (f : Option Tree) → Reads (field_after r) (SpellsField F f) f
 field_reads r F one no_skip None b y h =
-    ap (λ c. field_of r (c ++ y)) h ∙ ap (λ o. prefer (option_and_then (λ p. give (Some p.0) p.1) o) (Some (None, y))) (no_skip y)
+    ap (λ c. field_after r (c ++ y)) h ∙ ap (λ o. prefer (option_and_then (λ p. give (Some p.0) p.1) o) (Some (None, y))) (no_skip y)
 field_reads r F one no_skip (Some t) b y h = ap (λ o. prefer (option_and_then (λ p. give (Some p.0) p.1) o) ((next >>= skipped) (b ++ y))) (one t b y h)
 
 pub rows_reads : (r : Reader Tree) (F : Tree → Format) → ((t : Tree) → Reads r (F t) t) → ((y : List ℕ) → r (0x0c ∷ y) ≡ None)
@@ -156,9 +156,9 @@ pub rows_reads : (r : Reader Tree) (F : Tree → Format) → ((t : Tree) → Rea
 rows_reads r F one no_skip [] no_rows e b y h = ap (λ c. Some (template [] no_rows, c ++ y)) h
 rows_reads r F one no_skip [] (row f rs) e b y h = cc
 rows_reads r F one no_skip (k ∷ ks) rs each b y h =
-    reads_last (many (many (field_of r) (length (k ∷ ks))) (length (rows rs))) (λ us. give (template (k ∷ ks) (rows_of us))) (Each (Each (SpellsField F)) (rows rs)) (rows rs) (template (k ∷ ks) rs)
-    (many_reads (many (field_of r) (length (k ∷ ks))) (Each (SpellsField F)) (λ fs. length fs ≡ length (k ∷ ks))
-    (λ fs e. subst (λ m. Reads (many (field_of r) m) (Each (SpellsField F) fs) fs) e (many_all (field_of r) (SpellsField F) (field_reads r F one no_skip) fs)) (rows rs) each)
+    reads_last (many (many (field_after r) (length (k ∷ ks))) (length (rows rs))) (λ us. give (template (k ∷ ks) (rows_of us))) (Each (Each (SpellsField F)) (rows rs)) (rows rs) (template (k ∷ ks) rs)
+    (many_reads (many (field_after r) (length (k ∷ ks))) (Each (SpellsField F)) (λ fs. length fs ≡ length (k ∷ ks))
+    (λ fs e. subst (λ m. Reads (many (field_after r) m) (Each (SpellsField F) fs) fs) e (many_all (field_after r) (SpellsField F) (field_reads r F one no_skip) fs)) (rows rs) each)
     (λ w. ap (λ us. Some (template (k ∷ ks) us, w)) (rows_back rs)) b y h
 
 pub table_reads : (r : Reader Tree) (F : Tree → Format) → ((t : Tree) → Reads r (F t) t) → ((y : List ℕ) → r (0x0c ∷ y) ≡ None)

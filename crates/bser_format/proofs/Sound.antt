@@ -13,7 +13,7 @@ use Rattle.std.specs.Int.{w64, to_le_bytes, from_le_bytes, cast_signed, byte_len
 use mir.Val.{bits}
 use Rattle.bser_format.specs.Tree.{Tree, null, boolean, integer, real, bytes, text, array, object, template, Items, Entries, Rows, items, entries, fields, rows, items_of, entries_of, fields_of, rows_of}
 use Rattle.bser_format.specs.Grammar.{Format, Bytes, Given, Each, SpellsInteger, SpellsCount, SpellsString, SpellsKey, SpellsEntry, SpellsField, IsTemplate, Spells, IntSize, int8, int16, int32, int64, width_of, tag_of, ◌then◌}
-use Rattle.bser_format.specs.Plain.{Reader, give, fail, ◌>>=◌, next, front, many, number, int_after, int, natural, count, string, check, utf8, key_after, any_string, key, entry_of, prefer, or_else, skipped, field_of, array_body, object_body, rows_body, template_body, leaf, branch, is_positive, value}
+use Rattle.bser_format.specs.Plain.{Reader, give, fail, ◌>>=◌, next, front, many, number, int_after, int, natural, count, string, check, utf8, key_after, any_string, key, entry_of, prefer, or_else, skipped, field_after, array_body, object_body, rows_body, template_body, leaf, branch, is_positive, value}
 use Rattle.bser_format.proofs.Canon.{joined, tagged}
 use Rattle.bser_format.proofs.Laws.{more_levels}
 
@@ -260,7 +260,7 @@ or_sound {X = X} r s R f g b y x all e = go (r b) refl
     go None none = g b y x all (ap (λ q. prefer q (s b)) (sym none) ∙ e)
     go (Some p) some = f b y x all (some ∙ ap (λ q. prefer q (s b)) (sym some) ∙ e)
 
-field_sound : (r : Reader Tree) (F : Tree → Format) → Sound r F → Sound (field_of r) (SpellsField F)
+field_sound : (r : Reader Tree) (F : Tree → Format) → Sound r F → Sound (field_after r) (SpellsField F)
 field_sound r F one = or_sound (r >>= λ t. give (Some t)) (next >>= skipped) (SpellsField F)
     (map_sound r (λ t. Some t) F (SpellsField F) one (λ t b h. h))
     (by_tag skipped (SpellsField F) λ tag. tag_sound tag 0x0c (give None) fail (λ t f b. SpellsField F f (t ∷ b)) (give_sound None _ refl) (fail_sound _))
@@ -287,9 +287,9 @@ no_rows_read [] e = refl
 no_rows_read (r ∷ rs) e = absurd (omega arith)
 
 rows_made : (r : Reader Tree) (F : Tree → Format) → Sound r F → (ks : List (List ℕ)) (m : ℕ) → ((rs : List (List (Option Tree))) → length rs ≡ m → ks ≡ [] → rs ≡ [])
-    → Sound (many (many (field_of r) (length ks)) m >>= λ rs. give (template ks (rows_of rs))) (IsTableOf F ks m)
-rows_made r F one ks m none = map_sound (many (many (field_of r) (length ks)) m) (λ rs. template ks (rows_of rs)) (Many (Many (SpellsField F) (length ks)) m) (IsTableOf F ks m)
-    (many_sound (many (field_of r) (length ks)) (Many (SpellsField F) (length ks)) (many_sound (field_of r) (SpellsField F) (field_sound r F one) (length ks)) m)
+    → Sound (many (many (field_after r) (length ks)) m >>= λ rs. give (template ks (rows_of rs))) (IsTableOf F ks m)
+rows_made r F one ks m none = map_sound (many (many (field_after r) (length ks)) m) (λ rs. template ks (rows_of rs)) (Many (Many (SpellsField F) (length ks)) m) (IsTableOf F ks m)
+    (many_sound (many (field_after r) (length ks)) (Many (SpellsField F) (length ks)) (many_sound (field_after r) (SpellsField F) (field_sound r F one) (length ks)) m)
     (λ rs b h. let long = each_long F (length ks) rs b h.1 in let back = sym (rows_there rs) in
     (rows_of rs, refl, subst (IsTemplate ks) back (table_rows ks rs (none rs h.0) long.0), ap length (rows_there rs) ∙ h.0, subst (λ us. RowsBody F us b) back long.1))
 

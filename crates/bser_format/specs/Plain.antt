@@ -84,8 +84,8 @@ or_else r s b = prefer (r b) (s b)
 abbrev pub skipped : ℕ → Reader (Option Tree)
 skipped tag = if tag == 0x0c then give None else fail
 
-abbrev pub field_of : Reader Tree → Reader (Option Tree)
-field_of r = or_else (r >>= λ t. give (Some t)) (next >>= skipped)
+abbrev pub field_after : Reader Tree → Reader (Option Tree)
+field_after r = or_else (r >>= λ t. give (Some t)) (next >>= skipped)
 
 abbrev pub array_body : Reader Tree → Reader Tree
 array_body r = do
@@ -102,7 +102,7 @@ object_body r = do
 abbrev pub rows_body : Reader Tree → List (List ℕ) → ℕ → ℕ → Reader Tree
 rows_body r ks zero (suc m) = fail
 rows_body r ks n m = do
-  rs ← many (many (field_of r) n) m
+  rs ← many (many (field_after r) n) m
   give (template ks (rows_of rs))
 
 abbrev pub template_body : Reader Tree → ℕ → Reader Tree

@@ -54,8 +54,8 @@ abbrev pub tuple_tree : List (Option Tree) → Option Tree
 tuple_tree parts = array_tree part_tree parts
 
 -- a byte string is its bytes
-abbrev pub same_bytes : List ℕ → List ℕ
-same_bytes s = s
+abbrev pub plain_bytes : List ℕ → List ℕ
+plain_bytes s = s
 
 -- an object of all entries, where each value has a tree
 abbrev pub object_tree : {K V : Type 0} → (K → List ℕ) → (V → Option Tree) → List (K × V) → Option Tree
@@ -63,7 +63,7 @@ object_tree key f es = option_map object (written_entries key f es)
 
 -- a struct is the object of its fields, in their order
 abbrev pub struct_tree : List (List ℕ × Option Tree) → Option Tree
-struct_tree fields = object_tree same_bytes part_tree fields
+struct_tree fields = object_tree plain_bytes part_tree fields
 
 -- an enum's variant with a payload is an object of one entry, from its name
 abbrev pub variant_tree : List ℕ → Option Tree → Option Tree

@@ -32,6 +32,6 @@ pub record Unwritten {R W : Type 0} (form : Tree → Tree) (reads : Meaning) (le
   pub missed : Missed took faults (Some (form (tree_of value))) before after e
 
 -- a refusal, of the reading or of the writing
-abbrev pub Refuses : {R W : Type 0} → (Tree → Tree) → Meaning → (R → Option (List ℕ)) → (R → ℕ) → (W → W → List ℕ → Type 0) → (W → ℕ) → R → R → W → W → Error → Type 0
-Refuses form reads left failures took faults old new before after e =
+abbrev pub RefusesRewriting : {R W : Type 0} → (Tree → Tree) → Meaning → (R → Option (List ℕ)) → (R → ℕ) → (W → W → List ℕ → Type 0) → (W → ℕ) → R → R → W → W → Error → Type 0
+RefusesRewriting form reads left failures took faults old new before after e =
     Unread reads left failures old new before after e ⊎ Unwritten form reads left took faults old new before after e

@@ -1,6 +1,6 @@
 //! The program over any streams.
 ghost use Rattle.std.specs.Prelude.{◌≡◌, ◌≢◌, ◌≤◌, ◌<◌, ◌↔◌, [], ◌∷◌, ◌++◌, codes, length, string_bytes, OnOk, IfOk, IfErr, None};
-ghost use Rattle.bser_rewriting.specs.Canon.{Rewrote, Refuses};
+ghost use Rattle.bser_rewriting.specs.Canon.{Rewrote, RefusesRewriting};
 ghost use Rattle.bser_rewriting.specs.Arguments.{IsUnknown, asked, form_of, in_form};
 ghost use Rattle.bser_rewriting.specs.Line.{IsReport, PutsLine, PutsReport};
 
@@ -53,7 +53,7 @@ pub fn run<R: Source, W: Sink, E: Sink>(
     ensures told { result ≡ REFUSED → PutsReport E.took E.failures errors.old errors.new }
     ensures refused { result ≡ REFUSED →
         (e : Error)
-        × Refuses (asked args.now) ⟦<Value as Shape>⟧.reads R.remaining R.failures W.took
+        × RefusesRewriting (asked args.now) ⟦<Value as Shape>⟧.reads R.remaining R.failures W.took
         W.failures reader.old reader.new writer.old writer.new e }
 {
     let Some(form) = form_asked(args) else {
@@ -102,7 +102,7 @@ fn rewrite<R: Source, W: Sink>(
         (Rewrote (in_form form) ⟦<Value as Shape>⟧.reads R.remaining W.took
         reader.old reader.new writer.old writer.new) }
     ensures refused { IfErr result
-        (Refuses (in_form form) ⟦<Value as Shape>⟧.reads R.remaining R.failures W.took
+        (RefusesRewriting (in_form form) ⟦<Value as Shape>⟧.reads R.remaining R.failures W.took
         W.failures reader.old reader.new writer.old writer.new) }
 {
     match form {

@@ -7,11 +7,11 @@ use Rattle.bser_format.specs.declared.errors.Error.{Error}
 use Rattle.bser_format.specs.declared.errors.Error.TheVariants.{OutOfMemory, Io}
 use Rattle.bser_ser.specs.Sent.{Sent, Excuses, IsNew, IsFlushed}
 use Rattle.bser_ser.specs.Ends.{Ends, Stops, text_of}
-use Rattle.bser_ser.specs.Message.{message_of, IsLength, Wrote, Broke, Partly, IsFault}
+use Rattle.bser_ser.specs.Message.{message_of, IsBodyLength, Wrote, Broke, Partly, IsWriterFault}
 use Rattle.bser_ser.specs.declared.serializer.Serializer.{Serializer}
 use Rattle.bser_ser.proofs.Ends.{Ends-both, Stops-second}
 
-IsFault-from : {S : Type 0} (failures : S → ℕ) (a b : Serializer S) (e : Error) → Excuses failures a b e → IsFault (failures a.writer) (failures b.writer) e
+IsFault-from : {S : Type 0} (failures : S → ℕ) (a b : Serializer S) (e : Error) → Excuses failures a b e → IsWriterFault (failures a.writer) (failures b.writer) e
 IsFault-from failures a b OutOfMemory x = tt
 IsFault-from failures a b (Io e) x = x
 IsFault-from failures a b _ x = x
@@ -22,11 +22,11 @@ module _ {S : Type 0} (took : S → S → List ℕ → Type 0) (failures : S →
       let same : s.taken ≡ bs = sym (append-nil s.taken) ∙ (ap (λ xs. s.taken ++ xs) (sym all) ∙ (sym s.grew ∙ ap (λ xs. xs ++ bs) none)) in
       subst (λ (xs : List ℕ). took a.writer b.writer xs) same s.took_it
 
-  pub Wrote-from : (m : Option Tree) (len : ℤ) (w : S) (a b : Serializer S) → IsLength m len → IsNew a w → IsFlushed b → Ends took failures (message_of m) a b → Wrote took m w b.writer
+  pub Wrote-from : (m : Option Tree) (len : ℤ) (w : S) (a b : Serializer S) → IsBodyLength m len → IsNew a w → IsFlushed b → Ends took failures (message_of m) a b → Wrote took m w b.writer
   Wrote-from None len w a b is n f s = s
   Wrote-from (Some t) len w a b is n f s = (subst (λ (v : S). took v b.writer (canonical_message t)) n.0 (took_whole a b (canonical_message t) n.1 f s), is.1)
 
-  pub Broke-from : (m : Option Tree) (len : ℤ) (w : S) (a b : Serializer S) (e : Error) → IsLength m len → IsNew a w → Stops took failures (message_of m) a b e → Broke took failures m w b.writer e
+  pub Broke-from : (m : Option Tree) (len : ℤ) (w : S) (a b : Serializer S) (e : Error) → IsBodyLength m len → IsNew a w → Stops took failures (message_of m) a b e → Broke took failures m w b.writer e
   Broke-from None len w a b e is n s = absurd is
   Broke-from (Some t) len w a b e is n s = subst (λ (v : S). Partly took failures (canonical_message t) v b.writer e) n.0 (record {
     front = s.sent.taken;
@@ -41,10 +41,10 @@ abbrev pub front : ℤ → List ℕ
 front len = 0 ∷ 2 ∷ (to_le_bytes w32 0 ++ least_integer len)
 
 module _ {S : Type 0} (took : S → S → List ℕ → Type 0) (failures : S → ℕ) (both : (a b c : S) (xs ys : List ℕ) → took a b xs → took b c ys → took a c (xs ++ ys)) where
-  pub Ends-message : (m : Option Tree) (len : ℤ) (a b c : Serializer S) → IsLength m len → Sent took failures a b (front len) → Ends took failures (text_of m) b c → Ends took failures (message_of m) a c
+  pub Ends-message : (m : Option Tree) (len : ℤ) (a b c : Serializer S) → IsBodyLength m len → Sent took failures a b (front len) → Ends took failures (text_of m) b c → Ends took failures (message_of m) a c
   Ends-message None len a b c is s t = t
   Ends-message (Some u) len a b c is s t = Ends-both took failures both (Some (front (pos (length (canonical_body u))))) (Some (canonical_body u)) a b c (rw (← is.0) s) t
 
-  pub Stops-message : (m : Option Tree) (len : ℤ) (a b c : Serializer S) (e : Error) → IsLength m len → Sent took failures a b (front len) → Stops took failures (text_of m) b c e → Stops took failures (message_of m) a c e
+  pub Stops-message : (m : Option Tree) (len : ℤ) (a b c : Serializer S) (e : Error) → IsBodyLength m len → Sent took failures a b (front len) → Stops took failures (text_of m) b c e → Stops took failures (message_of m) a c e
   Stops-message None len a b c e is s t = absurd is
   Stops-message (Some u) len a b c e is s t = Stops-second took failures both (Some (front (pos (length (canonical_body u))))) (Some (canonical_body u)) a b c e (rw (← is.0) s) t

@@ -3,7 +3,7 @@ use Rattle.std.proofs.Common.{◌≡◌, ℕ, List, [], ◌∷◌, ◌++◌, len
 use Rattle.bser_format.specs.Tree.{Tree}
 use Rattle.bser_format.specs.Canonical.{canonical_body, canonical_key, least_integer}
 use Rattle.bser_format.specs.Pieces.{array_head, object_head, newtype_variant_head, tuple_variant_head, struct_variant_head}
-use Rattle.bser_format.specs.Written.{part_tree, same_bytes, tuple_tree, struct_tree, variant_tree}
+use Rattle.bser_format.specs.Written.{part_tree, plain_bytes, tuple_tree, struct_tree, variant_tree}
 use Rattle.bser_format.specs.declared.errors.Error.{Error}
 use Rattle.bser_ser.specs.Sent.{Sent, Excuses}
 use Rattle.bser_ser.specs.Ends.{Ends, Stops, text_of, then}
@@ -27,14 +27,14 @@ tuple_variant_text name parts =
     ∙ sym (then-assoc (Some (newtype_variant_head name)) (Some (array_head (length parts))) (joined (item_text part_tree) parts))
 
 -- the fields of a struct variant, after its head
-pub struct_variant_text : (name : List ℕ) (fields : List (List ℕ × Option Tree)) → text_of (variant_tree name (struct_tree fields)) ≡ then (Some (struct_variant_head name (length fields))) (joined (entry_text same_bytes part_tree) fields)
+pub struct_variant_text : (name : List ℕ) (fields : List (List ℕ × Option Tree)) → text_of (variant_tree name (struct_tree fields)) ≡ then (Some (struct_variant_head name (length fields))) (joined (entry_text plain_bytes part_tree) fields)
 struct_variant_text name fields =
-    variant_text name (struct_tree fields) ∙ ap (then (Some (newtype_variant_head name))) (object_text same_bytes part_tree fields)
-    ∙ sym (then-assoc (Some (newtype_variant_head name)) (Some (object_head (length fields))) (joined (entry_text same_bytes part_tree) fields))
+    variant_text name (struct_tree fields) ∙ ap (then (Some (newtype_variant_head name))) (object_text plain_bytes part_tree fields)
+    ∙ sym (then-assoc (Some (newtype_variant_head name)) (Some (object_head (length fields))) (joined (entry_text plain_bytes part_tree) fields))
 
 -- the fields of a struct, after its head
-pub struct_text : (fields : List (List ℕ × Option Tree)) → text_of (struct_tree fields) ≡ then (Some (object_head (length fields))) (joined (entry_text same_bytes part_tree) fields)
-struct_text fields = object_text same_bytes part_tree fields
+pub struct_text : (fields : List (List ℕ × Option Tree)) → text_of (struct_tree fields) ≡ then (Some (object_head (length fields))) (joined (entry_text plain_bytes part_tree) fields)
+struct_text fields = object_text plain_bytes part_tree fields
 
 -- A value of which the text is a head and its parts, written part by part.
 module _ {S A : Type 0} (took : S → S → List ℕ → Type 0) (failures : S → ℕ) (both : (a b c : S) (xs ys : List ℕ) → took a b xs → took b c ys → took a c (xs ++ ys))
@@ -53,13 +53,13 @@ module _ {S A : Type 0} (took : S → S → List ℕ → Type 0) (failures : S �
 
 -- A field: its key, and then its value.
 module _ {S : Type 0} (took : S → S → List ℕ → Type 0) (failures : S → ℕ) (both : (a b c : S) (xs ys : List ℕ) → took a b xs → took b c ys → took a c (xs ++ ys)) (key : List ℕ) (m : Option Tree) where
-  pub field_ends : (a b c : Serializer S) → Sent took failures a b (canonical_key key) → Ends took failures (text_of m) b c → Ends took failures (entry_text same_bytes part_tree (key, m)) a c
+  pub field_ends : (a b c : Serializer S) → Sent took failures a b (canonical_key key) → Ends took failures (text_of m) b c → Ends took failures (entry_text plain_bytes part_tree (key, m)) a c
   field_ends a b c s t = Ends-both took failures both (Some (canonical_key key)) (text_of m) a b c s t
 
-  pub field_stops_at_key : (a b : Serializer S) (e : Error) → Sent took failures a b [] → Excuses failures a b e → Stops took failures (entry_text same_bytes part_tree (key, m)) a b e
-  field_stops_at_key a b e s x = Stops-none took failures (entry_text same_bytes part_tree (key, m)) a b e s x
+  pub field_stops_at_key : (a b : Serializer S) (e : Error) → Sent took failures a b [] → Excuses failures a b e → Stops took failures (entry_text plain_bytes part_tree (key, m)) a b e
+  field_stops_at_key a b e s x = Stops-none took failures (entry_text plain_bytes part_tree (key, m)) a b e s x
 
-  pub field_stops : (a b c : Serializer S) (e : Error) → Sent took failures a b (canonical_key key) → Stops took failures (text_of m) b c e → Stops took failures (entry_text same_bytes part_tree (key, m)) a c e
+  pub field_stops : (a b c : Serializer S) (e : Error) → Sent took failures a b (canonical_key key) → Stops took failures (text_of m) b c e → Stops took failures (entry_text plain_bytes part_tree (key, m)) a c e
   field_stops a b c e s t = Stops-second took failures both (Some (canonical_key key)) (text_of m) a b c e s t
 
 -- A variant's head, and then its payload.

@@ -13,9 +13,9 @@ message_of None = None
 message_of (Some t) = Some (canonical_message t)
 
 -- there is a tree, and its canonical body has this length, which an i64 holds
-abbrev pub IsLength : Option Tree → ℤ → Type 0
-IsLength None n = ⊥
-IsLength (Some t) n = (n ≡ pos (length (canonical_body t))) × (length (canonical_body t) < 2 ^ 63)
+abbrev pub IsBodyLength : Option Tree → ℤ → Type 0
+IsBodyLength None n = ⊥
+IsBodyLength (Some t) n = (n ≡ pos (length (canonical_body t))) × (length (canonical_body t) < 2 ^ 63)
 
 -- why a value has no length: no tree, a body too long for an i64, or want of memory
 abbrev pub IsUnmeasured : Option Tree → Error → Type 0
@@ -28,10 +28,10 @@ Wrote took None old new = ⊥
 Wrote took (Some t) old new = took old new (canonical_message t) × (length (canonical_body t) < 2 ^ 63)
 
 -- want of memory, or a fault that the writer counted between the two counts
-abbrev pub IsFault : ℕ → ℕ → Error → Type 0
-IsFault before after OutOfMemory = ⊤
-IsFault before after (Io e) = Blamed before after
-IsFault before after _ = ⊥
+abbrev pub IsWriterFault : ℕ → ℕ → Error → Type 0
+IsWriterFault before after OutOfMemory = ⊤
+IsWriterFault before after (Io e) = Blamed before after
+IsWriterFault before after _ = ⊥
 
 -- the writer took a beginning of the message, and there is a fault
 pub record Partly {S : Type 0} (took : S → S → List ℕ → Type 0) (failures : S → ℕ) (message : List ℕ) (old new : S) (e : Error) : Type 0 where
@@ -39,7 +39,7 @@ pub record Partly {S : Type 0} (took : S → S → List ℕ → Type 0) (failure
   pub rest : List ℕ
   pub is : message ≡ front ++ rest
   pub took_it : took old new front
-  pub fault : IsFault (failures old) (failures new) e
+  pub fault : IsWriterFault (failures old) (failures new) e
 
 -- the writing of a message broke off
 abbrev pub Broke : {S : Type 0} → (S → S → List ℕ → Type 0) → (S → ℕ) → Option Tree → S → S → Error → Type 0

@@ -1,6 +1,6 @@
 //! Maps, whose entries stand in rising byte order of their keys.
 ghost use Rattle.std.specs.Prelude.{string_bytes};
-ghost use Rattle.bser_format.specs.Written.{object_tree, same_bytes};
+ghost use Rattle.bser_format.specs.Written.{object_tree, plain_bytes};
 
 use crate::Serialize;
 use crate::serializer::Serializer;
@@ -24,7 +24,7 @@ impl<V: Serialize> Serialize for BTreeMap<String, V> {
 }
 
 impl<V: Serialize> Serialize for BTreeMap<ByteString, V> {
-    ghost meaning = { λ m. object_tree same_bytes V.meaning m.entries };
+    ghost meaning = { λ m. object_tree plain_bytes V.meaning m.entries };
 
     fn serialize<W: Sink>(&self, alloc: Global, out: &mut Serializer<W>) -> Result<()> {
         out.put_map(Some(self.len()))?;

@@ -1,7 +1,7 @@
 //! Whole messages.
 ghost use Rattle.std.specs.Prelude.{OnOk, IfOk, IfErr};
 ghost use Rattle.bser_ser.specs.Ends.{Ends, Stops, Tried};
-ghost use Rattle.bser_ser.specs.Message.{message_of, IsLength, IsUnmeasured, Wrote, Missed};
+ghost use Rattle.bser_ser.specs.Message.{message_of, IsBodyLength, IsUnmeasured, Wrote, Missed};
 ghost use Rattle.bser_ser.specs.Sent.{IsFlushed};
 
 use crate::Serialize;
@@ -54,7 +54,7 @@ pub fn serialize<W: Sink, T: Serialize>(
 
 // The length of the value's body.
 fn measure<T: Serialize>(alloc: Global, value: &T) -> Result<i64>
-    ensures ok { IfOk result (IsLength (T.meaning value.now)) }
+    ensures ok { IfOk result (IsBodyLength (T.meaning value.now)) }
     ensures err { IfErr result (IsUnmeasured (T.meaning value.now)) }
 {
     let mut out = Serializer::new(alloc, CountWrite::new());
@@ -75,7 +75,7 @@ fn send_message<W: Sink, T: Serialize>(
     len: i64,
     value: &T,
 ) -> Result<()>
-    requires { IsLength (T.meaning value.now) len }
+    requires { IsBodyLength (T.meaning value.now) len }
     ensures ok { OnOk result (Ends W.took W.failures (message_of (T.meaning value.now)) out.old out.new) }
     ensures all { OnOk result (IsFlushed out.new) }
     ensures err { IfErr result (Stops W.took W.failures (message_of (T.meaning value.now)) out.old out.new) }
@@ -93,7 +93,7 @@ fn put_message<W: Sink, T: Serialize>(
     len: i64,
     value: &T,
 ) -> Result<()>
-    requires { IsLength (T.meaning value.now) len }
+    requires { IsBodyLength (T.meaning value.now) len }
     ensures ok { OnOk result (Ends W.took W.failures (message_of (T.meaning value.now)) out.old out.new) }
     ensures err { IfErr result (Stops W.took W.failures (message_of (T.meaning value.now)) out.old out.new) }
 {

@@ -8,7 +8,7 @@ use Rattle.std.specs.Borrow.{GName}
 use Rattle.std.specs.Io.KnownBytes.{prepend_known}
 use Rattle.std.proofs.lemmas.List.{length-take-le, length-drop}
 use Rattle.std.proofs.Common.{append_assoc}
-use Rattle.bser_source.specs.Source.{State, Took, Ready, SightFirst, io_state, in_sight, first_of}
+use Rattle.bser_source.specs.Source.{SourceState, Took, Ready, SightFirst, io_state, in_sight, first_of}
 use Rattle.bser_source.specs.Refusal.{Refused, Excuse, failures_after}
 use Rattle.bser_format.specs.declared.errors.ReadCause.{ReadCause}
 use Rattle.bser_format.specs.declared.errors.ReadCause.TheVariants.{Eof, Utf8, Reader, Memory, Failed}
@@ -37,7 +37,7 @@ short_of None y more n m took le h = tt
 short_of (Some xs) None more n m took le h = absurd took
 short_of (Some xs) (Some ys) more n m took le h = omega (arith, ap length took, length-append more ys, le, h)
 
-excuse_later : (a b : State) (more : List ℕ) (n m : ℕ) → a.lends ≡ false → Consumes a.left b.left more → b.count ≡ a.count + length more → b.failed ≡ false → length more + n ≤ m
+excuse_later : (a b : SourceState) (more : List ℕ) (n m : ℕ) → a.lends ≡ false → Consumes a.left b.left more → b.count ≡ a.count + length more → b.failed ≡ false → length more + n ≤ m
     → (e : ReadCause) → Excuse e b n → Excuse e a m
 excuse_later a b more n m copies took count works le Eof h = short_of a.left b.left more n m took le h
 excuse_later a b more n m copies took count works le Utf8 h = absurd h
@@ -47,7 +47,7 @@ excuse_later a b more n m copies took count works le Failed (inl h) = absurd cc
 excuse_later a b more n m copies took count works le Failed (inr (l, k)) = inr (copies, omega (arith, count, le, k))
 
 -- a call that took some bytes, and was then refused what is missing
-pub refused_later : (e : ReadCause) (a b c : State) (more : List ℕ) (n m : ℕ) → a.lends ≡ false → Took a b more None → length more + n ≤ m → Refused e b c n → Refused e a c m
+pub refused_later : (e : ReadCause) (a b c : SourceState) (more : List ℕ) (n m : ℕ) → a.lends ≡ false → Took a b more None → length more + n ≤ m → Refused e b c n → Refused e a c m
 refused_later e a b c more n m copies took le r = record {
   excuse = excuse_later a b more n m copies took.bytes took.count took.failed le e r.excuse;
   lends = r.lends ∙ took.lends;
@@ -59,11 +59,11 @@ refused_later e a b c more n m copies took le r = record {
 }
 
 -- the same of a call's answer
-pub all_refused : (r : Result Unit ReadCause) (a b c : State) (more : List ℕ) (n m : ℕ) → a.lends ≡ false → Took a b more None → length more + n ≤ m → IfErr r (λ e. Refused e b c n) → IfErr r (λ e. Refused e a c m)
+pub all_refused : (r : Result Unit ReadCause) (a b c : SourceState) (more : List ℕ) (n m : ℕ) → a.lends ≡ false → Took a b more None → length more + n ≤ m → IfErr r (λ e. Refused e b c n) → IfErr r (λ e. Refused e a c m)
 all_refused (Ok v) a b c more n m copies took le h = tt
 all_refused (Err e) a b c more n m copies took le h = refused_later e a b c more n m copies took le h
 
-pub refused_ready : (e : ReadCause) (a b c : State) (n : ℕ) → a.lends ≡ false → Ready a b → Refused e b c n → Refused e a c n
+pub refused_ready : (e : ReadCause) (a b c : SourceState) (n : ℕ) → a.lends ≡ false → Ready a b → Refused e b c n → Refused e a c n
 refused_ready e a b c n copies ready r = record {
   excuse = excuse_later a b [] n n copies ready.bytes (omega (arith, ready.count)) ready.failed (omega arith) e r.excuse;
   lends = r.lends ∙ ready.lends;

@@ -2,7 +2,7 @@
 use Rattle.std.proofs.Common.{◌≡◌, ℕ, zero, suc, ◌+◌, ◌-◌, ◌≤◌, ◌<◌, Bool, true, false, List, [], ◌∷◌, ◌++◌, Option, None, length, take, drop, slice_range, refl, append_assoc, sym, ap, subst, length-append, ◌∙◌, arith}
 use Rattle.std.proofs.KnownBytes.{Consumes-trans}
 use Rattle.std.proofs.lemmas.List.{drop_more, drop-drop, take-append-drop, length-take-le, length-drop}
-use Rattle.bser_source.specs.Source.{State, Took, Ready, Gathered, SightFirst, first_or, sight_after, slice_state}
+use Rattle.bser_source.specs.Source.{SourceState, Took, Ready, Gathered, SightFirst, first_or, sight_after, slice_state}
 
 -- the byte in sight is the first to be taken by both, where it is by each
 pub first_joined : (sight mid : Option ℕ) (xs ys : List ℕ) (seen last : Option ℕ) → mid ≡ seen → SightFirst sight xs seen → SightFirst mid ys last → SightFirst sight (xs ++ ys) last
@@ -10,7 +10,7 @@ first_joined sight mid [] ys seen last same first second = λ b e. second b (sam
 first_joined sight mid (x ∷ xs) ys seen last same first second = first
 
 -- one call after another
-pub took_then : (a b c : State) (xs ys : List ℕ) (seen last : Option ℕ) → Took a b xs seen → Took b c ys last → Took a c (xs ++ ys) last
+pub took_then : (a b c : SourceState) (xs ys : List ℕ) (seen last : Option ℕ) → Took a b xs seen → Took b c ys last → Took a c (xs ++ ys) last
 took_then a b c xs ys seen last first second = record {
   bytes = Consumes-trans a.left b.left c.left xs ys first.bytes second.bytes;
   first = first_joined a.sight b.sight xs ys seen last first.sight first.first second.first;
@@ -28,10 +28,10 @@ took_then a b c xs ys seen last first second = record {
 -- ---- what is gathered
 
 -- where nothing was gathered before, all was taken
-pub gathered : (a b : State) (had got : List ℕ) → had ≡ [] → Gathered a b had got → Took a b got None
+pub gathered : (a b : SourceState) (had got : List ℕ) → had ≡ [] → Gathered a b had got → Took a b got None
 gathered a b had got none g = subst (λ l. Took a b l None) (sym (g.grown ∙ ap (λ l. l ++ g.more) none)) g.took
 
-pub gathered_then : (a b c : State) (had mid got : List ℕ) → Gathered a b had mid → Gathered b c mid got → Gathered a c had got
+pub gathered_then : (a b c : SourceState) (had mid got : List ℕ) → Gathered a b had mid → Gathered b c mid got → Gathered a c had got
 gathered_then a b c had mid got first second = record {
   more = first.more ++ second.more;
   grown = second.grown ∙ ap (λ l. l ++ second.more) first.grown ∙ append_assoc had first.more second.more;
@@ -39,7 +39,7 @@ gathered_then a b c had mid got first second = record {
 }
 
 -- a byte was brought in sight before
-pub gathered_ready : (a b c : State) (had got : List ℕ) → Ready a b → Gathered b c had got → Gathered a c had got
+pub gathered_ready : (a b c : SourceState) (had got : List ℕ) → Ready a b → Gathered b c had got → Gathered a c had got
 gathered_ready a b c had got ready g = record {
   more = g.more;
   grown = g.grown;

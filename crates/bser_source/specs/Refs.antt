@@ -20,9 +20,9 @@ is_lent (Borrowed bytes) = true
 is_lent (Copied bytes) = false
 
 -- the text, as its bytes
-abbrev pub text_of : {T : Type 0} → (T → List ℕ) → TextReference T → List ℕ
-text_of lent (texts.Borrowed text) = lent text
-text_of lent (texts.Copied text) = text.now
+abbrev pub text_bytes : {T : Type 0} → (T → List ℕ) → TextReference T → List ℕ
+text_bytes lent (texts.Borrowed text) = lent text
+text_bytes lent (texts.Copied text) = text.now
 
 -- whether it is lent from the input
 abbrev pub is_lent_text : {T : Type 0} → TextReference T → Bool

@@ -1,7 +1,7 @@
 -- When a byte source refuses a call, and what state it is in then.
 use Rattle.std.specs.Prelude.{◌≡◌, ℕ, ◌+◌, ◌^◌, ◌<◌, ◌≤◌, true, false, List, length, Option, ◌⊎◌, IfSome}
 use Rattle.bser_source.specs.Device.{one_more}
-use Rattle.bser_source.specs.Source.{State}
+use Rattle.bser_source.specs.Source.{SourceState}
 use Rattle.bser_format.specs.declared.errors.ReadCause.{ReadCause}
 use Rattle.bser_format.specs.declared.errors.ReadCause.TheVariants.{Eof, Utf8, Reader, Memory, Failed}
 
@@ -14,7 +14,7 @@ failures_after Memory n = n
 failures_after Failed n = n
 
 -- what has to hold where a call that wants n bytes refuses by this cause
-abbrev pub Excuse : ReadCause → State → ℕ → Type 0
+abbrev pub Excuse : ReadCause → SourceState → ℕ → Type 0
 Excuse Eof s n = IfSome s.left (λ xs. length xs < n)
 Excuse Utf8 s n = ⊥
 Excuse (Reader e) s n = s.lends ≡ false
@@ -22,7 +22,7 @@ Excuse Memory s n = s.lends ≡ false
 Excuse Failed s n = (s.failed ≡ true) ⊎ ((s.lends ≡ false) × (2 ^ 64 ≤ s.count + n))
 
 -- a source that lends is unchanged by a refusal, and any other refuses from then on
-pub record Refused (cause : ReadCause) (old new : State) (n : ℕ) : Type 0 where
+pub record Refused (cause : ReadCause) (old new : SourceState) (n : ℕ) : Type 0 where
   pub excuse : Excuse cause old n
   pub lends : new.lends ≡ old.lends
   pub through : new.through ≡ old.through

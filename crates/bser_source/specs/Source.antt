@@ -4,7 +4,7 @@ use Rattle.std.specs.Borrow.{GName}
 use Rattle.std.specs.Io.KnownBytes.{Consumes, prepend_known}
 
 -- what a source tells of itself
-pub record State : Type 0 where
+pub record SourceState : Type 0 where
   -- the bytes left, where they are known: a byte in sight is still left
   pub left : Option (List ℕ)
   -- how many bytes were taken
@@ -39,7 +39,7 @@ abbrev pub SightFirst : Option ℕ → List ℕ → Option ℕ → Type 0
 SightFirst sight bs seen = (b : ℕ) → sight ≡ Some b → first_or bs seen ≡ Some b
 
 -- a call took the bytes bs, and `seen` is in sight afterwards
-pub record Took (old new : State) (bs : List ℕ) (seen : Option ℕ) : Type 0 where
+pub record Took (old new : SourceState) (bs : List ℕ) (seen : Option ℕ) : Type 0 where
   pub bytes : Consumes old.left new.left bs
   pub first : SightFirst old.sight bs seen
   pub count : new.count ≡ old.count + length bs
@@ -54,11 +54,11 @@ pub record Took (old new : State) (bs : List ℕ) (seen : Option ℕ) : Type 0 w
   pub held : length new.held ≤ max (new.limit - new.count) (length (bytes_in_sight seen))
 
 -- the same state with another limit
-abbrev pub with_limit : ℕ → State → State
+abbrev pub with_limit : ℕ → SourceState → SourceState
 with_limit limit s = record s { limit = limit }
 
 -- n bytes were announced: the limit may be as far, and all else stays
-pub record Expects (old new : State) (n : ℕ) : Type 0 where
+pub record Expects (old new : SourceState) (n : ℕ) : Type 0 where
   pub kept : old.limit ≤ new.limit
   pub most : new.limit ≤ max old.limit (old.count + n)
   pub same : new ≡ with_limit new.limit old
@@ -79,7 +79,7 @@ in_sight true = 1
 in_sight false = 0
 
 -- a source over a slice, of which the first `index` bytes were taken
-abbrev pub slice_state : List ℕ → ℕ → Bool → State
+abbrev pub slice_state : List ℕ → ℕ → Bool → SourceState
 slice_state slice index peeked = record {
   left = Some (drop index slice);
   count = index;
@@ -98,7 +98,7 @@ first_of [] = None
 first_of (b ∷ bs) = Some b
 
 -- a source over a reader that gave `arrived` bytes, of which the last are held
-abbrev pub io_state : Option (List ℕ) → ℕ → Option GName → ℕ → List ℕ → Bool → ℕ → Bool → State
+abbrev pub io_state : Option (List ℕ) → ℕ → Option GName → ℕ → List ℕ → Bool → ℕ → Bool → SourceState
 io_state remaining failures through arrived held peeked limit failed = record {
   left = prepend_known held remaining;
   count = arrived - length held;
@@ -112,7 +112,7 @@ io_state remaining failures through arrived held peeked limit failed = record {
 }
 
 -- the same source, with a byte at hand
-pub record Ready (old new : State) : Type 0 where
+pub record Ready (old new : SourceState) : Type 0 where
   pub bytes : Consumes old.left new.left []
   pub first : SightFirst old.sight [] new.sight
   pub count : new.count ≡ old.count
@@ -125,7 +125,7 @@ pub record Ready (old new : State) : Type 0 where
   pub held : length new.held ≤ max (new.limit - new.count) 1
 
 -- bytes were taken, and appended to what was gathered before
-pub record Gathered (old new : State) (had got : List ℕ) : Type 0 where
+pub record Gathered (old new : SourceState) (had got : List ℕ) : Type 0 where
   pub more : List ℕ
   pub grown : got ≡ had ++ more
   pub took : Took old new more None

@@ -1,6 +1,6 @@
 //! A byte source over a reader.
 ghost use Rattle.std.specs.Prelude.{refl, ◌≡◌, ◌≤◌, ◌<◌, ◌+◌, ◌-◌, ◌^◌, [], true, false, length, Option, None, IfErr, OnOk, ◌⊎◌};
-ghost use Rattle.bser_source.specs.Source.{State, Took, Ready, Gathered, io_state};
+ghost use Rattle.bser_source.specs.Source.{SourceState, Took, Ready, Gathered, io_state};
 ghost use Rattle.bser_source.specs.Blocks.{block_bytes};
 ghost use Rattle.bser_source.specs.Reader.{io_at, io_fresh, io_reader};
 ghost use Rattle.bser_source.specs.Refusal.{Refused};

@@ -3,7 +3,7 @@ ghost use Rattle.std.specs.Prelude.{◌≡◌, ℕ, Bool, true, false, List, [],
 ghost use Rattle.std.specs.Str.{IsUtf8};
 ghost use Rattle.bser_format.specs.declared.errors.ReadCause.TheVariants.{Utf8};
 ghost use Rattle.bser_format.specs.declared.errors.Error.TheVariants.{OutOfMemory};
-ghost use Rattle.bser_source.specs.Refs.{bytes_of, is_lent, text_of, is_lent_text, RefusesKept};
+ghost use Rattle.bser_source.specs.Refs.{bytes_of, is_lent, text_bytes, is_lent_text, RefusesKept};
 
 use crate::read::{Reference, TextReference};
 use crate::text::as_text;
@@ -83,7 +83,7 @@ pub trait LendsFrom<'de>: LendsText {
     /// The lent text, for as long as the input stands. None where the source lends nothing.
     fn lent_text(given: TextReference<'_, Self::Text>) -> Option<&'de str>
         requires { is_lent_text given ≡ Self.lends }
-        ensures { MatchOption result (Self.lends ≡ false) (λ s. s.now ≡ text_of Self.Text.text given.entry) };
+        ensures { MatchOption result (Self.lends ≡ false) (λ s. s.now ≡ text_bytes Self.Text.text given.entry) };
 }
 
 impl<'a> LendingText for &'a str {
@@ -247,7 +247,7 @@ impl<'de> LendsFrom<'de> for &'de [u8] {
 
     fn lent_text(given: TextReference<'_, &'de str>) -> Option<&'de str>
         requires { is_lent_text given ≡ true }
-        ensures { MatchOption result (true ≡ false) (λ s. s.now ≡ text_of (λ t. t.now) given.entry) }
+        ensures { MatchOption result (true ≡ false) (λ s. s.now ≡ text_bytes (λ t. t.now) given.entry) }
     {
         match given {
             TextReference::Borrowed(text) => Some(text),
@@ -266,7 +266,7 @@ impl<'de> LendsFrom<'de> for NoLoan {
 
     fn lent_text(_given: TextReference<'_, NoLoan>) -> Option<&'de str>
         requires { is_lent_text _given ≡ false }
-        ensures { MatchOption result (false ≡ false) (λ s. s.now ≡ text_of (λ _. []) _given.entry) }
+        ensures { MatchOption result (false ≡ false) (λ s. s.now ≡ text_bytes (λ _. []) _given.entry) }
     {
         None
     }

@@ -1,9 +1,9 @@
 //! Byte sources.
 ghost use Rattle.std.specs.Prelude.{refl, ◌≡◌, ◌≤◌, ◌<◌, ◌+◌, ◌-◌, ◌^◌, ◌∷◌, [], ◌++◌, ℕ, List, Bool, true, false, length, drop, take, Option, Some, None, MatchOption, IfOk, IfErr, OnOk, IsSome, is_some, MatchResult, vec_len, OnErr};
-ghost use Rattle.bser_source.specs.Source.{State, Took, Expects, IsNext, sight_after, in_sight, bytes_in_sight, slice_state};
+ghost use Rattle.bser_source.specs.Source.{SourceState, Took, Expects, IsNext, sight_after, in_sight, bytes_in_sight, slice_state};
 ghost use Rattle.bser_source.specs.Held.{HoldsWithin};
 ghost use Rattle.bser_source.specs.Refusal.{Refused};
-ghost use Rattle.bser_source.specs.Refs.{bytes_of, is_lent, text_of, is_lent_text};
+ghost use Rattle.bser_source.specs.Refs.{bytes_of, is_lent, text_bytes, is_lent_text};
 ghost use Rattle.std.specs.Borrow.{sem};
 ghost use Rattle.std.specs.Io.BufRead.{Rests};
 ghost use Rattle.std.specs.Str.{IsUtf8};
@@ -55,7 +55,7 @@ impl<'s, L: LendsText> Reference<'s, L> {
     ///
     /// Bytes that are not UTF-8 are [`ReadCause::Utf8`]. It stands for the crate's `map_result`.
     pub fn to_text(self) -> Result<TextReference<'s, L::Text>, ReadCause>
-        ensures ok { IfOk result (λ t. (text_of L.Text.text t ≡ bytes_of L.bytes self.entry) × IsUtf8 (bytes_of L.bytes self.entry)) }
+        ensures ok { IfOk result (λ t. (text_bytes L.Text.text t ≡ bytes_of L.bytes self.entry) × IsUtf8 (bytes_of L.bytes self.entry)) }
         ensures lent { IfOk result (λ t. is_lent_text t ≡ is_lent self.entry) }
         ensures err { OnErr result (¬ (IsUtf8 (bytes_of L.bytes self.entry))) }
         ensures cause { IfErr result (λ e. e ≡ Utf8) }
@@ -73,7 +73,7 @@ impl<'s, L: LendsText> Reference<'s, L> {
 impl<'s, T: LendingText> TextReference<'s, T> {
     /// The text.
     pub fn get_ref<'a>(&'a self) -> &'a str
-        ensures { result.now ≡ text_of T.text self.now }
+        ensures { result.now ≡ text_bytes T.text self.now }
     {
         match self {
             TextReference::Borrowed(text) => text.as_text(),
@@ -98,7 +98,7 @@ pub trait DeRead {
     /// What the source lends from its input.
     type Lent: Lending;
 
-    ghost state: { Self → State };
+    ghost state: { Self → SourceState };
 
     // the bytes at hand
     ghost hand: { Self → List ℕ };

@@ -17,7 +17,7 @@ use Rattle.bser_state.specs.Heads.{IsTagged, Standing}
 use Rattle.bser_state.specs.Nodes.{node_at, tag_node, TookNull, IsOther}
 use Rattle.bser_state.specs.Parts.{pair_key, pairs_left, pairs_after, wanted_pairs}
 use Rattle.bser_state.specs.Reading.{Answers}
-use Rattle.bser_state.specs.Scalar.{IsValue}
+use Rattle.bser_state.specs.Scalar.{IsValueDue}
 use Rattle.bser_state.specs.State.{State, past, awaiting, with_source}
 use Rattle.bser_state.specs.Strings.{TookBytes}
 use Rattle.bser_state.specs.Dues.{name_at}
@@ -34,7 +34,7 @@ use Rattle.bser_state.proofs.Texts.{text_answer}
 
 -- ---- values
 
-value_filled : (n : ℕ) (d : Due) (u : Tree) (b : List ℕ) → IsValue d → FillsNode n u b → Fills n d u b
+value_filled : (n : ℕ) (d : Due) (u : Tree) (b : List ℕ) → IsValueDue d → FillsNode n u b → Fills n d u b
 value_filled n nothing_due u b is f = absurd is
 value_filled n node_due u b is f = f
 value_filled n key_due u b is f = absurd is
@@ -60,7 +60,7 @@ taken_at_once reads holds s t u c b v filled some read held took state = record 
   state = state;
 }
 
-pub number_at_hand : (s t : State) (v w : ℤ) → w ≡ v → IsValue s.due → TookInt s.source t.source v → t ≡ past s t.source → Answers (reads_signed 64) (λ x c. c ≡ number x) s t w
+pub number_at_hand : (s t : State) (v w : ℤ) → w ≡ v → IsValueDue s.due → TookInt s.source t.source v → t ≡ past s t.source → Answers (reads_signed 64) (λ x c. c ≡ number x) s t w
 number_at_hand s t v w same is took state =
     let some : 0 < length took.text = subst (λ l. 0 < length l) (sym took.spelled.spelled) (omega arith) in
     let filled = value_filled s.levels s.due (integer v) took.text is (record { tree = integer v; stands = refl; spelled = took.spelled }) in
@@ -75,7 +75,7 @@ pub truth_tag : (tag : ℕ) → ((tag ≡ 8) ⊎ (tag ≡ 9)) → tag ≡ Bool_t
 truth_tag tag (inl e) = subst (λ x. x ≡ Bool_tag (nat_eq x 8)) (sym e) refl
 truth_tag tag (inr e) = subst (λ x. x ≡ Bool_tag (nat_eq x 8)) (sym e) refl
 
-pub truth_at_hand : (s t : State) (hand : List ℕ) (v : Bool) → IsValue s.due → 0 < length hand → get_or hand 0 0 ≡ Bool_tag v → Took s.source t.source (take 1 hand) None → t ≡ past s t.source
+pub truth_at_hand : (s t : State) (hand : List ℕ) (v : Bool) → IsValueDue s.due → 0 < length hand → get_or hand 0 0 ≡ Bool_tag v → Took s.source t.source (take 1 hand) None → t ≡ past s t.source
     → Answers reads_bool (λ w c. c ≡ truth w) s t v
 truth_at_hand s t hand v is some tag took state =
     let text : List ℕ = Bool_tag v ∷ [] in
@@ -85,7 +85,7 @@ truth_at_hand s t hand v is some tag took state =
 
 -- ---- null
 
-null_filled : (n : ℕ) (d : Due) (tag : ℕ) → IsValue d → node_at d (Tag tag) ≡ Some kinds.Null → Fills n d null (tag ∷ [])
+null_filled : (n : ℕ) (d : Due) (tag : ℕ) → IsValueDue d → node_at d (Tag tag) ≡ Some kinds.Null → Fills n d null (tag ∷ [])
 null_filled n nothing_due tag is k = absurd is
 null_filled n node_due tag is k = record { tree = null; stands = refl; spelled = ap (λ x. x ∷ []) (tags_of tag kinds.Null k) }
 null_filled n key_due tag is k = absurd is
@@ -97,7 +97,7 @@ null_filled n field_due tag is k = at (field_tags tag kinds.Null k)
 null_filled n (name_due key) tag is k = absurd is
 null_filled n (row_due ks) tag is k = absurd is
 
-pub null_at_hand : (s t : State) (hand : List ℕ) → IsValue s.due → 0 < length hand → node_at s.due (Tag (get_or hand 0 0)) ≡ Some kinds.Null → Took s.source t.source (take 1 hand) None → t ≡ past s t.source → TookNull s t
+pub null_at_hand : (s t : State) (hand : List ℕ) → IsValueDue s.due → 0 < length hand → node_at s.due (Tag (get_or hand 0 0)) ≡ Some kinds.Null → Took s.source t.source (take 1 hand) None → t ≡ past s t.source → TookNull s t
 null_at_hand s t hand is some kind took state = record {
   text = get_or hand 0 0 ∷ [];
   filled = null_filled s.levels s.due (get_or hand 0 0) is kind;
@@ -105,7 +105,7 @@ null_at_hand s t hand is some kind took state = record {
   state = state;
 }
 
-value_tagged : (d : Due) → IsValue d → IsTagged d
+value_tagged : (d : Due) → IsValueDue d → IsTagged d
 value_tagged nothing_due is = absurd is
 value_tagged node_due is = tt
 value_tagged key_due is = absurd is
@@ -116,7 +116,7 @@ value_tagged (row_due ks) is = absurd is
 first_is : (hand : List ℕ) (tag : ℕ) → hand ≡ tag ∷ drop 1 hand → get_or hand 0 0 ≡ tag
 first_is hand tag e = ap (λ l. get_or l 0 0) e
 
-pub other_at_hand : (s t : State) (hand : List ℕ) (tag : ℕ) (k : Node) → IsValue s.due → hand ≡ tag ∷ drop 1 hand → node_at s.due (Tag (get_or hand 0 0)) ≡ Some k → k ≢ kinds.Null
+pub other_at_hand : (s t : State) (hand : List ℕ) (tag : ℕ) (k : Node) → IsValueDue s.due → hand ≡ tag ∷ drop 1 hand → node_at s.due (Tag (get_or hand 0 0)) ≡ Some k → k ≢ kinds.Null
     → IsNext t.source.left tag → Took s.source t.source [] (Some tag) → t ≡ with_source s t.source → IsOther s t
 other_at_hand s t hand tag k is first kind other next took state = record {
   kind = k;
@@ -138,7 +138,7 @@ some_left zero (k ∷ ks) name e = omega arith
 some_left (suc at) (k ∷ ks) name e = some_left at ks name e
 
 -- what was refused above holds what its source does
-pub holds_refused : (failed : Bool) (s : source.State) → HoldsWithin s → HoldsWithin (with_failure failed s)
+pub holds_refused : (failed : Bool) (s : source.SourceState) → HoldsWithin s → HoldsWithin (with_failure failed s)
 holds_refused false s h = h
 holds_refused true s h = λ e. absurd cc
 

@@ -12,7 +12,7 @@ use Rattle.bser_state.specs.declared.head.Head.{Head}
 use Rattle.bser_state.specs.declared.head.Head.TheVariants.{Tag, Name, Row}
 use Rattle.bser_state.specs.Heads.{IsTagged, TagInSight}
 use Rattle.bser_state.specs.Openings.{IsBefore}
-use Rattle.bser_state.specs.Scalar.{IsValue}
+use Rattle.bser_state.specs.Scalar.{IsValueDue}
 use Rattle.bser_state.specs.Tables.{SpellsTable, IsTable}
 use Rattle.bser_state.proofs.KindTags.{TagsOf, tags_of, field_tags, key_tags}
 
@@ -27,7 +27,7 @@ items_head n key_due w text h = absurd h
 items_head n (name_due k) w text h = absurd h
 items_head n (row_due ks) w text h = absurd h
 
-pub items_begin : (n : ℕ) (d : Due) (w : WantedItems) (text : List ℕ) → IsValue d → ItemsHead n w text → BeginsItems n d w text
+pub items_begin : (n : ℕ) (d : Due) (w : WantedItems) (text : List ℕ) → IsValueDue d → ItemsHead n w text → BeginsItems n d w text
 items_begin n node_due w text v h = h
 items_begin n field_due w text v h = h
 items_begin n nothing_due w text v h = absurd v
@@ -35,7 +35,7 @@ items_begin n key_due w text v h = absurd v
 items_begin n (name_due k) w text v h = absurd v
 items_begin n (row_due ks) w text v h = absurd v
 
-pub object_head : (n : ℕ) (d : Due) (w : WantedPairs) (text : List ℕ) → IsValue d → BeginsPairs n d w text → (k : ℕ) × ObjectHead n k text
+pub object_head : (n : ℕ) (d : Due) (w : WantedPairs) (text : List ℕ) → IsValueDue d → BeginsPairs n d w text → (k : ℕ) × ObjectHead n k text
 object_head n node_due (entries_of_object k) text v h = (k, h)
 object_head n field_due (entries_of_object k) text v h = (k, h)
 object_head n node_due (fields_of_row ks) text v h = absurd h
@@ -45,7 +45,7 @@ object_head n key_due w text v h = absurd v
 object_head n (name_due k) w text v h = absurd v
 object_head n (row_due ks) w text v h = absurd v
 
-pub object_begins : (n : ℕ) (d : Due) (k : ℕ) (text : List ℕ) → IsValue d → ObjectHead n k text → BeginsPairs n d (entries_of_object k) text
+pub object_begins : (n : ℕ) (d : Due) (k : ℕ) (text : List ℕ) → IsValueDue d → ObjectHead n k text → BeginsPairs n d (entries_of_object k) text
 object_begins n node_due k text v h = h
 object_begins n field_due k text v h = h
 object_begins n nothing_due k text v h = absurd v
@@ -145,7 +145,7 @@ name_object (name_due k) place e = cc
 name_object (row_due ks) place e = cc
 
 -- where a value is due no row is
-pub value_row : {ks : List (List ℕ)} (d : Due) → d ≡ row_due ks → IsValue d → ⊥
+pub value_row : {ks : List (List ℕ)} (d : Due) → d ≡ row_due ks → IsValueDue d → ⊥
 value_row nothing_due e v = v
 value_row node_due e v = cc
 value_row key_due e v = v
@@ -153,7 +153,7 @@ value_row field_due e v = cc
 value_row (name_due k) e v = v
 value_row (row_due ls) e v = v
 
-pub some_object : (n : ℕ) (d : Due) (w : WantedPairs) → IsValue d → BeginsPairs n d w [] → ⊥
+pub some_object : (n : ℕ) (d : Due) (w : WantedPairs) → IsValueDue d → BeginsPairs n d w [] → ⊥
 some_object n d w v h = let o = object_head n d w [] v h in no_counted 0x01 (counted 0x01 n o.0 [] o.1)
 
 -- what stands where an array is
@@ -190,7 +190,7 @@ pairs_kind n (row_due ks) (fields_of_row ls) text h = ([], text, refl, (refl, re
 
 -- ---- the tag in sight
 
-array_tag : (d : Due) (b : ℕ) → IsTagged d → node_at d (Tag b) ≡ Some kinds.Array → IsValue d × TagsOf kinds.Array b
+array_tag : (d : Due) (b : ℕ) → IsTagged d → node_at d (Tag b) ≡ Some kinds.Array → IsValueDue d × TagsOf kinds.Array b
 array_tag nothing_due b t e = absurd t
 array_tag node_due b t e = (tt, tags_of b kinds.Array e)
 array_tag key_due b t e = absurd (let k = key_tags b kinds.Array e in cc)
@@ -201,7 +201,7 @@ array_tag field_due b t e = elim (field_tags b kinds.Array e) [
 array_tag (name_due k) b t e = absurd t
 array_tag (row_due ks) b t e = absurd t
 
-object_tag : (d : Due) (b : ℕ) → IsTagged d → node_at d (Tag b) ≡ Some kinds.Object → IsValue d × TagsOf kinds.Object b
+object_tag : (d : Due) (b : ℕ) → IsTagged d → node_at d (Tag b) ≡ Some kinds.Object → IsValueDue d × TagsOf kinds.Object b
 object_tag nothing_due b t e = absurd t
 object_tag node_due b t e = (tt, tags_of b kinds.Object e)
 object_tag key_due b t e = absurd (let k = key_tags b kinds.Object e in cc)
@@ -212,8 +212,8 @@ object_tag field_due b t e = elim (field_tags b kinds.Object e) [
 object_tag (name_due k) b t e = absurd t
 object_tag (row_due ks) b t e = absurd t
 
-before : (s m : State) (b : ℕ) → IsValue s.due → TagInSight s m b → IsBefore b m
-before s m b value look = record { due = subst IsValue (sym (ap (λ z. z.due) look.state)) value; next = look.next; sight = look.took.sight }
+before : (s m : State) (b : ℕ) → IsValueDue s.due → TagInSight s m b → IsBefore b m
+before s m b value look = record { due = subst IsValueDue (sym (ap (λ z. z.due) look.state)) value; next = look.next; sight = look.took.sight }
 
 -- where no array's tag stands, a template's does
 pub before_template : (s m : State) (h : Head) → StandsAs kinds.Array s m h → (h ≡ Tag 0x00 → ⊥) → IsBefore 0x0b m
@@ -233,7 +233,7 @@ before_object s m (Name place) is other = absurd (name_object s.due place is.kin
 before_object s m Row is other = absurd (other refl)
 
 -- an object that is no row has a tag
-pub value_of : (s m : State) (h : Head) → StandsAs kinds.Object s m h → (h ≡ Row → ⊥) → IsValue s.due
+pub value_of : (s m : State) (h : Head) → StandsAs kinds.Object s m h → (h ≡ Row → ⊥) → IsValueDue s.due
 value_of s m (Tag b) is other = (object_tag s.due b is.stands.tagged is.kind).0
 value_of s m (Name place) is other = absurd (name_object s.due place is.kind)
 value_of s m Row is other = absurd (other refl)

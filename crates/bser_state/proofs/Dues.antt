@@ -64,10 +64,10 @@ some_text [] seen h = absurd (h refl)
 some_text (x ∷ b) seen h = refl
 
 -- a look, and then bytes
-pub took_after_look : (a b c : source.State) (x : ℕ) (bs : List ℕ) → Took a b [] (Some x) → Took b c bs None → Took a c bs None
+pub took_after_look : (a b c : source.SourceState) (x : ℕ) (bs : List ℕ) → Took a b [] (Some x) → Took b c bs None → Took a c bs None
 took_after_look a b c x bs = took_then a b c [] bs (Some x) None
 
-pub answers : {A : Type 0} (holds : A → Content → Type 0) (s t : State) (seen : source.State) (x : ℕ) (u : Tree) (v : A) → s.due ≡ node_due → holds v (value u) → Took s.source seen [] (Some x) → TookScalar seen t.source u → t ≡ past s t.source
+pub answers : {A : Type 0} (holds : A → Content → Type 0) (s t : State) (seen : source.SourceState) (x : ℕ) (u : Tree) (v : A) → s.due ≡ node_due → holds v (value u) → Took s.source seen [] (Some x) → TookScalar seen t.source u → t ≡ past s t.source
     → Answers reads_scalar holds s t v
 answers holds s t seen x u v due held look took state =
     let spelled = scalar_down zero s.levels u took.taken took.known took.spelled in
@@ -94,7 +94,7 @@ wanted_scalar s b due f =
     let known = scalar_tree node.tree w.0 (ap scalar (sym node.stands) ∙ w.1) in
     record { tree = node.tree; known = known.0; spelled = scalar_down s.levels zero node.tree b known.0 node.spelled }
 
-pub look_refused : (s : State) (b : source.State) (e : Error) → s.due ≡ node_due → ShortOf 1 e s.source b → RefusesFront owned (FillsReadably reads_scalar s) e s.source b
+pub look_refused : (s : State) (b : source.SourceState) (e : Error) → s.due ≡ node_due → ShortOf 1 e s.source b → RefusesFront owned (FillsReadably reads_scalar s) e s.source b
 look_refused s b e due short =
     let some : (b : List ℕ) → FillsReadably reads_scalar s b → 1 ≤ length b = λ c f. (let w = wanted_scalar s c due f in at c (λ q. no_empty zero w.tree (subst (Spells zero w.tree) q w.spelled))) in
     unwanted_front owned (FillsReadably reads_scalar s) e s.source b (short_of (FillsReadably reads_scalar s) 1 e s.source b some short)
@@ -103,7 +103,7 @@ look_refused s b e due short =
     at [] h = absurd (h refl)
     at (x ∷ b) h = omega arith
 
-pub scalar_refused : (s : State) (seen b : source.State) (x : ℕ) (e : Error) → s.due ≡ node_due → Took s.source seen [] (Some x) → RefusesFront owned IsScalar e seen b → RefusesFront owned (FillsReadably reads_scalar s) e s.source b
+pub scalar_refused : (s : State) (seen b : source.SourceState) (x : ℕ) (e : Error) → s.due ≡ node_due → Took s.source seen [] (Some x) → RefusesFront owned IsScalar e seen b → RefusesFront owned (FillsReadably reads_scalar s) e s.source b
 scalar_refused s seen b x e due look u =
     sequel owned IsScalar (FillsReadably reads_scalar s) e s.source seen b [] (passed_by s.source seen [] (Some x) look) (λ c rest ys f q. (c, refl, wanted_scalar s c due f)) u
 

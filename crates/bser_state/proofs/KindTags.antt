@@ -164,7 +164,7 @@ begins n (name_due k) u all plain h = absurd (plain_key u k h.0 plain)
 begins n (row_due ks) u all plain h = absurd (subst IsPlain (ap kind h.stands) plain)
 
 -- where another kind of value stands, no tree of this kind is due
-pub kind_refused : (needs : Needs) (reads : Meaning) (k : Node) (s : State) (e : Error) (b : source.State) → IsPlain k → ((u : Tree) (c : Content) → reads u ≡ Some c → kind u ≡ k)
+pub kind_refused : (needs : Needs) (reads : Meaning) (k : Node) (s : State) (e : Error) (b : source.SourceState) → IsPlain k → ((u : Tree) (c : Content) → reads u ≡ Some c → kind u ≡ k)
     → RefusesFront bare (BeginsKind s.due k) e s.source b → RefusesFront needs (FillsReadably reads s) e s.source b
 kind_refused needs reads k s e b plain only u =
     first_part needs (BeginsKind s.due k) (FillsReadably reads s) e s.source b
@@ -193,10 +193,10 @@ node_kind field_due b h = (h.1, (h.0, h.2, h.3))
 node_kind (name_due key) b h = (kinds.Key, (h, refl))
 node_kind (row_due ks) b h = (kinds.Object, (h, refl))
 
-pub no_head_of : (d : Due) (k : Node) (e : Error) (a b : source.State) → RefusesFront bare (BeginsDue d) e a b → RefusesFront bare (BeginsKind d k) e a b
+pub no_head_of : (d : Due) (k : Node) (e : Error) (a b : source.SourceState) → RefusesFront bare (BeginsDue d) e a b → RefusesFront bare (BeginsKind d k) e a b
 no_head_of d k e a b u = narrower bare (BeginsDue d) (BeginsKind d k) e a b (begins_due d k) u
 
-pub no_head : (d : Due) (e : Error) (a b : source.State) → RefusesFront bare (BeginsDue d) e a b → RefusesFront bare (BeginsNode d) e a b
+pub no_head : (d : Due) (e : Error) (a b : source.SourceState) → RefusesFront bare (BeginsDue d) e a b → RefusesFront bare (BeginsNode d) e a b
 no_head d e a b u = narrower bare (BeginsDue d) (BeginsNode d) e a b (λ c h. let p = node_kind d c h in begins_due d p.0 c p.1) u
 
 tag_kind : (d : Due) (k : Node) (b : List ℕ) → IsTagged d → BeginsKind d k b → (tag : ℕ) × (b ≡ tag ∷ []) × (node_at d (Tag tag) ≡ Some k)
@@ -232,7 +232,7 @@ stand_kind s mid (Name p) k b rest stands begins left = named_kind s mid p k b s
 stand_kind s mid Row k b rest stands begins left = row_kind s mid k b stands begins
 
 -- what is taken with a tag in sight is of that tag's kind, and a key or a row is of its own
-pub taken_kind : (s mid : State) (t : source.State) (h : Head) (u : Tree) (b : List ℕ) (seen : Option ℕ) → IsPlain (kind u) → Stands s mid h → Fills s.levels s.due u b → Took mid.source t b seen → node_at s.due h ≡ Some (kind u)
+pub taken_kind : (s mid : State) (t : source.SourceState) (h : Head) (u : Tree) (b : List ℕ) (seen : Option ℕ) → IsPlain (kind u) → Stands s mid h → Fills s.levels s.due u b → Took mid.source t b seen → node_at s.due h ≡ Some (kind u)
 taken_kind s mid t (Tag x) u b seen plain look filled took =
     let g = begins s.levels s.due u b plain filled in
     let k = tag_kind s.due (kind u) g.0 look.tagged g.3 in
@@ -252,7 +252,7 @@ same_due s mid (Tag x) look = ap (λ z. z.due) look.state
 same_due s mid (Name p) stands = ap (λ z. z.due) stands.same
 same_due s mid Row stands = ap (λ z. z.due) stands.same
 
-here : (needs : Needs) (W : Format) (s mid : State) (e : Error) (b : source.State) → mid ≡ s → IsRefusal e → b ≡ with_failure true mid.source
+here : (needs : Needs) (W : Format) (s mid : State) (e : Error) (b : source.SourceState) → mid ≡ s → IsRefusal e → b ≡ with_failure true mid.source
     → ((text rest : List ℕ) → W text → s.source.left ≡ Some (text ++ rest) → ⊥) → RefusesFront needs W e s.source b
 here needs W s mid e b same kind state none = record {
   excuse = λ text rest wanted left. absurd (none text rest wanted left);
@@ -263,21 +263,21 @@ here needs W s mid e b same kind state none = record {
 }
 
 -- a refusal after a look at what stands
-pub looked : (needs : Needs) (W : Format) (s mid : State) (h : Head) (e : Error) (b : source.State) → Stands s mid h → IsRefusal e → b ≡ with_failure true mid.source
+pub looked : (needs : Needs) (W : Format) (s mid : State) (h : Head) (e : Error) (b : source.SourceState) → Stands s mid h → IsRefusal e → b ≡ with_failure true mid.source
     → ((text rest : List ℕ) → W text → s.source.left ≡ Some (text ++ rest) → ⊥) → RefusesFront needs W e s.source b
 looked needs W s mid (Tag x) e b look kind state none = unfit needs W e s.source mid.source b [] (Some x) kind look.took state none
 looked needs W s mid (Name p) e b stands kind state none = here needs W s mid e b stands.same kind state none
 looked needs W s mid Row e b stands kind state none = here needs W s mid e b stands.same kind state none
 
 -- what stands is of another kind
-pub other_kind : (s mid : State) (h : Head) (k : Node) (e : Error) (b : source.State) → Stands s mid h → (node_at mid.due h ≡ Some k → ⊥) → IsRefusal e → b ≡ with_failure true mid.source
+pub other_kind : (s mid : State) (h : Head) (k : Node) (e : Error) (b : source.SourceState) → Stands s mid h → (node_at mid.due h ≡ Some k → ⊥) → IsRefusal e → b ≡ with_failure true mid.source
     → RefusesFront bare (BeginsKind s.due k) e s.source b
 other_kind s mid h k e b stands other kind state =
     looked bare (BeginsKind s.due k) s mid h e b stands kind state
     (λ text rest begins left. other (subst (λ d. node_at d h ≡ Some k) (sym (same_due s mid h stands)) (stand_kind s mid h k text rest stands begins left)))
 
 -- what stands is of no kind
-pub no_kind : (s mid : State) (h : Head) (e : Error) (b : source.State) → Stands s mid h → None ≡ node_at mid.due h → IsRefusal e → b ≡ with_failure true mid.source
+pub no_kind : (s mid : State) (h : Head) (e : Error) (b : source.SourceState) → Stands s mid h → None ≡ node_at mid.due h → IsRefusal e → b ≡ with_failure true mid.source
     → RefusesFront bare (BeginsNode s.due) e s.source b
 no_kind s mid h e b stands none kind state =
     looked bare (BeginsNode s.due) s mid h e b stands kind state

@@ -44,7 +44,7 @@ begins_any n (name_due k) u all h = ([], [], h.1, refl)
 begins_any n (row_due ks) u all h = ([], all, refl, refl)
 
 -- where no value begins, none is due
-pub no_value : (needs : Needs) (reads : Meaning) (s : State) (e : Error) (b : source.State) → RefusesFront bare (BeginsNode s.due) e s.source b → RefusesFront needs (FillsReadably reads s) e s.source b
+pub no_value : (needs : Needs) (reads : Meaning) (s : State) (e : Error) (b : source.SourceState) → RefusesFront bare (BeginsNode s.due) e s.source b → RefusesFront needs (FillsReadably reads s) e s.source b
 no_value needs reads s e b u =
     first_part needs (BeginsNode s.due) (FillsReadably reads s) e s.source b (λ all f. begins_any s.levels s.due f.tree all f.filled) (with_needs needs (BeginsNode s.due) e s.source b u)
 
@@ -61,7 +61,7 @@ fills_there s mid h u b stands f = subst (λ n. Fills n mid.due u b) (sym (same_
 pub fills_here : (s mid : State) (h : Head) (u : Tree) (b : List ℕ) → Stands s mid h → Fills mid.levels mid.due u b → Fills s.levels s.due u b
 fills_here s mid h u b stands f = subst (λ d. Fills s.levels d u b) (same_due s mid h stands) (subst (λ n. Fills n mid.due u b) (same_levels s mid h stands) f)
 
-took_from : (s mid : State) (t : source.State) (h : Head) (u : Tree) (b : List ℕ) → Stands s mid h → Fills s.levels s.due u b → Took mid.source t b (sight_after (length b) mid.source.sight) → Took s.source t b (sight_after (length b) s.source.sight)
+took_from : (s mid : State) (t : source.SourceState) (h : Head) (u : Tree) (b : List ℕ) → Stands s mid h → Fills s.levels s.due u b → Took mid.source t b (sight_after (length b) mid.source.sight) → Took s.source t b (sight_after (length b) s.source.sight)
 took_from s mid t (Tag x) u b look filled took =
     let none = some_text b mid.source.sight (λ e. some_due s.levels s.due u look.tagged (subst (Fills s.levels s.due u) e filled)) in
     took_due s mid t x u b look filled (subst (Took mid.source t b) none took)
@@ -95,7 +95,7 @@ abbrev pub ReadsThere : Meaning → Meaning → State → Type 0
 ReadsThere inner reads s = (u : Tree) (c : Content) (text rest : List ℕ) → Fills s.levels s.due u text → s.source.left ≡ Some (text ++ rest) → reads u ≡ Some c → (d : Content) × (inner u ≡ Some d)
 
 -- what the call after the look refuses is refused as a whole
-pub look_refused : (needs : Needs) (inner reads : Meaning) (s mid : State) (h : Head) (e : Error) (b : source.State) → Stands s mid h → ReadsThere inner reads s
+pub look_refused : (needs : Needs) (inner reads : Meaning) (s mid : State) (h : Head) (e : Error) (b : source.SourceState) → Stands s mid h → ReadsThere inner reads s
     → RefusesFront needs (FillsReadably inner mid) e mid.source b → RefusesFront needs (FillsReadably reads s) e s.source b
 look_refused needs inner reads s mid h e b stands there u = by_left (at h stands)
   where

@@ -46,7 +46,7 @@ left_not_null s mid u all rest o filled left e =
     no_null s mid o (stand_kind s mid o.sees.head kinds.Null b.0 (b.1 ++ rest) o.sees.stands b.3 at)
 
 -- what was taken is not null
-taken_not_null : (s mid : State) (t : source.State) (u : Tree) (all : List ℕ) (seen : Option ℕ) → IsOther s mid → Fills s.levels s.due u all → Took mid.source t all seen → u ≡ null → ⊥
+taken_not_null : (s mid : State) (t : source.SourceState) (u : Tree) (all : List ℕ) (seen : Option ℕ) → IsOther s mid → Fills s.levels s.due u all → Took mid.source t all seen → u ≡ null → ⊥
 taken_not_null s mid t u all seen o filled took e =
     no_null s mid o (taken_kind s mid t o.sees.head null all seen tt o.sees.stands (subst (λ v. Fills s.levels s.due v all) e filled) took)
 
@@ -58,7 +58,7 @@ something_answers reads holds s mid t v o a =
     look_answers reads (reads_option reads) holds (HoldsOption holds) s mid t o.sees.head v (Some v) (just a.content) o.sees.stands a (some_option reads a.tree some ∙ ap (option_map just) a.read) (a.content, refl, a.held)
 
 -- what the type inside refuses is refused
-pub something_refused : (needs : Needs) (reads : Meaning) (s mid : State) (e : Error) (b : source.State) → IsOther s mid → RefusesFront needs (FillsReadably reads mid) e mid.source b
+pub something_refused : (needs : Needs) (reads : Meaning) (s mid : State) (e : Error) (b : source.SourceState) → IsOther s mid → RefusesFront needs (FillsReadably reads mid) e mid.source b
     → RefusesFront needs (FillsReadably (reads_option reads) s) e s.source b
 something_refused needs reads s mid e b o =
     look_refused needs reads (reads_option reads) s mid o.sees.head e b o.sees.stands

@@ -101,11 +101,11 @@ some_text [] seen h = absurd (h refl)
 some_text (x ∷ b) seen h = refl
 
 -- a look, and then bytes
-pub took_after_look : (a b c : source.State) (x : ℕ) (bs : List ℕ) → Took a b [] (Some x) → Took b c bs None → Took a c bs None
+pub took_after_look : (a b c : source.SourceState) (x : ℕ) (bs : List ℕ) → Took a b [] (Some x) → Took b c bs None → Took a c bs None
 took_after_look a b c x bs = took_then a b c [] bs (Some x) None
 
 -- all of what is due was taken, after a look at its tag
-pub took_due : (s mid : State) (t : source.State) (x : ℕ) (u : Tree) (b : List ℕ) → TagInSight s mid x → Fills s.levels s.due u b → Took mid.source t b None → Took s.source t b (sight_after (length b) s.source.sight)
+pub took_due : (s mid : State) (t : source.SourceState) (x : ℕ) (u : Tree) (b : List ℕ) → TagInSight s mid x → Fills s.levels s.due u b → Took mid.source t b None → Took s.source t b (sight_after (length b) s.source.sight)
 took_due s mid t x u b look filled took =
     let none = some_text b s.source.sight (λ e. some_due s.levels s.due u look.tagged (subst (Fills s.levels s.due u) e filled)) in
     subst (Took s.source t b) (sym none) (took_after_look s.source mid.source t x b look.took took)
@@ -126,13 +126,13 @@ answers reads holds s mid t x u c b v look filled read held took state = record 
   state = past_look s mid t x look state;
 }
 
-took_seen : (s mid : State) (b : source.State) (x : ℕ) → TagInSight s mid x → Took mid.source b (bytes_in_sight mid.source.sight) None → Took mid.source b (x ∷ []) None
+took_seen : (s mid : State) (b : source.SourceState) (x : ℕ) → TagInSight s mid x → Took mid.source b (bytes_in_sight mid.source.sight) None → Took mid.source b (x ∷ []) None
 took_seen s mid b x look took = took_tag mid.source b x look.took.sight took
 
 -- ---- refusals after a look
 
 -- what is left is refused, of which every text that fits what is due is of this form
-pub after_look : (needs : Needs) (reads : Meaning) (V : Format) (s mid : State) (e : Error) (b : source.State) (x : ℕ) → TagInSight s mid x → ((text : List ℕ) → FillsReadably reads s text → V text)
+pub after_look : (needs : Needs) (reads : Meaning) (V : Format) (s mid : State) (e : Error) (b : source.SourceState) (x : ℕ) → TagInSight s mid x → ((text : List ℕ) → FillsReadably reads s text → V text)
     → RefusesFront needs V e mid.source b → RefusesFront needs (FillsReadably reads s) e s.source b
 after_look needs reads V s mid e b x look fit u =
     sequel needs V (FillsReadably reads s) e s.source mid.source b [] (passed_by s.source mid.source [] (Some x) look.took) (λ c rest ys f q. (c, refl, fit c f)) u
@@ -164,7 +164,7 @@ bool_kind (array ts) c e = absurd cc
 bool_kind (object es) c e = absurd cc
 bool_kind (template ks rs) c e = absurd cc
 
-pub bool_refused : (s : State) (e : Error) (b : source.State) → RefusesFront bare (BeginsKind s.due kinds.Bool) e s.source b → RefusesFront bare (FillsReadably reads_bool s) e s.source b
+pub bool_refused : (s : State) (e : Error) (b : source.SourceState) → RefusesFront bare (BeginsKind s.due kinds.Bool) e s.source b → RefusesFront bare (FillsReadably reads_bool s) e s.source b
 bool_refused s e b u = kind_refused bare reads_bool kinds.Bool s e b tt bool_kind u
 
 pub bool_answers : (s mid t : State) (h : Head) (v : Bool) → StandsAs kinds.Bool s mid h → (v ≡ true → h ≡ Tag 8) → (v ≡ false → h ≡ Tag 8 → ⊥) → Took mid.source t.source (bytes_in_sight mid.source.sight) None → t ≡ past mid t.source
@@ -203,7 +203,7 @@ unit_kind (array ts) c e = absurd cc
 unit_kind (object es) c e = absurd cc
 unit_kind (template ks rs) c e = absurd cc
 
-pub unit_refused : (s : State) (e : Error) (b : source.State) → RefusesFront bare (BeginsKind s.due kinds.Null) e s.source b → RefusesFront bare (FillsReadably reads_unit s) e s.source b
+pub unit_refused : (s : State) (e : Error) (b : source.SourceState) → RefusesFront bare (BeginsKind s.due kinds.Null) e s.source b → RefusesFront bare (FillsReadably reads_unit s) e s.source b
 unit_refused s e b u = kind_refused bare reads_unit kinds.Null s e b tt unit_kind u
 
 -- a null or a skip was taken
@@ -241,7 +241,7 @@ real_kind (array ts) c e = absurd cc
 real_kind (object es) c e = absurd cc
 real_kind (template ks rs) c e = absurd cc
 
-pub real_refused : (s : State) (e : Error) (b : source.State) → RefusesFront bare (BeginsKind s.due kinds.Real) e s.source b → RefusesFront bare (FillsReadably reads_real s) e s.source b
+pub real_refused : (s : State) (e : Error) (b : source.SourceState) → RefusesFront bare (BeginsKind s.due kinds.Real) e s.source b → RefusesFront bare (FillsReadably reads_real s) e s.source b
 real_refused s e b u = kind_refused bare reads_real kinds.Real s e b tt real_kind u
 
 real_text : (s : State) (b : List ℕ) → FillsReadably reads_real s b → 9 ≤ length b
@@ -258,7 +258,7 @@ real_text s b f = at f.tree f.read f.filled
     at (object es) e h = absurd cc
     at (template ks rs) e h = absurd cc
 
-pub bits_refused : (s mid : State) (h : Head) (e : Error) (b : source.State) → StandsAs kinds.Real s mid h → ShortOf 9 e mid.source b → RefusesFront bare (FillsReadably reads_real s) e s.source b
+pub bits_refused : (s mid : State) (h : Head) (e : Error) (b : source.SourceState) → StandsAs kinds.Real s mid h → ShortOf 9 e mid.source b → RefusesFront bare (FillsReadably reads_real s) e s.source b
 bits_refused s mid h e b stands u =
     let p = plain kinds.Real s mid h tt stands in
     after_look bare reads_real (λ c. 9 ≤ length c) s mid e b p.tag p.look (real_text s) (unwanted_front bare (λ c. 9 ≤ length c) e mid.source b (short_of (λ c. 9 ≤ length c) 9 e mid.source b (λ c q. q) u))
@@ -288,7 +288,7 @@ integer_kind (array ts) c e = absurd cc
 integer_kind (object es) c e = absurd cc
 integer_kind (template ks rs) c e = absurd cc
 
-pub integer_refused : (s : State) (e : Error) (b : source.State) → RefusesFront bare (BeginsKind s.due kinds.Integer) e s.source b → RefusesFront bare (FillsReadably (reads_signed 64) s) e s.source b
+pub integer_refused : (s : State) (e : Error) (b : source.SourceState) → RefusesFront bare (BeginsKind s.due kinds.Integer) e s.source b → RefusesFront bare (FillsReadably (reads_signed 64) s) e s.source b
 integer_refused s e b u = kind_refused bare (reads_signed 64) kinds.Integer s e b tt integer_kind u
 
 integer_text : (s : State) (b : List ℕ) → FillsReadably (reads_signed 64) s b → IsInteger b
@@ -305,7 +305,7 @@ integer_text s b f = at f.tree (integer_kind f.tree f.content f.read) f.filled
     at (object es) e h = absurd cc
     at (template ks rs) e h = absurd cc
 
-pub number_refused : (s mid : State) (h : Head) (e : Error) (b : source.State) → StandsAs kinds.Integer s mid h → Unwanted IsInteger e mid.source b → RefusesFront bare (FillsReadably (reads_signed 64) s) e s.source b
+pub number_refused : (s mid : State) (h : Head) (e : Error) (b : source.SourceState) → StandsAs kinds.Integer s mid h → Unwanted IsInteger e mid.source b → RefusesFront bare (FillsReadably (reads_signed 64) s) e s.source b
 number_refused s mid h e b stands u =
     let p = plain kinds.Integer s mid h tt stands in
     after_look bare (reads_signed 64) IsInteger s mid e b p.tag p.look (integer_text s) (unwanted_front bare IsInteger e mid.source b u)

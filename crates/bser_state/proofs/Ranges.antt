@@ -61,7 +61,7 @@ ranged fits v c e = at (fits v) refl e
     at false q h = absurd cc
 
 -- what no width holds, no narrower type reads
-pub number_kept : (fits : ℤ → Bool) (s : State) (e : Error) (b : source.State) → RefusesFront bare (FillsReadably (reads_signed 64) s) e s.source b → RefusesFront bare (FillsReadably (reads_integer fits) s) e s.source b
+pub number_kept : (fits : ℤ → Bool) (s : State) (e : Error) (b : source.SourceState) → RefusesFront bare (FillsReadably (reads_signed 64) s) e s.source b → RefusesFront bare (FillsReadably (reads_integer fits) s) e s.source b
 number_kept fits s e b u = narrower bare (FillsReadably (reads_signed 64) s) (FillsReadably (reads_integer fits) s) e s.source b wide u
   where
     wide : (c : List ℕ) → FillsReadably (reads_integer fits) s c → FillsReadably (reads_signed 64) s c
@@ -71,7 +71,7 @@ number_kept fits s e b u = narrower bare (FillsReadably (reads_signed 64) s) (Fi
         record { tree = integer p.value; content = number p.value; filled = subst (λ u. Fills s.levels s.due u c) p.tree f.filled; read = ap (λ x. if x then Some (number p.value) else None) q }
 
 -- an integer was taken that is outside
-pub out_of_range : (fits : ℤ → Bool) (s mid : State) (e : Error) (b : source.State) (v : ℤ) → Answers (reads_signed 64) (λ x c. c ≡ number x) s mid v → (fits v ≡ true → ⊥) → IsRefusal e → b ≡ with_failure true mid.source
+pub out_of_range : (fits : ℤ → Bool) (s mid : State) (e : Error) (b : source.SourceState) (v : ℤ) → Answers (reads_signed 64) (λ x c. c ≡ number x) s mid v → (fits v ≡ true → ⊥) → IsRefusal e → b ≡ with_failure true mid.source
     → RefusesFront bare (FillsReadably (reads_integer fits) s) e s.source b
 out_of_range fits s mid e b v a out kind state =
     unfit bare (FillsReadably (reads_integer fits) s) e s.source mid.source b a.text (sight_after (length a.text) s.source.sight) kind a.took state

@@ -5,7 +5,7 @@ use Rattle.std.specs.Prelude.{IsSomeAnd}
 use Rattle.std.specs.Io.KnownBytes.{Consumes}
 use Rattle.bser_base.specs.Grammar.{Format}
 use Rattle.bser_base.specs.Content.{Needs}
-use Rattle.bser_base.specs.Source.{State, Took, with_limit}
+use Rattle.bser_base.specs.Source.{SourceState, Took, with_limit}
 use Rattle.bser_base.specs.TaggedRefusal as tagged
 use Rattle.bser_base.specs.TaggedRefusal.{Unwanted, MayAnswer, cause_of, failures_by}
 use Rattle.bser_base.specs.declared.errors.Error.{Error}
@@ -16,7 +16,7 @@ use Rattle.bser_base.specs.declared.errors.ReadCause.TheVariants.{Eof, Utf8, Rea
 use Rattle.bser_state.specs.Reading.{Outside, MayRefuse, IsRefusal, RefusesFront}
 
 -- what the bytes are not to blame for stays so where more was wanted
-outside_more : (needs : Needs) (s : State) (n m : ℕ) → n ≤ m → (e : Error) → Outside needs e s n → Outside needs e s m
+outside_more : (needs : Needs) (s : SourceState) (n m : ℕ) → n ≤ m → (e : Error) → Outside needs e s n → Outside needs e s m
 outside_more needs s n m le (DeInvalidStartByte kind byte) h = absurd h
 outside_more needs s n m le (DeCustom (Fixed complaints.BorrowedFromCopying)) h = h
 outside_more needs s n m le (DeReaderError (Reader fault)) h = h
@@ -26,7 +26,7 @@ outside_more needs s n m le OutOfMemory h = h
 outside_more needs s n m le _ h = absurd h
 
 -- a source's cause as a refusal
-outside_of : (needs : Needs) (s : State) (n : ℕ) (e : Error) → MayAnswer e s.lends → IsSomeAnd (cause_of e) (λ c. tagged.Outside c s n) → Outside needs e s n
+outside_of : (needs : Needs) (s : SourceState) (n : ℕ) (e : Error) → MayAnswer e s.lends → IsSomeAnd (cause_of e) (λ c. tagged.OutsideCause c s n) → Outside needs e s n
 outside_of needs s n (DeReaderError Eof) may h = absurd h
 outside_of needs s n (DeReaderError Utf8) may h = absurd h
 outside_of needs s n (DeReaderError (Reader fault)) may h = tt
@@ -35,14 +35,14 @@ outside_of needs s n (DeReaderError Failed) may h = h
 outside_of needs s n OutOfMemory may h = inl may
 outside_of needs s n _ may h = absurd h
 
-may_of : (needs : Needs) (s : State) (e : Error) → MayAnswer e s.lends → MayRefuse needs e s
+may_of : (needs : Needs) (s : SourceState) (e : Error) → MayAnswer e s.lends → MayRefuse needs e s
 may_of needs s OutOfMemory h = inl h
 may_of needs s (DeReaderError (Reader fault)) h = h
 may_of needs s (DeCustom (Fixed complaints.BorrowedFromCopying)) h = absurd h
 may_of needs s _ h = tt
 
 -- a refusal by the reader of tagged values
-pub unwanted_front : (needs : Needs) (W : Format) (e : Error) (a b : State) → Unwanted W e a b → RefusesFront needs W e a b
+pub unwanted_front : (needs : Needs) (W : Format) (e : Error) (a b : SourceState) → Unwanted W e a b → RefusesFront needs W e a b
 unwanted_front needs W e a b u = record {
   excuse = λ text rest wanted left. outside_of needs a (length text) e u.may (u.excuse text rest wanted left);
   may = may_of needs a e u.may;
@@ -52,7 +52,7 @@ unwanted_front needs W e a b u = record {
 }
 
 -- a refusal of a front
-pub first_part : (needs : Needs) (V W : Format) (e : Error) (a b : State)
+pub first_part : (needs : Needs) (V W : Format) (e : Error) (a b : SourceState)
     → ((text : List ℕ) → W text → (first : List ℕ) × (second : List ℕ) × (text ≡ first ++ second) × V first)
     → RefusesFront needs V e a b → RefusesFront needs W e a b
 first_part needs V W e a b split u = record {
@@ -67,7 +67,7 @@ first_part needs V W e a b split u = record {
 }
 
 -- some bytes were taken, of a source that goes on
-pub record Passed (a b : State) (taken : List ℕ) : Type 0 where
+pub record Passed (a b : SourceState) (taken : List ℕ) : Type 0 where
   pub bytes : Consumes a.left b.left taken
   pub count : b.count ≡ a.count + length taken
   pub lends : b.lends ≡ a.lends
@@ -75,14 +75,14 @@ pub record Passed (a b : State) (taken : List ℕ) : Type 0 where
   pub failures : b.failures ≡ a.failures
   pub through : b.through ≡ a.through
 
-pub passed_by : (a b : State) (taken : List ℕ) (seen : Option ℕ) → Took a b taken seen → Passed a b taken
+pub passed_by : (a b : SourceState) (taken : List ℕ) (seen : Option ℕ) → Took a b taken seen → Passed a b taken
 passed_by a b taken seen took = record { bytes = took.bytes; count = took.count; lends = took.lends; working = took.failed; failures = took.failures; through = took.through }
 
 -- the limit aside
-pub passed_head : (a b : State) (l : ℕ) (taken : List ℕ) (seen : Option ℕ) → Took a (with_limit l b) taken seen → Passed a b taken
+pub passed_head : (a b : SourceState) (l : ℕ) (taken : List ℕ) (seen : Option ℕ) → Took a (with_limit l b) taken seen → Passed a b taken
 passed_head a b l taken seen took = record { bytes = took.bytes; count = took.count; lends = took.lends; working = took.failed; failures = took.failures; through = took.through }
 
-outside_before : (needs : Needs) (a b : State) (taken : List ℕ) (n m : ℕ) → Passed a b taken → m ≡ length taken + n → (e : Error) → Outside needs e b n → Outside needs e a m
+outside_before : (needs : Needs) (a b : SourceState) (taken : List ℕ) (n m : ℕ) → Passed a b taken → m ≡ length taken + n → (e : Error) → Outside needs e b n → Outside needs e a m
 outside_before needs a b taken n m took k (DeCustom (Fixed complaints.BorrowedFromCopying)) h = h
 outside_before needs a b taken n m took k (DeReaderError (Reader fault)) h = h
 outside_before needs a b taken n m took k (DeReaderError Failed) (inl h) = let f = took.working in absurd cc
@@ -91,7 +91,7 @@ outside_before needs a b taken n m took k OutOfMemory (inl h) = inl (sym took.le
 outside_before needs a b taken n m took k OutOfMemory (inr h) = inr h
 outside_before needs a b taken n m took k _ h = absurd h
 
-may_before : (needs : Needs) (a b : State) → b.lends ≡ a.lends → (e : Error) → MayRefuse needs e b → MayRefuse needs e a
+may_before : (needs : Needs) (a b : SourceState) → b.lends ≡ a.lends → (e : Error) → MayRefuse needs e b → MayRefuse needs e a
 may_before needs a b same OutOfMemory (inl h) = inl (sym same ∙ h)
 may_before needs a b same OutOfMemory (inr h) = inr h
 may_before needs a b same (DeReaderError (Reader fault)) h = sym same ∙ h
@@ -105,7 +105,7 @@ rest_of (Some xs) None taken all e h = absurd h
 rest_of (Some xs) (Some ys) taken all e h = (ys, refl, (let k : xs ≡ all = cc in sym k ∙ h))
 
 -- a refusal of the rest, after a front was taken
-pub sequel : (needs : Needs) (V W : Format) (e : Error) (a b c : State) (taken : List ℕ) → Passed a b taken
+pub sequel : (needs : Needs) (V W : Format) (e : Error) (a b c : SourceState) (taken : List ℕ) → Passed a b taken
     → ((text rest ys : List ℕ) → W text → text ++ rest ≡ taken ++ ys → (second : List ℕ) × (text ≡ taken ++ second) × V second)
     → RefusesFront needs V e b c → RefusesFront needs W e a c
 sequel needs V W e a b c taken took split u = record {
@@ -121,7 +121,7 @@ sequel needs V W e a b c taken took split u = record {
 }
 
 -- a refusal by the bytes counts no failure, and any type may answer it
-pub may_refuse : (needs : Needs) (s : State) (e : Error) → IsRefusal e → MayRefuse needs e s
+pub may_refuse : (needs : Needs) (s : SourceState) (e : Error) → IsRefusal e → MayRefuse needs e s
 may_refuse needs s OutOfMemory h = absurd h
 may_refuse needs s (DeReaderError (Reader fault)) h = absurd h
 may_refuse needs s (DeCustom (Fixed complaints.BorrowedFromCopying)) h = absurd h

@@ -5,7 +5,7 @@ use Rattle.std.specs.Int.{w64, to_le_bytes}
 use Rattle.bser_base.specs.Tree.{Tree, null, boolean, integer, real, bytes, text, array, object, template}
 use Rattle.bser_base.specs.Grammar.{Format, SpellsInteger, Spells}
 use Rattle.bser_base.specs.Content.{Needs}
-use Rattle.bser_base.specs.Source.{State, Took, IsNext, bytes_in_sight}
+use Rattle.bser_base.specs.Source.{SourceState, Took, IsNext, bytes_in_sight}
 use Rattle.bser_base.specs.Tagged.{TookInt, TookBits, IsInteger}
 use Rattle.bser_base.specs.TaggedRefusal.{Unwanted, ShortOf}
 use Rattle.bser_base.specs.declared.errors.Error.{Error}
@@ -38,7 +38,7 @@ seen left tag whole rest next e s =
     record { tree = s.tree; known = s.known; rest = p.0; whole = p.1; tagged = tagged_by zero s.tree tag p.0 (subst (Spells zero s.tree) p.1 s.spelled); spelled = s.spelled }
 
 -- a call that wants what every scalar with this tag is
-pub by_tag : (needs : Needs) (tag : ℕ) (V : Format) (e : Error) (a b : State) → IsNext a.left tag → ((c : List ℕ) → Seen tag c → V c) → RefusesFront needs V e a b → RefusesFront needs IsScalar e a b
+pub by_tag : (needs : Needs) (tag : ℕ) (V : Format) (e : Error) (a b : SourceState) → IsNext a.left tag → ((c : List ℕ) → Seen tag c → V c) → RefusesFront needs V e a b → RefusesFront needs IsScalar e a b
 by_tag needs tag V e a b next fit u = record {
   excuse = λ c rest wanted left. u.excuse c rest (fit c (seen a.left tag c rest next left wanted)) left;
   may = u.may;
@@ -133,20 +133,20 @@ no_kind tag out other b s = at s.tree s.known s.tagged
 
 -- ---- what a call takes or refuses
 
-pub integer_refused : (tag : ℕ) (e : Error) (a b : State) → IsNext a.left tag → 3 ≤ tag → tag ≤ 6 → Unwanted IsInteger e a b → RefusesFront owned IsScalar e a b
+pub integer_refused : (tag : ℕ) (e : Error) (a b : SourceState) → IsNext a.left tag → 3 ≤ tag → tag ≤ 6 → Unwanted IsInteger e a b → RefusesFront owned IsScalar e a b
 integer_refused tag e a b next low high u = by_tag owned tag IsInteger e a b next (integer_kind tag low high) (unwanted_front owned IsInteger e a b u)
 
-pub real_refused : (e : Error) (a b : State) → IsNext a.left 7 → ShortOf 9 e a b → RefusesFront owned IsScalar e a b
+pub real_refused : (e : Error) (a b : SourceState) → IsNext a.left 7 → ShortOf 9 e a b → RefusesFront owned IsScalar e a b
 real_refused e a b next u = by_tag owned 7 (Seen 7) e a b next (λ c s. s) (unwanted_front owned (Seen 7) e a b (short_of (Seen 7) 9 e a b real_kind u))
 
-pub bytes_refused : (e : Error) (a b : State) → IsNext a.left 2 → RefusesFront owned (IsString 2) e a b → RefusesFront owned IsScalar e a b
+pub bytes_refused : (e : Error) (a b : SourceState) → IsNext a.left 2 → RefusesFront owned (IsString 2) e a b → RefusesFront owned IsScalar e a b
 bytes_refused e a b next u = by_tag owned 2 (IsString 2) e a b next bytes_kind u
 
-pub text_refused : (e : Error) (a b : State) → IsNext a.left 13 → RefusesFront owned IsText e a b → RefusesFront owned IsScalar e a b
+pub text_refused : (e : Error) (a b : SourceState) → IsNext a.left 13 → RefusesFront owned IsText e a b → RefusesFront owned IsScalar e a b
 text_refused e a b next u = by_tag owned 13 IsText e a b next text_kind u
 
 -- no scalar begins with this tag
-pub tag_refused : (tag : ℕ) (e : Error) (a b : State) → IsNext a.left tag → ((2 ≤ tag) → (tag ≤ 10) → ⊥) → (tag ≡ 13 → ⊥) → IsRefusal e → b.lends ≡ a.lends → b.through ≡ a.through → b.failures ≡ a.failures → RefusesFront owned IsScalar e a b
+pub tag_refused : (tag : ℕ) (e : Error) (a b : SourceState) → IsNext a.left tag → ((2 ≤ tag) → (tag ≤ 10) → ⊥) → (tag ≡ 13 → ⊥) → IsRefusal e → b.lends ≡ a.lends → b.through ≡ a.through → b.failures ≡ a.failures → RefusesFront owned IsScalar e a b
 tag_refused tag e a b next out other kind lends through failures = record {
   excuse = λ c rest wanted left. absurd (no_kind tag out other c (seen a.left tag c rest next left wanted));
   may = may_refuse owned a e kind;
@@ -158,16 +158,16 @@ tag_refused tag e a b next out other kind lends through failures = record {
 -- ---- what was taken
 
 -- a tree in the words of the value that was made
-pub took_as : (a b : State) (t u : Tree) → u ≡ t → TookScalar a b t → TookScalar a b u
+pub took_as : (a b : SourceState) (t u : Tree) → u ≡ t → TookScalar a b t → TookScalar a b u
 took_as a b t u e took = subst (TookScalar a b) (sym e) took
 
-pub took_integer : (v : ℤ) (a b : State) → TookInt a b v → TookScalar a b (integer v)
+pub took_integer : (v : ℤ) (a b : SourceState) → TookInt a b v → TookScalar a b (integer v)
 took_integer v a b took = record { known = refl; taken = took.text; spelled = took.spelled; took = took.took }
 
-pub took_real : (r : ℕ) (a b : State) → a.sight ≡ Some 7 → r < 2 ^ 64 → TookBits a b r → TookScalar a b (real r)
+pub took_real : (r : ℕ) (a b : SourceState) → a.sight ≡ Some 7 → r < 2 ^ 64 → TookBits a b r → TookScalar a b (real r)
 took_real r a b sight small took = record { known = refl; taken = 7 ∷ to_le_bytes w64 r; spelled = (small, refl); took = subst (λ s. Took a b (bytes_in_sight s ++ to_le_bytes w64 r) None) sight took }
 
-pub took_bytes : (s : List ℕ) (a b : State) → TookString 2 a b s → TookScalar a b (bytes s)
+pub took_bytes : (s : List ℕ) (a b : SourceState) → TookString 2 a b s → TookScalar a b (bytes s)
 took_bytes s a b took = record {
   known = refl;
   taken = 2 ∷ (took.number ++ s);
@@ -175,7 +175,7 @@ took_bytes s a b took = record {
   spelled = record { front = 2 ∷ []; rest = took.number ++ s; whole = refl; first = refl; second = record { front = took.number; rest = s; whole = refl; first = took.spelled; second = refl } };
 }
 
-pub took_text : (s : List ℕ) (a b : State) → IsUtf8 s → TookString 13 a b s → TookScalar a b (text s)
+pub took_text : (s : List ℕ) (a b : SourceState) → IsUtf8 s → TookString 13 a b s → TookScalar a b (text s)
 took_text s a b good took = record {
   known = refl;
   taken = 13 ∷ (took.number ++ s);
@@ -183,11 +183,11 @@ took_text s a b good took = record {
   spelled = record { front = 13 ∷ []; rest = took.number ++ s; whole = refl; first = refl; second = record { front = took.number; rest = s; whole = refl; first = took.spelled; second = (good, refl) } };
 }
 
-pub took_null : (a b : State) → a.sight ≡ Some 10 → Took a b (bytes_in_sight a.sight) None → TookScalar a b null
+pub took_null : (a b : SourceState) → a.sight ≡ Some 10 → Took a b (bytes_in_sight a.sight) None → TookScalar a b null
 took_null a b sight took = record { known = refl; taken = 10 ∷ []; spelled = refl; took = took_tag a b 10 sight took }
 
-pub took_true : (a b : State) → a.sight ≡ Some 8 → Took a b (bytes_in_sight a.sight) None → TookScalar a b (boolean true)
+pub took_true : (a b : SourceState) → a.sight ≡ Some 8 → Took a b (bytes_in_sight a.sight) None → TookScalar a b (boolean true)
 took_true a b sight took = record { known = refl; taken = 8 ∷ []; spelled = refl; took = took_tag a b 8 sight took }
 
-pub took_false : (a b : State) → a.sight ≡ Some 9 → Took a b (bytes_in_sight a.sight) None → TookScalar a b (boolean false)
+pub took_false : (a b : SourceState) → a.sight ≡ Some 9 → Took a b (bytes_in_sight a.sight) None → TookScalar a b (boolean false)
 took_false a b sight took = record { known = refl; taken = 9 ∷ []; spelled = refl; took = took_tag a b 9 sight took }

@@ -135,13 +135,13 @@ at_least_one [] h = absurd (h refl)
 at_least_one (x ∷ b) h = omega arith
 
 -- no tag came in sight
-pub no_sight : (s : State) (e : Error) (b : source.State) → IsTagged s.due → ShortOf 1 e s.source b → RefusesFront bare (IsDue s) e s.source b
+pub no_sight : (s : State) (e : Error) (b : source.SourceState) → IsTagged s.due → ShortOf 1 e s.source b → RefusesFront bare (IsDue s) e s.source b
 no_sight s e b tagged short =
     let some : (c : List ℕ) → IsDue s c → 1 ≤ length c = λ c f. at_least_one c (λ q. some_due s.levels s.due f.0 tagged (subst (Fills s.levels s.due f.0) q f.1)) in
     unwanted_front bare (IsDue s) e s.source b (short_of (IsDue s) 1 e s.source b some short)
 
 -- where nothing is due, nothing is read
-pub none_due : (s : State) (e : Error) (b : source.State) → s.due ≡ nothing_due → IsRefusal e → b ≡ with_failure true s.source → RefusesFront bare (IsDue s) e s.source b
+pub none_due : (s : State) (e : Error) (b : source.SourceState) → s.due ≡ nothing_due → IsRefusal e → b ≡ with_failure true s.source → RefusesFront bare (IsDue s) e s.source b
 none_due s e b due kind state = unfit_here bare (IsDue s) e s.source b kind state (λ text f. subst (λ d. Fills s.levels d f.0 text) due f.1)
 
 -- ---- names of a row's fields

@@ -6,7 +6,7 @@ use Rattle.std.specs.Prelude.{ℤ, pos, Result, Ok, Err, IfOk, IfErr, IsOk}
 use Rattle.bser_base.specs.Grammar.{Format, Bytes, SpellsInteger, SpellsCount, ◌then◌}
 use Rattle.bser_base.specs.Plain.{string}
 use Rattle.bser_base.specs.Content.{Needs}
-use Rattle.bser_base.specs.Source.{State, Took, sight_after, bytes_in_sight}
+use Rattle.bser_base.specs.Source.{SourceState, Took, sight_after, bytes_in_sight}
 use Rattle.bser_base.proofs.Taken.{took_then}
 use Rattle.bser_base.specs.Tagged.{TookInt, IsInteger}
 use Rattle.bser_base.specs.TaggedRefusal.{Unwanted}
@@ -36,7 +36,7 @@ is_err_not_ok (Err f) e same ok = let h = ok in cc
 -- ---- the tag in sight
 
 -- the byte in sight was taken
-pub took_tag : (a b : State) (tag : ℕ) → a.sight ≡ Some tag → Took a b (bytes_in_sight a.sight) None → Took a b (tag ∷ []) None
+pub took_tag : (a b : SourceState) (tag : ℕ) → a.sight ≡ Some tag → Took a b (bytes_in_sight a.sight) None → Took a b (tag ∷ []) None
 took_tag a b tag seen took = subst (λ s. Took a b (bytes_in_sight s) None) seen took
 
 -- after a tag, a text that begins with it goes on
@@ -56,13 +56,13 @@ number_first : (text : List ℕ) → IsContent text → (first : List ℕ) × (s
 number_first text (s, h) = (h.front, h.rest, h.whole, (pos (length s), h.first))
 
 -- after a number, a text that begins with it goes on by as many bytes
-counted_second : (a b : State) (len : ℤ) → (took : TookInt a b len) → (text rest ys : List ℕ) → IsContent text → text ++ rest ≡ took.text ++ ys → (second : List ℕ) × (text ≡ took.text ++ second) × Counted len second
+counted_second : (a b : SourceState) (len : ℤ) → (took : TookInt a b len) → (text rest ys : List ℕ) → IsContent text → text ++ rest ≡ took.text ++ ys → (second : List ℕ) × (text ≡ took.text ++ second) × Counted len second
 counted_second a b len took text rest ys (s, h) e =
     let all : h.front ++ (h.rest ++ rest) ≡ took.text ++ ys = sym (append_assoc h.front h.rest rest) ∙ ap (λ l. l ++ rest) (sym h.whole) ∙ e in
     let same = one_int h.front took.text (h.rest ++ rest) ys (pos (length s)) len h.first took.spelled all in
     (h.rest, h.whole ∙ ap (λ n. n ++ h.rest) same.0, ap (λ l. pos (length l)) h.second ∙ same.1)
 
-pub len_refused : (needs : Needs) (tag : ℕ) (e : Error) (a b c : State) → a.sight ≡ Some tag → Took a b (bytes_in_sight a.sight) None → Unwanted IsInteger e b c → RefusesFront needs (IsString tag) e a c
+pub len_refused : (needs : Needs) (tag : ℕ) (e : Error) (a b c : SourceState) → a.sight ≡ Some tag → Took a b (bytes_in_sight a.sight) None → Unwanted IsInteger e b c → RefusesFront needs (IsString tag) e a c
 len_refused needs tag e a b c seen took u =
     sequel needs IsContent (IsString tag) e a b c (tag ∷ []) (passed_by a b (tag ∷ []) None (took_tag a b tag seen took))
     (λ text rest ys h e. let p = after_tag tag (Content h.0) text rest ys h.1 e in (p.0, p.1, (h.0, p.2)))
@@ -70,7 +70,7 @@ len_refused needs tag e a b c seen took u =
 
 -- ---- the bytes
 
-pub bytes_refused : (needs : Needs) (tag : ℕ) (len asked : ℤ) (e : Error) (a b c d : State) → asked ≡ len → a.sight ≡ Some tag → Took a b (bytes_in_sight a.sight) None → TookInt b c len → RefusesFront needs (Counted asked) e c d
+pub bytes_refused : (needs : Needs) (tag : ℕ) (len asked : ℤ) (e : Error) (a b c d : SourceState) → asked ≡ len → a.sight ≡ Some tag → Took a b (bytes_in_sight a.sight) None → TookInt b c len → RefusesFront needs (Counted asked) e c d
     → RefusesFront needs (IsString tag) e a d
 bytes_refused needs tag len asked e a b c d same seen took number u =
     sequel needs IsContent (IsString tag) e a b d (tag ∷ []) (passed_by a b (tag ∷ []) None (took_tag a b tag seen took))
@@ -85,10 +85,10 @@ none_after n s e = ap (sight_after n) e ∙ stays n
     stays (suc n) = refl
 
 -- one call after another
-took_both : (a b c : State) (xs ys : List ℕ) → Took a b xs None → Took b c ys None → Took a c (xs ++ ys) None
+took_both : (a b c : SourceState) (xs ys : List ℕ) → Took a b xs None → Took b c ys None → Took a c (xs ++ ys) None
 took_both a b c xs ys = took_then a b c xs ys None None
 
-pub took_string : (tag : ℕ) (len : ℤ) (s : List ℕ) (a b c d : State) → a.sight ≡ Some tag → Took a b (bytes_in_sight a.sight) None → TookInt b c len → pos (length s) ≡ len → Took c d s (sight_after (length s) c.sight)
+pub took_string : (tag : ℕ) (len : ℤ) (s : List ℕ) (a b c d : SourceState) → a.sight ≡ Some tag → Took a b (bytes_in_sight a.sight) None → TookInt b c len → pos (length s) ≡ len → Took c d s (sight_after (length s) c.sight)
     → TookString tag a d s
 took_string tag len s a b c d seen took number size last =
     let end : Took c d s None = subst (Took c d s) (none_after (length s) c.sight number.took.sight) last in
@@ -106,7 +106,7 @@ text_first text (s, h) =
     (text, [], sym (append-nil text), (s, record { front = h.front; rest = h.rest; whole = h.whole; first = h.first; second = record { front = h.second.front; rest = h.second.rest; whole = h.second.whole; first = h.second.first; second = h.second.second.1 } }))
 
 -- where no text is spelled, a string was taken that is none
-pub not_text : (needs : Needs) (e : Error) (s : List ℕ) (a b : State) (d : State) → IsRefusal e → TookString 0x0d a b s → ¬ (IsUtf8 s) → d.lends ≡ b.lends → d.through ≡ b.through → d.failures ≡ b.failures
+pub not_text : (needs : Needs) (e : Error) (s : List ℕ) (a b : SourceState) (d : SourceState) → IsRefusal e → TookString 0x0d a b s → ¬ (IsUtf8 s) → d.lends ≡ b.lends → d.through ≡ b.through → d.failures ≡ b.failures
     → RefusesFront needs IsText e a d
 not_text needs e s a b d kind took bad lends through failures = record {
   excuse = λ text rest wanted left. absurd (
@@ -125,5 +125,5 @@ not_text needs e s a b d kind took bad lends through failures = record {
   failures = failures ∙ took.took.failures ∙ sym (no_failure a.failures e kind);
 }
 
-pub text_refused : (needs : Needs) (e : Error) (a b : State) → RefusesFront needs (IsString 0x0d) e a b → RefusesFront needs IsText e a b
+pub text_refused : (needs : Needs) (e : Error) (a b : SourceState) → RefusesFront needs (IsString 0x0d) e a b → RefusesFront needs IsText e a b
 text_refused needs e a b u = first_part needs (IsString 0x0d) IsText e a b text_first u

@@ -9,7 +9,7 @@ use Rattle.bser_base.specs.Errors.{error_of}
 use Rattle.bser_base.specs.Refs.{RefusesKept}
 use Rattle.bser_base.specs.Grammar.{Format, Bytes, SpellsInteger, SpellsCount, SpellsKey, Each, ◌then◌}
 use Rattle.bser_base.specs.Plain.{Reader, ◌>>=◌, next, string, key, count, many}
-use Rattle.bser_base.specs.Source.{State, Took, IsNext, sight_after, bytes_in_sight}
+use Rattle.bser_base.specs.Source.{SourceState, Took, IsNext, sight_after, bytes_in_sight}
 use Rattle.bser_base.proofs.Taken.{took_then}
 use Rattle.bser_base.specs.Tagged.{TookInt, IsInteger, IsLength, with_failure}
 use Rattle.bser_base.specs.TaggedRefusal.{Unwanted, BytesRefused, NegativeLength}
@@ -22,7 +22,7 @@ use Rattle.bser_base.proofs.Heads.{short_of}
 use Rattle.bser_base.proofs.Laws.{one_int}
 use Rattle.bser_state.specs.Reading.{RefusesFront, IsRefusal, MayRefuse, bare}
 use Rattle.bser_state.specs.Scalar.{owned, IsString, Counted, TookString}
-use Rattle.bser_state.specs.Tables.{TookPart, SpellsRaw, IsRaw, IsKey, SpellsKeys, IsKeys, SpellsTable, IsTable}
+use Rattle.bser_state.specs.Tables.{TookPart, SpellsRaw, IsRaw, IsTemplateKey, SpellsKeys, IsKeys, SpellsTable, IsTable}
 use Rattle.bser_state.proofs.Refusals.{passed_by, first_part, sequel, unwanted_front, rest_of}
 use Rattle.bser_state.proofs.Steps.{with_needs, narrower, unfit}
 use Rattle.bser_state.proofs.Strings.{len_refused, bytes_refused, took_string}
@@ -30,7 +30,7 @@ use Rattle.bser_state.proofs.Strings.{len_refused, bytes_refused, took_string}
 -- ---- calls, one after another
 
 -- a refusal after a look
-pub looked : (needs : Needs) (W : Format) (e : Error) (a b c : State) (seen : Option ℕ) → Took a b [] seen → RefusesFront needs W e b c → RefusesFront needs W e a c
+pub looked : (needs : Needs) (W : Format) (e : Error) (a b c : SourceState) (seen : Option ℕ) → Took a b [] seen → RefusesFront needs W e b c → RefusesFront needs W e a c
 looked needs W e a b c seen look u = sequel needs W W e a b c [] (passed_by a b [] seen look) (λ text rest ys w same. (text, refl, w)) u
 
 -- a text that is not empty begins with the byte that is next
@@ -40,7 +40,7 @@ next_of (Some xs) tag [] rest next e some = absurd (some refl)
 next_of (Some xs) tag (x ∷ more) rest next e some = (more, (let k : xs ≡ x ∷ (more ++ rest) = cc in let t : x ≡ tag = cc in ap (λ y. y ∷ more) t))
 
 -- a refusal of what the wanted form is where it begins with the byte that is next
-pub by_next : (needs : Needs) (V W : Format) (tag : ℕ) (e : Error) (a b : State) → IsNext a.left tag → (W [] → ⊥) → ((text more : List ℕ) → text ≡ tag ∷ more → W text → V text)
+pub by_next : (needs : Needs) (V W : Format) (tag : ℕ) (e : Error) (a b : SourceState) → IsNext a.left tag → (W [] → ⊥) → ((text more : List ℕ) → text ≡ tag ∷ more → W text → V text)
     → RefusesFront needs V e a b → RefusesFront needs W e a b
 by_next needs V W tag e a b next some fit u = record {
   excuse = λ text rest wanted left.
@@ -53,7 +53,7 @@ by_next needs V W tag e a b next some fit u = record {
 }
 
 -- a refusal by the bytes after what was taken, where nothing of the wanted form begins so
-pub unfit_after : (needs : Needs) (W : Format) (e : Error) (a b c : State) (taken : List ℕ) (seen : Option ℕ) → IsRefusal e → Took a b taken seen → c ≡ with_failure true b
+pub unfit_after : (needs : Needs) (W : Format) (e : Error) (a b c : SourceState) (taken : List ℕ) (seen : Option ℕ) → IsRefusal e → Took a b taken seen → c ≡ with_failure true b
     → ((text rest ys : List ℕ) → W text → text ++ rest ≡ taken ++ ys → ⊥) → RefusesFront needs W e a c
 unfit_after needs W e a b c taken seen kind took state none =
     unfit needs W e a b c taken seen kind took state (λ text rest wanted left. let r = rest_of a.left b.left taken (text ++ rest) left took.bytes in none text rest r.0 wanted r.2)
@@ -101,16 +101,16 @@ raw_tag tag text more same (s, h) = elim h.first [
         (s, record { front = h.front; rest = h.rest; whole = h.whole; first = subst (λ x. h.front ≡ x ∷ []) first e; second = h.second })
 
 -- after its tag came in sight
-raw_refused : (tag : ℕ) (e : Error) (a b c : State) → Took a b [] (Some tag) → IsNext b.left tag → RefusesFront bare (IsString tag) e b c → RefusesFront bare IsRaw e a c
+raw_refused : (tag : ℕ) (e : Error) (a b c : SourceState) → Took a b [] (Some tag) → IsNext b.left tag → RefusesFront bare (IsString tag) e b c → RefusesFront bare IsRaw e a c
 raw_refused tag e a b c look next u =
     looked bare IsRaw e a b c (Some tag) look (by_next bare (IsString tag) IsRaw tag e b c next (λ h. no_raw h.0 h.1) (raw_tag tag) u)
 
 -- its length was refused
-pub raw_len_refused : (tag : ℕ) (e : Error) (a b c d : State) → Took a b [] (Some tag) → IsNext b.left tag → Took b c (bytes_in_sight b.sight) None → Unwanted IsInteger e c d → RefusesFront bare IsRaw e a d
+pub raw_len_refused : (tag : ℕ) (e : Error) (a b c d : SourceState) → Took a b [] (Some tag) → IsNext b.left tag → Took b c (bytes_in_sight b.sight) None → Unwanted IsInteger e c d → RefusesFront bare IsRaw e a d
 raw_len_refused tag e a b c d look next took u = raw_refused tag e a b d look next (len_refused bare tag e b c d look.sight took u)
 
 -- as many bytes were refused
-counted_refused : (len : ℤ) (e : Error) (a b : State) → BytesRefused len e a b → RefusesFront bare (Counted len) e a b
+counted_refused : (len : ℤ) (e : Error) (a b : SourceState) → BytesRefused len e a b → RefusesFront bare (Counted len) e a b
 counted_refused (pos n) e a b u = unwanted_front bare (Counted (pos n)) e a b (short_of (Counted (pos n)) n e a b (λ text h. (let k : length text ≡ n = cc in omega (arith, k))) u)
 counted_refused (negsuc n) e a b (cause, fails) = record {
   excuse = λ text rest wanted left. absurd cc;
@@ -125,11 +125,11 @@ counted_refused (negsuc n) e a b (cause, fails) = record {
     may (DeReaderError causes.Failed) h = tt
     may _ h = absurd h
 
-pub raw_bytes_refused : (tag : ℕ) (len asked : ℤ) (e : Error) (a b c d f : State) → asked ≡ len → Took a b [] (Some tag) → IsNext b.left tag → Took b c (bytes_in_sight b.sight) None → TookInt c d len → BytesRefused asked e d f → RefusesFront bare IsRaw e a f
+pub raw_bytes_refused : (tag : ℕ) (len asked : ℤ) (e : Error) (a b c d f : SourceState) → asked ≡ len → Took a b [] (Some tag) → IsNext b.left tag → Took b c (bytes_in_sight b.sight) None → TookInt c d len → BytesRefused asked e d f → RefusesFront bare IsRaw e a f
 raw_bytes_refused tag len asked e a b c d f same look next took number u =
     raw_refused tag e a b f look next (bytes_refused bare tag len asked e b c d f same look.sight took number (counted_refused asked e d f u))
 
-pub took_raw : (tag : ℕ) (len : ℤ) (s : List ℕ) (a b c d f : State) → (tag ≡ 0x02) ⊎ (tag ≡ 0x0d) → Took a b [] (Some tag) → Took b c (bytes_in_sight b.sight) None → TookInt c d len → pos (length s) ≡ len
+pub took_raw : (tag : ℕ) (len : ℤ) (s : List ℕ) (a b c d f : SourceState) → (tag ≡ 0x02) ⊎ (tag ≡ 0x0d) → Took a b [] (Some tag) → Took b c (bytes_in_sight b.sight) None → TookInt c d len → pos (length s) ≡ len
     → Took d f s (sight_after (length s) d.sight) → TookPart (SpellsRaw s) a f
 took_raw tag len s a b c d f either look took number size last =
     let t : TookString tag b f s = took_string tag len s b c d f look.sight took number size last in
@@ -146,23 +146,23 @@ took_raw tag len s a b c d f either look took number size last =
 -- ---- counts
 
 -- a negative number is no count
-pub negative_count : (v : ℤ) (e : Error) (a b c : State) → IsRefusal e → v <ℤ pos 0 → TookInt a b v → c ≡ with_failure true b → RefusesFront bare IsLength e a c
+pub negative_count : (v : ℤ) (e : Error) (a b c : SourceState) → IsRefusal e → v <ℤ pos 0 → TookInt a b v → c ≡ with_failure true b → RefusesFront bare IsLength e a c
 negative_count v e a b c kind low took state =
     unfit_after bare IsLength e a b c took.text None kind took.took state
     (λ text rest ys (n, h) same. let one = one_int text took.text rest ys (pos n) v h took.spelled same in absurd (omega (arith, ints, one.1, low)))
 
-pub took_count : (v : ℤ) (n : ℕ) (a b : State) → v ≡ pos n → TookInt a b v → TookPart (SpellsCount n) a b
+pub took_count : (v : ℤ) (n : ℕ) (a b : SourceState) → v ≡ pos n → TookInt a b v → TookPart (SpellsCount n) a b
 took_count v n a b same took = record { text = took.text; spelled = subst (λ w. SpellsInteger w took.text) same took.spelled; took = took.took }
 
 -- ---- keys
 
-pub key_bytes_refused : (e : Error) (a b : State) → RefusesFront bare IsRaw e a b → RefusesFront owned IsKey e a b
-key_bytes_refused e a b u = with_needs owned IsKey e a b (narrower bare IsRaw IsKey e a b (λ text h. (h.0, raw_of_key h.0 text h.1)) u)
+pub key_bytes_refused : (e : Error) (a b : SourceState) → RefusesFront bare IsRaw e a b → RefusesFront owned IsTemplateKey e a b
+key_bytes_refused e a b u = with_needs owned IsTemplateKey e a b (narrower bare IsRaw IsTemplateKey e a b (λ text h. (h.0, raw_of_key h.0 text h.1)) u)
 
 -- the bytes of a key were taken, which are no text
-pub not_utf8 : (s : List ℕ) (e : Error) (a b c : State) → IsRefusal e → TookPart (SpellsRaw s) a b → ¬ (IsUtf8 s) → c ≡ with_failure true b → RefusesFront owned IsKey e a c
+pub not_utf8 : (s : List ℕ) (e : Error) (a b c : SourceState) → IsRefusal e → TookPart (SpellsRaw s) a b → ¬ (IsUtf8 s) → c ≡ with_failure true b → RefusesFront owned IsTemplateKey e a c
 not_utf8 s e a b c kind took bad state =
-    unfit_after owned IsKey e a b c took.text None kind took.took state
+    unfit_after owned IsTemplateKey e a b c took.text None kind took.took state
     (λ text rest ys h same.
     let p = one_front (next >>= λ t. string) (SpellsRaw h.0) (SpellsRaw s) h.0 s text took.text rest ys (raw_reads h.0) (raw_reads s) (raw_of_key h.0 text h.1) took.spelled same in
     bad (subst IsUtf8 p.1 h.1.0))
@@ -174,15 +174,15 @@ pub one_count : (k l : ℕ) (b c x y : List ℕ) → SpellsCount k b → SpellsC
 one_count k l b c x y = one_front count (SpellsCount k) (SpellsCount l) k l b c x y (count_reads k) (count_reads l)
 
 -- the bytes of a key that were taken are not kept
-pub kept_refused : (lends : Bool) (s : List ℕ) (e : Error) (a b c : State) → TookPart (SpellsRaw s) a b → c ≡ with_failure true b → RefusesKept lends s e → RefusesFront owned IsKey e a c
-kept_refused lends s e a b c took state (inl p) = subst (λ x. RefusesFront owned IsKey x a c) (sym p.0) (record {
+pub kept_refused : (lends : Bool) (s : List ℕ) (e : Error) (a b c : SourceState) → TookPart (SpellsRaw s) a b → c ≡ with_failure true b → RefusesKept lends s e → RefusesFront owned IsTemplateKey e a c
+kept_refused lends s e a b c took state (inl p) = subst (λ x. RefusesFront owned IsTemplateKey x a c) (sym p.0) (record {
   excuse = λ text rest wanted left. inr refl;
   may = inr (inl refl);
   lends = ap (λ x. x.lends) state ∙ took.took.lends;
   through = ap (λ x. x.through) state ∙ took.took.through;
   failures = ap (λ x. x.failures) state ∙ took.took.failures;
 })
-kept_refused lends s e a b c took state (inr p) = subst (λ x. RefusesFront owned IsKey x a c) (sym p.0) (not_utf8 s (error_of causes.Utf8) a b c tt took p.1 state)
+kept_refused lends s e a b c took state (inr p) = subst (λ x. RefusesFront owned IsTemplateKey x a c) (sym p.0) (not_utf8 s (error_of causes.Utf8) a b c tt took p.1 state)
 
 -- ---- keys, one by one
 
@@ -191,13 +191,13 @@ abbrev pub KeysLeft : ℕ → Format
 KeysLeft n b = (ks : List (List ℕ)) × (length ks ≡ n) × Each SpellsKey ks b
 
 -- these keys were taken, and so many are left
-pub record Progress (a s : State) (ks : List (List ℕ)) (left : ℕ) : Type 0 where
+pub record Progress (a s : SourceState) (ks : List (List ℕ)) (left : ℕ) : Type 0 where
   pub text : List ℕ
   pub took : Took a s text None
   pub front : (more : List (List ℕ)) (x : List ℕ) → length more ≡ left → Each SpellsKey more x → SpellsKeys (ks ++ more) (text ++ x)
   pub only : (whole rest ys : List ℕ) → IsKeys whole → whole ++ rest ≡ text ++ ys → (x : List ℕ) × (whole ≡ text ++ x) × KeysLeft left x
 
-pub progress_start : (a s : State) (n : ℕ) → TookPart (SpellsCount n) a s → Progress a s [] n
+pub progress_start : (a s : SourceState) (n : ℕ) → TookPart (SpellsCount n) a s → Progress a s [] n
 progress_start a s n t = record {
   text = t.text;
   took = t.took;
@@ -216,7 +216,7 @@ next_key k text rest ys x n (l ∷ ls) key len h e =
     let p = one_key l k h.front text (h.rest ++ rest) ys h.first key all in
     (h.rest, h.whole ∙ ap (λ c. c ++ h.rest) p.0, (ls, omega (arith, len), h.second))
 
-pub progress_next : (a s t : State) (ks : List (List ℕ)) (k : List ℕ) (left n : ℕ) → Progress a s ks left → left ≡ n + 1 → TookPart (SpellsKey k) s t → Progress a t (ks ++ k ∷ []) n
+pub progress_next : (a s t : SourceState) (ks : List (List ℕ)) (k : List ℕ) (left n : ℕ) → Progress a s ks left → left ≡ n + 1 → TookPart (SpellsKey k) s t → Progress a t (ks ++ k ∷ []) n
 progress_next a s t ks k left n p more q = record {
   text = p.text ++ q.text;
   took = took_then a s t p.text q.text None None p.took q.took;
@@ -232,7 +232,7 @@ progress_next a s t ks k left n p more q = record {
       (one.0, r.1 ∙ ap (λ l. p.text ++ l) one.1 ∙ sym (append_assoc p.text q.text one.0), one.2);
 }
 
-pub progress_end : (a s : State) (ks : List (List ℕ)) (left : ℕ) → left ≡ 0 → Progress a s ks left → TookPart (SpellsKeys ks) a s
+pub progress_end : (a s : SourceState) (ks : List (List ℕ)) (left : ℕ) → left ≡ 0 → Progress a s ks left → TookPart (SpellsKeys ks) a s
 progress_end a s ks left none p = record {
   text = p.text;
   spelled =
@@ -241,16 +241,16 @@ progress_end a s ks left none p = record {
   took = p.took;
 }
 
-key_first : (n : ℕ) (text : List ℕ) → 0 < n → KeysLeft n text → (first : List ℕ) × (second : List ℕ) × (text ≡ first ++ second) × IsKey first
+key_first : (n : ℕ) (text : List ℕ) → 0 < n → KeysLeft n text → (first : List ℕ) × (second : List ℕ) × (text ≡ first ++ second) × IsTemplateKey first
 key_first n text some ([], len, h) = absurd (omega (arith, some, len))
 key_first n text some (k ∷ ks, len, h) = (h.front, h.rest, h.whole, (k, h.first))
 
-pub key_refused : (e : Error) (a s t : State) (ks : List (List ℕ)) (left : ℕ) → Progress a s ks left → 0 < left → RefusesFront owned IsKey e s t → RefusesFront owned IsKeys e a t
+pub key_refused : (e : Error) (a s t : SourceState) (ks : List (List ℕ)) (left : ℕ) → Progress a s ks left → 0 < left → RefusesFront owned IsTemplateKey e s t → RefusesFront owned IsKeys e a t
 key_refused e a s t ks left p some u =
     sequel owned (KeysLeft left) IsKeys e a s t p.text (passed_by a s p.text None p.took) p.only
-    (first_part owned IsKey (KeysLeft left) e s t (λ text h. key_first left text some h) u)
+    (first_part owned IsTemplateKey (KeysLeft left) e s t (λ text h. key_first left text some h) u)
 
-pub count_refused : (e : Error) (a b : State) → RefusesFront bare IsLength e a b → RefusesFront owned IsKeys e a b
+pub count_refused : (e : Error) (a b : SourceState) → RefusesFront bare IsLength e a b → RefusesFront owned IsKeys e a b
 count_refused e a b u = first_part owned IsLength IsKeys e a b (λ text (ks, h). (h.front, h.rest, h.whole, (length ks, h.first))) (with_needs owned IsLength e a b u)
 
 -- ---- tables
@@ -268,7 +268,7 @@ keys_of ks k b (empty, h) = record {
   second = h.second.second;
 }
 
-pub keys_refused : (e : Error) (a b : State) → RefusesFront owned IsKeys e a b → RefusesFront owned IsTable e a b
+pub keys_refused : (e : Error) (a b : SourceState) → RefusesFront owned IsKeys e a b → RefusesFront owned IsTable e a b
 keys_refused e a b u = first_part owned IsKeys IsTable e a b (λ text (ks, k, h). let p = keys_of ks k text h in (p.front, p.rest, p.whole, (ks, p.first))) u
 
 -- after its keys a table goes on with its number of rows
@@ -279,14 +279,14 @@ after_keys ks taken spelled text rest ys (ls, k, h) e =
     let same = one_front (count >>= λ n. many key n) (SpellsKeys ls) (SpellsKeys ks) ls ks p.front taken (p.rest ++ rest) ys (keys_reads ls) (keys_reads ks) p.first spelled all in
     (p.rest, p.whole ∙ ap (λ c. c ++ p.rest) same.0, p.second, same.1)
 
-pub rows_refused : (e : Error) (a b c : State) (ks : List (List ℕ)) → TookPart (SpellsKeys ks) a b → RefusesFront bare IsLength e b c → RefusesFront owned IsTable e a c
+pub rows_refused : (e : Error) (a b c : SourceState) (ks : List (List ℕ)) → TookPart (SpellsKeys ks) a b → RefusesFront bare IsLength e b c → RefusesFront owned IsTable e a c
 rows_refused e a b c ks t u =
     sequel owned IsLength IsTable e a b c t.text (passed_by a b t.text None t.took)
     (λ text rest ys h same. let p = after_keys ks t.text t.spelled text rest ys h same in (p.0, p.1, (h.1, p.2)))
     (with_needs owned IsLength e b c u)
 
 -- rows without keys
-pub rows_without_keys : (e : Error) (a b c d : State) (ks : List (List ℕ)) (k : ℕ) → IsRefusal e → TookPart (SpellsKeys ks) a b → TookPart (SpellsCount k) b c → ks ≡ [] → (k ≡ 0 → ⊥) → d ≡ with_failure true c → RefusesFront owned IsTable e a d
+pub rows_without_keys : (e : Error) (a b c d : SourceState) (ks : List (List ℕ)) (k : ℕ) → IsRefusal e → TookPart (SpellsKeys ks) a b → TookPart (SpellsCount k) b c → ks ≡ [] → (k ≡ 0 → ⊥) → d ≡ with_failure true c → RefusesFront owned IsTable e a d
 rows_without_keys e a b c d ks k kind t u empty some state =
     unfit_after owned IsTable e a c d (t.text ++ u.text) None kind (took_then a b c t.text u.text None None t.took u.took) state
     (λ text rest ys h same.
@@ -296,7 +296,7 @@ rows_without_keys e a b c d ks k kind t u empty some state =
     let one = one_count h.1 k p.0 u.text rest ys p.2 u.spelled after in
     some (sym one.1 ∙ h.2.0 (p.3 ∙ empty)))
 
-pub took_table : (a b c : State) (ks : List (List ℕ)) (k : ℕ) → TookPart (SpellsKeys ks) a b → TookPart (SpellsCount k) b c → (ks ≡ [] → k ≡ 0) → TookPart (SpellsTable ks k) a c
+pub took_table : (a b c : SourceState) (ks : List (List ℕ)) (k : ℕ) → TookPart (SpellsKeys ks) a b → TookPart (SpellsCount k) b c → (ks ≡ [] → k ≡ 0) → TookPart (SpellsTable ks k) a c
 took_table a b c ks k t u none = record {
   text = t.text ++ u.text;
   spelled =

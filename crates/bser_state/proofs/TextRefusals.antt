@@ -88,7 +88,7 @@ seen_string a mid tag text rest look left f =
     (w.0, record { is_text = w.1.is_text; tag_is = first_tag mid.source.left tag w.1.is_text w.0 text rest look.next left under; under = under })
 
 -- a look takes nothing
-after_look : (W : Format) (e : Error) (a mid b : source.State) (tag : ℕ) → Took a mid [] (Some tag) → RefusesFront bare W e mid b → RefusesFront bare W e a b
+after_look : (W : Format) (e : Error) (a mid b : source.SourceState) (tag : ℕ) → Took a mid [] (Some tag) → RefusesFront bare W e mid b → RefusesFront bare W e a b
 after_look W e a mid b tag look u = sequel bare W W e a mid b [] (passed_by a mid [] (Some tag) look) (λ c rest ys f q. (c, refl, f)) u
 
 is_string_tag : (m : Bool) (tag : ℕ) → tag_of_string m ≡ tag → IsStringTag tag
@@ -109,11 +109,11 @@ string_refused e a mid b tag look u =
     })
 
 -- a string under a tag of strings
-pub under_tag : (tag : ℕ) (e : Error) (a b : source.State) → RefusesFront bare (IsString tag) e a b → RefusesFront bare (Given (IsStringTag tag) (IsString tag)) e a b
+pub under_tag : (tag : ℕ) (e : Error) (a b : source.SourceState) → RefusesFront bare (IsString tag) e a b → RefusesFront bare (Given (IsStringTag tag) (IsString tag)) e a b
 under_tag tag e a b u = narrower bare (IsString tag) (Given (IsStringTag tag) (IsString tag)) e a b (λ text f. f.1) u
 
 -- another tag
-pub other_refused : (tag : ℕ) (e : Error) (a b : source.State) → (tag ≡ 0x0d → ⊥) → (tag ≡ 0x02 → ⊥) → IsRefusal e → b ≡ with_failure true a → RefusesFront bare (Given (IsStringTag tag) (IsString tag)) e a b
+pub other_refused : (tag : ℕ) (e : Error) (a b : source.SourceState) → (tag ≡ 0x0d → ⊥) → (tag ≡ 0x02 → ⊥) → IsRefusal e → b ≡ with_failure true a → RefusesFront bare (Given (IsStringTag tag) (IsString tag)) e a b
 other_refused tag e a b text bytes kind state = unfit_here bare (Given (IsStringTag tag) (IsString tag)) e a b kind state (λ c f. elim f.0 [ inl q ↦ text q | inr q ↦ bytes q ])
 
 -- a row
@@ -137,13 +137,13 @@ name_refused e a mid b same out lends state =
 
 -- ---- counted bytes
 
-negative_kind : (e : Error) (s : source.State) → NegativeLength e s → IsRefusal e
+negative_kind : (e : Error) (s : source.SourceState) → NegativeLength e s → IsRefusal e
 negative_kind (DeCustom (Fixed complaints.BorrowedFromCopying)) s h = absurd cc
 negative_kind OutOfMemory s h = absurd h
 negative_kind (DeReaderError (Reader fault)) s h = absurd h
 negative_kind _ s h = tt
 
-pub counted_refused : (len : ℤ) (e : Error) (a b : source.State) → BytesRefused len e a b → RefusesFront bare (Counted len) e a b
+pub counted_refused : (len : ℤ) (e : Error) (a b : source.SourceState) → BytesRefused len e a b → RefusesFront bare (Counted len) e a b
 counted_refused (pos n) e a b short = unwanted_front bare (Counted (pos n)) e a b (short_of (Counted (pos n)) n e a b (λ text size. (let same : length text ≡ n = cc in omega (arith, same))) short)
 counted_refused (negsuc n) e a b h =
     let kind = negative_kind e a h.0 in
@@ -158,7 +158,7 @@ counted_refused (negsuc n) e a b h =
 -- ---- what was taken
 
 -- a look, and then a call
-look_then : (a mid b : source.State) (tag : ℕ) (text : List ℕ) → Took a mid [] (Some tag) → Took mid b text None → Took a b text None
+look_then : (a mid b : source.SourceState) (tag : ℕ) (text : List ℕ) → Took a mid [] (Some tag) → Took mid b text None → Took a b text None
 look_then a mid b tag text = took_then a mid b [] text (Some tag) None
 
 taken_under : (m : Bool) (a mid b : State) (s : List ℕ) → TagInSight a mid (tag_of_string m) → TookString (tag_of_string m) mid.source b.source s → b ≡ past mid b.source → TookBytes a b m s
@@ -204,7 +204,7 @@ named_at kept zero (x ∷ ks) k h e = ap (λ y. name_due (kept y)) (sym e)
 named_at kept (suc place) (x ∷ ks) k h e = named_at kept place ks k (omega arith) e
 
 -- a source that works takes nothing
-pub took_nothing : (a : source.State) → a.failed ≡ false → HoldsWithin a → Took a a [] a.sight
+pub took_nothing : (a : source.SourceState) → a.failed ≡ false → HoldsWithin a → Took a a [] a.sight
 took_nothing a working holds = record {
   bytes = at a.left;
   first = λ b e. e;

@@ -5,7 +5,7 @@ use Rattle.std.proofs.lemmas.Option.{some_pair_parts}
 use Rattle.bser_base.specs.Tree.{Tree, null, object, Fields, fields, fields_of}
 use Rattle.bser_base.specs.Grammar.{Format, Each, Spells, SpellsString, SpellsField}
 use Rattle.bser_base.specs.Expand.{expand, expand_fields, key_tree}
-use Rattle.bser_base.specs.Plain.{Reader, any_string, field_of, many, value}
+use Rattle.bser_base.specs.Plain.{Reader, any_string, field_after, many, value}
 use Rattle.bser_base.specs.Content.{Content, Meaning, Needs}
 use Rattle.bser_base.specs.Expected.{Due, Fills, nothing_due, node_due, key_due, field_due, name_due, row_due}
 use Rattle.bser_base.specs.Source as source
@@ -63,7 +63,7 @@ sight_by (suc n) m seen = stays m ∙ (let e : suc n + m ≡ suc (n + m) = omega
     stays zero = refl
     stays (suc k) = refl
 
-pub took_then : (a b c : source.State) (xs ys : List ℕ) → Took a b xs (sight_after (length xs) a.sight) → Took b c ys (sight_after (length ys) b.sight) → Took a c (xs ++ ys) (sight_after (length (xs ++ ys)) a.sight)
+pub took_then : (a b c : source.SourceState) (xs ys : List ℕ) → Took a b xs (sight_after (length xs) a.sight) → Took b c ys (sight_after (length ys) b.sight) → Took a c (xs ++ ys) (sight_after (length (xs ++ ys)) a.sight)
 took_then a b c xs ys first second =
     let seen : sight_after (length ys) b.sight ≡ sight_after (length (xs ++ ys)) a.sight =
     ap (sight_after (length ys)) first.sight ∙ sight_by (length xs) (length ys) a.sight ∙ ap (λ n. sight_after n a.sight) (sym (length-append xs ys)) in
@@ -83,7 +83,7 @@ no_skip zero y = refl
 no_skip (suc n) y = refl
 
 one_field : (n : ℕ) (f g : Option Tree) (a b s t : List ℕ) → SpellsField (Spells n) f a → SpellsField (Spells n) g b → a ++ s ≡ b ++ t → (a ≡ b) × (f ≡ g)
-one_field n f g = one_front (field_of (value n)) (SpellsField (Spells n) f) (SpellsField (Spells n) g) f g (field_reads (value n) (Spells n) (value_reads n) (no_skip n) f) (field_reads (value n) (Spells n) (value_reads n) (no_skip n) g)
+one_field n f g = one_front (field_after (value n)) (SpellsField (Spells n) f) (SpellsField (Spells n) g) f g (field_reads (value n) (Spells n) (value_reads n) (no_skip n) f) (field_reads (value n) (Spells n) (value_reads n) (no_skip n) g)
 
 -- what a field stands for
 abbrev field_tree : Option Tree → Tree
@@ -94,9 +94,9 @@ field_due_as : (n : ℕ) (u : Tree) (b : List ℕ) → Fills n field_due u b →
 field_due_as n u b (inl h) = (None, h.0, h.1)
 field_due_as n u b (inr h) = (Some h.tree, h.stands, h.spelled)
 
-row_reads : (n k : ℕ) (row : Fields) → length (fields row) ≡ k → Reads (many (field_of (value n)) k) (Each (SpellsField (Spells n)) (fields row)) (fields row)
-row_reads n k row e = subst (λ m. Reads (many (field_of (value n)) m) (Each (SpellsField (Spells n)) (fields row)) (fields row)) e
-    (many_all (field_of (value n)) (SpellsField (Spells n)) (field_reads (value n) (Spells n) (value_reads n) (no_skip n)) (fields row))
+row_reads : (n k : ℕ) (row : Fields) → length (fields row) ≡ k → Reads (many (field_after (value n)) k) (Each (SpellsField (Spells n)) (fields row)) (fields row)
+row_reads n k row e = subst (λ m. Reads (many (field_after (value n)) m) (Each (SpellsField (Spells n)) (fields row)) (fields row)) e
+    (many_all (field_after (value n)) (SpellsField (Spells n)) (field_reads (value n) (Spells n) (value_reads n) (no_skip n)) (fields row))
 
 same_row : (v w : Fields) → fields v ≡ fields w → v ≡ w
 same_row v w e = sym (fields_back v) ∙ ap fields_of e ∙ fields_back w
@@ -117,13 +117,13 @@ one_due n field_due t u a b x y p q e =
     (same.0, v.1 ∙ ap field_tree same.1 ∙ sym w.1)
 one_due n (name_due k) t u a b x y p q e = (p.1 ∙ sym q.1, p.0 ∙ sym q.0)
 one_due n (row_due ks) t u a b x y p q e =
-    let same = one_front (many (field_of (value n)) (length ks)) (Each (SpellsField (Spells n)) (fields p.row)) (Each (SpellsField (Spells n)) (fields q.row)) (fields p.row) (fields q.row)
+    let same = one_front (many (field_after (value n)) (length ks)) (Each (SpellsField (Spells n)) (fields p.row)) (Each (SpellsField (Spells n)) (fields q.row)) (fields p.row) (fields q.row)
     (row_reads n (length ks) p.row p.even) (row_reads n (length ks) q.row q.even) a b x y p.spelled q.spelled e in
     (same.0, p.stands ∙ ap (λ r. object (expand_fields ks r)) (same_row p.row q.row same.1) ∙ sym q.stands)
 
 -- ---- what a call refuses
 
-wider_outside : (some all : Needs) (s : source.State) (n : ℕ) → (some.memory ≡ true → all.memory ≡ true) → (e : Error) → Outside some e s n → Outside all e s n
+wider_outside : (some all : Needs) (s : source.SourceState) (n : ℕ) → (some.memory ≡ true → all.memory ≡ true) → (e : Error) → Outside some e s n → Outside all e s n
 wider_outside some all s n memory OutOfMemory (inl h) = inl h
 wider_outside some all s n memory OutOfMemory (inr h) = inr (memory h)
 wider_outside some all s n memory (DeReaderError (causes.Reader fault)) h = h
@@ -131,7 +131,7 @@ wider_outside some all s n memory (DeReaderError causes.Failed) h = h
 wider_outside some all s n memory (DeCustom (Fixed complaints.BorrowedFromCopying)) h = h
 wider_outside some all s n memory _ h = absurd h
 
-pub wider_may : (some all : Needs) (s : source.State) → (some.lent ≡ true → all.lent ≡ true) → (TakesMemory some → TakesMemory all) → (e : Error) → MayRefuse some e s → MayRefuse all e s
+pub wider_may : (some all : Needs) (s : source.SourceState) → (some.lent ≡ true → all.lent ≡ true) → (TakesMemory some → TakesMemory all) → (e : Error) → MayRefuse some e s → MayRefuse all e s
 wider_may some all s lent takes OutOfMemory (inl h) = inl h
 wider_may some all s lent takes OutOfMemory (inr h) = inr (takes h)
 wider_may some all s lent takes (DeReaderError (causes.Reader fault)) h = h
@@ -139,7 +139,7 @@ wider_may some all s lent takes (DeCustom (Fixed complaints.BorrowedFromCopying)
 wider_may some all s lent takes _ h = tt
 
 -- a type that needs more may refuse the same
-pub wider_needs : (some all : Needs) (W : Format) (e : Error) (a b : source.State) → (some.lent ≡ true → all.lent ≡ true) → (some.memory ≡ true → all.memory ≡ true) → (TakesMemory some → TakesMemory all) → RefusesFront some W e a b → RefusesFront all W e a b
+pub wider_needs : (some all : Needs) (W : Format) (e : Error) (a b : source.SourceState) → (some.lent ≡ true → all.lent ≡ true) → (some.memory ≡ true → all.memory ≡ true) → (TakesMemory some → TakesMemory all) → RefusesFront some W e a b → RefusesFront all W e a b
 wider_needs some all W e a b lent memory takes u = record {
   excuse = λ text rest wanted left. wider_outside some all a (length text) memory e (u.excuse text rest wanted left);
   may = wider_may some all a lent takes e u.may;
@@ -149,7 +149,7 @@ wider_needs some all W e a b lent memory takes u = record {
 }
 
 -- want of memory after some bytes were taken
-pub no_room : (needs : Needs) (W : Format) (a b : source.State) (taken : List ℕ) → needs.memory ≡ true → Passed a b taken → RefusesFront needs W OutOfMemory a b
+pub no_room : (needs : Needs) (W : Format) (a b : source.SourceState) (taken : List ℕ) → needs.memory ≡ true → Passed a b taken → RefusesFront needs W OutOfMemory a b
 no_room needs W a b taken memory passed = record {
   excuse = λ text rest wanted left. inr memory;
   may = inr (inl memory);

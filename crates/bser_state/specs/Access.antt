@@ -32,12 +32,12 @@ pub record OpenPairs : Type 0 where
 -- ---- opening
 
 -- the state inside a container that was opened
-abbrev pub inside_items : WantedItems → State → source.State → State
+abbrev pub inside_items : WantedItems → State → source.SourceState → State
 inside_items (nodes k) s r = record s { source = r; due = nothing_due; levels = s.levels - 1; opened = one_more s.opened }
 inside_items (rows_over ks k) s r = record s { source = r; due = nothing_due; levels = s.levels - 1; opened = one_more s.opened; keys = ks; outer = s.outer ++ s.keys ∷ [] }
 
 -- a row takes no level
-abbrev pub inside_pairs : WantedPairs → State → source.State → State
+abbrev pub inside_pairs : WantedPairs → State → source.SourceState → State
 inside_pairs (entries_of_object k) s r = record s { source = r; due = nothing_due; levels = s.levels - 1; opened = one_more s.opened }
 inside_pairs (fields_of_row ks) s r = record s { source = r; due = nothing_due; opened = one_more s.opened }
 
@@ -89,7 +89,7 @@ abbrev pub items_in : OpenItems → State → WantedItems → OpenItems
 items_in a s w = record a { state = s; wanted = w }
 
 -- v is the next item
-pub record IsNext {A : Type 0} (reads : Meaning) (holds : A → Content → Type 0) (old new : OpenItems) (v : A) : Type 0 where
+pub record IsNextItem {A : Type 0} (reads : Meaning) (holds : A → Content → Type 0) (old new : OpenItems) (v : A) : Type 0 where
   pub counted : 0 < items_left old.wanted
   pub answers : Answers reads holds (awaiting (item_due old.wanted) old.state) new.state v
   pub after : new ≡ items_in old new.state (items_after old.wanted)
@@ -103,7 +103,7 @@ pub record IsOver (old new : OpenItems) : Type 0 where
 -- the next item, or none where none is left
 abbrev pub NextItem : {A : Type 0} → Meaning → (A → Content → Type 0) → OpenItems → OpenItems → Option A → Type 0
 NextItem reads holds old new None = IsOver old new
-NextItem reads holds old new (Some v) = IsNext reads holds old new v
+NextItem reads holds old new (Some v) = IsNextItem reads holds old new v
 
 -- an item is left, and is refused
 pub record RefusesItem (reads : Meaning) (needs : Needs) (e : Error) (old : OpenItems) (new : State) : Type 0 where

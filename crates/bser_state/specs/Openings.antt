@@ -1,11 +1,11 @@
 -- What stands before a container is opened.
 use Rattle.std.specs.Prelude.{◌≡◌, ℕ, Some}
 use Rattle.bser_base.specs.Source.{IsNext}
-use Rattle.bser_state.specs.Scalar.{IsValue}
+use Rattle.bser_state.specs.Scalar.{IsValueDue}
 use Rattle.bser_state.specs.State.{State}
 
 -- a value or a field is due, whose tag is in sight
 pub record IsBefore (tag : ℕ) (s : State) : Type 0 where
-  pub due : IsValue s.due
+  pub due : IsValueDue s.due
   pub next : IsNext s.source.left tag
   pub sight : s.source.sight ≡ Some tag

@@ -39,7 +39,7 @@ abbrev pub TakesMemory : Needs → Type 0
 TakesMemory needs = (needs.memory ≡ true) ⊎ (needs.keys ≡ true)
 
 -- a refusal that the bytes left are not to blame for: want of the memory that reading a value takes, a reader's fault, a refusal before, and what cannot be lent
-abbrev pub Outside : Needs → Error → source.State → ℕ → Type 0
+abbrev pub Outside : Needs → Error → source.SourceState → ℕ → Type 0
 Outside needs OutOfMemory s n = (s.lends ≡ false) ⊎ (needs.memory ≡ true)
 Outside needs (DeReaderError (Reader fault)) s n = Unit {0}
 Outside needs (DeReaderError Failed) s n = (s.failed ≡ true) ⊎ ((s.lends ≡ false) × (2 ^ 64 ≤ s.count + n))
@@ -47,7 +47,7 @@ Outside needs (DeCustom (Fixed BorrowedFromCopying)) s n = Unit {0}
 Outside needs _ s n = ⊥
 
 -- the refusals of this kind that a type can answer by its needs, over this source
-abbrev pub MayRefuse : Needs → Error → source.State → Type 0
+abbrev pub MayRefuse : Needs → Error → source.SourceState → Type 0
 MayRefuse needs OutOfMemory s = (s.lends ≡ false) ⊎ TakesMemory needs
 MayRefuse needs (DeReaderError (Reader fault)) s = s.lends ≡ false
 MayRefuse needs (DeCustom (Fixed BorrowedFromCopying)) s = (s.lends ≡ false) × (needs.lent ≡ true)
@@ -61,7 +61,7 @@ IsRefusal (DeCustom (Fixed BorrowedFromCopying)) = ⊥
 IsRefusal _ = Unit {0}
 
 -- a call refuses though the bytes left begin as it wants, only for a reason outside them
-pub record RefusesFront (needs : Needs) (Wanted : Format) (e : Error) (old new : source.State) : Type 0 where
+pub record RefusesFront (needs : Needs) (Wanted : Format) (e : Error) (old new : source.SourceState) : Type 0 where
   pub excuse : (text rest : List ℕ) → Wanted text → old.left ≡ Some (text ++ rest) → Outside needs e old (length text)
   pub may : MayRefuse needs e old
   pub lends : new.lends ≡ old.lends
@@ -88,6 +88,6 @@ abbrev pub RefusesDue : Error → State → State → Type 0
 RefusesDue e old new = RefusesFront bare (IsDue old) e old.source new.source
 
 -- no front of the bytes left is the head of a message, or the refusal is not to blame on them
-pub record RefusesHead (old : source.State) (e : Error) : Type 0 where
+pub record RefusesHead (old : source.SourceState) (e : Error) : Type 0 where
   pub excuse : (text rest : List ℕ) → IsHead text → old.left ≡ Some (text ++ rest) → Outside bare e old (length text)
   pub may : MayAnswer e old.lends

@@ -36,7 +36,7 @@ pub record IsScalar (b : List ℕ) : Type 0 where
   pub spelled : Spells zero tree b
 
 -- the bytes of a scalar or string were taken
-pub record TookScalar (old new : source.State) (t : Tree) : Type 0 where
+pub record TookScalar (old new : source.SourceState) (t : Tree) : Type 0 where
   pub known : scalar t ≡ Some t
   pub taken : List ℕ
   pub spelled : Spells zero t taken
@@ -55,7 +55,7 @@ abbrev pub Counted : ℤ → Format
 Counted len b = pos (length b) ≡ len
 
 -- the tag in sight, and a string's length and bytes were taken
-pub record TookString (tag : ℕ) (old new : source.State) (s : List ℕ) : Type 0 where
+pub record TookString (tag : ℕ) (old new : source.SourceState) (s : List ℕ) : Type 0 where
   pub number : List ℕ
   pub spelled : SpellsCount (length s) number
   pub took : Took old new (tag ∷ (number ++ s)) None
@@ -68,7 +68,7 @@ IsNoValue (name_due k) = Unit {0}
 IsNoValue _ = ⊥
 
 -- a value is due, or a field
-abbrev pub IsValue : Due → Type 0
-IsValue node_due = Unit {0}
-IsValue field_due = Unit {0}
-IsValue _ = ⊥
+abbrev pub IsValueDue : Due → Type 0
+IsValueDue node_due = Unit {0}
+IsValueDue field_due = Unit {0}
+IsValueDue _ = ⊥

@@ -6,7 +6,7 @@ use Rattle.bser_base.specs.Tagged.{TookHead, EndsAt, with_failure}
 
 pub record State : Type 0 where
   -- what is left of the message, and of what follows
-  pub source : source.State
+  pub source : source.SourceState
   -- what the next call reads
   pub due : Due
   -- how many levels are left
@@ -22,7 +22,7 @@ pub record State : Type 0 where
   pub len : ℤ
 
 -- the same, over another state of its source
-abbrev pub with_source : State → source.State → State
+abbrev pub with_source : State → source.SourceState → State
 with_source s r = record s { source = r }
 
 -- the same, with something else due
@@ -30,7 +30,7 @@ abbrev pub awaiting : Due → State → State
 awaiting d s = record s { due = d }
 
 -- what was due is taken
-abbrev pub past : State → source.State → State
+abbrev pub past : State → source.SourceState → State
 past s r = record s { source = r; due = nothing_due }
 
 -- the same, after a refusal
@@ -38,7 +38,7 @@ abbrev pub refused : State → State
 refused s = with_source s (with_failure true s.source)
 
 -- the head of a message is taken, and its value is due with n levels left
-pub record Begins (n : ℕ) (old : source.State) (new : State) : Type 0 where
+pub record Begins (n : ℕ) (old : source.SourceState) (new : State) : Type 0 where
   pub took : TookHead old new.source new.capabilities new.len
   pub start : new.start ≡ pos (min new.source.count (2 ^ 63 - 1))
   pub due : new.due ≡ node_due

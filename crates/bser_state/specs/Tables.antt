@@ -5,7 +5,7 @@ use Rattle.bser_base.specs.Source as source
 use Rattle.bser_base.specs.Source.{Took}
 
 -- bytes of this form were taken
-pub record TookPart (F : Format) (old new : source.State) : Type 0 where
+pub record TookPart (F : Format) (old new : source.SourceState) : Type 0 where
   pub text : List ℕ
   pub spelled : F text
   pub took : Took old new text None
@@ -19,8 +19,8 @@ abbrev pub IsRaw : Format
 IsRaw b = (s : List ℕ) × SpellsRaw s b
 
 -- some template's key
-abbrev pub IsKey : Format
-IsKey b = (k : List ℕ) × SpellsKey k b
+abbrev pub IsTemplateKey : Format
+IsTemplateKey b = (k : List ℕ) × SpellsKey k b
 
 -- a template's keys, after their number
 abbrev pub SpellsKeys : List (List ℕ) → Format

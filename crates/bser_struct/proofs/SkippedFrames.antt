@@ -41,7 +41,7 @@ start W = same_form _ _ (λ b h. record { front = b; rest = []; whole = refl_end
     refl_end [] = refl
     refl_end (x ∷ b) = ap (λ l. x ∷ l) (refl_end b)
 
-pub no_memory : (V : Format) (a b : source.State) → b.lends ≡ a.lends → b.through ≡ a.through → b.failures ≡ a.failures → RefusesFront owned V OutOfMemory a b
+pub no_memory : (V : Format) (a b : source.SourceState) → b.lends ≡ a.lends → b.through ≡ a.through → b.failures ≡ a.failures → RefusesFront owned V OutOfMemory a b
 no_memory V a b lends through failures = record { excuse = λ body rest w left. inr refl; may = inr (inl refl); lends = lends; through = through; failures = failures }
 
 -- ---- the stack

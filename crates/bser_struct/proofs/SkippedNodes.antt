@@ -72,7 +72,7 @@ eight tag low high = at (tag - 8) (omega arith) (omega arith)
     at (suc (suc zero)) e h = inr (inr (omega arith))
     at (suc (suc (suc k))) e h = absurd (omega arith)
 
-pub string_refused : (n tag : ℕ) (utf8 : Bool) (e : Error) (a b : source.State) → (tag ≡ 0x02) ⊎ (tag ≡ 0x0d) → (utf8 ≡ true → tag ≡ 0x0d) → IsNext a.left tag → RefusesFront owned (SkippedString tag utf8) e a b → RefusesFront owned (Skipped n) e a b
+pub string_refused : (n tag : ℕ) (utf8 : Bool) (e : Error) (a b : source.SourceState) → (tag ≡ 0x02) ⊎ (tag ≡ 0x0d) → (utf8 ≡ true → tag ≡ 0x0d) → IsNext a.left tag → RefusesFront owned (SkippedString tag utf8) e a b → RefusesFront owned (Skipped n) e a b
 string_refused n tag utf8 e a b kind only next u = refused_seen owned (SkippedString tag utf8) (Skipped n) e tag a b next (empty_skipped n) (λ more w. strict tag utf8 (tag ∷ more) only (string_form n tag more kind w)) u
 
 real_length : (n : ℕ) (b : List ℕ) → Skipped n (0x07 ∷ b) → 9 ≤ length (0x07 ∷ b)
@@ -90,7 +90,7 @@ real_length n b s = at s.tree (tagged_by n s.tree 0x07 b s.spelled)
     at (object es) g = absurd (omega (arith, g))
     at (template ks rs) g = absurd (omega (arith, g))
 
-pub real_refused : (n : ℕ) (e : Error) (a b : source.State) → IsNext a.left 0x07 → ShortOf 9 e a b → RefusesFront owned (Skipped n) e a b
+pub real_refused : (n : ℕ) (e : Error) (a b : source.SourceState) → IsNext a.left 0x07 → ShortOf 9 e a b → RefusesFront owned (Skipped n) e a b
 real_refused n e a b next u =
     refused_seen owned (λ c. 9 ≤ length c) (Skipped n) e 0x07 a b next (empty_skipped n) (real_length n) (unwanted_front owned (λ c. 9 ≤ length c) e a b (short_of (λ c. 9 ≤ length c) 9 e a b (λ c h. h) u))
 
@@ -109,7 +109,7 @@ integer_form n tag b low high s = at s.tree (tagged_by n s.tree tag b s.spelled)
     at (object es) g = absurd (omega (arith, g))
     at (template ks rs) g = absurd (omega (arith, g))
 
-pub integer_refused : (n tag : ℕ) (e : Error) (a b : source.State) → 3 ≤ tag → tag ≤ 6 → IsNext a.left tag → Unwanted IsInteger e a b → RefusesFront owned (Skipped n) e a b
+pub integer_refused : (n tag : ℕ) (e : Error) (a b : source.SourceState) → 3 ≤ tag → tag ≤ 6 → IsNext a.left tag → Unwanted IsInteger e a b → RefusesFront owned (Skipped n) e a b
 integer_refused n tag e a b low high next u = refused_seen owned IsInteger (Skipped n) e tag a b next (empty_skipped n) (λ more w. integer_form n tag more low high w) (unwanted_front owned IsInteger e a b u)
 
 -- no value begins with another tag

@@ -28,7 +28,7 @@ use Rattle.bser_struct.proofs.SkippedSteps.{looked, skips_then, skips_to, skips_
 pub part_taken : (F G V W : Format) (s a b : State) → Skips W V s a → Within V (F then G) [] → Skips F (Bytes []) a b → Skips W G s b
 part_taken F G V W s a b f same g = skips_then W (F then G) G s a b (skips_to W V (F then G) s a f same) (skips_to (F then G) (Bytes [] then G) G a b (skips_before F (Bytes []) G a b g) (nothing_before G))
 
-pub part_refused : (F G V W : Format) (e : Error) (s a : State) (c : source.State) → Skips W V s a → Within V (F then G) [] → RefusesFront owned F e a.source c → RefusesFront owned W e s.source c
+pub part_refused : (F G V W : Format) (e : Error) (s a : State) (c : source.SourceState) → Skips W V s a → Within V (F then G) [] → RefusesFront owned F e a.source c → RefusesFront owned W e s.source c
 part_refused F G V W e s a c f same u = refused_later owned W V e s a c f (refused_as owned (F then G) V e a.source c (form_as V (F then G) same) (refused_first owned F G e a.source c u))
 
 -- so many, of which some are taken
@@ -66,12 +66,12 @@ from_discard W V U tag a b c same seen took within f = record {
   state = f.state ∙ ap (λ s. with_source s c.source) same;
 }
 
-pub refused_after : (W V : Format) (e : Error) (tag : ℕ) (a b c : source.State) → a.sight ≡ Some tag → Took a b (bytes_in_sight a.sight) None → Within W V (tag ∷ []) → RefusesFront owned V e b c → RefusesFront owned W e a c
+pub refused_after : (W V : Format) (e : Error) (tag : ℕ) (a b c : source.SourceState) → a.sight ≡ Some tag → Took a b (bytes_in_sight a.sight) None → Within W V (tag ∷ []) → RefusesFront owned V e b c → RefusesFront owned W e a c
 refused_after W V e tag a b c seen took within u =
     sequel owned V W e a b c (tag ∷ []) (passed_by a b (tag ∷ []) None (took_tag a b tag seen took)) (λ body rest ys w q. within.only body rest ys w q) u
 
 -- nothing is of this form
-pub refused_none : (V : Format) (e : Error) (a b : source.State) → ((body : List ℕ) → V body → ⊥) → IsRefusal e → b.lends ≡ a.lends → b.through ≡ a.through → b.failures ≡ a.failures → RefusesFront owned V e a b
+pub refused_none : (V : Format) (e : Error) (a b : source.SourceState) → ((body : List ℕ) → V body → ⊥) → IsRefusal e → b.lends ≡ a.lends → b.through ≡ a.through → b.failures ≡ a.failures → RefusesFront owned V e a b
 refused_none V e a b none kind lends through failures = record {
   excuse = λ body rest w left. absurd (none body w);
   may = may_refuse owned a e kind;

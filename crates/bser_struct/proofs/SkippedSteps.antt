@@ -43,7 +43,7 @@ pub skips_from : (tag : ℕ) (W V : Format) (a b : State) → SkipsFrom tag W V 
 skips_from tag W V a b f = record { taken = tag ∷ f.rest; within = f.within; took = f.took; state = f.state }
 
 -- a look, and then bytes
-look_took : (a b c : source.State) (seen : Option ℕ) (bs : List ℕ) → Took a b [] seen → Took b c bs None → Took a c bs None
+look_took : (a b c : source.SourceState) (seen : Option ℕ) (bs : List ℕ) → Took a b [] seen → Took b c bs None → Took a c bs None
 look_took a b c seen bs = taken.took_then a b c [] bs seen None
 
 -- a look, and then a first byte and more
@@ -71,25 +71,25 @@ skips_count G k a b f = record {
 -- ---- refusals
 
 -- of what stands for less
-pub refused_as : (needs : Needs) (V W : Format) (e : Error) (a b : source.State) → ((text : List ℕ) → W text → V text) → RefusesFront needs V e a b → RefusesFront needs W e a b
+pub refused_as : (needs : Needs) (V W : Format) (e : Error) (a b : source.SourceState) → ((text : List ℕ) → W text → V text) → RefusesFront needs V e a b → RefusesFront needs W e a b
 refused_as needs V W e a b to u = record { excuse = λ text rest w left. u.excuse text rest (to text w) left; may = u.may; lends = u.lends; through = u.through; failures = u.failures }
 
 pub form_as : (W V : Format) → Within W V [] → (text : List ℕ) → W text → V text
 form_as W V same text w = let p = same.only text [] text w (append-nil text) in subst V (sym p.1) p.2
 
 -- of what comes first
-pub refused_first : (needs : Needs) (V G : Format) (e : Error) (a b : source.State) → RefusesFront needs V e a b → RefusesFront needs (V then G) e a b
+pub refused_first : (needs : Needs) (V G : Format) (e : Error) (a b : source.SourceState) → RefusesFront needs V e a b → RefusesFront needs (V then G) e a b
 refused_first needs V G e a b u = first_part needs V (V then G) e a b (λ text h. (h.front, h.rest, h.whole, h.first)) u
 
-pub refused_count : (needs : Needs) (G : ℕ → Format) (e : Error) (a b : source.State) → RefusesFront needs IsLength e a b → RefusesFront needs (Counting G) e a b
+pub refused_count : (needs : Needs) (G : ℕ → Format) (e : Error) (a b : source.SourceState) → RefusesFront needs IsLength e a b → RefusesFront needs (Counting G) e a b
 refused_count needs G e a b u = first_part needs IsLength (Counting G) e a b (λ text (k, h). (h.front, h.rest, h.whole, (k, h.first))) u
 
 -- of what is still wanted
-pub refused_later : (needs : Needs) (W V : Format) (e : Error) (a b : State) (c : source.State) → Skips W V a b → RefusesFront needs V e b.source c → RefusesFront needs W e a.source c
+pub refused_later : (needs : Needs) (W V : Format) (e : Error) (a b : State) (c : source.SourceState) → Skips W V a b → RefusesFront needs V e b.source c → RefusesFront needs W e a.source c
 refused_later needs W V e a b c f u = sequel needs V W e a.source b.source c f.taken (passed_by a.source b.source f.taken _ f.took) (λ text rest ys w e. f.within.only text rest ys w e) u
 
 -- of a first byte
-pub refused_look : (needs : Needs) (W : Format) (e : Error) (a b : source.State) → (W [] → ⊥) → ShortOf 1 e a b → RefusesFront needs W e a b
+pub refused_look : (needs : Needs) (W : Format) (e : Error) (a b : source.SourceState) → (W [] → ⊥) → ShortOf 1 e a b → RefusesFront needs W e a b
 refused_look needs W e a b some u = unwanted_front needs W e a b (short_of W 1 e a b at u)
   where
     at : (text : List ℕ) → W text → 1 ≤ length text
@@ -97,7 +97,7 @@ refused_look needs W e a b some u = unwanted_front needs W e a b (short_of W 1 e
     at (x ∷ text) w = omega arith
 
 -- what follows a look
-pub refused_looked : (needs : Needs) (W : Format) (e : Error) (tag : ℕ) (a b c : source.State) → Took a b [] (Some tag) → RefusesFront needs W e b c → RefusesFront needs W e a c
+pub refused_looked : (needs : Needs) (W : Format) (e : Error) (tag : ℕ) (a b c : source.SourceState) → Took a b [] (Some tag) → RefusesFront needs W e b c → RefusesFront needs W e a c
 refused_looked needs W e tag a b c look u = sequel needs W W e a b c [] (passed_by a b [] (Some tag) look) (λ text rest ys w e. (text, refl, w)) u
 
 next_of : (left : Option (List ℕ)) (tag : ℕ) (whole rest : List ℕ) → IsNext left tag → left ≡ Some (whole ++ rest) → (whole ≡ [] → ⊥) → (more : List ℕ) × (whole ≡ tag ∷ more)
@@ -106,7 +106,7 @@ next_of (Some xs) tag [] rest next e some = absurd (some refl)
 next_of (Some xs) tag (x ∷ more) rest next e some = (more, (let k : xs ≡ x ∷ (more ++ rest) = cc in let t : x ≡ tag = cc in ap (λ y. y ∷ more) t))
 
 -- nothing that is wanted begins with the tag in sight
-pub refused_tag : (needs : Needs) (W : Format) (e : Error) (tag : ℕ) (a b : source.State) → IsNext a.left tag → (W [] → ⊥) → ((more : List ℕ) → W (tag ∷ more) → ⊥)
+pub refused_tag : (needs : Needs) (W : Format) (e : Error) (tag : ℕ) (a b : source.SourceState) → IsNext a.left tag → (W [] → ⊥) → ((more : List ℕ) → W (tag ∷ more) → ⊥)
     → IsRefusal e → b.lends ≡ a.lends → b.through ≡ a.through → b.failures ≡ a.failures → RefusesFront needs W e a b
 refused_tag needs W e tag a b next some none kind lends through failures = record {
   excuse = λ text rest w left. absurd (let p = next_of a.left tag text rest next left (λ e. some (subst W e w)) in none p.0 (subst W p.1 w));
@@ -117,7 +117,7 @@ refused_tag needs W e tag a b next some none kind lends through failures = recor
 }
 
 -- what is wanted is by the tag in sight
-pub refused_seen : (needs : Needs) (V W : Format) (e : Error) (tag : ℕ) (a b : source.State) → IsNext a.left tag → (W [] → ⊥) → ((more : List ℕ) → W (tag ∷ more) → V (tag ∷ more)) → RefusesFront needs V e a b → RefusesFront needs W e a b
+pub refused_seen : (needs : Needs) (V W : Format) (e : Error) (tag : ℕ) (a b : source.SourceState) → IsNext a.left tag → (W [] → ⊥) → ((more : List ℕ) → W (tag ∷ more) → V (tag ∷ more)) → RefusesFront needs V e a b → RefusesFront needs W e a b
 refused_seen needs V W e tag a b next some to u = record {
   excuse = λ text rest w left. (let p = next_of a.left tag text rest next left (λ e. some (subst W e w)) in u.excuse text rest (subst V (sym p.1) (to p.0 (subst W p.1 w))) left);
   may = u.may;
@@ -137,6 +137,6 @@ after_discard G W k tag a b c same seen took within count = record {
   state = count.state ∙ ap (λ s. with_source s c.source) same;
 }
 
-pub refused_discard : (G : ℕ → Format) (W : Format) (e : Error) (tag : ℕ) (a b c : source.State) → a.sight ≡ Some tag → Took a b (bytes_in_sight a.sight) None → Within W (Counting G) (tag ∷ []) → RefusesFront owned IsLength e b c → RefusesFront owned W e a c
+pub refused_discard : (G : ℕ → Format) (W : Format) (e : Error) (tag : ℕ) (a b c : source.SourceState) → a.sight ≡ Some tag → Took a b (bytes_in_sight a.sight) None → Within W (Counting G) (tag ∷ []) → RefusesFront owned IsLength e b c → RefusesFront owned W e a c
 refused_discard G W e tag a b c seen took within u =
     sequel owned (Counting G) W e a b c (tag ∷ []) (passed_by a b (tag ∷ []) None (took_tag a b tag seen took)) (λ text rest ys w q. within.only text rest ys w q) (refused_count owned G e b c u)

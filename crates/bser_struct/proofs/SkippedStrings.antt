@@ -30,27 +30,27 @@ on_ok (Err e) P Q f p = tt
 
 -- ---- the length
 
-pub len_skipped : (tag : ℕ) (utf8 : Bool) (e : Error) (a b c : source.State) → a.sight ≡ Some tag → Took a b (bytes_in_sight a.sight) None → Unwanted IsInteger e b c → RefusesFront owned (SkippedString tag utf8) e a c
+pub len_skipped : (tag : ℕ) (utf8 : Bool) (e : Error) (a b c : source.SourceState) → a.sight ≡ Some tag → Took a b (bytes_in_sight a.sight) None → Unwanted IsInteger e b c → RefusesFront owned (SkippedString tag utf8) e a c
 len_skipped tag utf8 e a b c seen took u = refused_as owned (IsString tag) (SkippedString tag utf8) e a c (λ body (s, h). (s, h.1)) (len_refused owned tag e a b c seen took u)
 
 -- a length, and then as many bytes, which are UTF-8 where they must be
 abbrev Strict : Bool → Format
 Strict must b = (s : List ℕ) × Given (must ≡ true → IsUtf8 s) (SpellsCount (length s) then Bytes s) b
 
-strict_second : (must : Bool) (b c : source.State) (len : ℤ) → (took : TookInt b c len) → (body rest ys : List ℕ) → Strict must body → body ++ rest ≡ took.text ++ ys → (second : List ℕ) × (body ≡ took.text ++ second) × SkippedBytes len must second
+strict_second : (must : Bool) (b c : source.SourceState) (len : ℤ) → (took : TookInt b c len) → (body rest ys : List ℕ) → Strict must body → body ++ rest ≡ took.text ++ ys → (second : List ℕ) × (body ≡ took.text ++ second) × SkippedBytes len must second
 strict_second must b c len took body rest ys (s, (good, h)) e =
     let all : h.front ++ (h.rest ++ rest) ≡ took.text ++ ys = sym (append_assoc h.front h.rest rest) ∙ ap (λ l. l ++ rest) (sym h.whole) ∙ e in
     let same = one_int h.front took.text (h.rest ++ rest) ys (pos (length s)) len h.first took.spelled all in
     (h.rest, h.whole ∙ ap (λ n. n ++ h.rest) same.0, ((λ m. subst IsUtf8 (sym h.second) (good m)), ap (λ l. pos (length l)) h.second ∙ same.1))
 
-pub bytes_skipped : (tag : ℕ) (utf8 must : Bool) (len asked : ℤ) (e : Error) (a b c d : source.State) → (must ≡ true → (utf8 ≡ true) ⊎ (tag ≡ 0x0d)) → asked ≡ len → a.sight ≡ Some tag → Took a b (bytes_in_sight a.sight) None → TookInt b c len
+pub bytes_skipped : (tag : ℕ) (utf8 must : Bool) (len asked : ℤ) (e : Error) (a b c d : source.SourceState) → (must ≡ true → (utf8 ≡ true) ⊎ (tag ≡ 0x0d)) → asked ≡ len → a.sight ≡ Some tag → Took a b (bytes_in_sight a.sight) None → TookInt b c len
     → RefusesFront owned (SkippedBytes asked must) e c d → RefusesFront owned (SkippedString tag utf8) e a d
 bytes_skipped tag utf8 must len asked e a b c d only same seen took number u =
     sequel owned (Strict must) (SkippedString tag utf8) e a b d (tag ∷ []) (passed_by a b (tag ∷ []) None (took_tag a b tag seen took))
     (λ body rest ys (s, (good, h)) e. let p = after_tag tag (SpellsCount (length s) then Bytes s) body rest ys h e in (p.0, p.1, (s, ((λ m. good (only m)), p.2))))
     (sequel owned (SkippedBytes len must) (Strict must) e b c d number.text (passed_by b c number.text None number.took) (strict_second must b c len number) (subst (λ z. RefusesFront owned (SkippedBytes z must) e c d) same u))
 
-pub string_skipped : (tag : ℕ) (utf8 must : Bool) (len asked : ℤ) (s t : State) (b c : source.State) → ((utf8 ≡ true) ⊎ (tag ≡ 0x0d) → must ≡ true) → asked ≡ len → t ≡ with_source s t.source → s.source.sight ≡ Some tag → Took s.source b (bytes_in_sight s.source.sight) None
+pub string_skipped : (tag : ℕ) (utf8 must : Bool) (len asked : ℤ) (s t : State) (b c : source.SourceState) → ((utf8 ≡ true) ⊎ (tag ≡ 0x0d) → must ≡ true) → asked ≡ len → t ≡ with_source s t.source → s.source.sight ≡ Some tag → Took s.source b (bytes_in_sight s.source.sight) None
     → TookInt b c len → (got : List ℕ) → SkippedBytes asked must got → Took c t.source got (sight_after (length got) c.sight) → SkipsString tag utf8 s t
 string_skipped tag utf8 must len asked s t b c need same state seen took number got counted last =
     let w = took_string tag len got s.source b c t.source seen took number (counted.1 ∙ same) last in
@@ -101,7 +101,7 @@ empty_key utf8 (k, (good, inr h)) = no_head 0x0d _ h
 
 -- ---- counts
 
-pub negative_count : (e : Error) (v : ℤ) (a b d : source.State) → ((n : ℕ) → v ≡ pos n → ⊥) → IsRefusal e → TookInt a b v → d.lends ≡ b.lends → d.through ≡ b.through → d.failures ≡ b.failures → RefusesFront owned IsLength e a d
+pub negative_count : (e : Error) (v : ℤ) (a b d : source.SourceState) → ((n : ℕ) → v ≡ pos n → ⊥) → IsRefusal e → TookInt a b v → d.lends ≡ b.lends → d.through ≡ b.through → d.failures ≡ b.failures → RefusesFront owned IsLength e a d
 negative_count e v a b d negative kind took lends through failures = record {
   excuse = λ body rest (n, p) left.
       let r = rest_of a.left b.left took.text (body ++ rest) left took.took.bytes in
@@ -115,5 +115,5 @@ negative_count e v a b d negative kind took lends through failures = record {
 pub count_skipped : (k : ℕ) (v : ℤ) (s t : State) → pos k ≡ v → TookInt s.source t.source v → t ≡ with_source s t.source → SkipsCount k s t
 count_skipped k v s t same took state = record { text = took.text; spelled = subst (λ z. SpellsInteger z took.text) (sym same) took.spelled; took = took.took; state = state }
 
-pub length_first : (e : Error) (a b : source.State) → Unwanted IsInteger e a b → RefusesFront owned IsLength e a b
+pub length_first : (e : Error) (a b : source.SourceState) → Unwanted IsInteger e a b → RefusesFront owned IsLength e a b
 length_first e a b u = refused_as owned IsInteger IsLength e a b (λ body (n, p). (pos n, p)) (unwanted_front owned IsInteger e a b u)

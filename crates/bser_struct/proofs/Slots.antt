@@ -10,7 +10,7 @@ use Rattle.bser_state.specs.Reading.{TakesMemory, Answers, FillsReadably}
 use Rattle.bser_state.specs.Parts.{pair_value}
 use Rattle.bser_state.specs.Access.{OpenPairs, IsValue, RefusesValue}
 use Rattle.bser_state.specs.Scalar.{owned}
-use Rattle.bser_de.specs.Slots.{StructField, with_found, fill, fill_at, at_end, any_lent, struct_needs, fill_field, Keeps, KeepsField, KeepsBoth, Finishes, FinishesEach, TookValue, Passes, Steps, FillsStep, RefusesStep, ReadsOnce, RefusesOnce}
+use Rattle.bser_de.specs.Slots.{StructField, with_found, fill, fill_at, field_at_end, any_lent, struct_needs, fill_field, Keeps, KeepsField, KeepsBoth, FinishesField, FinishesEach, TookValue, Passes, Steps, FillsStep, RefusesStep, ReadsOnce, RefusesOnce}
 use Rattle.bser_state.specs.declared.field.Field.TheVariants.{Unknown}
 use Rattle.bser_state.proofs.Steps.{narrower, unfit_here}
 use Rattle.bser_de.proofs.Structs.{was_read, read_again}
@@ -183,21 +183,21 @@ later_refused P F some others e u z place before later by (s ∷ ss) keeps =
 
 -- ---- the end
 
-both_at_end : (s : StructField) (ss : List StructField) (c : Content) (cs : List Content) → at_end s ≡ Some c → each_some at_end ss ≡ Some cs → each_some at_end (s ∷ ss) ≡ Some (c ∷ cs)
-both_at_end s ss c cs e f = ap (option_and_then (λ y. option_map (λ ys. y ∷ ys) (each_some at_end ss))) e ∙ ap (option_map (λ ys. c ∷ ys)) f
+both_at_end : (s : StructField) (ss : List StructField) (c : Content) (cs : List Content) → field_at_end s ≡ Some c → each_some field_at_end ss ≡ Some cs → each_some field_at_end (s ∷ ss) ≡ Some (c ∷ cs)
+both_at_end s ss c cs e f = ap (option_and_then (λ y. option_map (λ ys. y ∷ ys) (each_some field_at_end ss))) e ∙ ap (option_map (λ ys. c ∷ ys)) f
 
-first_absent : (s : StructField) (ss : List StructField) → at_end s ≡ None → each_some at_end (s ∷ ss) ≡ None
-first_absent s ss e = ap (option_and_then (λ y. option_map (λ ys. y ∷ ys) (each_some at_end ss))) e
+first_absent : (s : StructField) (ss : List StructField) → field_at_end s ≡ None → each_some field_at_end (s ∷ ss) ≡ None
+first_absent s ss e = ap (option_and_then (λ y. option_map (λ ys. y ∷ ys) (each_some field_at_end ss))) e
 
-others_absent : (s : StructField) (ss : List StructField) → each_some at_end ss ≡ None → each_some at_end (s ∷ ss) ≡ None
-others_absent s ss e = at (at_end s)
+others_absent : (s : StructField) (ss : List StructField) → each_some field_at_end ss ≡ None → each_some field_at_end (s ∷ ss) ≡ None
+others_absent s ss e = at (field_at_end s)
   where
-    at : (o : Option Content) → option_and_then (λ y. option_map (λ ys. y ∷ ys) (each_some at_end ss)) o ≡ None
+    at : (o : Option Content) → option_and_then (λ y. option_map (λ ys. y ∷ ys) (each_some field_at_end ss)) o ≡ None
     at None = refl
     at (Some c) = ap (option_map (λ ys. c ∷ ys)) e
 
 pub both_finished : {A B : Type 0} (P : StructField → Type 0) (F : List StructField → Type 0) (holds : A → Content → Type 0) (others : B → List (Content → Type 0)) (v : A) (w : B)
-    → ((s : StructField) → P s → Finishes holds s (Some v)) → ((ss : List StructField) → F ss → FinishesEach others ss (Some w))
+    → ((s : StructField) → P s → FinishesField holds s (Some v)) → ((ss : List StructField) → F ss → FinishesEach others ss (Some w))
     → (ss : List StructField) → KeepsBoth P F ss → FinishesEach (λ (z : A × B). holds z.0 ∷ others z.1) ss (Some (v, w))
 both_finished P F holds others v w first rest [] keeps = absurd keeps
 both_finished P F holds others v w first rest (s ∷ ss) keeps =
@@ -206,7 +206,7 @@ both_finished P F holds others v w first rest (s ∷ ss) keeps =
     (a.0 ∷ b.0, both_at_end s ss a.0 b.0 a.1 b.1, (a.2, b.2))
 
 pub first_unfinished : {A C : Type 0} (P : StructField → Type 0) (F : List StructField → Type 0) (holds : A → Content → Type 0) (all : C → List (Content → Type 0))
-    → ((s : StructField) → P s → Finishes holds s None) → (ss : List StructField) → KeepsBoth P F ss → FinishesEach all ss None
+    → ((s : StructField) → P s → FinishesField holds s None) → (ss : List StructField) → KeepsBoth P F ss → FinishesEach all ss None
 first_unfinished P F holds all first [] keeps = absurd keeps
 first_unfinished P F holds all first (s ∷ ss) keeps = first_absent s ss (first s keeps.0)
 

@@ -45,7 +45,7 @@ text_of_place None f c h = absurd cc
 text_of_place (Some s) f c h = (byte_list s, refl)
 
 -- what is no text is no name
-pub no_text : (names : List (List ℕ)) (e : Error) (s : State) (b : source.State) → RefusesFront bare (FillsReadably reads_string s) e s.source b → RefusesFront bare (FillsReadably (reads_place names) s) e s.source b
+pub no_text : (names : List (List ℕ)) (e : Error) (s : State) (b : source.SourceState) → RefusesFront bare (FillsReadably reads_string s) e s.source b → RefusesFront bare (FillsReadably (reads_place names) s) e s.source b
 no_text names e s b u =
     narrower bare (FillsReadably reads_string s) (FillsReadably (reads_place names) s) e s.source b
     (λ all f. let t = text_of_place (utf8_of f.tree) (λ name. known_place (field_of names name)) f.content f.read in record { tree = f.tree; content = t.0; filled = f.filled; read = t.1 }) u
@@ -55,7 +55,7 @@ named_text None f c name h e = absurd cc
 named_text (Some s) f c name h e = let same : s ≡ name = cc (h, e) in ap f same
 
 -- a text that is none of the names
-pub no_name : {A : Type 0} (names : List (List ℕ)) (holds : A → Content → Type 0) (e : Error) (s m : State) (b : source.State) (name : List ℕ) (v : A) → Answers reads_string holds s m v → ((c : Content) → holds v c → c ≡ byte_list name) → field_of names name ≡ Unknown → IsRefusal e → b ≡ with_failure true m.source
+pub no_name : {A : Type 0} (names : List (List ℕ)) (holds : A → Content → Type 0) (e : Error) (s m : State) (b : source.SourceState) (name : List ℕ) (v : A) → Answers reads_string holds s m v → ((c : Content) → holds v c → c ≡ byte_list name) → field_of names name ≡ Unknown → IsRefusal e → b ≡ with_failure true m.source
     → RefusesFront bare (FillsReadably (reads_place names) s) e s.source b
 no_name names holds e s m b name v a held unknown kind state =
     unfit bare (FillsReadably (reads_place names) s) e s.source m.source b a.text _ kind a.took state
@@ -70,11 +70,11 @@ no_name names holds e s m b name v a held unknown kind state =
 -- ---- the kind of what is due
 
 -- nothing stands there
-pub no_variant_head : (d : Due) (e : Error) (a b : source.State) → RefusesFront bare (BeginsDue d) e a b → RefusesFront bare (BeginsVariantKind d) e a b
+pub no_variant_head : (d : Due) (e : Error) (a b : source.SourceState) → RefusesFront bare (BeginsDue d) e a b → RefusesFront bare (BeginsVariantKind d) e a b
 no_variant_head d e a b u = narrower bare (BeginsDue d) (BeginsVariantKind d) e a b (λ all h. begins_due d h.0 all h.2) u
 
 -- what stands names no variant
-pub no_variant_kind : (s mid : State) (h : Head) (e : Error) (b : source.State) → Stands s mid h → ((k : Node) → IsVariantKind k → node_at mid.due h ≡ Some k → ⊥) → IsRefusal e → b ≡ with_failure true mid.source
+pub no_variant_kind : (s mid : State) (h : Head) (e : Error) (b : source.SourceState) → Stands s mid h → ((k : Node) → IsVariantKind k → node_at mid.due h ≡ Some k → ⊥) → IsRefusal e → b ≡ with_failure true mid.source
     → RefusesFront bare (BeginsVariantKind s.due) e s.source b
 no_variant_kind s mid h e b stands other kind state =
     looked bare (BeginsVariantKind s.due) s mid h e b stands kind state
@@ -138,11 +138,11 @@ begins_variant names s all (inl f) = let p = begins_name names s.levels s.due f.
 begins_variant names s all (inr b) = let p = begins_object names s all b in (p.0, p.1, p.2, (kinds.Object, tt, p.3))
 
 -- where nothing of such a kind begins, no variant is due
-pub no_variant : (names : List (List ℕ)) (s : State) (e : Error) (b : source.State) → RefusesFront bare (BeginsVariantKind s.due) e s.source b → RefusesFront bare (BeginsVariant names s) e s.source b
+pub no_variant : (names : List (List ℕ)) (s : State) (e : Error) (b : source.SourceState) → RefusesFront bare (BeginsVariantKind s.due) e s.source b → RefusesFront bare (BeginsVariant names s) e s.source b
 no_variant names s e b u = first_part bare (BeginsVariantKind s.due) (BeginsVariant names s) e s.source b (begins_variant names s) u
 
 -- a refusal of what the bytes left begin with, where no other form is
-pub by_left : (needs : Needs) (V W : Format) (e : Error) (a b : source.State) → ((all rest : List ℕ) → W all → a.left ≡ Some (all ++ rest) → V all) → RefusesFront needs V e a b → RefusesFront needs W e a b
+pub by_left : (needs : Needs) (V W : Format) (e : Error) (a b : source.SourceState) → ((all rest : List ℕ) → W all → a.left ≡ Some (all ++ rest) → V all) → RefusesFront needs V e a b → RefusesFront needs W e a b
 by_left needs V W e a b fit u = record {
   excuse = λ all rest wanted left. u.excuse all rest (fit all rest wanted left) left;
   may = u.may;
@@ -161,7 +161,7 @@ kind_at s mid k j all first second rest sees whole begins left =
 -- ---- a name alone
 
 -- after a look at a string or a key, a name that is refused
-pub name_refused : (names : List (List ℕ)) (s mid : State) (k : Node) (e : Error) (b : source.State) → SeesNode s mid k → (k ≡ kinds.Object → ⊥) → RefusesFront bare (FillsReadably (reads_place names) mid) e mid.source b → RefusesFront bare (BeginsVariant names s) e s.source b
+pub name_refused : (names : List (List ℕ)) (s mid : State) (k : Node) (e : Error) (b : source.SourceState) → SeesNode s mid k → (k ≡ kinds.Object → ⊥) → RefusesFront bare (FillsReadably (reads_place names) mid) e mid.source b → RefusesFront bare (BeginsVariant names s) e s.source b
 name_refused names s mid k e b sees other u =
     by_left bare (FillsReadably (reads_place names) s) (BeginsVariant names s) e s.source b fit
     (look_refused bare (reads_place names) (reads_place names) s mid sees.head e b sees.stands (λ t c all rest f left read. (c, read)) u)
@@ -194,7 +194,7 @@ too_deep ks d n other none all h = fits ks d h.0 other (subst (λ m. BeginsPairs
 pub deep_refused : (names : List (List ℕ)) (s t : State) (e : Error) → ((all : List ℕ) → IsPairsHead s all → ⊥) → IsRefusal e → t ≡ refused s → RefusesFront bare (BeginsEntry names s) e s.source t.source
 deep_refused names s t e none kind state = unfit_here bare (BeginsEntry names s) e s.source t.source kind (ap (λ z. z.source) state) (λ all b. none b.spelled.front (b.wanted, b.spelled.first))
 
-pub head_refused : (names : List (List ℕ)) (s : State) (e : Error) (b : source.State) → RefusesFront bare (IsPairsHead s) e s.source b → RefusesFront bare (BeginsEntry names s) e s.source b
+pub head_refused : (names : List (List ℕ)) (s : State) (e : Error) (b : source.SourceState) → RefusesFront bare (IsPairsHead s) e s.source b → RefusesFront bare (BeginsEntry names s) e s.source b
 head_refused names s e b u = first_part bare (IsPairsHead s) (BeginsEntry names s) e s.source b (λ all h. (h.spelled.front, h.spelled.rest, h.spelled.whole, (h.wanted, h.spelled.first))) u
 
 -- two heads that begin one byte list are one
@@ -239,7 +239,7 @@ entries_refused names s t u e opens other kind state =
     other (ap pairs_left (sym one.1) ∙ b.single))
 
 -- a key that is none of the names
-pub key_refused : (names : List (List ℕ)) (s : State) (u : OpenPairs) (e : Error) (b : source.State) → OpensPairs s u → RefusesFront bare (FillsReadably (reads_place names) (awaiting (pair_key u.wanted) u.state)) e u.state.source b → RefusesFront bare (BeginsEntry names s) e s.source b
+pub key_refused : (names : List (List ℕ)) (s : State) (u : OpenPairs) (e : Error) (b : source.SourceState) → OpensPairs s u → RefusesFront bare (FillsReadably (reads_place names) (awaiting (pair_key u.wanted) u.state)) e u.state.source b → RefusesFront bare (BeginsEntry names s) e s.source b
 key_refused names s u e b opens refuses =
     sequel bare (FillsReadably (reads_place names) (awaiting (pair_key u.wanted) u.state)) (BeginsEntry names s) e s.source u.state.source b opens.text (passed_by s.source u.state.source opens.text _ opens.took)
     (λ all rest ys h e.
@@ -251,7 +251,7 @@ key_refused names s u e b opens refuses =
     refuses
 
 -- the same after the key became due
-pub key_due_refused : (names : List (List ℕ)) (due : State) (u : OpenPairs) (e : Error) (b : source.State) → due ≡ awaiting (pair_key u.wanted) u.state → RefusesFront bare (FillsReadably (reads_place names) due) e due.source b
+pub key_due_refused : (names : List (List ℕ)) (due : State) (u : OpenPairs) (e : Error) (b : source.SourceState) → due ≡ awaiting (pair_key u.wanted) u.state → RefusesFront bare (FillsReadably (reads_place names) due) e due.source b
     → RefusesFront bare (FillsReadably (reads_place names) (awaiting (pair_key u.wanted) u.state)) e u.state.source b
 key_due_refused names due u e b same refuses = subst (λ (z : State). RefusesFront bare (FillsReadably (reads_place names) z) e z.source b) same refuses
 
@@ -262,7 +262,7 @@ stays s mid (Tag x) look = look.state
 stays s mid (Name p) stands = subst (λ z. z ≡ with_source s z.source) (sym stands.same) refl
 stays s mid Row stands = subst (λ z. z ≡ with_source s z.source) (sym stands.same) refl
 
-entry_there : (names : List (List ℕ)) (s : State) (x : source.State) (all : List ℕ) → BeginsEntry names s all → BeginsEntry names (with_source s x) all
+entry_there : (names : List (List ℕ)) (s : State) (x : source.SourceState) (all : List ℕ) → BeginsEntry names s all → BeginsEntry names (with_source s x) all
 entry_there names s x all b =
     let key = b.spelled.second in
     record {
@@ -272,7 +272,7 @@ entry_there names s x all b =
     }
 
 -- after a look at an object, an entry that is refused
-pub entry_refused : (names : List (List ℕ)) (s mid : State) (e : Error) (b : source.State) → SeesNode s mid kinds.Object → RefusesFront bare (BeginsEntry names mid) e mid.source b → RefusesFront bare (BeginsVariant names s) e s.source b
+pub entry_refused : (names : List (List ℕ)) (s mid : State) (e : Error) (b : source.SourceState) → SeesNode s mid kinds.Object → RefusesFront bare (BeginsEntry names mid) e mid.source b → RefusesFront bare (BeginsVariant names s) e s.source b
 entry_refused names s mid e b sees u = by_left bare (BeginsEntry names s) (BeginsVariant names s) e s.source b fit (at sees.head sees.stands)
   where
     at : (h : Head) → Stands s mid h → RefusesFront bare (BeginsEntry names s) e s.source b

@@ -20,10 +20,10 @@ abbrev pub enum_head : Option VariantHead → State → OpenEnum
 enum_head None s = name_alone s
 enum_head (Some h) s = with_payload (variant_head h s)
 
-abbrev pub open_variant : {R L K : Type 0} → (R → source.State) → (K → List ℕ) → VariantAccess R L K → OpenVariant
+abbrev pub open_variant : {R L K : Type 0} → (R → source.SourceState) → (K → List ℕ) → VariantAccess R L K → OpenVariant
 open_variant at kept a = variant_head a.head (state at kept a.from.now)
 
-abbrev pub open_enum : {R L K : Type 0} → (R → source.State) → (K → List ℕ) → EnumAccess R L K → OpenEnum
+abbrev pub open_enum : {R L K : Type 0} → (R → source.SourceState) → (K → List ℕ) → EnumAccess R L K → OpenEnum
 open_enum at kept a = enum_head a.head (state at kept a.from.now)
 
 -- the place of the variant's name
@@ -43,5 +43,5 @@ abbrev pub unit_deserializer : {R L K : Type 0} → UnitVariantAccess R L K → 
 unit_deserializer a = a.from
 
 -- the state in which a name stands alone
-abbrev pub unit_state : {R L K : Type 0} → (R → source.State) → (K → List ℕ) → UnitVariantAccess R L K → State
+abbrev pub unit_state : {R L K : Type 0} → (R → source.SourceState) → (K → List ℕ) → UnitVariantAccess R L K → State
 unit_state at kept a = state at kept a.from.now

@@ -13,12 +13,12 @@ use crate::variant::{VariantHead, await_payload, items_outside, open_variant, pa
 use crate::variant_access::{UnitVariantAccess, VariantAccess};
 use bser_base::de::read::{DeRead, LendsText};
 use bser_base::errors::{Complaint, Result};
+use bser_cursor::container::{Containers, MapHead, SeqHead};
 use bser_cursor::cursor::Cursor;
 use bser_cursor::deserializer::Deserializer;
-use bser_cursor::open::{Containers, MapHead, SeqHead};
 use bser_de::access::{items_of, pairs_of};
+use bser_de::deserialize::Deserialize;
 use bser_de::map::MapAccess;
-use bser_de::reading::Deserialize;
 use bser_de::seq::SeqAccess;
 use std::alloc::Global;
 

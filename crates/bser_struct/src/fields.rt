@@ -15,8 +15,8 @@ use bser_base::errors::{Complaint, Error, Result};
 use bser_cursor::cursor::Cursor;
 use bser_cursor::deserializer::Deserializer;
 use bser_de::access::close_pairs_of;
+use bser_de::container::ReadsContainers;
 use bser_de::map::MapAccess;
-use bser_de::opening::ReadsContainers;
 use bser_state::field::Field;
 use std::alloc::Global;
 

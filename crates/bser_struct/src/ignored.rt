@@ -11,8 +11,8 @@ use crate::skip::SkipsValues;
 use bser_base::de::read::{DeRead, LendsText};
 use bser_base::errors::{Error, Result};
 use bser_cursor::deserializer::Deserializer;
+use bser_de::deserialize::{Deserialize, OwnedShape, Shape};
 use bser_de::map::MapAccess;
-use bser_de::reading::{Deserialize, OwnedShape, Shape};
 use std::alloc::Global;
 
 /// Any value, of which nothing is kept: an unknown field of an object, as a rule.

@@ -22,7 +22,7 @@ use bser_cursor::cursor::{Cursor, Head};
 use bser_cursor::deserializer::{Deserializer, Due};
 pub use bser_cursor::frame::{Frame, Left};
 use bser_cursor::parts::{bunser_mut, keys_of};
-use bser_cursor::skipping::{check_key, clear_frames, pop_frame, push_frame, skip_counted};
+use bser_cursor::skip::{check_key, clear_frames, pop_frame, push_frame, skip_counted};
 
 mod ready;
 mod tables;

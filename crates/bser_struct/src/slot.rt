@@ -4,7 +4,7 @@ ghost use Rattle.bser_base.specs.Content.{Content, Needs};
 ghost use Rattle.bser_de.specs.Accesses.{open_pairs, pairs_reference};
 ghost use Rattle.bser_state.specs.Holds.{HoldsOption};
 ghost use Rattle.bser_de.specs.RowsAtHand.{FieldSteps};
-ghost use Rattle.bser_de.specs.Slots.{StructField, required, optional, fill, fill_at, struct_needs, KeepsField, KeepsBoth, Finishes, FinishesEach, Steps, RefusesStep};
+ghost use Rattle.bser_de.specs.Slots.{StructField, required, optional, fill, fill_at, struct_needs, KeepsField, KeepsBoth, FinishesField, FinishesEach, Steps, RefusesStep};
 ghost use Rattle.bser_cursor.specs.View.{state};
 
 use crate::ignored::pass_value;
@@ -12,9 +12,9 @@ use bser_base::de::read::{DeRead, LendsText};
 use bser_base::errors::Error;
 use bser_cursor::deserializer::Deserializer;
 use bser_de::access::read_once;
+use bser_de::deserialize::{Deserialize, Shape};
 use bser_de::front::field_once_at_hand;
 use bser_de::map::MapAccess;
-use bser_de::reading::{Deserialize, Shape};
 use std::alloc::Global;
 
 /// A field of a struct, and what was read of it.
@@ -64,7 +64,7 @@ pub trait Slot<L: LendsText>: Drop {
 
     /// The field's value, or None where it is required and absent.
     fn finish(self) -> Option<Self::Value>
-        ensures { (s : StructField) → Self.keeps self s → Finishes Self.holds s result };
+        ensures { (s : StructField) → Self.keeps self s → FinishesField Self.holds s result };
 }
 
 /// A field that has to be there.

@@ -11,9 +11,9 @@ ghost use Rattle.bser_struct.specs.EnumAccess.{variant_head, enum_head};
 
 use bser_base::de::read::{DeRead, LendsText};
 use bser_base::errors::{Complaint, EnumName, Error, Kind, Result};
+use bser_cursor::container::{Containers, MapHead, SeqHead};
 use bser_cursor::cursor::{Cursor, Head};
 use bser_cursor::deserializer::{Deserializer, Due};
-use bser_cursor::open::{Containers, MapHead, SeqHead};
 use bser_cursor::parts::keys_of;
 use bser_state::field::{Field, find_field};
 use bser_state::node::{Node, kind_at};

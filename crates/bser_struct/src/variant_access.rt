@@ -12,12 +12,12 @@ ghost use Rattle.bser_base.specs.Content.{one};
 use crate::variant::{VariantHead, await_payload, close_variant, items_outside, pairs_outside};
 use bser_base::de::read::{DeRead, LendsText};
 use bser_base::errors::{Complaint, Result};
+use bser_cursor::container::Containers;
 use bser_cursor::cursor::Cursor;
 use bser_cursor::deserializer::Deserializer;
-use bser_cursor::open::Containers;
 use bser_de::access::{items_of, pairs_of};
+use bser_de::deserialize::Deserialize;
 use bser_de::map::MapAccess;
-use bser_de::reading::Deserialize;
 use bser_de::seq::SeqAccess;
 use std::alloc::Global;
 

@@ -14,10 +14,15 @@
 //! lines, and those that begin with `#`, are no rows. The file `values.txt` has such rows too, mostly of
 //! what a `Value` is read from, and of the same messages where they are passed over.
 //!
-//! The files `wrong-lines.tsv` and `wrong-cases.txt` have wrong ones, each of which is named.
+//! The file `recorded.tsv` has a line for each recorded message, with the sums of its text and of what
+//! is written for it.
+//!
+//! The files `wrong-lines.tsv`, `wrong-cases.txt` and `wrong-recorded.tsv` have wrong ones, each of
+//! which is named.
 #![tactic(auto)]
 
 mod line;
+mod recorded;
 mod row;
 mod shown;
 mod types;
@@ -25,6 +30,7 @@ mod watchman;
 mod ways;
 
 use crate::line::Line;
+use crate::recorded::Recording;
 use crate::row::Row;
 use crate::watchman::Recorded;
 use anyhow::Result;
@@ -50,7 +56,9 @@ fn main(rt: HostRuntime) -> Result<()> {
     compare_rows(&rt, "cases.txt")?;
     compare_rows(&rt, "values.txt")?;
     compare_rows(&rt, "wrong-cases.txt")?;
-    compare_files(&rt)
+    compare_files(&rt)?;
+    compare_recordings(&rt, "recorded.tsv")?;
+    compare_recordings(&rt, "wrong-recorded.tsv")
 }
 
 /// Reads each message of the list as its type.
@@ -146,5 +154,23 @@ fn compare_files(rt: &HostRuntime) -> Result<()> {
             }
         }
     }
+    Ok(())
+}
+
+/// Prints and writes the value of each recorded message.
+fn compare_recordings(rt: &HostRuntime, file: &str) -> Result<()> {
+    let text = fs::read_to_string(rt, file)?;
+    let mut recordings = 0u64;
+    let mut wrong = 0u64;
+    for line in text.as_str().lines() {
+        count(&mut recordings);
+        let recording = Recording::parse(line)?;
+        let message = fs::read(rt, recording.file)?;
+        if let Some(what) = recording.first_mismatch(rt.alloc(), &message)? {
+            count(&mut wrong);
+            println!(rt; "{}: {what}", recording.file)?;
+        }
+    }
+    println!(rt; "{recordings} recorded messages, {wrong} of them wrong")?;
     Ok(())
 }

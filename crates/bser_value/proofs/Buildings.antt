@@ -19,9 +19,9 @@ use Rattle.bser_state.specs.HoldsTexts.{HoldsBytes}
 use Rattle.bser_value.specs.ValueView.{tree_of, entry_trees, HoldsTree}
 use Rattle.bser_value.specs.Gathered.{all_items}
 use Rattle.bser_state.specs.Parts.{item_due, items_after, wanted_items, wanted_pairs, pair_key, pair_value}
-use Rattle.bser_state.specs.Access.{OpenItems, OpenPairs, items_in, IsNext, RefusesItem, ClosesItems, RefusesKey, IsValue, RefusesValue, ClosesPairs, pairs_in}
+use Rattle.bser_state.specs.Access.{OpenItems, OpenPairs, items_in, IsNextItem, RefusesItem, ClosesItems, RefusesKey, IsValue, RefusesValue, ClosesPairs, pairs_in}
 use Rattle.bser_cursor.specs.Frames.{items_head, pairs_head}
-use Rattle.bser_value.specs.Building.{reads_array, reads_object, IsDueAs, Builds, after_key, AwaitsItem, Awaits, IsFull, RefusesNext, BetweenValues, IsRead, Puts, built, ClosesInto}
+use Rattle.bser_value.specs.Building.{reads_array, reads_object, IsDueAs, Builds, after_key, AwaitsItem, Awaits, IsFull, RefusesNext, BetweenValues, IsRead, PutsPart, built, ClosesInto}
 use Rattle.bser_value.specs.StepsAtHand.{PutsItem}
 use Rattle.bser_value.specs.BuildingSteps.{ReadsInto, ClosesAs, ClosesInside}
 use Rattle.bser_value.specs.declared.value.Value.{Value}
@@ -200,7 +200,7 @@ item_fills vs ws h i o s t v w a p =
     let after : items_head i t ≡ items_in entered t (items_after entered.wanted) =
     ap {A = SeqHead} {B = OpenItems} (λ h. items_head h t) head
     ∙ ap {A = WantedItems} {B = OpenItems} (λ x. items_in entered t x) (ap (λ ks. wanted_items ks w.before.rows (w.before.remaining - 1)) keys ∙ item_after w.outside.keys w.before.rows w.before.remaining) in
-    let next : IsNext reads_value HoldsTree entered (items_head i t) v = record { counted = omega (arith, left, w.awaits.counted); answers = there; after = after } in
+    let next : IsNextItem reads_value HoldsTree entered (items_head i t) v = record { counted = omega (arith, left, w.awaits.counted); answers = there; after = after } in
     let done : List Tree = map tree_of vs in
     let inside = arrays.inside_next reads_value HoldsTree reads_array (array_outlook done) (λ c. array_outlook (done ++ content_tree c ∷ [])) o entered (items_head i t) v (array_next done) w.inside next in
     let trees : done ++ content_tree there.content ∷ [] ≡ map tree_of ws = ap (λ x. done ++ x ∷ []) (held_tree v there.content there.held) ∙ sym (trees_last vs v) ∙ ap (map tree_of) (sym p.0) in
@@ -210,7 +210,7 @@ item_fills vs ws h i o s t v w a p =
 pub item_filled : (vs ws : List Value) (h i : SeqHead) (o s t : State) → FillingItems vs h o s → PutsItem vs ws h i s t → FillingItems ws i o t
 item_filled vs ws h i o s t f p = item_fills vs ws i i o p.between t p.value (items_wait vs h i o s p.between f p.awaits) p.answers (p.put, refl)
 
-pub puts_fills : (b c : Building) (o s t : State) (v : Value) → Waiting b o s → Answers reads_value HoldsTree s t v → Puts v b c → Filling c o t
+pub puts_fills : (b c : Building) (o s t : State) (v : Value) → Waiting b o s → Answers reads_value HoldsTree s t v → PutsPart v b c → Filling c o t
 puts_fills (Items vs h) (Items ws i) o s t v w a p = item_fills (all_items vs) (all_items ws) h i o s t v w a p
 puts_fills (Pairs es (Some k) h) (Pairs fs key i) o s t v w a p =
     let entered : OpenPairs = after_key h w.outside in
@@ -286,7 +286,7 @@ nested_start b o s built = record { outside = o; around = refl; filling = builds
 pub nested_next : (o : State) (bs : List Building) (b c : Building) (s t : State) → Nested o bs b s → Awaits b c s t → Awaiting o bs c t
 nested_next o bs b c s t n a = record { outside = n.outside; around = n.around; waiting = awaits_waits b c n.outside s t n.filling a }
 
-pub nested_put : (o : State) (bs : List Building) (b c : Building) (s t : State) (v : Value) → Awaiting o bs b s → Answers reads_value HoldsTree s t v → Puts v b c → Nested o bs c t
+pub nested_put : (o : State) (bs : List Building) (b c : Building) (s t : State) (v : Value) → Awaiting o bs b s → Answers reads_value HoldsTree s t v → PutsPart v b c → Nested o bs c t
 nested_put o bs b c s t v n a p = record { outside = n.outside; around = n.around; filling = puts_fills b c n.outside s t v n.waiting a p }
 
 pub nested_inner : (o : State) (bs : List Building) (b c : Building) (s t : State) → Awaiting o bs b s → Builds c s t → Nested o (bs ++ b ∷ []) c t

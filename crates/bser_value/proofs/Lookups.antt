@@ -9,7 +9,7 @@ use Rattle.bser_base.specs.SameTree.{same_bytes}
 use Rattle.bser_base.specs.Tree.{Tree}
 use Rattle.bser_value.specs.declared.value.Value.{Value}
 use Rattle.bser_value.specs.ValueView.{tree_of, entries_view}
-use Rattle.bser_value.specs.Contents.{entry_at}
+use Rattle.bser_value.specs.Contents.{entry_under}
 use Rattle.bser_value.proofs.Views.{Entry}
 
 found_or : (b : Bool) (v : Value) (rest : Option Value) (found : Option Tree) → option_map tree_of rest ≡ found
@@ -18,7 +18,7 @@ found_or true v rest found e = refl
 found_or false v rest found e = e
 
 -- the map's look-up finds the tree of the entry with the key
-pub tree_of-lookup : (key : List ℕ) (es : List Entry) → option_map tree_of (lookup (is_at (λ k. slice_cmp nat_cmp key (string_bytes k))) es) ≡ entry_at key (entries_view es)
+pub tree_of-lookup : (key : List ℕ) (es : List Entry) → option_map tree_of (lookup (is_at (λ k. slice_cmp nat_cmp key (string_bytes k))) es) ≡ entry_under key (entries_view es)
 tree_of-lookup key [] = refl
 tree_of-lookup key (e ∷ es) = rw (is_eq-slice_cmp key (string_bytes e.0)) (found_or (same_bytes key (string_bytes e.0)) e.1 _ _ (tree_of-lookup key es))
 

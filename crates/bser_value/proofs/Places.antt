@@ -17,7 +17,7 @@ use Rattle.bser_base.specs.Tree.{Tree, null, integer}
 use Rattle.bser_base.specs.Normal.{last_entries}
 use Rattle.bser_base.proofs.Entries.{cmp, keys_rise}
 use Rattle.bser_value.specs.declared.value.Value.{Value, Null}
-use Rattle.bser_value.specs.Places.{TakesField, TakesFields}
+use Rattle.bser_value.specs.Places.{TakesPlace, TakesFields}
 use Rattle.bser_value.specs.Rows.{places_from, ArePlaces}
 use Rattle.bser_value.specs.ValueView.{tree_of, entry_trees}
 use Rattle.bser_value.proofs.Views.{Entry, tree_of-Null}
@@ -142,7 +142,7 @@ has_field_after ts p row left (e ∷ es) same other h = (
 -- ---- the calls of a closure that takes a field at each slot
 
 module _ {F : Type 0} (T : F → String Global → Value → Bool → Value → F → Type 0) (I : F → Type 0) (row_of : F → List Value) where
-  retained : ((f : F) (k : String Global) (v : Value) (b : Bool) (w : Value) (g : F) → I f → T f k v b w g → (b ≡ true) × TakesField v (row_of f) w (row_of g) × I g)
+  retained : ((f : F) (k : String Global) (v : Value) (b : Bool) (w : Value) (g : F) → I f → T f k v b w g → (b ≡ true) × TakesPlace v (row_of f) w (row_of g) × I g)
       → (ts : List Tree) (f : F) (es kept : List Entry) (ns : List (List ℕ × ℕ)) → I f → RetainsPairs T f es kept → entry_trees es ≡ with_values (λ p. integer (pos p)) ns
       → Apart ns → AllByRecursion (HasField ts (row_of f)) ns → entry_trees kept ≡ with_values (λ p. get_or ts p null) ns
   retained told ts f [] kept [] i ran same apart held = ap entry_trees ran
@@ -158,7 +158,7 @@ module _ {F : Type 0} (T : F → String Global → Value → Bool → Value → 
       ∙ ap (λ t. (n.0, t) ∷ entry_trees ran.3) (ap tree_of took.0 ∙ held.0.1)
       ∙ ap (λ l. (n.0, get_or ts n.1 null) ∷ l) rest
 
-  pub takes_fields : ((f : F) (k : String Global) (v : Value) (b : Bool) (w : Value) (g : F) → I f → T f k v b w g → (b ≡ true) × TakesField v (row_of f) w (row_of g) × I g)
+  pub takes_fields : ((f : F) (k : String Global) (v : Value) (b : Bool) (w : Value) (g : F) → I f → T f k v b w g → (b ≡ true) × TakesPlace v (row_of f) w (row_of g) × I g)
       → (f : F) (row : List Value) (es kept : List Entry) → I f → row_of f ≡ row → RetainsPairs T f es kept → TakesFields es row kept
   takes_fields told f row es kept i here ran = λ ks len same.
       let ts = map tree_of row in

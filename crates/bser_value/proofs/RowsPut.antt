@@ -13,7 +13,7 @@ use Rattle.bser_value.specs.StepsAtHand.{MatchStep, PutsItem, RefusesWhole}
 use Rattle.bser_value.specs.Gathered.{all_items}
 use Rattle.bser_value.specs.declared.de.gathered.Gathered.{Gathered}
 use Rattle.bser_value.specs.Rows.{PutsItems, one_item, more_items}
-use Rattle.bser_value.specs.RowSteps.{RefusesItems, PutsMany, Proceeds}
+use Rattle.bser_value.specs.RowSteps.{RefusesRowItems, PutsMany, Proceeds}
 use Rattle.bser_value.specs.declared.value.Value.{Value}
 use Rattle.bser_value.specs.declared.de.value_at_hand.Step.{Step}
 use Rattle.bser_value.specs.declared.de.value_at_hand.Step.TheVariants.{Taken, Due, Absent, Refused}
@@ -62,7 +62,7 @@ refused_later o s m t v u same a = record {
 }
 
 -- want of memory after items were read
-pub many_refused : (vs : List Value) (h : SeqHead) (o : State) (ws : List Value) (i : SeqHead) (t : State) → PutsItems vs h o ws i t → RefusesItems h o t
+pub many_refused : (vs : List Value) (h : SeqHead) (o : State) (ws : List Value) (i : SeqHead) (t : State) → PutsItems vs h o ws i t → RefusesRowItems h o t
 many_refused vs h o xs j t (one_item ws i new p) = record {
   between = p.between;
   awaits = subst (λ k. AwaitsItem h k o p.between) p.awaits.head p.awaits;
@@ -74,7 +74,7 @@ many_refused vs h o xs j t (more_items ws ys i k s new many p) =
 
 -- ---- a container's next values
 
-pub many_step : (r : Step) (vs ws : Gathered) (h i : SeqHead) (s t : State) → MatchStep r (PutsItems (all_items vs) h s (all_items ws) i t) ⊥ ((ws ≡ vs) × (i ≡ h) × (t ≡ s)) (RefusesItems h s t)
+pub many_step : (r : Step) (vs ws : Gathered) (h i : SeqHead) (s t : State) → MatchStep r (PutsItems (all_items vs) h s (all_items ws) i t) ⊥ ((ws ≡ vs) × (i ≡ h) × (t ≡ s)) (RefusesRowItems h s t)
     → MatchStep r (PutsMany (Items vs h) (Items ws i) s t) ⊥ ((Items ws i ≡ Items vs h) × (t ≡ s)) (RefusesWhole (Items vs h) s t)
 many_step Taken vs ws h i s t p = p
 many_step Due vs ws h i s t p = absurd p

@@ -14,8 +14,8 @@ use Rattle.bser_base.specs.declared.errors.Error.{Error}
 use Rattle.bser_base.proofs.Tags.{no_empty}
 use Rattle.bser_state.specs.State.{State, past, refused}
 use Rattle.bser_state.specs.Reading.{Answers, Refuses, RefusesFront, FillsReadably, IsRefusal}
-use Rattle.bser_state.specs.Scalar.{scalar, reads_scalar, owned, IsScalar, TookScalar, IsNoValue, IsValue}
-use Rattle.bser_value.specs.ScalarAnswer.{TookValue}
+use Rattle.bser_state.specs.Scalar.{scalar, reads_scalar, owned, IsScalar, TookScalar, IsNoValue, IsValueDue}
+use Rattle.bser_value.specs.ScalarAnswer.{TookDueScalar}
 use Rattle.bser_value.specs.ValueView.{HoldsTree, tree_of}
 use Rattle.bser_value.specs.declared.value.Value.{Value}
 use Rattle.bser_value.specs.declared.value.Value.TheBlock.{Utf8String, ByteString}
@@ -122,7 +122,7 @@ bytes_key b k e h =
 -- ---- scalars
 
 -- what is due with a tag, and is no key, is a value or a field
-pub value_due : (ks : List (List ℕ)) (d : deserializer.Due) → IsTagged (due_of ks d) → (d ≡ due.Key → ⊥) → IsValue (due_of ks d)
+pub value_due : (ks : List (List ℕ)) (d : deserializer.Due) → IsTagged (due_of ks d) → (d ≡ due.Key → ⊥) → IsValueDue (due_of ks d)
 value_due ks due.Nothing t key = absurd t
 value_due ks due.Node t key = tt
 value_due ks due.Key t key = absurd (key refl)
@@ -135,7 +135,7 @@ value_due ks (due.Name place) t key = absurd (untagged place ks t)
     untagged (suc place) (k ∷ ks) t = untagged place ks t
 value_due ks due.Row t key = absurd t
 
-fills_value : (n : ℕ) (d : Due) (u : Tree) (b : List ℕ) → IsValue d → FillsNode n u b → Fills n d u b
+fills_value : (n : ℕ) (d : Due) (u : Tree) (b : List ℕ) → IsValueDue d → FillsNode n u b → Fills n d u b
 fills_value n node_due u b t h = h
 fills_value n field_due u b t h = inr h
 fills_value n nothing_due u b t h = absurd t
@@ -144,7 +144,7 @@ fills_value n (name_due k) u b t h = absurd t
 fills_value n (row_due ks) u b t h = absurd t
 
 -- a scalar was taken where a value is due
-pub took_scalar : (s t : State) (v : Value) → IsValue s.due → TookScalar s.source t.source (tree_of v) → t ≡ past s t.source → TookValue s t v
+pub took_scalar : (s t : State) (v : Value) → IsValueDue s.due → TookScalar s.source t.source (tree_of v) → t ≡ past s t.source → TookDueScalar s t v
 took_scalar s t v due took state =
     let spelled = scalar_down zero s.levels (tree_of v) took.taken took.known took.spelled in
     let node : FillsNode s.levels (tree_of v) took.taken = record { tree = tree_of v; stands = scalar_stands (tree_of v) took.known; spelled = spelled } in
@@ -158,7 +158,7 @@ took_scalar s t v due took state =
     }
 
 -- a skipped field is null
-pub took_skip : (s t : State) (v : Value) → s.due ≡ field_due → tree_of v ≡ null → s.source.sight ≡ Some 0x0c → Took s.source t.source (bytes_in_sight s.source.sight) None → t ≡ past s t.source → TookValue s t v
+pub took_skip : (s t : State) (v : Value) → s.due ≡ field_due → tree_of v ≡ null → s.source.sight ≡ Some 0x0c → Took s.source t.source (bytes_in_sight s.source.sight) None → t ≡ past s t.source → TookDueScalar s t v
 took_skip s t v due tree sight took state =
     let skipped : Fills s.levels field_due (tree_of v) (0x0c ∷ []) = inl (tree, refl) in
     record {
@@ -174,7 +174,7 @@ some_taken : (b : List ℕ) (seen : Option ℕ) → (b ≡ [] → ⊥) → sight
 some_taken b seen some = some_text b seen some
 
 -- after a look at its tag
-pub value_answers : (s mid t : State) (tag : ℕ) (v : Value) → TagInSight s mid tag → TookValue mid t v → Answers reads_scalar HoldsTree s t v
+pub value_answers : (s mid t : State) (tag : ℕ) (v : Value) → TagInSight s mid tag → TookDueScalar mid t v → Answers reads_scalar HoldsTree s t v
 value_answers s mid t tag v look a =
     let due : mid.due ≡ s.due = ap (λ z. z.due) look.state in
     let levels : mid.levels ≡ s.levels = ap (λ z. z.levels) look.state in
@@ -200,7 +200,7 @@ next_byte None tag x b rest next e = absurd cc
 next_byte (Some xs) tag x b rest next e = let k : xs ≡ x ∷ (b ++ rest) = cc in cc (next, k)
 
 -- what is due and reads as a scalar is a scalar, where no skip is in sight
-wanted_scalar : (n : ℕ) (d : Due) (left : Option (List ℕ)) (tag : ℕ) (b rest : List ℕ) (u : Tree) (c : Content) → IsValue d → IsNext left tag → (d ≡ field_due → tag ≡ 0x0c → ⊥) → left ≡ Some (b ++ rest) → Fills n d u b → reads_scalar u ≡ Some c → IsScalar b
+wanted_scalar : (n : ℕ) (d : Due) (left : Option (List ℕ)) (tag : ℕ) (b rest : List ℕ) (u : Tree) (c : Content) → IsValueDue d → IsNext left tag → (d ≡ field_due → tag ≡ 0x0c → ⊥) → left ≡ Some (b ++ rest) → Fills n d u b → reads_scalar u ≡ Some c → IsScalar b
 wanted_scalar n nothing_due left tag b rest u c due next skip e h read = absurd due
 wanted_scalar n node_due left tag b rest u c due next skip e h read = node_scalar n b u c h read
 wanted_scalar n key_due left tag b rest u c due next skip e h read = absurd due
@@ -210,7 +210,7 @@ wanted_scalar n field_due left tag b rest u c due next skip e (inr h) read = nod
 wanted_scalar n (name_due k) left tag b rest u c due next skip e h read = absurd due
 wanted_scalar n (row_due ks) left tag b rest u c due next skip e h read = absurd due
 
-pub scalar_refuses : (s : State) (b : source.State) (tag : ℕ) (e : Error) → IsValue s.due → IsNext s.source.left tag → (s.due ≡ field_due → tag ≡ 0x0c → ⊥) → RefusesFront owned IsScalar e s.source b → RefusesFront owned (FillsReadably reads_scalar s) e s.source b
+pub scalar_refuses : (s : State) (b : source.SourceState) (tag : ℕ) (e : Error) → IsValueDue s.due → IsNext s.source.left tag → (s.due ≡ field_due → tag ≡ 0x0c → ⊥) → RefusesFront owned IsScalar e s.source b → RefusesFront owned (FillsReadably reads_scalar s) e s.source b
 scalar_refuses s b tag e due next skip u = record {
   excuse = λ text rest wanted left. u.excuse text rest (wanted_scalar s.levels s.due s.source.left tag text rest wanted.tree wanted.content due next skip left wanted.filled wanted.read) left;
   may = u.may;

@@ -136,11 +136,11 @@ RefusesNext e (Pairs es key h) old new = RefusesName e h old new
 -- ---- putting a value in, and closing
 
 -- the value that was due is put in; the last of equal keys stays
-abbrev pub Puts : Value → Building → Building → Type 0
-Puts v (Items vs h) (Items ws i) = (all_items ws ≡ all_items vs ++ v ∷ []) × (i ≡ h)
-Puts v (Pairs es (Some name) h) (Pairs fs key i) = (fs.entries ≡ insert_entry string_cmp es.entries name v) × (key ≡ None) × (i ≡ h)
-Puts v (Pairs es None h) after = after ≡ Pairs es None h
-Puts v _ _ = ⊥
+abbrev pub PutsPart : Value → Building → Building → Type 0
+PutsPart v (Items vs h) (Items ws i) = (all_items ws ≡ all_items vs ++ v ∷ []) × (i ≡ h)
+PutsPart v (Pairs es (Some name) h) (Pairs fs key i) = (fs.entries ≡ insert_entry string_cmp es.entries name v) × (key ≡ None) × (i ≡ h)
+PutsPart v (Pairs es None h) after = after ≡ Pairs es None h
+PutsPart v _ _ = ⊥
 
 -- the tree of its value
 abbrev pub built : Building → Tree

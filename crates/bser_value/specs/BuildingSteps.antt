@@ -4,7 +4,7 @@ use Rattle.bser_base.specs.ReadsAny.{reads_value}
 use Rattle.bser_state.specs.State.{State}
 use Rattle.bser_state.specs.Reading.{Answers}
 use Rattle.bser_value.specs.ValueView.{tree_of, HoldsTree}
-use Rattle.bser_value.specs.Building.{Builds, Puts, built, ClosesInto}
+use Rattle.bser_value.specs.Building.{Builds, PutsPart, built, ClosesInto}
 use Rattle.bser_value.specs.declared.value.Value.{Value}
 use Rattle.bser_value.specs.declared.de.building.Building.{Building}
 use Rattle.bser_value.specs.declared.de.values.Part.{Part}
@@ -19,7 +19,7 @@ ReadsPart old new (Opened b) = Builds b old new
 pub record PutsNext (around after : List Building) (b c : Building) (old new : State) : Type 0 where
   pub value : Value
   pub answers : Answers reads_value HoldsTree old new value
-  pub put : Puts value b c
+  pub put : PutsPart value b c
   pub same : after ≡ around
 
 -- a container was opened, and is the innermost
@@ -41,7 +41,7 @@ pub record ClosesInside (around after : List Building) (b c : Building) (old new
   pub outer : Building
   pub closes : ClosesAs b value old new
   pub less : around ≡ after ++ outer ∷ []
-  pub put : Puts value outer c
+  pub put : PutsPart value outer c
 
 -- the value of the outermost container is the whole
 abbrev pub ClosesPart : List Building → List Building → Building → State → State → Part → Type 0

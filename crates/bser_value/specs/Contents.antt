@@ -7,13 +7,13 @@ use Rattle.bser_base.specs.SameTree.{same_bytes}
 use Rattle.bser_base.specs.Tree.{Tree, boolean, integer, real, bytes, text, array, object, Items, Entries, no_entries, entry}
 
 -- the value of the first entry with this key
-abbrev pub entry_at : List ℕ → Entries → Option Tree
-entry_at key no_entries = None
-entry_at key (entry k t es) = if same_bytes key k then Some t else entry_at key es
+abbrev pub entry_under : List ℕ → Entries → Option Tree
+entry_under key no_entries = None
+entry_under key (entry k t es) = if same_bytes key k then Some t else entry_under key es
 
 -- the same in an object; nothing else has entries
 abbrev pub get : List ℕ → Tree → Option Tree
-get key (object es) = entry_at key es
+get key (object es) = entry_under key es
 get key _ = None
 
 -- a text alone is one

@@ -9,8 +9,8 @@ use Rattle.bser_value.specs.Rows.{places_from}
 use Rattle.bser_value.specs.ValueView.{tree_of, entry_trees}
 
 -- a slot with a place of the row has the field there afterwards, and the row has null in its stead
-abbrev pub TakesField : Value → List Value → Value → List Value → Type 0
-TakesField slot row field left = (p : ℕ) → tree_of slot ≡ integer (pos p) → p < length row → (field ≡ get_or row p Null) × (left ≡ set row p Null)
+abbrev pub TakesPlace : Value → List Value → Value → List Value → Type 0
+TakesPlace slot row field left = (p : ℕ) → tree_of slot ≡ integer (pos p) → p < length row → (field ≡ get_or row p Null) × (left ≡ set row p Null)
 
 -- entries with the last place of each key have the field there afterwards
 abbrev pub TakesFields : List (String Global × Value) → List Value → List (String Global × Value) → Type 0

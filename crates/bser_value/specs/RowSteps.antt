@@ -1,7 +1,7 @@
 -- A step in which a template's rows are read, as many as are at hand whole.
 use Rattle.std.specs.Prelude.{◌≡◌, ◌-◌, List, ◌⊎◌}
 use Rattle.bser_state.specs.State.{State}
-use Rattle.bser_value.specs.StepsAtHand.{RefusesItem, Advances}
+use Rattle.bser_value.specs.StepsAtHand.{RefusesItemStep, Advances}
 use Rattle.bser_value.specs.Gathered.{all_items}
 use Rattle.bser_value.specs.Rows.{PutsItems}
 use Rattle.bser_state.specs.declared.frames.SeqHead.{SeqHead}
@@ -9,8 +9,8 @@ use Rattle.bser_value.specs.declared.de.building.Building.{Building}
 use Rattle.bser_value.specs.declared.de.building.Building.TheVariants.{Items}
 
 -- the next item was due, and there is no memory for it or for one after it
-abbrev pub RefusesItems : SeqHead → State → State → Type 0
-RefusesItems before old new = RefusesItem before (record before { remaining = before.remaining - 1 }) old new
+abbrev pub RefusesRowItems : SeqHead → State → State → Type 0
+RefusesRowItems before old new = RefusesItemStep before (record before { remaining = before.remaining - 1 }) old new
 
 -- one or more values of an array were read in turn, and put in
 abbrev pub PutsMany : Building → Building → State → State → Type 0

@@ -8,7 +8,7 @@ use Rattle.bser_value.specs.ValueView.{tree_of}
 use Rattle.bser_value.specs.declared.value.Value.{Value}
 
 -- the bytes that were taken fill what was due with the value's tree
-pub record TookValue (old new : State) (v : Value) : Type 0 where
+pub record TookDueScalar (old new : State) (v : Value) : Type 0 where
   pub text : List ℕ
   pub known : scalar (tree_of v) ≡ Some (tree_of v)
   pub filled : Fills old.levels old.due (tree_of v) text

@@ -17,7 +17,7 @@ use Rattle.bser_state.specs.Scalar.{owned, TookScalar}
 use Rattle.bser_value.specs.ValueView.{tree_of, HoldsTree}
 use Rattle.bser_state.specs.Access.{OpensPairs}
 use Rattle.bser_cursor.specs.Frames.{pairs_head}
-use Rattle.bser_value.specs.Building.{reads_object, IsDueAs, ReadsName, AwaitsItem, Awaits, IsFull, Puts, ClosesInto}
+use Rattle.bser_value.specs.Building.{reads_object, IsDueAs, ReadsName, AwaitsItem, Awaits, IsFull, PutsPart, ClosesInto}
 use Rattle.bser_value.specs.BuildingSteps.{ReadsInto, ClosesInside}
 use Rattle.bser_value.specs.declared.value.Value.{Value}
 use Rattle.bser_state.specs.declared.frames.SeqHead.{SeqHead}
@@ -34,7 +34,7 @@ pub record IsStringValue (is_text : Bool) (s : List ℕ) (v : Value) : Type 0 wh
   pub utf8 : is_text ≡ true → IsUtf8 s
 
 -- a string of UTF-8 was taken, under either tag
-pub record TookKey (old new : source.State) (name : String Global) : Type 0 where
+pub record TookKey (old new : source.SourceState) (name : String Global) : Type 0 where
   pub is_text : Bool
   pub text : List ℕ
   pub spelled : SpellsUnder is_text (string_bytes name) text
@@ -42,7 +42,7 @@ pub record TookKey (old new : source.State) (name : String Global) : Type 0 wher
   pub took : Took old new text None
 
 -- a row's field was taken: a scalar or string, or a skip, which is null
-abbrev pub TookField : source.State → source.State → Tree → Type 0
+abbrev pub TookField : source.SourceState → source.SourceState → Tree → Type 0
 TookField old new t = TookScalar old new t ⊎ ((t ≡ null) × Took old new (0x0c ∷ []) None)
 
 -- ---- steps
@@ -70,7 +70,7 @@ pub record NamesEntry (key : Option (String Global)) (before after : MapHead) (o
   pub named : ReadsName before after old new name
 
 -- its next key was read, and there is no memory for the value
-pub record RefusesEntry (before after : MapHead) (old new : State) : Type 0 where
+pub record RefusesEntryStep (before after : MapHead) (old new : State) : Type 0 where
   pub name : String Global
   pub between : State
   pub named : ReadsName before after old between name
@@ -85,7 +85,7 @@ pub record PutsItem (vs ws : List Value) (before after : SeqHead) (old new : Sta
   pub put : ws ≡ vs ++ value ∷ []
 
 -- its next item was due, and there is no memory for it
-pub record RefusesItem (before after : SeqHead) (old new : State) : Type 0 where
+pub record RefusesItemStep (before after : SeqHead) (old new : State) : Type 0 where
   pub between : State
   pub awaits : AwaitsItem before after old between
   pub refuses : Refuses reads_value owned OutOfMemory between new
@@ -97,7 +97,7 @@ pub record PutsWhole (b c : Building) (old new : State) : Type 0 where
   pub awaits : Awaits b waiting old between
   pub value : Value
   pub answers : Answers reads_value HoldsTree between new value
-  pub put : Puts value waiting c
+  pub put : PutsPart value waiting c
 
 -- its next value was due, and there is no memory for it
 pub record RefusesWhole (b : Building) (old new : State) : Type 0 where
@@ -133,5 +133,5 @@ pub record RefusesClosed (b : Building) (old new : State) : Type 0 where
   pub full : IsFull b old
   pub closed : ClosesInto b old new
 
-abbrev pub RefusesStep : Building → State → State → Type 0
-RefusesStep b old new = RefusesWhole b old new ⊎ RefusesClosed b old new
+abbrev pub RefusesValueStep : Building → State → State → Type 0
+RefusesValueStep b old new = RefusesWhole b old new ⊎ RefusesClosed b old new

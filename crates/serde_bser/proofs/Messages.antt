@@ -21,7 +21,7 @@ use Rattle.bser_base.proofs.OneHead.{one_head}
 use Rattle.bser_base.proofs.Tags.{no_empty}
 use Rattle.bser_state.specs.State.{State, Begins, IsAtEnd}
 use Rattle.bser_state.specs.Reading.{Answers, RefusesFront, FillsReadably, IsRefusal}
-use Rattle.serde_bser.specs.Messages.{ReadsMessage, IsReadable, RefusesMessage}
+use Rattle.serde_bser.specs.Messages.{ReadsMessage, IsReadableMessage, RefusesMessage}
 use Rattle.bser_state.proofs.Refusals.{first_part, sequel, passed_head, unwanted_front, may_refuse, no_failure, rest_of}
 
 -- ---- what was taken
@@ -41,7 +41,7 @@ body_len start len at body count s c small sum =
     omega (arith, ints, s, m, c, sum)
 
 -- a head that announced the body, and then the body: nothing is held past it
-took_announced : (a s t : source.State) (head body : List ℕ) → Took a (with_limit a.limit s) head None → s.limit ≤ max a.limit (s.count + length body) → Took s t body None
+took_announced : (a s t : source.SourceState) (head body : List ℕ) → Took a (with_limit a.limit s) head None → s.limit ≤ max a.limit (s.count + length body) → Took s t body None
     → Took a (with_limit a.limit t) (head ++ body) None
 took_announced a s t head body first announced second = record {
   bytes = Consumes-trans a.left s.left t.left head body first.bytes second.bytes;
@@ -58,10 +58,10 @@ took_announced a s t head body first announced second = record {
 }
 
 -- the value that was due, in a state after a head
-due_node : (n : ℕ) (a : source.State) (s : State) (u : Tree) (b : List ℕ) → Begins n a s → Fills s.levels s.due u b → FillsNode n u b
+due_node : (n : ℕ) (a : source.SourceState) (s : State) (u : Tree) (b : List ℕ) → Begins n a s → Fills s.levels s.due u b → FillsNode n u b
 due_node n a s u b begins h = subst (λ m. FillsNode m u b) begins.levels (subst (λ d. Fills s.levels d u b) begins.due h)
 
-pub message : {A : Type 0} (n : ℕ) (reads : Meaning) (holds : A → Content → Type 0) (a : source.State) (s t : State) (v : A)
+pub message : {A : Type 0} (n : ℕ) (reads : Meaning) (holds : A → Content → Type 0) (a : source.SourceState) (s t : State) (v : A)
     → Begins n a s → Answers reads holds s t v → IsAtEnd t → ReadsMessage n reads holds a t.source v
 message n reads holds a s t v begins answers over =
     let head = begins.took in
@@ -92,16 +92,16 @@ message n reads holds a s t v begins answers over =
 -- ---- what was refused
 
 -- a message begins with a head
-head_first : (n : ℕ) (reads : Meaning) (text : List ℕ) → IsReadable n reads text → (first : List ℕ) × (second : List ℕ) × (text ≡ first ++ second) × IsHead first
+head_first : (n : ℕ) (reads : Meaning) (text : List ℕ) → IsReadableMessage n reads text → (first : List ℕ) × (second : List ℕ) × (text ≡ first ++ second) × IsHead first
 head_first n reads text (c, r) =
     let p = parts n r.capabilities r.tree text r.message in
     (p.head, p.body, p.whole, (r.capabilities, length p.body, p.start))
 
-pub head_refused : (n : ℕ) (reads : Meaning) (needs : Needs) (e : Error) (a b : source.State) → Unwanted IsHead e a b → RefusesMessage n reads needs e a b
-head_refused n reads needs e a b u = first_part needs IsHead (IsReadable n reads) e a b (head_first n reads) (unwanted_front needs IsHead e a b u)
+pub head_refused : (n : ℕ) (reads : Meaning) (needs : Needs) (e : Error) (a b : source.SourceState) → Unwanted IsHead e a b → RefusesMessage n reads needs e a b
+head_refused n reads needs e a b u = first_part needs IsHead (IsReadableMessage n reads) e a b (head_first n reads) (unwanted_front needs IsHead e a b u)
 
 -- after a head was taken, a message's body is what is due
-body_second : (n : ℕ) (reads : Meaning) (a : source.State) (s : State) → (begins : Begins n a s) → (text rest ys : List ℕ) → IsReadable n reads text → text ++ rest ≡ begins.took.text ++ ys
+body_second : (n : ℕ) (reads : Meaning) (a : source.SourceState) (s : State) → (begins : Begins n a s) → (text rest ys : List ℕ) → IsReadableMessage n reads text → text ++ rest ≡ begins.took.text ++ ys
     → (second : List ℕ) × (text ≡ begins.took.text ++ second) × FillsReadably reads s second
 body_second n reads a s begins text rest ys (c, r) e =
     let p = parts n r.capabilities r.tree text r.message in
@@ -118,12 +118,12 @@ body_second n reads a s begins text rest ys (c, r) e =
       },
     )
 
-pub value_refused : (n : ℕ) (reads : Meaning) (needs : Needs) (e : Error) (a b : source.State) (s : State) → Begins n a s → RefusesFront needs (FillsReadably reads s) e s.source b → RefusesMessage n reads needs e a b
+pub value_refused : (n : ℕ) (reads : Meaning) (needs : Needs) (e : Error) (a b : source.SourceState) (s : State) → Begins n a s → RefusesFront needs (FillsReadably reads s) e s.source b → RefusesMessage n reads needs e a b
 value_refused n reads needs e a b s begins u =
-    sequel needs (FillsReadably reads s) (IsReadable n reads) e a s.source b begins.took.text (passed_head a s.source a.limit begins.took.text None begins.took.took) (body_second n reads a s begins) u
+    sequel needs (FillsReadably reads s) (IsReadableMessage n reads) e a s.source b begins.took.text (passed_head a s.source a.limit begins.took.text None begins.took.took) (body_second n reads a s begins) u
 
 -- where a message was read to its end, its end is reached
-ends_there : (n : ℕ) (reads : Meaning) (a : source.State) (s : State) (t : State) (body after rest : List ℕ) → (begins : Begins n a s) → t ≡ record s { source = t.source; due = nothing_due } → a.count ≡ 0
+ends_there : (n : ℕ) (reads : Meaning) (a : source.SourceState) (s : State) (t : State) (body after rest : List ℕ) → (begins : Begins n a s) → t ≡ record s { source = t.source; due = nothing_due } → a.count ≡ 0
     → length (begins.took.text ++ body) < 2 ^ 63 → begins.took.size ≡ length body → t.source.count ≡ s.source.count + length body → IsAtEnd t
 ends_there n reads a s t body after rest begins state fresh short size count =
     let start : t.start ≡ s.start = ap (λ z. z.start) state in
@@ -140,7 +140,7 @@ ends_there n reads a s t body after rest begins state fresh short size count =
       ends = record { start_in = rw start' (omega (arith, ints)); len_in = rw len' (omega (arith, ints)); small = total; sum = omega (arith, ints, start', len', count) };
     }
 
-pub end_refused : {A : Type 0} (n : ℕ) (reads : Meaning) (holds : A → Content → Type 0) (needs : Needs) (e : Error) (a : source.State) (s t : State) (v : A)
+pub end_refused : {A : Type 0} (n : ℕ) (reads : Meaning) (holds : A → Content → Type 0) (needs : Needs) (e : Error) (a : source.SourceState) (s t : State) (v : A)
     → a.count ≡ 0 → Begins n a s → Answers reads holds s t v → (IsAtEnd t → IsTrue t.source.failed) → IsRefusal e → RefusesMessage n reads needs e a t.source
 end_refused n reads holds needs e a s t v fresh begins answers refused kind =
     let head = begins.took in

@@ -5,7 +5,7 @@ use Rattle.bser_base.specs.Source as source
 use Rattle.bser_base.specs.declared.errors.Error.{Error}
 use Rattle.serde_bser.specs.Messages.{RefusesMessage, RefusesReader}
 
-pub reader_refused : (n : ℕ) (reads : Meaning) (needs : Needs) (e : Error) (s t : source.State) → needs.lent ≡ false → s.count ≡ 0 → s.failed ≡ false → RefusesMessage n reads needs e s t → RefusesReader n reads e s.left s.failures t.failures
+pub reader_refused : (n : ℕ) (reads : Meaning) (needs : Needs) (e : Error) (s t : source.SourceState) → needs.lent ≡ false → s.count ≡ 0 → s.failed ≡ false → RefusesMessage n reads needs e s t → RefusesReader n reads e s.left s.failures t.failures
 reader_refused n reads needs e s t owned fresh working u = search rules
 
 pub reader_counted : (n : ℕ) (reads : Meaning) (e : Error) (left seen : Option (List ℕ)) (a b before after : ℕ) → seen ≡ left → a ≡ before → b ≡ after → RefusesReader n reads e seen a b → RefusesReader n reads e left before after

@@ -15,7 +15,7 @@ use Rattle.bser_base.specs.declared.errors.Error.TheVariants.{DeReaderError, Out
 use Rattle.bser_base.specs.declared.errors.ReadCause.TheVariants.{Reader}
 
 -- the text is a message of at most n levels, whose expanded tree reads as the content
-pub record ReadsAs (n : ℕ) (reads : Meaning) (text : List ℕ) (c : Content) : Type 0 where
+pub record ReadsMessageAs (n : ℕ) (reads : Meaning) (text : List ℕ) (c : Content) : Type 0 where
   pub capabilities : ℕ
   pub tree : Tree
   pub message : IsMessage n capabilities tree text
@@ -27,7 +27,7 @@ pub record BeginsWith {A : Type 0} (n : ℕ) (reads : Meaning) (holds : A → Co
   pub rest : List ℕ
   pub front : bytes ≡ text ++ rest
   pub content : Content
-  pub message : ReadsAs n reads text content
+  pub message : ReadsMessageAs n reads text content
   pub held : holds v content
 
 -- exactly one message was taken, which reads as what v holds
@@ -35,25 +35,25 @@ pub record TookMessage {A : Type 0} (n : ℕ) (reads : Meaning) (holds : A → C
   pub text : List ℕ
   pub bytes : Consumes old new text
   pub content : Content
-  pub message : ReadsAs n reads text content
+  pub message : ReadsMessageAs n reads text content
   pub held : holds v content
 
 -- a source took exactly one message, and may not take bytes past it
-pub record ReadsMessage {A : Type 0} (n : ℕ) (reads : Meaning) (holds : A → Content → Type 0) (old new : source.State) (v : A) : Type 0 where
+pub record ReadsMessage {A : Type 0} (n : ℕ) (reads : Meaning) (holds : A → Content → Type 0) (old new : source.SourceState) (v : A) : Type 0 where
   pub text : List ℕ
   pub content : Content
-  pub message : ReadsAs n reads text content
+  pub message : ReadsMessageAs n reads text content
   pub held : holds v content
   pub took : Took old (with_limit old.limit new) text None
   pub limit : new.limit ≤ max old.limit new.count
 
 -- the text is a message that reads
-abbrev pub IsReadable : ℕ → Meaning → Format
-IsReadable n reads text = (c : Content) × ReadsAs n reads text c
+abbrev pub IsReadableMessage : ℕ → Meaning → Format
+IsReadableMessage n reads text = (c : Content) × ReadsMessageAs n reads text c
 
 -- no front of the bytes left is a message that the type reads, or the refusal is not to blame on them
-abbrev pub RefusesMessage : ℕ → Meaning → Needs → Error → source.State → source.State → Type 0
-RefusesMessage n reads needs = RefusesFront needs (IsReadable n reads)
+abbrev pub RefusesMessage : ℕ → Meaning → Needs → Error → source.SourceState → source.SourceState → Type 0
+RefusesMessage n reads needs = RefusesFront needs (IsReadableMessage n reads)
 
 -- want of memory, of a type that takes some to read a value
 pub record IsMemory (needs : Needs) (e : Error) : Type 0 where
@@ -62,14 +62,14 @@ pub record IsMemory (needs : Needs) (e : Error) : Type 0 where
 
 -- a refusal of a slice: no front of it is a message that the type reads, or memory was refused to a type that takes some to read a value; want of memory is named only by a type that may take some
 pub record RefusesSlice (n : ℕ) (reads : Meaning) (needs : Needs) (e : Error) (bytes : List ℕ) : Type 0 where
-  pub excuse : (text rest : List ℕ) (c : Content) → ReadsAs n reads text c → bytes ≡ text ++ rest → IsMemory needs e
+  pub excuse : (text rest : List ℕ) (c : Content) → ReadsMessageAs n reads text c → bytes ≡ text ++ rest → IsMemory needs e
   pub memory : e ≡ OutOfMemory → TakesMemory needs
 
 -- want of memory, or a failure that the reader counted
-abbrev pub IsFault : ℕ → ℕ → Error → Type 0
-IsFault before after OutOfMemory = Unit {0}
-IsFault before after (DeReaderError (Reader fault)) = Blamed before after
-IsFault before after _ = ⊥
+abbrev pub IsReaderFault : ℕ → ℕ → Error → Type 0
+IsReaderFault before after OutOfMemory = Unit {0}
+IsReaderFault before after (DeReaderError (Reader fault)) = Blamed before after
+IsReaderFault before after _ = ⊥
 
 -- a fault of the reader is answered only where it counted a failure
 abbrev pub CountsFault : ℕ → ℕ → Error → Type 0
@@ -78,5 +78,5 @@ CountsFault before after _ = Unit {0}
 
 -- a refusal of a reader: no front of the bytes left is a message that the type reads, or there is want of memory or a fault of the reader
 pub record RefusesReader (n : ℕ) (reads : Meaning) (e : Error) (left : Option (List ℕ)) (before after : ℕ) : Type 0 where
-  pub excuse : (text rest : List ℕ) (c : Content) → ReadsAs n reads text c → left ≡ Some (text ++ rest) → IsFault before after e
+  pub excuse : (text rest : List ℕ) (c : Content) → ReadsMessageAs n reads text c → left ≡ Some (text ++ rest) → IsReaderFault before after e
   pub counted : CountsFault before after e

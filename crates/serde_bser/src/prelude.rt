@@ -2,8 +2,8 @@
 //! scope, and each trait that a type of one's own is read by.
 
 pub use bser_base::de::read::{DeRead, LendsText};
-pub use bser_de::opening::ReadsContainers;
-pub use bser_de::reading::{Deserialize, DeserializeOwned, OwnedShape, Shape};
+pub use bser_de::container::ReadsContainers;
+pub use bser_de::deserialize::{Deserialize, DeserializeOwned, OwnedShape, Shape};
 pub use bser_struct::enum_access::ReadsEnums;
 pub use bser_struct::fields::ReadsFields;
 pub use bser_struct::skip::SkipsValues;

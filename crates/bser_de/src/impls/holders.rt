@@ -6,8 +6,8 @@ ghost use Rattle.bser_base.specs.Content.{just};
 ghost use Rattle.bser_base.specs.ReadsHolders.{reads_option};
 ghost use Rattle.std.proofs.Common.{ap};
 
+use crate::deserialize::{Deserialize, OwnedShape, Shape};
 use crate::front::Front;
-use crate::reading::{Deserialize, OwnedShape, Shape};
 use bser_base::de::read::{DeRead, LendsText};
 use bser_base::errors::Result;
 use bser_base::header::{BSER_NULL, BSER_SKIP};

@@ -4,8 +4,8 @@ ghost use Rattle.bser_base.specs.ReadsScalars.{reads_signed, reads_unsigned};
 ghost use Rattle.bser_state.specs.Reading.{bare};
 ghost use Rattle.bser_state.specs.Holds.{HoldsNumber, HoldsSize};
 
+use crate::deserialize::{Deserialize, OwnedShape, Shape};
 use crate::front::Front;
-use crate::reading::{Deserialize, OwnedShape, Shape};
 use bser_base::de::bunser::integer_front;
 use bser_base::de::read::{DeRead, LendsText};
 use bser_base::errors::{Complaint, Result};

@@ -7,7 +7,7 @@ ghost use Rattle.bser_base.specs.Content.{Content, byte_list};
 ghost use Rattle.bser_base.specs.Expand.{key_tree};
 ghost use Rattle.bser_base.proofs.KeyNames.{string_key, slice_key, byte_string_key};
 
-use crate::reading::Shape;
+use crate::deserialize::Shape;
 use bser_base::bytestring::ByteString;
 use std::hash::Hash;
 

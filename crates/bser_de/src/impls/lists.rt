@@ -8,8 +8,8 @@ ghost use Rattle.bser_state.specs.HoldsLists.{HoldsList, HoldsTuple};
 ghost use Rattle.bser_de.specs.Tuples.{tuple_needs};
 ghost use Rattle.std.proofs.Common.{ap, ◌∙◌};
 
-use crate::opening::ReadsContainers;
-use crate::reading::{Deserialize, OwnedShape, Shape};
+use crate::container::ReadsContainers;
+use crate::deserialize::{Deserialize, OwnedShape, Shape};
 use bser_base::de::read::{DeRead, LendsText};
 use bser_base::errors::Result;
 use bser_cursor::cursor::Cursor;

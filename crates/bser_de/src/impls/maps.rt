@@ -4,9 +4,9 @@ ghost use Rattle.std.proofs.Common.{ap, ◌∙◌};
 ghost use Rattle.bser_base.specs.ReadsHolders.{reads_map};
 ghost use Rattle.bser_state.specs.HoldsMaps.{HoldsMap};
 
+use crate::container::ReadsContainers;
+use crate::deserialize::{Deserialize, OwnedShape, Shape};
 use crate::impls::keys::MapKey;
-use crate::opening::ReadsContainers;
-use crate::reading::{Deserialize, OwnedShape, Shape};
 use bser_base::de::read::{DeRead, LendsText};
 use bser_base::errors::Result;
 use bser_cursor::deserializer::Deserializer;

@@ -6,8 +6,8 @@ ghost use Rattle.bser_state.specs.Reading.{bare};
 ghost use Rattle.bser_state.specs.Holds.{HoldsTruth, HoldsOne};
 ghost use Rattle.bser_de.specs.HoldsReals.{HoldsReal};
 
+use crate::deserialize::{Deserialize, OwnedShape, Shape};
 use crate::front::Front;
-use crate::reading::{Deserialize, OwnedShape, Shape};
 use bser_base::de::read::{DeRead, LendsText};
 use bser_base::device::Sink;
 use bser_base::errors::Result;

@@ -5,8 +5,8 @@ ghost use Rattle.bser_state.specs.HoldsTexts.{HoldsBytes, HoldsChar, char_conten
 ghost use Rattle.bser_state.specs.Reading.{bare};
 ghost use Rattle.bser_state.specs.Scalar.{owned, lending};
 
+use crate::deserialize::{Deserialize, OwnedShape, Shape};
 use crate::front::Front;
-use crate::reading::{Deserialize, OwnedShape, Shape};
 use bser_base::bytestring::ByteString;
 use bser_base::de::bunser::string_front;
 use bser_base::de::read::{DeRead, LendsFrom, LendsText, Reference, TextReference};
@@ -14,7 +14,7 @@ use bser_base::de::text::as_text;
 use bser_base::errors::{Complaint, Result};
 use bser_cursor::cursor::Cursor;
 use bser_cursor::deserializer::Deserializer;
-use bser_cursor::strings::may_stand;
+use bser_cursor::string::may_stand;
 use bser_state::node::Node;
 use std::alloc::Global;
 

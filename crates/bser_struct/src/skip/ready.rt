@@ -13,7 +13,7 @@ use bser_base::header::{
 };
 use bser_cursor::deserializer::Deserializer;
 use bser_cursor::parts::{bunser_mut, bunser_of};
-use bser_cursor::strings::may_stand;
+use bser_cursor::string::may_stand;
 
 /// Skips the next parts of a container that are at hand whole, up to one that is a container or
 /// an entry.

@@ -2,7 +2,7 @@
 ghost use Rattle.std.specs.Prelude.{◌≡◌, ◌<◌, length, None, true, false, IfOk, IfErr, OnOk};
 ghost use Rattle.bser_base.specs.declared.errors.Error.TheVariants.{OutOfMemory};
 ghost use Rattle.bser_cursor.specs.Frames.{pairs_head};
-ghost use Rattle.bser_value.specs.Building.{IsNewItems, IsNewPairs, Puts, AwaitsItem, NoItem, NextName, RefusesName, Awaits, RefusesNext, IsRead, BetweenValues, ClosesInto, built};
+ghost use Rattle.bser_value.specs.Building.{IsNewItems, IsNewPairs, PutsPart, AwaitsItem, NoItem, NextName, RefusesName, Awaits, RefusesNext, IsRead, BetweenValues, ClosesInto, built};
 ghost use Rattle.bser_state.specs.Access.{closed};
 ghost use Rattle.bser_value.specs.ValueView.{tree_of};
 ghost use Rattle.bser_cursor.specs.View.{state};
@@ -11,9 +11,9 @@ use crate::de::gathered::Gathered;
 use crate::value::Value;
 use bser_base::de::read::{DeRead, LendsText};
 use bser_base::errors::{Error, Result};
+use bser_cursor::container::{Containers, MapHead, SeqHead};
 use bser_cursor::cursor::Cursor;
 use bser_cursor::deserializer::Deserializer;
-use bser_cursor::open::{Containers, MapHead, SeqHead};
 use bser_cursor::parts::keys_of;
 use std::alloc::Global;
 use std::collections::BTreeMap;
@@ -61,7 +61,7 @@ impl Building {
     /// memory for it.
     #[inline(always)]
     pub fn put_in(&mut self, value: Value) -> bool
-        ensures { result ≡ true → Puts value self.old self.new }
+        ensures { result ≡ true → PutsPart value self.old self.new }
     {
         match self {
             Building::Items { items, head: _ } => items.push(value).is_ok(),
@@ -78,7 +78,7 @@ impl Building {
 
     /// Puts in the value that was due, as [`Building::put_in`] does.
     pub fn put(&mut self, value: Value) -> Result<()>
-        ensures put { OnOk result (Puts value self.old self.new) }
+        ensures put { OnOk result (PutsPart value self.old self.new) }
         ensures err { IfErr result (λ e. e ≡ OutOfMemory) }
     {
         if self.put_in(value) {

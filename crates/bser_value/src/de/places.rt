@@ -4,7 +4,7 @@ ghost use Rattle.std.specs.BTreeMap.{insert_entry};
 ghost use Rattle.std.specs.Cmp.Lexicographic.{slice_cmp};
 ghost use Rattle.std.specs.Ordering.{nat_cmp};
 ghost use Rattle.bser_base.specs.Tree.{integer};
-ghost use Rattle.bser_value.specs.Places.{TakesField, TakesFields};
+ghost use Rattle.bser_value.specs.Places.{TakesPlace, TakesFields};
 ghost use Rattle.bser_value.specs.ValueView.{entry_trees};
 
 use crate::value::Value;
@@ -40,7 +40,7 @@ pub fn put_place(
 /// Takes the value at the place that the slot holds out of the row and into the slot.
 #[inline(always)]
 fn take_field(slot: &mut Value, row: &mut Vec<Value>)
-    ensures { TakesField slot.old row.old.items slot.new row.new.items }
+    ensures { TakesPlace slot.old row.old.items slot.new row.new.items }
 {
     let Value::Integer(number) = slot else {
         return;

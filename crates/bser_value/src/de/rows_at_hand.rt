@@ -5,7 +5,7 @@ ghost use Rattle.bser_base.specs.Expected.{row_due};
 ghost use Rattle.bser_base.specs.Normal.{last_entries};
 ghost use Rattle.bser_value.specs.Gathered.{all_items};
 ghost use Rattle.bser_state.specs.Reading.{Answers};
-ghost use Rattle.bser_value.specs.RowSteps.{RefusesItems};
+ghost use Rattle.bser_value.specs.RowSteps.{RefusesRowItems};
 ghost use Rattle.bser_value.specs.Rows.{ArePlaces, PutsField, RowFront, PutsItems};
 ghost use Rattle.bser_state.specs.State.{awaiting};
 ghost use Rattle.bser_value.specs.StepsAtHand.{MatchStep};
@@ -19,9 +19,9 @@ use crate::de::value_at_hand::Step;
 use crate::de::value_front::value_front;
 use crate::value::Value;
 use bser_base::de::read::{DeRead, Lending};
+use bser_cursor::container::SeqHead;
 use bser_cursor::cursor::Cursor;
 use bser_cursor::deserializer::Deserializer;
-use bser_cursor::open::SeqHead;
 use bser_cursor::parts::{bunser_mut, bunser_of, keys_of};
 use std::alloc::Global;
 use std::collections::BTreeMap;
@@ -157,7 +157,7 @@ pub fn rows_at_hand<R: DeRead>(
         (PutsItems (all_items items.old) head.old (state R.state R.Lent.kept from.old) (all_items items.new) head.new (state R.state R.Lent.kept from.new))
         ⊥
         ((items.new ≡ items.old) × (head.new ≡ head.old) × (state R.state R.Lent.kept from.new ≡ state R.state R.Lent.kept from.old))
-        (RefusesItems head.old (state R.state R.Lent.kept from.old) (state R.state R.Lent.kept from.new)) }
+        (RefusesRowItems head.old (state R.state R.Lent.kept from.old) (state R.state R.Lent.kept from.new)) }
 {
     if !head.rows || head.remaining < FEWEST_ROWS || items.last_len() % ROWS_A_TRY != 0 {
         return Step::Absent;
@@ -189,7 +189,7 @@ fn put_rows<R: DeRead>(
         (PutsItems (all_items items.old) head.old (state R.state R.Lent.kept from.old) (all_items items.new) head.new (state R.state R.Lent.kept from.new))
         ⊥
         ((items.new ≡ items.old) × (head.new ≡ head.old) × (state R.state R.Lent.kept from.new ≡ state R.state R.Lent.kept from.old))
-        (RefusesItems head.old (state R.state R.Lent.kept from.old) (state R.state R.Lent.kept from.new)) }
+        (RefusesRowItems head.old (state R.state R.Lent.kept from.old) (state R.state R.Lent.kept from.new)) }
 {
     let mut step = Step::Absent;
     while head.remaining != 0 {

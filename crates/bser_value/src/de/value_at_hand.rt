@@ -3,7 +3,7 @@ ghost use Rattle.std.specs.Prelude.{◌≡◌, true, MatchOption};
 ghost use Rattle.bser_value.specs.Building.{BetweenValues, Awaits, IsFull};
 ghost use Rattle.bser_value.specs.Gathered.{all_items};
 ghost use Rattle.bser_value.specs.RowSteps.{PutsMany, Proceeds};
-ghost use Rattle.bser_value.specs.StepsAtHand.{MatchStep, PutsEntry, NamesEntry, RefusesEntry, PutsItem, RefusesItem, PutsWhole, RefusesWhole, NextRow, Advances, RefusesStep};
+ghost use Rattle.bser_value.specs.StepsAtHand.{MatchStep, PutsEntry, NamesEntry, RefusesEntryStep, PutsItem, RefusesItemStep, PutsWhole, RefusesWhole, NextRow, Advances, RefusesValueStep};
 ghost use Rattle.bser_cursor.specs.View.{state};
 
 use crate::de::building::{Building, close};
@@ -12,9 +12,9 @@ use crate::de::rows_at_hand::rows_at_hand;
 use crate::de::scalar_at_hand::{key_at_hand, row_field_at_hand, scalar_at_hand};
 use crate::value::Value;
 use bser_base::de::read::{DeRead, Lending};
+use bser_cursor::container::{MapHead, SeqHead, open_row};
 use bser_cursor::cursor::Cursor;
 use bser_cursor::deserializer::Deserializer;
-use bser_cursor::open::{MapHead, SeqHead, open_row};
 use bser_cursor::parts::{bunser_mut, keys_of};
 use std::alloc::Global;
 use std::collections::BTreeMap;
@@ -46,7 +46,7 @@ fn entry_at_hand<R: DeRead>(
         (PutsEntry entries.old.entries entries.new.entries head.old head.new (state R.state R.Lent.kept from.old) (state R.state R.Lent.kept from.new))
         ⊥
         ((entries.new ≡ entries.old) × (head.new ≡ head.old) × (state R.state R.Lent.kept from.new ≡ state R.state R.Lent.kept from.old))
-        (RefusesEntry head.old head.new (state R.state R.Lent.kept from.old) (state R.state R.Lent.kept from.new)) }
+        (RefusesEntryStep head.old head.new (state R.state R.Lent.kept from.old) (state R.state R.Lent.kept from.new)) }
 {
     let place = head.at;
     if !head.row || place >= keys_of(from).len() {
@@ -85,7 +85,7 @@ fn object_entry_at_hand<R: DeRead>(
         (PutsEntry entries.old.entries entries.new.entries head.old head.new (state R.state R.Lent.kept from.old) (state R.state R.Lent.kept from.new) × (key.new ≡ key.old))
         ((entries.new ≡ entries.old) × NamesEntry key.new head.old head.new (state R.state R.Lent.kept from.old) (state R.state R.Lent.kept from.new))
         ((entries.new ≡ entries.old) × (key.new ≡ key.old) × (head.new ≡ head.old) × (state R.state R.Lent.kept from.new ≡ state R.state R.Lent.kept from.old))
-        (RefusesEntry head.old head.new (state R.state R.Lent.kept from.old) (state R.state R.Lent.kept from.new)) }
+        (RefusesEntryStep head.old head.new (state R.state R.Lent.kept from.old) (state R.state R.Lent.kept from.new)) }
 {
     if head.row || head.at == 0 {
         return Step::Absent;
@@ -124,7 +124,7 @@ fn item_at_hand<R: DeRead>(
         (PutsItem (all_items items.old) (all_items items.new) head.old head.new (state R.state R.Lent.kept from.old) (state R.state R.Lent.kept from.new))
         ⊥
         ((items.new ≡ items.old) × (head.new ≡ head.old) × (state R.state R.Lent.kept from.new ≡ state R.state R.Lent.kept from.old))
-        (RefusesItem head.old head.new (state R.state R.Lent.kept from.old) (state R.state R.Lent.kept from.new)) }
+        (RefusesItemStep head.old head.new (state R.state R.Lent.kept from.old) (state R.state R.Lent.kept from.new)) }
 {
     if head.rows || head.remaining == 0 {
         return Step::Absent;
@@ -224,7 +224,7 @@ fn turn_at_hand<R: DeRead>(
         (Advances around.old.items around.new.items inner.old inner.new (state R.state R.Lent.kept from.old) (state R.state R.Lent.kept from.new))
         ⊥
         ((around.new.items ≡ around.old.items) × (inner.new ≡ inner.old) × (state R.state R.Lent.kept from.new ≡ state R.state R.Lent.kept from.old))
-        (RefusesStep inner.old (state R.state R.Lent.kept from.old) (state R.state R.Lent.kept from.new)) }
+        (RefusesValueStep inner.old (state R.state R.Lent.kept from.old) (state R.state R.Lent.kept from.new)) }
 {
     if let Some(head) = row_at_hand(from, inner) {
         let row = Building::pairs(alloc, head);
@@ -281,7 +281,7 @@ fn many_at_hand<R: DeRead>(
         (Proceeds around.old.items around.new.items inner.old inner.new (state R.state R.Lent.kept from.old) (state R.state R.Lent.kept from.new))
         ⊥
         ((around.new.items ≡ around.old.items) × (inner.new ≡ inner.old) × (state R.state R.Lent.kept from.new ≡ state R.state R.Lent.kept from.old))
-        (RefusesStep inner.old (state R.state R.Lent.kept from.old) (state R.state R.Lent.kept from.new)) }
+        (RefusesValueStep inner.old (state R.state R.Lent.kept from.old) (state R.state R.Lent.kept from.new)) }
 {
     match rows_inside(from, alloc, inner) {
         Step::Absent => turn_at_hand(from, alloc, around, inner),
@@ -303,7 +303,7 @@ pub fn step_at_hand<R: DeRead>(
         (Proceeds around.old.items around.new.items inner.old inner.new (state R.state R.Lent.kept from.old) (state R.state R.Lent.kept from.new))
         ((around.new.items ≡ around.old.items) × Awaits inner.old inner.new (state R.state R.Lent.kept from.old) (state R.state R.Lent.kept from.new))
         ((around.new.items ≡ around.old.items) × (inner.new ≡ inner.old) × (state R.state R.Lent.kept from.new ≡ state R.state R.Lent.kept from.old))
-        (RefusesStep inner.old (state R.state R.Lent.kept from.old) (state R.state R.Lent.kept from.new)) }
+        (RefusesValueStep inner.old (state R.state R.Lent.kept from.old) (state R.state R.Lent.kept from.new)) }
 {
     match value_at_hand(from, alloc, inner) {
         Step::Absent => many_at_hand(from, alloc, around, inner),

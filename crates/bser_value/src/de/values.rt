@@ -2,11 +2,11 @@
 ghost use Rattle.std.specs.Prelude.{refl, ◌≡◌, Some, true, false, IfOk, IfErr, OnOk, None};
 ghost use Rattle.bser_base.specs.ReadsAny.{reads_value};
 ghost use Rattle.bser_base.specs.Source.{IsNext};
-ghost use Rattle.bser_state.specs.Scalar.{reads_scalar, owned, IsNoValue, IsValue};
+ghost use Rattle.bser_state.specs.Scalar.{reads_scalar, owned, IsNoValue, IsValueDue};
 ghost use Rattle.bser_base.specs.declared.errors.Error.TheVariants.{OutOfMemory};
 ghost use Rattle.bser_value.specs.Building.{ClosesInto};
 ghost use Rattle.bser_value.specs.BuildingSteps.{ReadsPart, ReadsInto, ClosesPart};
-ghost use Rattle.bser_value.specs.ScalarAnswer.{TookValue};
+ghost use Rattle.bser_value.specs.ScalarAnswer.{TookDueScalar};
 ghost use Rattle.bser_state.specs.Reading.{Answers, Refuses};
 ghost use Rattle.bser_value.specs.ValueView.{HoldsTree, HoldsValue};
 ghost use Rattle.bser_cursor.specs.View.{state};
@@ -19,12 +19,12 @@ use crate::value::Value;
 use bser_base::de::read::{DeRead, LendsText};
 use bser_base::errors::{Error, Result};
 use bser_base::header::BSER_SKIP;
+use bser_cursor::container::Containers;
 use bser_cursor::cursor::{Cursor, Head};
 use bser_cursor::deserializer::{Deserializer, Due};
-use bser_cursor::open::Containers;
 use bser_cursor::parts::bunser_mut;
+use bser_de::deserialize::{Deserialize, OwnedShape, Shape};
 use bser_de::front::Front;
-use bser_de::reading::{Deserialize, OwnedShape, Shape};
 use bser_state::node::Node;
 use std::alloc::Global;
 use std::mem;
@@ -52,10 +52,10 @@ fn read_scalar<R: DeRead>(from: &mut Deserializer<R>, alloc: Global) -> Result<V
 
 /// Reads the scalar or string whose tag is in sight, or takes a skipped field.
 fn read_tagged<R: DeRead>(from: &mut Deserializer<R>, alloc: Global, tag: u8) -> Result<Value>
-    requires due { IsValue (state R.state R.Lent.kept from.old).due }
+    requires due { IsValueDue (state R.state R.Lent.kept from.old).due }
     requires sight { (state R.state R.Lent.kept from.old).source.sight ≡ Some tag }
     requires next { IsNext (state R.state R.Lent.kept from.old).source.left tag }
-    ensures found { IfOk result (TookValue (state R.state R.Lent.kept from.old) (state R.state R.Lent.kept from.new)) }
+    ensures found { IfOk result (TookDueScalar (state R.state R.Lent.kept from.old) (state R.state R.Lent.kept from.new)) }
     ensures refused { IfErr result (λ e. Refuses reads_scalar owned e (state R.state R.Lent.kept from.old) (state R.state R.Lent.kept from.new)) }
 {
     if is_skip(from.due(), tag) {

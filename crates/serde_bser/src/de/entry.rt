@@ -8,7 +8,7 @@ use bser_base::device::Source;
 use bser_base::errors::Result;
 use bser_cursor::deserializer::{Deserializer, LEVELS};
 use bser_cursor::message::{read_head, unread};
-use bser_de::reading::{Deserialize, DeserializeOwned};
+use bser_de::deserialize::{Deserialize, DeserializeOwned};
 use std::alloc::Global;
 
 /// Reads a value from the message at the front of `bytes`, of at most 128 levels. What follows the

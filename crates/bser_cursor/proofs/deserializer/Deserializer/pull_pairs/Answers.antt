@@ -1,7 +1,7 @@
 -- What stands there is an object or a row.
 use Rattle.std.proofs.lemmas.Result.{err_from_is_err_and}
 use Rattle.bser_state.specs.Reading.{bare}
-use Rattle.bser_state.specs.Scalar.{IsValue}
+use Rattle.bser_state.specs.Scalar.{IsValueDue}
 use Rattle.bser_state.specs.State.{State}
 use Rattle.bser_cursor.specs.View.{state}
 use Rattle.bser_state.proofs.Strings.{if_ok, if_err}
@@ -20,7 +20,7 @@ returns-in_default g c =
     let old : State = state g.R.DeRead.state g.R.Lent.Lending.kept c.args.self.now in
     let mid : State = state g.R.DeRead.state g.R.Lent.Lending.kept c.expect.new.self in
     let stands = c.in_ok-expect.ensures.found in
-    let value : IsValue old.due = value_of old mid _ stands c.in_default.not-Row in
+    let value : IsValueDue old.due = value_of old mid _ stands c.in_default.not-Row in
     let found = c.open_object.ensures.found in
     record {
       found = if_ok c.open_object.result _ _ _ (λ h o again. opened_object old mid _ _ value stands o) found found;

@@ -1,12 +1,12 @@
 -- A text is a string of UTF-8.
-use Rattle.bser_base.specs.Refs.{bytes_of, text_of}
+use Rattle.bser_base.specs.Refs.{bytes_of, text_bytes}
 use Rattle.bser_state.proofs.Texts.{text_answer}
 use Rattle.bser_state.proofs.TextRefusals.{text_not_utf8}
 use Rattle.bser_cursor.proofs.deserializer.Deserializer.read_text.Goals as goal
 
 pub returns-in-Ok-clause-found : goal.returns-in-Ok-clause-found
 returns-in-Ok-clause-found g c =
-    text_answer (text_of g.R.Lent.Text.LendingText.text) _ _ _ c.in-Ok.text (bytes_of g.R.Lent.Lending.bytes c.in_ok-bytes.bytes) c.in-Ok.ensures.ok.0 c.in_ok-bytes.ensures.found c.in-Ok.ensures.ok.1
+    text_answer (text_bytes g.R.Lent.Text.LendingText.text) _ _ _ c.in-Ok.text (bytes_of g.R.Lent.Lending.bytes c.in_ok-bytes.bytes) c.in-Ok.ensures.ok.0 c.in_ok-bytes.ensures.found c.in-Ok.ensures.ok.1
 
 pub returns-in-Err-clause-refused : goal.returns-in-Err-clause-refused
 returns-in-Err-clause-refused g c =

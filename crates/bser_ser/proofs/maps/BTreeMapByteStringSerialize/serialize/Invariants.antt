@@ -1,9 +1,9 @@
 use Rattle.std.proofs.Common.{length}
-use Rattle.bser_format.specs.Written.{same_bytes}
+use Rattle.bser_format.specs.Written.{plain_bytes}
 use Rattle.bser_format.specs.Pieces.{object_head}
 use Rattle.bser_ser.proofs.Ends.{UpTo}
 use Rattle.bser_ser.proofs.Texts.{entry_text}
 use Rattle.bser_ser.proofs.maps.BTreeMapByteStringSerialize.serialize.Given as goal
 
 abbrev pub invariant-loop-key : goal.invariant-loop-key
-invariant-loop-key g l = UpTo g.W.Sink.took g.W.Sink.failures (object_head (length l.self.entries)) (entry_text same_bytes g.V.Serialize.meaning) l.self.entries l.key-iterator l.fn.out l.out
+invariant-loop-key g l = UpTo g.W.Sink.took g.W.Sink.failures (object_head (length l.self.entries)) (entry_text plain_bytes g.V.Serialize.meaning) l.self.entries l.key-iterator l.fn.out l.out

@@ -2,7 +2,7 @@
 use Rattle.std.proofs.Common.{◌∙◌, ap, sym}
 use Rattle.std.specs.Prelude.{chars}
 use Rattle.std.proofs.lemmas.Result.{err_from_is_err_and}
-use Rattle.bser_base.specs.Refs.{text_of}
+use Rattle.bser_base.specs.Refs.{text_bytes}
 use Rattle.bser_base.specs.ReadsScalars.{one_char}
 use Rattle.bser_cursor.specs.View.{state}
 use Rattle.bser_state.proofs.Chars.{char_refused, not_one_char}
@@ -15,5 +15,5 @@ returns-in_err-text-clause-refused g c =
 
 pub returns-clause-refused : goal.returns-clause-refused
 returns-clause-refused g c =
-    not_one_char (text_of g.L.Text.LendingText.text) _ _ _ _ c.in_ok-text.text (c.refuse.ensures.kind (λ e. cc)) c.in_ok-text.ensures.found
+    not_one_char (text_bytes g.L.Text.LendingText.text) _ _ _ _ c.in_ok-text.text (c.refuse.ensures.kind (λ e. cc)) c.in_ok-text.ensures.found
     (ap (λ s. one_char (chars s)) (sym c.get_ref.ensures) ∙ sym c.in-None.ensures) c.refuse.ensures.state

@@ -4,7 +4,7 @@ use Rattle.std.specs.Int.{w64}
 use mir.Val.{SFits}
 use Rattle.std.proofs.lemmas.Int.{ints}
 use Rattle.bser_state.proofs.TemplateKeys.{negative_count, took_count}
-use Rattle.bser_cursor.proofs.table.take_count.Goals as goal
+use Rattle.bser_cursor.proofs.template.take_count.Goals as goal
 
 pub returns-then-count-lt0-clause-err : goal.returns-then-count-lt0-clause-err
 returns-then-count-lt0-clause-err g c =

@@ -2,7 +2,7 @@
 use Rattle.std.proofs.Common.{◌-◌, map}
 use Rattle.bser_base.specs.Tagged.{bunser_state}
 use Rattle.bser_state.proofs.TemplateKeys.{Progress}
-use Rattle.bser_cursor.proofs.table.take_keys.Given as goal
+use Rattle.bser_cursor.proofs.template.take_keys.Given as goal
 
 abbrev pub invariant-loop-key : goal.invariant-loop-key
 invariant-loop-key g l =

@@ -12,8 +12,8 @@ use crate::map::MapAccess;
 use crate::seq::SeqAccess;
 use bser_base::de::read::DeRead;
 use bser_base::errors::Result;
+use bser_cursor::container::{Containers, MapHead, SeqHead};
 use bser_cursor::deserializer::Deserializer;
-use bser_cursor::open::{Containers, MapHead, SeqHead};
 use std::alloc::Global;
 
 /// What opens containers: a [`Deserializer`].

@@ -14,7 +14,7 @@ ghost use Rattle.bser_cursor.specs.View.{state};
 
 use crate::cursor::{Cursor, Head};
 use crate::deserializer::{Deserializer, Due};
-use crate::table::{take_count, take_table, take_table_tags};
+use crate::template::{take_count, take_table, take_table_tags};
 use bser_base::de::read::{DeRead, Lending};
 use bser_base::errors::{Error, Kind, Result};
 use bser_base::header::BSER_ARRAY;

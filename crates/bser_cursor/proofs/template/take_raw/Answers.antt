@@ -6,8 +6,8 @@ use Rattle.std.proofs.lemmas.Int.{ints}
 use Rattle.std.proofs.lemmas.Result.{err_from_is_err_and}
 use Rattle.bser_state.proofs.Strings.{if_ok, if_err}
 use Rattle.bser_state.proofs.TemplateKeys.{raw_len_refused, raw_bytes_refused, took_raw}
-use Rattle.bser_cursor.proofs.table.take_raw.Goals as goal
-use Rattle.bser_cursor.proofs.table.take_raw.Goals.{else-byte-ne-BSER_BYTESTRING-via-then-byte-ne-BSER_BYTESTRING+else-byte-ne-BSER_UTF8STRING, else-byte-ne-BSER_BYTESTRING-via-else-byte-ne-BSER_BYTESTRING}
+use Rattle.bser_cursor.proofs.template.take_raw.Goals as goal
+use Rattle.bser_cursor.proofs.template.take_raw.Goals.{else-byte-ne-BSER_BYTESTRING-via-then-byte-ne-BSER_BYTESTRING+else-byte-ne-BSER_UTF8STRING, else-byte-ne-BSER_BYTESTRING-via-else-byte-ne-BSER_BYTESTRING}
 
 pub returns-in_err-len-clause-err : goal.returns-in_err-len-clause-err
 returns-in_err-len-clause-err g c =

@@ -10,8 +10,8 @@ use Rattle.bser_state.proofs.Steps.{with_needs}
 use Rattle.bser_state.proofs.Strings.{if_ok, if_err}
 use Rattle.bser_state.proofs.Openings.{no_items_kind, opened_items, refused_items, refused_array, arrays_too, table_alone}
 use Rattle.bser_state.proofs.ContainerHeads.{before_template}
-use Rattle.bser_cursor.proofs.open.DeserializerContainers.open_items.Goals as goal
-use Rattle.bser_cursor.proofs.open.DeserializerContainers.open_items.Goals.{in_default-via-in-Tag+in_default, in_default-via-in_default}
+use Rattle.bser_cursor.proofs.container.DeserializerContainers.open_items.Goals as goal
+use Rattle.bser_cursor.proofs.container.DeserializerContainers.open_items.Goals.{in_default-via-in-Tag+in_default, in_default-via-in_default}
 
 pub returns-in_err-expect-clause-refused : goal.returns-in_err-expect-clause-refused
 returns-in_err-expect-clause-refused g c =

@@ -5,7 +5,7 @@ ghost use Rattle.bser_base.specs.Expected.{name_due};
 ghost use Rattle.bser_base.specs.Grammar.{Given};
 ghost use Rattle.bser_base.specs.declared.errors.Error.TheVariants.{OutOfMemory};
 ghost use Rattle.bser_base.specs.ReadsScalars.{reads_slice, reads_string};
-ghost use Rattle.bser_base.specs.Refs.{bytes_of, is_lent, text_of, is_lent_text};
+ghost use Rattle.bser_base.specs.Refs.{bytes_of, is_lent, text_bytes, is_lent_text};
 ghost use Rattle.bser_state.specs.Reading.{Answers, Refuses, RefusesFront, IsRefusal, bare};
 ghost use Rattle.bser_state.specs.Scalar.{owned, IsString, TookString};
 ghost use Rattle.bser_state.specs.State.{past, refused};
@@ -155,7 +155,7 @@ where
         &mut self,
         scratch: &'s mut Vec<u8>,
     ) -> Result<TextReference<'s, <R::Lent as LendsText>::Text>>
-        ensures found { IfOk result (Answers reads_string (λ t c. c ≡ byte_list (text_of R.Lent.Text.text t)) (state R.state R.Lent.kept self.old) (state R.state R.Lent.kept self.new)) }
+        ensures found { IfOk result (Answers reads_string (λ t c. c ≡ byte_list (text_bytes R.Lent.Text.text t)) (state R.state R.Lent.kept self.old) (state R.state R.Lent.kept self.new)) }
         ensures lent { IfOk result (λ t. is_lent_text t ≡ (state R.state R.Lent.kept self.old).source.lends) }
         ensures refused { IfErr result (λ e. Refuses reads_string bare e (state R.state R.Lent.kept self.old) (state R.state R.Lent.kept self.new)) }
         ensures failed { OnErr result ((state R.state R.Lent.kept self.new).source.failed ≡ true) }

@@ -2,7 +2,7 @@
 use Rattle.std.proofs.Common.{◌≡◌, arith, [], length, map, ◌<◌, vec_len, inl, inr, rules}
 use Rattle.std.proofs.lemmas.Result.{err_from_is_err_and}
 use Rattle.bser_state.proofs.TemplateKeys.{keys_refused, rows_refused, rows_without_keys, took_table, no_keys, some_keys}
-use Rattle.bser_cursor.proofs.table.take_table.Goals as goal
+use Rattle.bser_cursor.proofs.template.take_table.Goals as goal
 
 pub returns-in_err-keys-clause-err : goal.returns-in_err-keys-clause-err
 returns-in_err-keys-clause-err g c =

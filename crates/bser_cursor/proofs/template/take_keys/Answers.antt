@@ -4,7 +4,7 @@ use Rattle.std.specs.Prelude.{is_ok}
 use Rattle.std.proofs.lemmas.List.{map-append}
 use Rattle.std.proofs.lemmas.Result.{err_from_is_err_and}
 use Rattle.bser_state.proofs.TemplateKeys.{count_refused, progress_start, progress_next, progress_end, key_refused}
-use Rattle.bser_cursor.proofs.table.take_keys.Goals as goal
+use Rattle.bser_cursor.proofs.template.take_keys.Goals as goal
 
 pub returns-in_err-count-clause-err : goal.returns-in_err-count-clause-err
 returns-in_err-count-clause-err g c =

@@ -6,7 +6,7 @@ ghost use Rattle.bser_base.specs.Source.{Took};
 ghost use Rattle.bser_base.specs.Tagged.{bunser_state, IsLength};
 ghost use Rattle.bser_state.specs.Reading.{RefusesFront, bare};
 ghost use Rattle.bser_state.specs.Scalar.{owned};
-ghost use Rattle.bser_state.specs.Tables.{TookPart, SpellsRaw, IsRaw, IsKey, SpellsKeys, IsKeys, SpellsTable, IsTable};
+ghost use Rattle.bser_state.specs.Tables.{TookPart, SpellsRaw, IsRaw, IsTemplateKey, SpellsKeys, IsKeys, SpellsTable, IsTable};
 
 use bser_base::de::bunser::Bunser;
 use bser_base::de::read::{DeRead, Lending, Reference};
@@ -58,7 +58,7 @@ fn take_key<R: DeRead>(
     scratch: &mut Vec<u8>,
 ) -> Result<<R::Lent as Lending>::Kept>
     ensures ok { IfOk result (λ k. TookPart (SpellsKey (R.Lent.kept k)) (bunser_state R.state bunser.old) (bunser_state R.state bunser.new)) }
-    ensures err { IfErr result (λ e. RefusesFront owned IsKey e (bunser_state R.state bunser.old) (bunser_state R.state bunser.new)) }
+    ensures err { IfErr result (λ e. RefusesFront owned IsTemplateKey e (bunser_state R.state bunser.old) (bunser_state R.state bunser.new)) }
     ensures failed { OnErr result ((bunser_state R.state bunser.new).failed ≡ true) }
 {
     let bytes = take_raw(bunser, scratch)?;

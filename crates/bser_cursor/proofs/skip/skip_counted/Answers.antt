@@ -3,7 +3,7 @@ use Rattle.std.specs.Int.{w64}
 use mir.Val.{SFits, to_z, of_z}
 use Rattle.std.proofs.lemmas.Int.{ints}
 use Rattle.bser_cursor.proofs.Passed.{bad_bytes}
-use Rattle.bser_cursor.proofs.skipping.skip_counted.Goals as goal
+use Rattle.bser_cursor.proofs.skip.skip_counted.Goals as goal
 
 pub returns-in-Err-clause-refused : goal.returns-in-Err-clause-refused
 returns-in-Err-clause-refused g c =

@@ -2,7 +2,7 @@
 use Rattle.std.proofs.Common.{◌∙◌, sym, subst, IsUtf8}
 use Rattle.bser_state.proofs.TextRefusals.{named_at}
 use Rattle.bser_cursor.proofs.Passed.{named_text}
-use Rattle.bser_cursor.proofs.skipping.check_key.Goals as goal
+use Rattle.bser_cursor.proofs.skip.check_key.Goals as goal
 
 pub returns-in-Ok-from_utf8-clause-found : goal.returns-in-Ok-from_utf8-clause-found
 returns-in-Ok-from_utf8-clause-found g c =

@@ -1,7 +1,7 @@
 -- A key's bytes are UTF-8, or refused.
 use Rattle.std.proofs.lemmas.Result.{err_from_is_err_and}
 use Rattle.bser_state.proofs.TemplateKeys.{key_bytes_refused, kept_refused}
-use Rattle.bser_cursor.proofs.table.take_key.Goals as goal
+use Rattle.bser_cursor.proofs.template.take_key.Goals as goal
 
 pub returns-in_err-bytes-clause-err : goal.returns-in_err-bytes-clause-err
 returns-in_err-bytes-clause-err g c =

@@ -1,0 +1,81 @@
+//! Recorded messages of a Watchman server and its client: what is printed of each, and written for it.
+use anyhow::{Context, Result};
+use bser_vectors::devices::Plan;
+use bser_vectors::ways::read_by_plan;
+use serde_bser::device::Watched;
+use serde_bser::from_slice;
+use serde_bser::ser::{serialize_compact, to_vec};
+use serde_bser::value::Value;
+use sha2::{Digest, Sha256};
+use std::alloc::{AllocError, Global};
+
+/// A recorded message, and what the list says of it: `#LENGTH:SHA256` of its text on one line, and of
+/// the messages that are written for its value.
+#[derive(Drop)]
+pub struct Recording<'a> {
+    /// The message's file.
+    pub file: &'a str,
+    text: &'a str,
+    canonical: &'a str,
+    compact: &'a str,
+}
+
+impl<'a> Recording<'a> {
+    /// Takes a line apart at its tabs.
+    pub fn parse(line: &'a str) -> Result<Self> {
+        let (file, rest) = line.split_once('\t').context("no text")?;
+        let (text, rest) = rest.split_once('\t').context("no canonical message")?;
+        let (canonical, compact) = rest.split_once('\t').context("no compact message")?;
+        Ok(Recording {
+            file,
+            text,
+            canonical,
+            compact,
+        })
+    }
+
+    /// The first thing that is not as the list says.
+    ///
+    /// The compact message has to be at most as long as the recorded one, and to read back as its
+    /// value, from a slice and from a reader of one byte a call.
+    pub fn first_mismatch(&self, alloc: Global, message: &[u8]) -> Result<Option<&'static str>> {
+        let value: Value = from_slice(alloc, message)?;
+        if !is_read_by_bytes(alloc, message, &value)? {
+            return Ok(Some("another value from a reader"));
+        }
+        let text = value.to_string(alloc)?;
+        if !is_summed(alloc, text.as_str().as_bytes(), self.text)? {
+            return Ok(Some("another text"));
+        }
+        if !is_summed(alloc, &to_vec(alloc, &value)?, self.canonical)? {
+            return Ok(Some("another canonical message"));
+        }
+        let mut writer = Watched::new(Vec::new(alloc));
+        serialize_compact(alloc, &mut writer, &value)?;
+        let compact = writer.into_inner();
+        if !is_summed(alloc, &compact, self.compact)? {
+            return Ok(Some("another compact message"));
+        }
+        if compact.len() > message.len() {
+            return Ok(Some("longer than it was recorded"));
+        }
+        let back: Value = from_slice(alloc, &compact)?;
+        if back != value || !is_read_by_bytes(alloc, &compact, &value)? {
+            return Ok(Some("another value of the compact message"));
+        }
+        Ok(None)
+    }
+}
+
+/// Whether a reader of one byte a call gives the value, and has nothing left.
+fn is_read_by_bytes(alloc: Global, message: &[u8], value: &Value) -> Result<bool> {
+    let (answer, count) = read_by_plan::<Value>(alloc, message, Plan::pieces(1));
+    Ok(answer? == *value && count == message.len())
+}
+
+/// Whether these are the number and the digest of the bytes.
+fn is_summed(alloc: Global, bytes: &[u8], sum: &str) -> Result<bool, AllocError> {
+    let digest = hex::encode(alloc, Sha256::digest(bytes))?;
+    let found = format!(in alloc; "#{}:{digest}", bytes.len())?;
+    Ok(found.as_str() == sum)
+}
