@@ -1,0 +1,10 @@
+pub mod Readers
+pub mod Refusals
+pub mod Names
+pub mod Looks
+pub mod Ints
+pub mod Tokens
+pub mod Values
+pub mod Fixed
+pub mod Counted
+pub mod Heads

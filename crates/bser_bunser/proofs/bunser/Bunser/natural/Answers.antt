@@ -1,0 +1,11 @@
+use Rattle.std.proofs.Common.{rules}
+use Rattle.std.specs.Int.{w64}
+use mir.Val.{SFits}
+use Rattle.std.proofs.lemmas.Int.{to_z-of_z}
+use Rattle.bser_bunser.proofs.Counted.{below_names}
+use Rattle.bser_bunser.proofs.bunser.Bunser.natural.Goals as goal
+
+pub returns-then-number-lt0-clause-names : goal.returns-then-number-lt0-clause-names
+returns-then-number-lt0-clause-names g c =
+    let fits : SFits w64 c.in_ok-number.number = search rules in
+    rw (c.refuse.ensures.reason, c.de_custom.ensures) (below_names c.args.complaint c.in_ok-number.number _ _ (rw (to_z-of_z w64 c.in_ok-number.number fits) at c.if-number-lt0.true) c.in_ok-number.ensures.ok)

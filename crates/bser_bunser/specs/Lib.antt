@@ -1,0 +1,5 @@
+pub mod Prefixes
+pub mod Refusal
+pub mod Names
+pub mod Tokens
+pub mod Tagged

@@ -1,0 +1,150 @@
+//! The head of a message, and where its body ends.
+ghost use Rattle.std.specs.Prelude.{◌≡◌, ◌≢◌, ◌-◌, ◌^◌, ◌∷◌, [], pos, true, false, IfOk, IfErr, OnOk, OnErr, min};
+ghost use Rattle.std.specs.Int.{w32, to_le_bytes};
+ghost use Rattle.bser_named.specs.Clauses.{after_a_refusal};
+ghost use Rattle.bser_named.specs.Named.{front, magic, head};
+ghost use Rattle.bser_read.specs.Window.{Took, Expects};
+ghost use Rattle.bser_bunser.specs.Names.{Names};
+ghost use Rattle.bser_bunser.specs.Refusal.{ShortOf, Fails, end_refusal};
+ghost use Rattle.bser_bunser.specs.Tagged.{bunser_window, refusal_of, TookHead, EndsAt};
+
+use crate::bunser::Bunser;
+use crate::refusal::{Answer, Refused};
+use bser_format::errors::{Complaint, Error, ReadCause, Result};
+use bser_read::read::DeRead;
+use byteorder::{ByteOrder, LittleEndian};
+
+/// What stands in the head of a message.
+#[derive(Clone, Copy)]
+pub struct PduInfo {
+    /// The capabilities that the message asks for, one bit each.
+    pub bser_capabilities: u32,
+    /// The length of the body, in bytes.
+    pub len: i64,
+    /// How many bytes had been taken when the body began, at most `i64::MAX`.
+    pub start: i64,
+}
+
+impl<R: DeRead> Bunser<R> {
+    /// Checks that the body ended where its head says, by the count of the source itself.
+    ///
+    /// A negative start or length is the message [`Complaint::NegativeLength`], a sum of both above
+    /// `i64::MAX` is [`Complaint::CountTooGreat`], and another count of bytes than that sum is
+    /// [`Error::DeEof`]. After an earlier refusal it is refused by [`ReadCause::Failed`], whatever
+    /// the count. A refusal changes nothing.
+    ///
+    /// The crate adds without a check, and makes an `usize` of any sum.
+    pub fn end(&self, pdu_info: &PduInfo) -> Result<()>
+        ensures ok { OnOk result (EndsAt pdu_info.now.start pdu_info.now.len
+            (bunser_window R.window self.now).count) }
+        ensures working { OnOk result ((bunser_window R.window self.now).failed ≡ false) }
+        ensures cause { IfErr result (λ e. e ≡
+            after_a_refusal (bunser_window R.window self.now).failed
+            (end_refusal pdu_info.now.start pdu_info.now.len
+            (bunser_window R.window self.now).count)) }
+        ensures err { (bunser_window R.window self.now).failed ≡ false → OnErr result
+            (EndsAt pdu_info.now.start pdu_info.now.len
+            (bunser_window R.window self.now).count → ⊥) }
+    {
+        if self.is_failed() {
+            return Err(Error::de_reader_error(ReadCause::Failed));
+        }
+        if pdu_info.start < 0 || pdu_info.len < 0 {
+            return Err(Error::de_custom(Complaint::NegativeLength));
+        }
+        let Some(sum) = pdu_info.start.checked_add(pdu_info.len) else {
+            return Err(Error::de_custom(Complaint::CountTooGreat));
+        };
+        let expected = sum as usize;
+        let read = self.read.read_count();
+        if read != expected {
+            return Err(Error::DeEof { expected, read });
+        }
+        Ok(())
+    }
+
+    /// Takes the two bytes that begin a message.
+    fn read_magic(&mut self) -> Answer<()>
+        ensures ok { OnOk result (Took (bunser_window R.window self.old)
+            (bunser_window R.window self.new) (0x00 ∷ 0x02 ∷ [])) }
+        ensures err { OnErr result (Fails (refusal_of self.new)
+            (bunser_window R.window self.old) (bunser_window R.window self.new)) }
+        ensures names { OnErr result
+            (Names magic (refusal_of self.new) (bunser_window R.window self.old)) }
+        ensures memory { OnErr result (refusal_of self.new ≢ Error.OutOfMemory) }
+    {
+        let magic = self.front::<2>()?;
+        if magic[0] != 0 || magic[1] != 2 {
+            return Err(self.refuse(Error::DeInvalidMagic { magic }));
+        }
+        Ok(())
+    }
+
+    /// Takes the four bytes of the capabilities, the lowest first.
+    fn read_capabilities(&mut self) -> Answer<u32>
+        ensures ok { IfOk result (λ c. Took (bunser_window R.window self.old)
+            (bunser_window R.window self.new) (to_le_bytes w32 c)) }
+        ensures err { OnErr result (ShortOf 4 (refusal_of self.new)
+            (bunser_window R.window self.old) (bunser_window R.window self.new)) }
+        ensures names { OnErr result
+            (Names (front 4) (refusal_of self.new) (bunser_window R.window self.old)) }
+        ensures memory { OnErr result (refusal_of self.new ≢ Error.OutOfMemory) }
+    {
+        let bytes = self.front::<4>()?;
+        Ok(LittleEndian::read_u32(&bytes))
+    }
+
+    /// Lets the source buffer what it reads, within the next `n` bytes.
+    fn announce(&mut self, n: usize)
+        ensures { Expects (bunser_window R.window self.old) (bunser_window R.window self.new) n }
+    {
+        self.read.expect(n);
+    }
+
+    /// Takes the head of a message, and announces the length of its body to the source.
+    ///
+    /// Refusals are those of [`Self::read_pdu`].
+    fn read_head(&mut self) -> Answer<PduInfo>
+        ensures ok { IfOk result (λ info. TookHead (bunser_window R.window self.old)
+            (bunser_window R.window self.new) info.bser_capabilities info.len) }
+        ensures start { IfOk result (λ info. info.start ≡
+            pos (min (bunser_window R.window self.new).count (2 ^ 63 - 1))) }
+        ensures err { OnErr result (Fails (refusal_of self.new)
+            (bunser_window R.window self.old) (bunser_window R.window self.new)) }
+        ensures names { OnErr result
+            (Names head (refusal_of self.new) (bunser_window R.window self.old)) }
+        ensures memory { OnErr result (refusal_of self.new ≢ Error.OutOfMemory) }
+    {
+        self.read_magic()?;
+        let bser_capabilities = self.read_capabilities()?;
+        let len = self.length()?;
+        self.announce(len);
+        Ok(PduInfo {
+            bser_capabilities,
+            len: len as i64,
+            start: self.read_count(),
+        })
+    }
+
+    /// Takes the head of a message, and announces the length of its body to the source.
+    ///
+    /// Other bytes than `00 02` in front are [`Error::DeInvalidMagic`], a length without an
+    /// integer's tag is [`Error::DeInvalidStartByte`] of kind
+    /// [`bser_format::errors::Kind::Integer`], and a negative one the message
+    /// [`Complaint::NegativeLength`]. A head that is cut short is refused as by [`Self::fill`].
+    pub fn read_pdu(&mut self) -> Result<PduInfo>
+        ensures ok { IfOk result (λ info. TookHead (bunser_window R.window self.old)
+            (bunser_window R.window self.new) info.bser_capabilities info.len) }
+        ensures start { IfOk result (λ info. info.start ≡
+            pos (min (bunser_window R.window self.new).count (2 ^ 63 - 1))) }
+        ensures err { IfErr result (λ e.
+            Fails e (bunser_window R.window self.old) (bunser_window R.window self.new)) }
+        ensures names { IfErr result (λ e. Names head e (bunser_window R.window self.old)) }
+        ensures memory { IfErr result (λ e. e ≢ Error.OutOfMemory) }
+    {
+        match self.read_head() {
+            Ok(info) => Ok(info),
+            Err(Refused) => Err(self.take_refusal()),
+        }
+    }
+}

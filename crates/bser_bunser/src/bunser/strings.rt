@@ -1,0 +1,269 @@
+//! Lengths, and as many bytes.
+ghost use Rattle.std.specs.Prelude.{◌≡◌, ◌≢◌, ◌≤◌, ◌<◌, ◌^◌, pos, length, IfOk, IfErr, OnOk, OnErr};
+ghost use Rattle.bser_source.specs.Refs.{bytes_of, is_lent};
+ghost use Rattle.bser_named.specs.Clauses.{after_a_refusal};
+ghost use Rattle.bser_named.specs.Named.{complain, front, size, count, string};
+ghost use Rattle.bser_read.specs.Window.{Took, closed};
+ghost use Rattle.bser_bunser.specs.Names.{Names, natural_of, bytes_after};
+ghost use Rattle.bser_bunser.specs.Refusal.{ShortOf, BytesRefused, Fails};
+ghost use Rattle.bser_bunser.specs.Tagged.{
+  bunser_window,
+  refusal_of,
+  TookInt,
+  TookSome,
+  TookCounted,
+};
+
+use crate::bunser::Bunser;
+use crate::refusal::{Answer, Refused};
+use bser_format::errors::{Complaint, Error, ReadCause, Result};
+use bser_read::read::{DeRead, WINDOW};
+use bser_source::read::{Lending, Reference};
+
+impl<R: DeRead> Bunser<R> {
+    /// Takes `len` bytes, and keeps none.
+    ///
+    /// It takes no memory, however great `len` is: over a reader it takes 4096 bytes at a time.
+    /// Refusals are those of [`Self::fill`] for `len` bytes, of which some may have been taken
+    /// then. The crate has no such call.
+    #[inline(always)]
+    pub fn pass(&mut self, len: usize) -> Answer<()>
+        ensures ok { OnOk result
+            (TookSome len (bunser_window R.window self.old) (bunser_window R.window self.new)) }
+        ensures err { OnErr result (ShortOf len (refusal_of self.new)
+            (bunser_window R.window self.old) (bunser_window R.window self.new)) }
+        ensures names { OnErr result
+            (Names (front len) (refusal_of self.new) (bunser_window R.window self.old)) }
+        ensures memory { OnErr result (refusal_of self.new ≢ Error.OutOfMemory) }
+    {
+        if 0 < len && len <= self.read.buffered().len() {
+            self.read.consume(len);
+            return Ok(());
+        }
+        self.pass_on(len)
+    }
+
+    /// Takes `len` bytes, those buffered first, and keeps none.
+    #[inline(never)]
+    fn pass_on(&mut self, len: usize) -> Answer<()>
+        ensures ok { OnOk result
+            (TookSome len (bunser_window R.window self.old) (bunser_window R.window self.new)) }
+        ensures err { OnErr result (ShortOf len (refusal_of self.new)
+            (bunser_window R.window self.old) (bunser_window R.window self.new)) }
+        ensures names { OnErr result
+            (Names (front len) (refusal_of self.new) (bunser_window R.window self.old)) }
+        ensures memory { OnErr result (refusal_of self.new ≢ Error.OutOfMemory) }
+    {
+        if self.read.is_failed() {
+            return Err(self.refuse_cause(ReadCause::Failed));
+        }
+        let ahead = len.min(self.read.buffered().len());
+        self.read.consume(ahead);
+        let mut left = len - ahead;
+        while left > 0 {
+            let step = left.min(WINDOW);
+            self.fill(step)?;
+            self.read.consume(step);
+            left -= step;
+        }
+        Ok(())
+    }
+
+    /// Takes `len` bytes, and lends them from the input where the source does, or else copies them
+    /// to `scratch` in place of what it held.
+    ///
+    /// Refusals are those of [`Self::fill`] for `len` bytes, and [`Error::OutOfMemory`] where the
+    /// scratch did not grow. Its length grows at most 65,536 bytes ahead of the bytes that arrived.
+    /// No name is promised for a length above 2^63, which no message has.
+    ///
+    /// The crate has no such call.
+    #[inline(always)]
+    pub fn bytes<'s>(
+        &mut self,
+        len: usize,
+        scratch: &'s mut Vec<u8>,
+    ) -> Answer<Reference<'s, R::Lent>>
+        ensures length { IfOk result (λ r. length (bytes_of R.Lent.bytes r) ≡ len) }
+        ensures lent { IfOk result (λ r. is_lent r ≡ (bunser_window R.window self.old).lends) }
+        ensures ok { IfOk result (λ r. Took (bunser_window R.window self.old)
+            (bunser_window R.window self.new) (bytes_of R.Lent.bytes r)) }
+        ensures err { OnErr result (ShortOf len (refusal_of self.new)
+            (bunser_window R.window self.old) (bunser_window R.window self.new)) }
+        ensures names { len ≤ 2 ^ 63 → OnErr result
+            (Names (front len) (refusal_of self.new) (bunser_window R.window self.old)) }
+    {
+        if len == 0 || len > self.read.buffered().len() {
+            return self.bytes_on(len, scratch);
+        }
+        match self.read.lend(len) {
+            Some(bytes) => {
+                self.read.consume(len);
+                Ok(Reference::Borrowed(bytes))
+            }
+            None => {
+                scratch.clear();
+                if scratch
+                    .extend_from_slice(&self.read.buffered()[..len])
+                    .is_err()
+                {
+                    return Err(self.refuse_cause(ReadCause::Memory));
+                }
+                self.read.consume(len);
+                Ok(Reference::Copied(scratch.as_slice()))
+            }
+        }
+    }
+
+    /// Takes `len` bytes by a call of the source.
+    #[cold]
+    #[inline(never)]
+    fn bytes_on<'s>(
+        &mut self,
+        len: usize,
+        scratch: &'s mut Vec<u8>,
+    ) -> Answer<Reference<'s, R::Lent>>
+        ensures length { IfOk result (λ r. length (bytes_of R.Lent.bytes r) ≡ len) }
+        ensures lent { IfOk result (λ r. is_lent r ≡ (bunser_window R.window self.old).lends) }
+        ensures ok { IfOk result (λ r. Took (bunser_window R.window self.old)
+            (bunser_window R.window self.new) (bytes_of R.Lent.bytes r)) }
+        ensures err { OnErr result (ShortOf len (refusal_of self.new)
+            (bunser_window R.window self.old) (bunser_window R.window self.new)) }
+        ensures names { len ≤ 2 ^ 63 → OnErr result
+            (Names (front len) (refusal_of self.new) (bunser_window R.window self.old)) }
+    {
+        match self.read.next_bytes(len, scratch) {
+            Ok(bytes) => Ok(bytes),
+            Err(cause) => Err(self.refuse_cause(cause)),
+        }
+    }
+
+    /// Takes `len` bytes, and lends them from the input where the source does, or else copies them
+    /// to `scratch` in place of what it held.
+    ///
+    /// A negative `len` is the message [`Complaint::NegativeLength`]. Other refusals are those of
+    /// [`Self::fill`] for `len` bytes, and [`Error::OutOfMemory`] where the scratch did not grow.
+    /// Its length grows at most 65,536 bytes ahead of the bytes that arrived.
+    ///
+    /// The crate keeps the scratch itself and borrows the whole reader.
+    #[inline(always)]
+    pub fn read_bytes<'s>(
+        &mut self,
+        len: i64,
+        scratch: &'s mut Vec<u8>,
+    ) -> Result<Reference<'s, R::Lent>>
+        ensures length { IfOk result (λ r. pos (length (bytes_of R.Lent.bytes r)) ≡ len) }
+        ensures lent { IfOk result (λ r. is_lent r ≡ (bunser_window R.window self.old).lends) }
+        ensures ok { IfOk result (λ r. Took (bunser_window R.window self.old)
+            (bunser_window R.window self.new) (bytes_of R.Lent.bytes r)) }
+        ensures err { IfErr result (λ e. BytesRefused len e
+            (bunser_window R.window self.old) (bunser_window R.window self.new)) }
+        ensures names { IfErr result (λ e.
+            Names (bytes_after len) e (bunser_window R.window self.old)) }
+    {
+        if len < 0 {
+            return Err(self.refuse_length());
+        }
+        match self.bytes(len as usize, scratch) {
+            Ok(bytes) => Ok(bytes),
+            Err(Refused) => Err(self.take_refusal()),
+        }
+    }
+
+    /// Fails, for a length below 0.
+    #[cold]
+    #[inline(never)]
+    fn refuse_length(&mut self) -> Error
+        ensures answer { result ≡ after_a_refusal (bunser_window R.window self.old).failed
+            (complain Complaint.NegativeLength) }
+        ensures state { bunser_window R.window self.new ≡ closed (bunser_window R.window self.old) }
+    {
+        let failed = self.read.is_failed();
+        self.read.close();
+        if failed {
+            Error::de_reader_error(ReadCause::Failed)
+        } else {
+            Error::de_custom(Complaint::NegativeLength)
+        }
+    }
+
+    /// Takes an integer of 0 or more, with this complaint of another.
+    #[inline(always)]
+    fn natural(&mut self, complaint: Complaint) -> Answer<usize>
+        ensures ok { IfOk result (λ n. TookInt (bunser_window R.window self.old)
+            (bunser_window R.window self.new) (pos n)) }
+        ensures fits { IfOk result (λ n. n < 2 ^ 63) }
+        ensures err { OnErr result (Fails (refusal_of self.new)
+            (bunser_window R.window self.old) (bunser_window R.window self.new)) }
+        ensures names { OnErr result
+            (Names (natural_of complaint) (refusal_of self.new) (bunser_window R.window self.old)) }
+        ensures memory { OnErr result (refusal_of self.new ≢ Error.OutOfMemory) }
+    {
+        let number = self.int()?;
+        if number < 0 {
+            return Err(self.refuse(Error::de_custom(complaint)));
+        }
+        Ok(number as usize)
+    }
+
+    /// Takes a length: an integer of 0 or more.
+    ///
+    /// Another byte than an integer's tag is [`Error::DeInvalidStartByte`] of kind
+    /// [`bser_format::errors::Kind::Integer`], and an integer below 0 the message
+    /// [`Complaint::NegativeLength`]. Other refusals are those of [`Self::fill`] for the bytes
+    /// wanted. The crate has no such call.
+    #[inline(always)]
+    pub fn length(&mut self) -> Answer<usize>
+        ensures ok { IfOk result (λ n. TookInt (bunser_window R.window self.old)
+            (bunser_window R.window self.new) (pos n)) }
+        ensures fits { IfOk result (λ n. n < 2 ^ 63) }
+        ensures err { OnErr result (Fails (refusal_of self.new)
+            (bunser_window R.window self.old) (bunser_window R.window self.new)) }
+        ensures names { OnErr result
+            (Names size (refusal_of self.new) (bunser_window R.window self.old)) }
+        ensures memory { OnErr result (refusal_of self.new ≢ Error.OutOfMemory) }
+    {
+        self.natural(Complaint::NegativeLength)
+    }
+
+    /// Takes a count: an integer of 0 or more.
+    ///
+    /// Another byte than an integer's tag is [`Error::DeInvalidStartByte`] of kind
+    /// [`bser_format::errors::Kind::Integer`], and an integer below 0 the message
+    /// [`Complaint::NegativeCount`]. Other refusals are those of [`Self::fill`] for the bytes
+    /// wanted. The crate has no such call.
+    #[inline(always)]
+    pub fn count(&mut self) -> Answer<usize>
+        ensures ok { IfOk result (λ n. TookInt (bunser_window R.window self.old)
+            (bunser_window R.window self.new) (pos n)) }
+        ensures fits { IfOk result (λ n. n < 2 ^ 63) }
+        ensures err { OnErr result (Fails (refusal_of self.new)
+            (bunser_window R.window self.old) (bunser_window R.window self.new)) }
+        ensures names { OnErr result
+            (Names count (refusal_of self.new) (bunser_window R.window self.old)) }
+        ensures memory { OnErr result (refusal_of self.new ≢ Error.OutOfMemory) }
+    {
+        self.natural(Complaint::NegativeCount)
+    }
+
+    /// Takes the length and the bytes of a string, of which the tag was taken, and lends the bytes
+    /// or copies them as [`Self::bytes`] does. They need not be UTF-8.
+    ///
+    /// Another byte than an integer's tag is [`Error::DeInvalidStartByte`] of kind
+    /// [`bser_format::errors::Kind::Integer`], and a length below 0 the message
+    /// [`Complaint::NegativeLength`]. Other refusals are those of [`Self::fill`] for the bytes
+    /// wanted, and [`Error::OutOfMemory`] where the scratch did not grow. The crate has no such
+    /// call.
+    #[inline(always)]
+    pub fn next_string<'s>(&mut self, scratch: &'s mut Vec<u8>) -> Answer<Reference<'s, R::Lent>>
+        ensures lent { IfOk result (λ r. is_lent r ≡ (bunser_window R.window self.old).lends) }
+        ensures ok { IfOk result (λ r. TookCounted (bunser_window R.window self.old)
+            (bunser_window R.window self.new) (bytes_of R.Lent.bytes r)) }
+        ensures err { OnErr result (Fails (refusal_of self.new)
+            (bunser_window R.window self.old) (bunser_window R.window self.new)) }
+        ensures names { OnErr result
+            (Names string (refusal_of self.new) (bunser_window R.window self.old)) }
+    {
+        let len = self.length()?;
+        self.bytes(len, scratch)
+    }
+}

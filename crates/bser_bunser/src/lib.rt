@@ -1,0 +1,7 @@
+//! The reader of tagged values: a message's head, integers, tokens and counted bytes.
+#![tactic(auto)]
+
+pub mod bunser;
+pub mod laws;
+pub mod prefix;
+pub mod refusal;

@@ -1,0 +1,8 @@
+pub mod Named
+pub mod DueReaders
+pub mod Asks
+pub mod Clauses
+pub mod Samples
+pub mod NamedLaws
+pub mod TypeLaws
+pub mod Structs

@@ -1,0 +1,4 @@
+pub mod Windows
+pub mod Refusals
+pub mod Buffers
+pub mod Pulls

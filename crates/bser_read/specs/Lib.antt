@@ -1,0 +1,5 @@
+pub mod Window
+pub mod Refusal
+pub mod Slice
+pub mod Pull
+pub mod Reader
