@@ -15,7 +15,7 @@ use Rattle.bser_read.specs.Window.{Window, Filled, Took, consumed}
 use Rattle.bser_read.proofs.Windows.{taken, took_filled, took_then, works}
 use Rattle.bser_bunser.specs.declared.refusal.Refused.{Refused}
 use Rattle.bser_bunser.specs.Refusal.{ShortOf}
-use Rattle.bser_bunser.specs.Names.{Names, natural_of, bytes_after}
+use Rattle.bser_bunser.specs.Names.{Names, NamesOrMemory, natural_of, bytes_after}
 use Rattle.bser_bunser.specs.Tagged.{TookInt, TookSome, TookCounted}
 use Rattle.bser_bunser.proofs.Readers.{cut_front, int_there, negative_there}
 use Rattle.bser_bunser.proofs.Refusals.{short_untaken}
@@ -103,6 +103,15 @@ pub string_names : {X : Type 0} (r : Result X Refused) (n : ℕ) (e : Error) (a 
 string_names (Ok x) n e a b number h = tt
 string_names (Err r) n e a b number h =
     names_untaken named.string (named.front n) e a b number.text (after_length n number.text number.spelled) number.took h
+
+-- the same, where memory may be refused
+pub string_names_or : {X : Type 0} (r : Result X Refused) (n : ℕ) (e : Error) (a b : Window)
+    → TookInt a b (pos n) → OnErr r (NamesOrMemory (named.front n) e b)
+    → OnErr r (NamesOrMemory named.string e a)
+string_names_or (Ok x) n e a b number h = tt
+string_names_or (Err r) n e a b number (inl h) =
+    inl (names_untaken named.string (named.front n) e a b number.text (after_length n number.text number.spelled) number.took h)
+string_names_or (Err r) n e a b number (inr h) = inr h
 
 -- a length, and as many bytes, were taken
 pub took_counted : {X : Type 0} (bytes : X → List ℕ) (r : Result X Refused) (a b c : Window) (n : ℕ)

@@ -61,7 +61,7 @@ left_untaken a b bs x took m = record {
 
 -- ---- who is to blame
 
-outside_before : (n : ℕ) (a b : Window) (e : Error) → Grown n a b → Outside e b → Outside e a
+pub outside_before : (n : ℕ) (a b : Window) (e : Error) → Grown n a b → Outside e b → Outside e a
 outside_before n a b OutOfMemory grown h = sym grown.lends ∙ h
 outside_before n a b (DeReaderError Eof) grown h = absurd h
 outside_before n a b (DeReaderError Utf8) grown h = absurd h
@@ -72,7 +72,7 @@ outside_before n a b (DeReaderError Failed) grown (inr (l, (x, m, k))) =
     inr (sym grown.lends ∙ l, (x, left_before n a b x grown m, omega (arith, grown.count, k)))
 outside_before n a b e grown h = absurd h
 
-outside_untaken : (a b : Window) (bs : List ℕ) (e : Error) → Took a b bs → Outside e b → Outside e a
+pub outside_untaken : (a b : Window) (bs : List ℕ) (e : Error) → Took a b bs → Outside e b → Outside e a
 outside_untaken a b bs OutOfMemory took h = sym took.lends ∙ h
 outside_untaken a b bs (DeReaderError Eof) took h = absurd h
 outside_untaken a b bs (DeReaderError Utf8) took h = absurd h

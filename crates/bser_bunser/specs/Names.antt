@@ -36,6 +36,10 @@ Blames P e s = ((b : List ℕ) × MayBeLeft s b × P b) ⊎ Outside e s
 abbrev pub Names : {X : Type 0} → named.Reader X → Error → Window → Type 0
 Names r e s = Blames (λ b. r b ≡ named.refuses e) e s
 
+-- the same, or memory was refused
+abbrev pub NamesOrMemory : {X : Type 0} → named.Reader X → Error → Window → Type 0
+NamesOrMemory r e s = Names r e s ⊎ (e ≡ OutOfMemory)
+
 -- where the bytes left begin as F says, r names no refusal but for a reason outside them
 abbrev pub Excuses : {X : Type 0} → Format → named.Reader X → Type 0
 Excuses F r =

@@ -1,5 +1,5 @@
 -- How the reader of tagged values refuses a call, and what state it is in then.
-use Rattle.std.specs.Prelude.{◌≡◌, ◌+◌, ◌^◌, ℕ, ℤ, pos, negsuc, true, Option, Some, None, IsSomeAnd, nat_lt, if◌then◌else◌}
+use Rattle.std.specs.Prelude.{◌≡◌, ◌⊎◌, ◌+◌, ◌^◌, ℕ, ℤ, pos, negsuc, true, Option, Some, None, IsSomeAnd, nat_lt, if◌then◌else◌}
 use Rattle.bser_format.specs.declared.errors.ReadCause.{ReadCause}
 use Rattle.bser_format.specs.declared.errors.ReadCause.TheVariants.{Eof, Utf8, Reader, Memory, Failed}
 use Rattle.bser_format.specs.declared.errors.Error.{Error}
@@ -49,6 +49,10 @@ abbrev pub BytesRefused : ℤ → Error → Window → Window → Type 0
 BytesRefused (pos n) e old new = ShortOf n e old new
 BytesRefused (negsuc n) e old new =
     (e ≡ after_a_refusal old.failed (complain complaints.NegativeLength)) × Fails e old new
+
+-- a call that wants as many bytes, and memory for them
+abbrev pub CopyRefused : ℕ → Error → Window → Window → Type 0
+CopyRefused n e old new = ShortOf n e old new ⊎ ((e ≡ OutOfMemory) × Fails e old new)
 
 -- the refusal of what stands where something of this kind is wanted
 abbrev pub unexpected_refusal : Kind → Unexpected → Error

@@ -19,7 +19,7 @@ use Rattle.bser_named.proofs.Steps.{Passes, Leaves, front_leaves, stays, bind_le
 pub count_passes : (k : ℕ) (b : List ℕ) → SpellsCount k b → Passes count k b
 count_passes k b h x = forgotten (count (b ++ x)) k x (counted_same NegativeCount (b ++ x) ∙ count_reads k b x h)
 
-keys_pass : (ks : List (List ℕ)) (b : List ℕ) → Each SpellsKey ks b → Passes (many (text_of TemplateKey) (length ks)) ks b
+pub keys_pass : (ks : List (List ℕ)) (b : List ℕ) → Each SpellsKey ks b → Passes (many (text_of TemplateKey) (length ks)) ks b
 keys_pass ks b h x = forgotten (many (text_of TemplateKey) (length ks) (b ++ x)) ks x (many_same _ _ (text_of_same TemplateKey) (length ks) (b ++ x) ∙ many_all _ SpellsKey key_reads ks b x h)
 
 -- a tag of a value

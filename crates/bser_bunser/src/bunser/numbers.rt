@@ -1,13 +1,13 @@
 //! Numbers of a width that the caller knows.
-ghost use Rattle.std.specs.Prelude.{◌≡◌, ◌≢◌, ◌<◌, length, IfOk, IfErr};
+ghost use Rattle.std.specs.Prelude.{◌≡◌, ◌≢◌, ◌<◌, length, IfOk, IfErr, OnErr};
 ghost use Rattle.std.specs.Int.{w8, w16, w32, w64};
 ghost use Rattle.bser_named.specs.Named.{front};
 ghost use Rattle.bser_bunser.specs.Names.{Names};
 ghost use Rattle.bser_bunser.specs.Refusal.{ShortOf};
-ghost use Rattle.bser_bunser.specs.Tagged.{bunser_window, TookNumber, TookBits};
+ghost use Rattle.bser_bunser.specs.Tagged.{bunser_window, refusal_of, TookNumber, TookBits};
 
 use crate::bunser::Bunser;
-use crate::refusal::Refused;
+use crate::refusal::{Answer, Refused};
 use bser_format::errors::{Error, Result};
 use bser_read::read::DeRead;
 use byteorder::{ByteOrder, LittleEndian};
@@ -106,9 +106,29 @@ impl<R: DeRead> Bunser<R> {
         ensures names { IfErr result (λ e. Names (front 9) e (bunser_window R.window self.old)) }
         ensures memory { IfErr result (λ e. e ≢ Error.OutOfMemory) }
     {
-        match self.front::<9>() {
-            Ok(bytes) => Ok(LittleEndian::read_u64(&bytes[1..])),
+        match self.next_bits() {
+            Ok(bits) => Ok(bits),
             Err(Refused) => Err(self.take_refusal()),
         }
+    }
+
+    /// Takes the first buffered byte without looking at it, and then 8 bytes, the lowest first, as
+    /// the bits of a real.
+    ///
+    /// It wants a buffered byte. Refusals are those of [`Self::fill`] for 9 bytes. The crate has no
+    /// such call.
+    #[inline(always)]
+    pub fn next_bits(&mut self) -> Answer<u64>
+        requires { 0 < length (bunser_window R.window self.old).buffered }
+        ensures ok { IfOk result (λ n.
+            TookBits (bunser_window R.window self.old) (bunser_window R.window self.new) n) }
+        ensures err { OnErr result (ShortOf 9 (refusal_of self.new)
+            (bunser_window R.window self.old) (bunser_window R.window self.new)) }
+        ensures names { OnErr result
+            (Names (front 9) (refusal_of self.new) (bunser_window R.window self.old)) }
+        ensures memory { OnErr result (refusal_of self.new ≢ Error.OutOfMemory) }
+    {
+        let bytes = self.front::<9>()?;
+        Ok(LittleEndian::read_u64(&bytes[1..]))
     }
 }

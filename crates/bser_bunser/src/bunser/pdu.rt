@@ -103,8 +103,8 @@ impl<R: DeRead> Bunser<R> {
 
     /// Takes the head of a message, and announces the length of its body to the source.
     ///
-    /// Refusals are those of [`Self::read_pdu`].
-    fn read_head(&mut self) -> Answer<PduInfo>
+    /// Refusals are those of [`Self::read_pdu`]. The crate has no such call.
+    pub fn read_head(&mut self) -> Answer<PduInfo>
         ensures ok { IfOk result (λ info. TookHead (bunser_window R.window self.old)
             (bunser_window R.window self.new) info.bser_capabilities info.len) }
         ensures start { IfOk result (λ info. info.start ≡

@@ -4,8 +4,8 @@ ghost use Rattle.bser_source.specs.Refs.{bytes_of, is_lent};
 ghost use Rattle.bser_named.specs.Clauses.{after_a_refusal};
 ghost use Rattle.bser_named.specs.Named.{complain, front, size, count, string};
 ghost use Rattle.bser_read.specs.Window.{Took, closed};
-ghost use Rattle.bser_bunser.specs.Names.{Names, natural_of, bytes_after};
-ghost use Rattle.bser_bunser.specs.Refusal.{ShortOf, BytesRefused, Fails};
+ghost use Rattle.bser_bunser.specs.Names.{Names, NamesOrMemory, natural_of, bytes_after};
+ghost use Rattle.bser_bunser.specs.Refusal.{ShortOf, BytesRefused, CopyRefused, Fails};
 ghost use Rattle.bser_bunser.specs.Tagged.{
   bunser_window,
   refusal_of,
@@ -19,6 +19,7 @@ use crate::refusal::{Answer, Refused};
 use bser_format::errors::{Complaint, Error, ReadCause, Result};
 use bser_read::read::{DeRead, WINDOW};
 use bser_source::read::{Lending, Reference};
+use std::alloc::Global;
 
 impl<R: DeRead> Bunser<R> {
     /// Takes `len` bytes, and keeps none.
@@ -112,6 +113,69 @@ impl<R: DeRead> Bunser<R> {
                 Ok(Reference::Copied(scratch.as_slice()))
             }
         }
+    }
+
+    /// Takes `len` bytes as a copy.
+    ///
+    /// Refusals are those of [`Self::fill`] for `len` bytes, and [`Error::OutOfMemory`] where the
+    /// copy did not grow. It grows at most 65,536 bytes ahead of the bytes that arrived. No name is
+    /// promised for a length above 2^63, which no message has. The crate has no such call.
+    #[inline(always)]
+    pub fn copy(&mut self, alloc: Global, len: usize) -> Answer<Vec<u8>>
+        ensures length { IfOk result (λ c. length c.items ≡ len) }
+        ensures ok { IfOk result (λ c. Took (bunser_window R.window self.old)
+            (bunser_window R.window self.new) c.items) }
+        ensures err { OnErr result (CopyRefused len (refusal_of self.new)
+            (bunser_window R.window self.old) (bunser_window R.window self.new)) }
+        ensures names { len ≤ 2 ^ 63 → OnErr result
+            (NamesOrMemory (front len) (refusal_of self.new) (bunser_window R.window self.old)) }
+    {
+        if len == 0 || len > self.read.buffered().len() {
+            return self.copy_on(alloc, len);
+        }
+        match Vec::from_slice(alloc, &self.read.buffered()[..len]) {
+            Ok(copy) => {
+                self.read.consume(len);
+                Ok(copy)
+            }
+            Err(_) => Err(self.refuse_growth()),
+        }
+    }
+
+    /// Takes `len` bytes, more than are buffered or none, as a copy.
+    #[cold]
+    #[inline(never)]
+    fn copy_on(&mut self, alloc: Global, len: usize) -> Answer<Vec<u8>>
+        requires { (0 < len) → length (bunser_window R.window self.old).buffered < len }
+        ensures length { IfOk result (λ c. length c.items ≡ len) }
+        ensures ok { IfOk result (λ c. Took (bunser_window R.window self.old)
+            (bunser_window R.window self.new) c.items) }
+        ensures err { OnErr result (CopyRefused len (refusal_of self.new)
+            (bunser_window R.window self.old) (bunser_window R.window self.new)) }
+        ensures names { len ≤ 2 ^ 63 → OnErr result
+            (NamesOrMemory (front len) (refusal_of self.new) (bunser_window R.window self.old)) }
+    {
+        let mut copy = Vec::new(alloc);
+        if self.read.is_failed() {
+            return Err(self.refuse_cause(ReadCause::Failed));
+        }
+        if len == 0 {
+            return Ok(copy);
+        }
+        match self.read.gather(len, &mut copy) {
+            Ok(()) => Ok(copy),
+            Err(cause) => Err(self.refuse_cause(cause)),
+        }
+    }
+
+    /// Refuses for want of memory.
+    #[cold]
+    #[inline(never)]
+    fn refuse_growth(&mut self) -> Refused
+        ensures reason { refusal_of self.new ≡ Error.OutOfMemory }
+        ensures state { bunser_window R.window self.new ≡ closed (bunser_window R.window self.old) }
+    {
+        self.refuse(Error::OutOfMemory)
     }
 
     /// Takes `len` bytes by a call of the source.
@@ -265,5 +329,22 @@ impl<R: DeRead> Bunser<R> {
     {
         let len = self.length()?;
         self.bytes(len, scratch)
+    }
+
+    /// Takes the length and the bytes of a string, of which the tag was taken, as a copy. They need
+    /// not be UTF-8.
+    ///
+    /// Refusals are those of [`Self::length`] and of [`Self::copy`]. The crate has no such call.
+    #[inline(always)]
+    pub fn next_copy(&mut self, alloc: Global) -> Answer<Vec<u8>>
+        ensures ok { IfOk result (λ c. TookCounted (bunser_window R.window self.old)
+            (bunser_window R.window self.new) c.items) }
+        ensures err { OnErr result (Fails (refusal_of self.new)
+            (bunser_window R.window self.old) (bunser_window R.window self.new)) }
+        ensures names { OnErr result
+            (NamesOrMemory string (refusal_of self.new) (bunser_window R.window self.old)) }
+    {
+        let len = self.length()?;
+        self.copy(alloc, len)
     }
 }
