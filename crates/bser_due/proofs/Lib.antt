@@ -1,0 +1,4 @@
+pub mod Refusals
+pub mod Clean
+pub mod FieldNames
+pub mod Dues
