@@ -1,0 +1,9 @@
+pub mod Tags
+pub mod Scalars
+pub mod Nodes
+pub mod Strings
+pub mod Texts
+pub mod Templates
+pub mod Openings
+pub mod TemplateHeads
+pub mod Containers

@@ -1,0 +1,7 @@
+use Rattle.std.proofs.Common.{sym, map}
+use Rattle.bser_deserializer.proofs.Scalars.{null_elsewhere}
+use Rattle.bser_deserializer.proofs.deserializer.Deserializer.is_null_tag.Goals as goal
+
+pub returns-in_default : goal.returns-in_default
+returns-in_default g c =
+    sym (null_elsewhere (map g.R.Lent.Lending.kept c.args.self.now.keys.items) c.args.self.now.place c.args.self.now.due c.args.tag c.in_default.not-Field)

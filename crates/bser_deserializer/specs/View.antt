@@ -1,0 +1,86 @@
+-- What callers see of a deserializer over any source.
+use Rattle.std.specs.Prelude.{◌≡◌, ℕ, List, ◌∷◌, map, drop, Bool, false, ◌||◌, ◌==◌}
+use Rattle.bser_format.specs.declared.errors.Error.{Error}
+use Rattle.bser_read.specs.Window.{Window, Peeks}
+use Rattle.bser_format.specs.Expected.{node_due, field_due}
+use Rattle.bser_format.specs.Expected as expected
+use Rattle.bser_named.specs.Named.{Reader, ◌>>=◌, next}
+use Rattle.bser_named.specs.DueReaders.{asked, nothing_at}
+use Rattle.bser_named.specs.Asks.{done}
+use Rattle.bser_named.specs.Clauses.{after_a_refusal, still_open}
+use Rattle.bser_bunser.specs.Refusal.{end_refusal}
+use Rattle.bser_bunser.specs.Tagged.{bunser_window, bunser_source, refusal_of}
+use Rattle.bser_due.specs.Access.{OpenItems, OpenPairs}
+use Rattle.bser_due.specs.Dues.{IsValueDue, due_of}
+use Rattle.bser_due.specs.Parts.{wanted_items, wanted_pairs}
+use Rattle.bser_due.specs.State.{State, with_source}
+use Rattle.bser_due.specs.declared.due.Due.{Due}
+use Rattle.bser_due.specs.declared.frames.SeqHead.{SeqHead}
+use Rattle.bser_due.specs.declared.frames.MapHead.{MapHead}
+use Rattle.bser_deserializer.specs.declared.deserializer.Deserializer.{Deserializer}
+
+-- the state of a deserializer, by the window of its source and the bytes of a kept key
+abbrev pub state : {R L K : Type 0} → (R → Window) → (K → List ℕ) → Deserializer R L K → State
+state window kept d =
+    let ks = map kept d.keys.items in
+    record {
+      source = bunser_window window d.bunser;
+      due = due_of ks d.place d.due;
+      levels = d.levels;
+      keys = ks;
+      outer = map (λ v. map kept v.items) d.outer.items;
+      opened = d.opened;
+      capabilities = d.info.bser_capabilities;
+      start = d.info.start;
+      len = d.info.len;
+    }
+
+-- the reason of a refusal
+abbrev pub refusal_in : {R L K : Type 0} → Deserializer R L K → Error
+refusal_in d = refusal_of d.bunser
+
+-- why a deserializer is not at the end of its message
+abbrev pub not_at_end : State → Error
+not_at_end s =
+    after_a_refusal s.source.failed (still_open s.due s.opened (end_refusal s.start s.len s.source.count))
+
+-- the source that it reads from
+abbrev pub IsSourceOf : {R L K : Type 0} → R → Deserializer R L K → Type 0
+IsSourceOf read d = read ≡ bunser_source d.bunser
+
+-- what is due, as the code tells it
+abbrev pub due_in : {R L K : Type 0} → Deserializer R L K → Due
+due_in d = d.due
+
+-- the tag of the value that is due; where none is, nothing is of the kind that is asked for
+abbrev pub value_here : ℕ → expected.Due → Reader Unit
+value_here opened node_due = next >>= done
+value_here opened field_due = next >>= done
+value_here opened d = asked nothing_at opened d
+
+-- the tag of null, or the skip of the field that is due
+abbrev pub is_null_at : expected.Due → ℕ → Bool
+is_null_at field_due t = (t == 0x0a) || (t == 0x0c)
+is_null_at _ t = t == 0x0a
+
+-- a value is due whose tag is this one, and nothing is taken
+pub record SeesTag (old new : State) (t : ℕ) : Type 0 where
+  pub due : IsValueDue old.due
+  pub peeks : Peeks old.source new.source t
+  pub state : new ≡ with_source old new.source
+
+-- a value is due whose tag is this one, and it is buffered
+pub record IsBefore (t : ℕ) (s : State) : Type 0 where
+  pub due : IsValueDue s.due
+  pub next : s.source.buffered ≡ t ∷ drop 1 s.source.buffered
+  pub working : s.source.failed ≡ false
+
+-- the array or template that this head opened
+abbrev pub items_head : SeqHead → State → OpenItems
+items_head h s =
+    record { state = s; wanted = wanted_items s.keys h.rows h.remaining; levels = h.levels; opened = h.opened }
+
+-- the object or row that this head opened
+abbrev pub pairs_head : MapHead → State → OpenPairs
+pairs_head h s =
+    record { state = s; wanted = wanted_pairs s.keys h.row h.at; pending = false; levels = h.levels; opened = h.opened }

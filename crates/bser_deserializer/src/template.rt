@@ -1,0 +1,91 @@
+//! A template's keys.
+ghost use Rattle.std.specs.Prelude.{◌≡◌, [], map, IfOk, OnErr};
+ghost use Rattle.bser_format.specs.Grammar.{SpellsKey};
+ghost use Rattle.bser_format.specs.declared.errors.Kind.TheVariants.{TemplateKey};
+ghost use Rattle.bser_named.specs.Named.{text_of, count, many};
+ghost use Rattle.bser_bunser.specs.Refusal.{Fails};
+ghost use Rattle.bser_bunser.specs.Tagged.{bunser_window, refusal_of};
+ghost use Rattle.bser_due.specs.Reading.{NamesBy, owned};
+ghost use Rattle.bser_due.specs.Tables.{TookPart, SpellsKeys, SpellsTable};
+ghost use Rattle.bser_deserializer.specs.Templates.{keys_after_number, table};
+
+use crate::cursor::is_key_tag;
+use bser_bunser::bunser::Bunser;
+use bser_bunser::refusal::Answer;
+use bser_format::errors::{Complaint, Error, Kind};
+use bser_read::read::DeRead;
+use bser_source::read::Lending;
+use std::alloc::Global;
+
+/// Takes a template's key, and keeps it.
+fn take_key<R: DeRead>(
+    alloc: Global,
+    bunser: &mut Bunser<R>,
+    scratch: &mut Vec<u8>,
+) -> Answer<<R::Lent as Lending>::Kept>
+    ensures ok { IfOk result (λ k. TookPart (SpellsKey (R.Lent.kept k))
+        (bunser_window R.window bunser.old) (bunser_window R.window bunser.new)) }
+    ensures err { OnErr result (Fails (refusal_of bunser.new)
+        (bunser_window R.window bunser.old) (bunser_window R.window bunser.new)) }
+    ensures names { OnErr result (NamesBy owned (text_of TemplateKey) (refusal_of bunser.new)
+        (bunser_window R.window bunser.old)) }
+{
+    bunser.fill(1)?;
+    let byte = bunser.buffered()[0];
+    if !is_key_tag(byte) {
+        return Err(bunser.refuse(Error::DeInvalidStartByte {
+            kind: Kind::TemplateKey,
+            byte,
+        }));
+    }
+    bunser.consume(1);
+    let bytes = bunser.next_string(scratch)?;
+    match <R::Lent as Lending>::keep(alloc, bytes) {
+        Ok(key) => Ok(key),
+        Err(reason) => Err(bunser.refuse(reason)),
+    }
+}
+
+/// Takes a template's keys, after their number.
+fn take_keys<R: DeRead>(
+    alloc: Global,
+    bunser: &mut Bunser<R>,
+) -> Answer<Vec<<R::Lent as Lending>::Kept>>
+    ensures ok { IfOk result (λ ks. TookPart (SpellsKeys (map R.Lent.kept ks.items))
+        (bunser_window R.window bunser.old) (bunser_window R.window bunser.new)) }
+    ensures err { OnErr result (Fails (refusal_of bunser.new)
+        (bunser_window R.window bunser.old) (bunser_window R.window bunser.new)) }
+    ensures names { OnErr result (NamesBy owned keys_after_number (refusal_of bunser.new)
+        (bunser_window R.window bunser.old)) }
+{
+    let mut keys = Vec::new(alloc);
+    let mut scratch = Vec::new(alloc);
+    let count = bunser.count()?;
+    for _key in 0..count {
+        let key = take_key(alloc, bunser, &mut scratch)?;
+        if keys.push(key).is_err() {
+            return Err(bunser.refuse(Error::OutOfMemory));
+        }
+    }
+    Ok(keys)
+}
+
+/// Takes a template's keys, and the number of its rows.
+pub(crate) fn take_table<R: DeRead>(
+    alloc: Global,
+    bunser: &mut Bunser<R>,
+) -> Answer<(Vec<<R::Lent as Lending>::Kept>, usize)>
+    ensures ok { IfOk result (λ t. TookPart (SpellsTable (map R.Lent.kept t.0.items) t.1)
+        (bunser_window R.window bunser.old) (bunser_window R.window bunser.new)) }
+    ensures err { OnErr result (Fails (refusal_of bunser.new)
+        (bunser_window R.window bunser.old) (bunser_window R.window bunser.new)) }
+    ensures names { OnErr result (NamesBy owned table (refusal_of bunser.new)
+        (bunser_window R.window bunser.old)) }
+{
+    let keys = take_keys(alloc, bunser)?;
+    let rows = bunser.count()?;
+    if keys.is_empty() && rows != 0 {
+        return Err(bunser.refuse(Error::de_custom(Complaint::RowsWithoutKeys)));
+    }
+    Ok((keys, rows))
+}
