@@ -1,5 +1,5 @@
 //! Refusals by their names, and what is refused after them.
-use super::{ASKS, Ask, Name, ends_by, is_refused_by, make_due, reader_of};
+use super::{ASKS, Ask, Name, ends_by, is_named, is_refused_by, make_due, reader_of};
 use bser_deserializer::cursor::Cursor;
 use bser_deserializer::deserializer::{Deserializer, Due};
 use bser_format::errors::{Complaint, Kind, Result};
@@ -63,6 +63,7 @@ where
         body = case.body
     );
     assert!(rt; from.is_failed());
+    assert!(rt; is_named(Name::Failed, &from.take_refusal()));
     for call in ASKS {
         assert!(rt; is_refused_by(alloc, call, Name::Failed, &mut from));
     }
