@@ -54,7 +54,10 @@ fn front_i64(rest: &[u8]) -> Option<i64>
 
 /// The integer that has this tag and then the front of these bytes, and how long that front is.
 /// None where the bytes are too few, or no integer has the tag.
-#[inline(always)]
+// LLVM inlines it unasked. Under `inline(always)` it would count once or twice for each field of a
+// struct, and a function that would grow past some 8,200 instructions loses that hint: then a row's
+// fields are read by functions that were optimised apart.
+#[inline]
 pub(crate) fn integer_after(tag: u8, rest: &[u8]) -> Option<(i64, usize)>
     ensures { MatchOption result (Unit {0}) (λ p. IntegerAfter tag rest.now p.0 p.1) }
 {
