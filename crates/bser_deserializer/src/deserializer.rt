@@ -1,5 +1,6 @@
 //! The deserializer: what is left of a message, and what is due.
 ghost use Rattle.std.specs.Prelude.{IsTrue, ◌≡◌, ◌≢◌, ◌≤◌, [], true, false, IfOk, IfErr, OnOk, OnErr};
+ghost use Rattle.bser_format.specs.Errors.{error_of};
 ghost use Rattle.bser_format.specs.Expected.{nothing_due};
 ghost use Rattle.bser_named.specs.Named as named;
 ghost use Rattle.bser_bunser.specs.Names.{Names};
@@ -119,6 +120,7 @@ impl<R: DeRead> Deserializer<R> {
     #[inline(never)]
     pub fn take_refusal(&mut self) -> Error
         ensures reason { result ≡ refusal_in self.old }
+        ensures taken { refusal_in self.new ≡ error_of ReadCause.Failed }
         ensures state { state R.window R.Lent.kept self.new ≡ state R.window R.Lent.kept self.old }
     {
         self.bunser.take_refusal()
