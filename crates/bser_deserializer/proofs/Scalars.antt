@@ -293,11 +293,11 @@ no_int_names t s b due is =
     grown_left bare (asked integer_at s.opened s.due) (stray_at s.due t) is.need s.source b t
     (λ y. stray_asked integer_at s.opened s.due t y (tagged_value s.due due) (other_after wrong_type t y is.other.other)) is.grown is.other.next
 
-pub no_int_refused : (e : Error) (x : ℕ) (s : State) (b c : Window) → IsValueDue s.due → NoInt s.source b (Tag x) → e ≡ stray_at s.due x → c ≡ closed b
-    → Refuses (reads_signed 64) (Some (asking_integer (is_signed 64))) bare e s (with_source s c)
-no_int_refused e x s b c due is reason same =
+pub no_int_refused : (fits : ℤ → Bool) (e : Error) (x : ℕ) (s : State) (b c : Window) → IsValueDue s.due → NoInt s.source b (Tag x) → e ≡ stray_at s.due x → c ≡ closed b
+    → Refuses (reads_integer fits) (Some (asking_integer fits)) bare e s (with_source s c)
+no_int_refused fits e x s b c due is reason same =
     let fails = grown_fails is.need (stray_at s.due x) s.source b c (stray_kind s.due x) is.grown is.working same in
-    due_refused integer_at (reads_signed 64) (asking_integer (is_signed 64)) e s c (asks_for_integer (is_signed 64))
+    due_refused integer_at (reads_integer fits) (asking_integer fits) e s c (asks_for_integer fits)
     (subst (λ z. Fails z s.source c) (sym reason) fails)
     (subst (λ z. NamesDue bare integer_at z s) (sym reason) (no_int_names x s b due is))
 

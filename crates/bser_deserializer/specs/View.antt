@@ -1,5 +1,7 @@
 -- What callers see of a deserializer over any source.
 use Rattle.std.specs.Prelude.{◌≡◌, ℕ, List, ◌∷◌, map, drop, Bool, false, ◌||◌, ◌==◌}
+use Rattle.std.specs.declared.alloc.Global.{Global}
+use Rattle.std.specs.declared.vec.Vec.{Vec}
 use Rattle.bser_format.specs.declared.errors.Error.{Error}
 use Rattle.bser_read.specs.Window.{Window, Peeks}
 use Rattle.bser_format.specs.Expected.{node_due, field_due}
@@ -51,6 +53,10 @@ IsSourceOf read d = read ≡ bunser_source d.bunser
 -- what is due, as the code tells it
 abbrev pub due_in : {R L K : Type 0} → Deserializer R L K → Due
 due_in d = d.due
+
+-- the keys of the innermost open template
+abbrev pub keys_in : {R L K : Type 0} → Deserializer R L K → Vec K Global
+keys_in d = d.keys
 
 -- the tag of the value that is due; where none is, nothing is of the kind that is asked for
 abbrev pub value_here : ℕ → expected.Due → Reader Unit

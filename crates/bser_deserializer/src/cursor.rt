@@ -9,13 +9,14 @@ ghost use Rattle.bser_bunser.specs.Refusal.{Fails};
 ghost use Rattle.bser_due.specs.Dues.{IsValueDue, name_at};
 ghost use Rattle.bser_due.specs.Reading.{NamesBy, NamesDue, bare};
 ghost use Rattle.bser_due.specs.State.{awaiting, refused};
-ghost use Rattle.bser_deserializer.specs.View.{state, refusal_in, due_in, value_here, SeesTag};
+ghost use Rattle.bser_deserializer.specs.View.{state, refusal_in, due_in, keys_in, value_here, SeesTag};
 
 use crate::deserializer::{Deserializer, Due};
 use bser_bunser::refusal::{Answer, Refused};
 use bser_format::errors::{Complaint, Error, Kind, ReadCause};
 use bser_format::header::{BSER_BYTESTRING, BSER_SKIP, BSER_UTF8STRING};
 use bser_read::read::DeRead;
+use bser_source::read::Lending;
 
 /// What the crates above see and change of what is due, and refusals: a [`Deserializer`].
 pub trait Cursor {
@@ -268,4 +269,12 @@ impl<R: DeRead> Deserializer<R> {
             self.complain(Complaint::TooFewItems)
         }
     }
+}
+
+/// The keys of the innermost open template.
+#[inline(always)]
+pub fn keys_of<R: DeRead>(from: &Deserializer<R>) -> &Vec<<R::Lent as Lending>::Kept>
+    ensures { result.now ≡ keys_in from.now }
+{
+    &from.keys
 }

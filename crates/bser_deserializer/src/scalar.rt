@@ -1,7 +1,7 @@
 //! Reading scalars.
-ghost use Rattle.std.specs.Prelude.{◌≡◌, pos, Some, IfOk, OnErr, MatchBool};
+ghost use Rattle.std.specs.Prelude.{◌≡◌, ℤ, Bool, pos, Some, IfOk, OnErr, MatchBool};
 ghost use Rattle.bser_format.specs.Content.{one, truth, number};
-ghost use Rattle.bser_format.specs.ReadsScalars.{is_signed, reads_bool, reads_unit, reads_signed, reads_real};
+ghost use Rattle.bser_format.specs.ReadsScalars.{reads_bool, reads_unit, reads_integer, reads_signed, reads_real};
 ghost use Rattle.bser_named.specs.DueReaders.{seen};
 ghost use Rattle.bser_due.specs.Askings.{asking_bool, asking_real, asking_unit, asking_integer};
 ghost use Rattle.bser_due.specs.Dues.{IsTagged};
@@ -123,12 +123,14 @@ impl<R: DeRead> Deserializer<R> {
     }
 
     /// Reads an integer of any width. Another kind of value is [`Complaint::WrongType`].
+    ///
+    /// It is refused as integers of any range are.
     #[inline(always)]
     pub fn read_i64(&mut self) -> Answer<i64>
         ensures found { IfOk result (Answers (reads_signed 64) (λ v c. c ≡ number v)
             (state R.window R.Lent.kept self.old) (state R.window R.Lent.kept self.new)) }
-        ensures refused { OnErr result (Refuses (reads_signed 64) (Some (asking_integer (is_signed 64)))
-            bare (refusal_in self.new)
+        ensures refused { OnErr result ((fits : ℤ → Bool) → Refuses (reads_integer fits)
+            (Some (asking_integer fits)) bare (refusal_in self.new)
             (state R.window R.Lent.kept self.old) (state R.window R.Lent.kept self.new)) }
     {
         if !self.is_value_due() {

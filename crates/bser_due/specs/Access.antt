@@ -163,7 +163,6 @@ pub record AwaitsKey (old new : OpenPairs) : Type 0 where
 
 -- the value of the key that was read is due, and nothing is taken
 pub record AwaitsValue (old new : OpenPairs) : Type 0 where
-  pub working : old.state.source.failed ≡ false
   pub key : old.pending ≡ true
   pub same : new ≡ pairs_in old (awaiting (pair_value old.wanted) old.state) old.wanted old.pending
 

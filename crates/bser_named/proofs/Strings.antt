@@ -112,7 +112,7 @@ key_text s v = go (is_utf8 s) refl
     go false u e = let k : cond (is_utf8 s) (Some s) None ≡ Some v = e in absurd (let m = rw u at k in cc)
 
 -- a type that reads a text, and then f
-texts_handled : (f : List ℕ → Reader Unit) (R : Meaning) → ((u : Tree) (c : Content) → R u ≡ Some c → (s : List ℕ) × (utf8_of u ≡ Some s) × ((y : List ℕ) → f s y ≡ reads tt y)) → Handles (λ n. text_at) (λ o n. f) R
+pub texts_handled : (f : List ℕ → Reader Unit) (R : Meaning) → ((u : Tree) (c : Content) → R u ≡ Some c → (s : List ℕ) × (utf8_of u ≡ Some s) × ((y : List ℕ) → f s y ≡ reads tt y)) → Handles (λ n. text_at) (λ o n. f) R
 texts_handled f R holds = record {
   node = λ o n skips t b x c h r. let w = holds (expand t) c r in ap (and_then f) (text_node skips n t w.0 b x w.1 h) ∙ w.2 x;
   skipped = λ o n x c r. absurd (let w = holds null c r in let e = w.1 in cc);

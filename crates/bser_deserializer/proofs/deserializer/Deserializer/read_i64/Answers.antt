@@ -3,7 +3,7 @@ use Rattle.std.specs.Int.{w64}
 use mir.Val.{SFits}
 use Rattle.std.proofs.lemmas.Int.{to_z-of_z}
 use Rattle.std.proofs.lemmas.Result.{err_from_is_err_and}
-use Rattle.bser_format.specs.ReadsScalars.{reads_signed, is_signed}
+use Rattle.bser_format.specs.ReadsScalars.{reads_integer}
 use Rattle.bser_named.specs.DueReaders.{integer_at}
 use Rattle.bser_read.specs.Window.{Window}
 use Rattle.bser_bunser.specs.Tagged.{LooksForInt, bunser_window}
@@ -17,7 +17,7 @@ use Rattle.bser_deserializer.proofs.deserializer.Deserializer.read_i64.Goals as 
 pub returns-then-not-is_value_due-clause-refused : goal.returns-then-not-is_value_due-clause-refused
 returns-then-not-is_value_due-clause-refused g c =
     let s : State = state g.R.DeRead.window g.R.Lent.Lending.kept c.args.self.now in
-    no_value_refused integer_at (reads_signed 64) (asking_integer (is_signed 64)) _ s _ (asks_for_integer (is_signed 64)) (wants_integer s.due)
+    λ fits. no_value_refused integer_at (reads_integer fits) (asking_integer fits) _ s _ (asks_for_integer fits) (wants_integer s.due)
     (c.is_value_due.ensures.no c.if-not-is_value_due.true) c.refuse_no_value.ensures.err c.refuse_no_value.ensures.names
 
 pub returns-in_err-number-clause-refused : goal.returns-in_err-number-clause-refused
@@ -25,7 +25,7 @@ returns-in_err-number-clause-refused g c =
     let s : State = state g.R.DeRead.window g.R.Lent.Lending.kept c.args.self.now in
     let p = err_from_is_err_and c.from_residual.result c.from_residual.ensures.1 in
     let fails = c.in_err-number.ensures.err in
-    rw p.1 (due_refused integer_at (reads_signed 64) (asking_integer (is_signed 64)) _ s _ (asks_for_integer (is_signed 64)) fails
+    rw p.1 (λ fits. due_refused integer_at (reads_integer fits) (asking_integer fits) _ s _ (asks_for_integer fits) fails
     (cut_names _ s (c.is_value_due.ensures.yes c.if-not-is_value_due.false) c.in_err-number.ensures.names))
 
 pub returns-in-Taken-clause-found : goal.returns-in-Taken-clause-found
@@ -41,5 +41,5 @@ returns-in-Unexpected-Tag-clause-refused g c =
     let s : State = state g.R.DeRead.window g.R.Lent.Lending.kept c.args.self.now in
     let b : Window = bunser_window g.R.DeRead.window c.next_int.new.self in
     let looks = subst (LooksForInt s.source b) (c.in-Unexpected-Tag.is ∙ ap Unexpected c.in-Unexpected-Tag.field-0-is) c.in_ok-number.ensures.ok in
-    no_int_refused _ c.in-Unexpected-Tag.tag s b _ (c.is_value_due.ensures.yes c.if-not-is_value_due.false) looks c.refuse_tag.ensures.reason
+    λ fits. no_int_refused fits _ c.in-Unexpected-Tag.tag s b _ (c.is_value_due.ensures.yes c.if-not-is_value_due.false) looks c.refuse_tag.ensures.reason
     (ap (λ (z : State). z.source) c.refuse_tag.ensures.state)
