@@ -1,0 +1,4 @@
+pub mod Accesses
+pub mod Fold
+pub mod HoldsReals
+pub mod Slots

@@ -1,0 +1,63 @@
+//! Types that are read.
+ghost use Rattle.std.specs.Prelude.{◌≡◌, false, Option, IfOk, OnErr};
+ghost use Rattle.bser_format.specs.Content.{Content, Meaning, Needs, ReadsNoObject};
+ghost use Rattle.bser_due.specs.Reading.{Answers, Asking, Refuses};
+ghost use Rattle.bser_deserializer.specs.View.{state, refusal_in};
+
+use bser_read::read::DeRead;
+use bser_source::read::{LendsText, NoLoan};
+use bser_bunser::refusal::Answer;
+use bser_deserializer::deserializer::Deserializer;
+use std::alloc::Global;
+
+/// The meaning of a type that is read: which trees it reads, and what a value of it holds.
+///
+/// It has no calls and no lifetime, so that a type has one meaning whatever lends its bytes.
+pub trait Shape {
+    // which trees the type reads, and as what
+    ghost reads: { Meaning };
+
+    // what a value holds
+    ghost holds: { Self → Content → Type 0 };
+
+    // whether a value may hold lent bytes, whether reading one may take memory, and whether a
+    // refusal may
+    ghost needs: { Needs };
+
+    // what names its refusals, where the type tells of names
+    ghost asks: { Option (Asking Self.reads) };
+
+    // that the type reads no object, where that is known; then a tuple that has such a part is
+    // never read of a template, and takes no memory for one
+    ghost plain: { Option (ReadsNoObject Self.reads) };
+}
+
+/// A type that is read from a source that lends `L`.
+///
+/// In place of serde's visitors a type pulls its parts from the deserializer.
+pub trait Deserialize<L: LendsText>: Shape + Drop {
+    /// Reads what is due, a value as a rule, and answers by the type's meaning: exactly where a
+    /// front of the bytes left spells a tree that the type reads, and then it takes that front.
+    ///
+    /// Refused otherwise, and for want of memory, a reader's fault, or, for a type that holds lent
+    /// bytes over a source that copies, [`Complaint::BorrowedFromCopying`].
+    ///
+    /// [`Complaint::BorrowedFromCopying`]: bser_format::errors::Complaint::BorrowedFromCopying
+    fn deserialize<R: DeRead<Lent = L>>(alloc: Global, from: &mut Deserializer<R>) -> Answer<Self>
+        ensures found { IfOk result (Answers Self.reads Self.holds
+            (state R.window L.kept from.old) (state R.window L.kept from.new)) }
+        ensures refused { OnErr result (Refuses Self.reads Self.asks Self.needs (refusal_in from.new)
+            (state R.window L.kept from.old) (state R.window L.kept from.new)) };
+}
+
+/// A meaning whose values hold nothing that is lent.
+pub trait OwnedShape: Shape {
+    ghost owned: { Self.needs.lent ≡ false };
+}
+
+/// A type that needs nothing lent, so that it is read from any reader.
+///
+/// Each type is one that has both halves.
+pub trait DeserializeOwned: OwnedShape + Deserialize<NoLoan> {}
+
+impl<T: OwnedShape + Deserialize<NoLoan>> DeserializeOwned for T {}

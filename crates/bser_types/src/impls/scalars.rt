@@ -1,0 +1,96 @@
+//! Reading truth values, reals and `()`.
+ghost use Rattle.std.specs.Prelude.{refl, Some};
+ghost use Rattle.bser_format.specs.ReadsScalars.{reads_bool, reads_unit, reads_real};
+ghost use Rattle.bser_due.specs.Askings.{asking_bool, asking_real, asking_unit};
+ghost use Rattle.bser_due.specs.Reading.{bare};
+ghost use Rattle.bser_due.specs.Holds.{HoldsTruth, HoldsOne};
+ghost use Rattle.bser_types.specs.HoldsReals.{HoldsReal};
+
+use crate::deserialize::{Deserialize, OwnedShape, Shape};
+use bser_read::read::DeRead;
+use bser_source::read::LendsText;
+use bser_bunser::refusal::Answer;
+use bser_deserializer::deserializer::Deserializer;
+use std::alloc::Global;
+
+/// The 64 bits of a real.
+///
+/// The crate has floats in its place.
+#[derive(Debug, Clone, Copy, PartialEq, Eq)]
+pub struct RealBits(pub u64);
+
+impl Shape for bool {
+    ghost reads = { reads_bool };
+
+    ghost holds = { HoldsTruth };
+
+    ghost needs = { bare };
+
+    ghost asks = { Some asking_bool };
+
+    ghost plain = { Some (λ _. refl) };
+}
+
+impl<L: LendsText> Deserialize<L> for bool {
+    #[inline(always)]
+    fn deserialize<R: DeRead<Lent = L>>(
+        _alloc: Global,
+        from: &mut Deserializer<R>,
+    ) -> Answer<bool> {
+        from.read_bool()
+    }
+}
+
+impl OwnedShape for bool {
+    ghost owned = { refl };
+}
+
+/// A null, or a skipped field.
+impl Shape for () {
+    ghost reads = { reads_unit };
+
+    ghost holds = { HoldsOne };
+
+    ghost needs = { bare };
+
+    ghost asks = { Some asking_unit };
+
+    ghost plain = { Some (λ _. refl) };
+}
+
+impl<L: LendsText> Deserialize<L> for () {
+    #[inline(always)]
+    fn deserialize<R: DeRead<Lent = L>>(_alloc: Global, from: &mut Deserializer<R>) -> Answer<()> {
+        from.read_unit()
+    }
+}
+
+impl OwnedShape for () {
+    ghost owned = { refl };
+}
+
+impl Shape for RealBits {
+    ghost reads = { reads_real };
+
+    ghost holds = { HoldsReal };
+
+    ghost needs = { bare };
+
+    ghost asks = { Some asking_real };
+
+    ghost plain = { Some (λ _. refl) };
+}
+
+impl<L: LendsText> Deserialize<L> for RealBits {
+    #[inline(always)]
+    fn deserialize<R: DeRead<Lent = L>>(
+        _alloc: Global,
+        from: &mut Deserializer<R>,
+    ) -> Answer<RealBits> {
+        Ok(RealBits(from.read_real_bits()?))
+    }
+}
+
+impl OwnedShape for RealBits {
+    ghost owned = { refl };
+}

@@ -1,0 +1,136 @@
+//! Strings and characters.
+ghost use Rattle.std.specs.Prelude.{◌≡◌, refl, Some, chars, string_bytes};
+ghost use Rattle.bser_format.specs.ReadsScalars.{reads_slice, reads_string, reads_char, one_char};
+ghost use Rattle.bser_due.specs.HoldsTexts.{HoldsBytes, HoldsChar, char_content};
+ghost use Rattle.bser_due.specs.Askings.{asking_bytes, asking_string, asking_char};
+ghost use Rattle.bser_due.specs.Reading.{bare, owned, lending};
+
+use crate::deserialize::{Deserialize, OwnedShape, Shape};
+use bser_read::read::DeRead;
+use bser_source::read::{LendsFrom, LendsText};
+use bser_bunser::refusal::Answer;
+use bser_format::errors::Complaint;
+use bser_deserializer::cursor::Cursor;
+use bser_deserializer::deserializer::Deserializer;
+use std::alloc::Global;
+
+/// A text, or a byte string or key that is UTF-8.
+impl Shape for String {
+    ghost reads = { reads_string };
+
+    ghost holds = { λ s. HoldsBytes (string_bytes s) };
+
+    ghost needs = { owned };
+
+    ghost asks = { Some asking_string };
+
+    ghost plain = { Some (λ _. refl) };
+}
+
+impl<L: LendsText> Deserialize<L> for String {
+    #[inline(always)]
+    fn deserialize<R: DeRead<Lent = L>>(
+        alloc: Global,
+        from: &mut Deserializer<R>,
+    ) -> Answer<String> {
+        from.read_string(alloc)
+    }
+}
+
+impl OwnedShape for String {
+    ghost owned = { refl };
+}
+
+/// A text, or a byte string or key that is UTF-8, lent from the input.
+impl<'de> Shape for &'de str {
+    ghost reads = { reads_string };
+
+    ghost holds = { λ s. HoldsBytes s.now };
+
+    ghost needs = { lending };
+
+    ghost asks = { Some asking_string };
+
+    ghost plain = { Some (λ _. refl) };
+}
+
+impl<'de, L: LendsFrom<'de>> Deserialize<L> for &'de str {
+    #[inline(always)]
+    fn deserialize<R: DeRead<Lent = L>>(
+        alloc: Global,
+        from: &mut Deserializer<R>,
+    ) -> Answer<&'de str> {
+        let mut scratch = Vec::new(alloc);
+        match L::lent_text(from.read_text(&mut scratch)?) {
+            Some(text) => Ok(text),
+            None => Err(from.complain(Complaint::BorrowedFromCopying)),
+        }
+    }
+}
+
+/// The bytes of a string or key, lent from the input.
+impl<'de> Shape for &'de [u8] {
+    ghost reads = { reads_slice };
+
+    ghost holds = { λ s. HoldsBytes s.now };
+
+    ghost needs = { lending };
+
+    ghost asks = { Some asking_bytes };
+
+    ghost plain = { Some (λ _. refl) };
+}
+
+impl<'de, L: LendsFrom<'de>> Deserialize<L> for &'de [u8] {
+    #[inline(always)]
+    fn deserialize<R: DeRead<Lent = L>>(
+        alloc: Global,
+        from: &mut Deserializer<R>,
+    ) -> Answer<&'de [u8]> {
+        let mut scratch = Vec::new(alloc);
+        match L::lent_bytes(from.read_bytes(&mut scratch)?) {
+            Some(bytes) => Ok(bytes),
+            None => Err(from.complain(Complaint::BorrowedFromCopying)),
+        }
+    }
+}
+
+/// A text of one character, or a byte string or key that is one in UTF-8.
+impl Shape for char {
+    ghost reads = { reads_char };
+
+    ghost holds = { HoldsChar };
+
+    ghost needs = { bare };
+
+    ghost asks = { Some asking_char };
+
+    ghost plain = { Some (λ _. refl) };
+}
+
+impl<L: LendsText> Deserialize<L> for char {
+    #[inline(always)]
+    fn deserialize<R: DeRead<Lent = L>>(alloc: Global, from: &mut Deserializer<R>) -> Answer<char> {
+        let mut scratch = Vec::new(alloc);
+        let text = from.read_text(&mut scratch)?;
+        match only_char(text.get_ref()) {
+            Some(only) => Ok(only),
+            None => Err(from.complain(Complaint::WrongType)),
+        }
+    }
+}
+
+impl OwnedShape for char {
+    ghost owned = { refl };
+}
+
+/// The text's only character.
+fn only_char(text: &str) -> Option<char>
+    ensures { char_content result ≡ one_char (chars text.now) }
+{
+    let mut chars = text.chars();
+    match (chars.next(), chars.next()) {
+        (Some(only), None) => Some(only),
+        _ => None,
+    }
+}

@@ -1,0 +1,143 @@
+//! Reading the items of an array.
+ghost use Rattle.std.specs.Prelude.{◌≡◌, ◌<◌, IfOk, OnOk, OnErr};
+ghost use Rattle.bser_due.specs.Access.{NextItem, IsNextItem, RefusesItem, ClosesItems, LeavesItems, items_in};
+ghost use Rattle.bser_due.specs.Parts.{items_left, item_due, items_after};
+ghost use Rattle.bser_due.specs.Required.{RefusesRequired};
+ghost use Rattle.bser_due.specs.State.{awaiting, refused};
+ghost use Rattle.bser_types.specs.Accesses.{open_items, items_reference, items_refusal};
+
+use crate::deserialize::Deserialize;
+use bser_bunser::refusal::{Answer, Refused};
+use bser_deserializer::container::{Containers, SeqHead};
+use bser_deserializer::cursor::Cursor;
+use bser_deserializer::deserializer::Deserializer;
+use bser_format::errors::{Complaint, Error};
+use bser_read::read::DeRead;
+use bser_source::read::LendsText;
+use std::alloc::Global;
+
+/// The items of an open array or template.
+///
+/// Where it is dropped before its `end`, the array stays open.
+#[derive(Drop)]
+pub struct SeqAccess<'a, R: DeRead> {
+    pub(crate) from: &'a mut Deserializer<R>,
+    // how many items are left, whether they are rows, and how it stood outside
+    pub(crate) head: SeqHead,
+}
+
+impl<'a, R: DeRead> SeqAccess<'a, R> {
+    ghost use Rattle.bser_deserializer.specs.View.{state, refusal_in};
+
+    /// How many items are left.
+    pub fn remaining(&self) -> usize
+        ensures { result ≡ items_left (open_items R.window R.Lent.kept self.now).wanted }
+    {
+        self.head.remaining
+    }
+
+    /// Makes the next item due.
+    #[inline(always)]
+    pub(crate) fn await_item(&mut self)
+        ensures same_reference { items_reference self.new ≡ items_reference self.old }
+        ensures awaited { open_items R.window R.Lent.kept self.new ≡
+            items_in (open_items R.window R.Lent.kept self.old)
+                (awaiting (item_due (open_items R.window R.Lent.kept self.old).wanted)
+                    (open_items R.window R.Lent.kept self.old).state)
+                (open_items R.window R.Lent.kept self.old).wanted }
+    {
+        if self.head.rows {
+            self.from.await_row();
+        } else {
+            self.from.await_node();
+        }
+    }
+
+    /// Goes on past the item that was read.
+    #[inline(always)]
+    pub(crate) fn pass_item(&mut self)
+        requires { 0 < items_left (open_items R.window R.Lent.kept self.old).wanted }
+        ensures same_reference { items_reference self.new ≡ items_reference self.old }
+        ensures passed { open_items R.window R.Lent.kept self.new ≡
+            items_in (open_items R.window R.Lent.kept self.old)
+                (open_items R.window R.Lent.kept self.old).state
+                (items_after (open_items R.window R.Lent.kept self.old).wanted) }
+    {
+        self.head.remaining -= 1;
+    }
+
+    /// Refuses all calls from now on, and keeps the reason.
+    #[inline(always)]
+    pub fn refuse(&mut self, reason: Error) -> Refused
+        ensures same_reference { items_reference self.new ≡ items_reference self.old }
+        ensures reason { items_refusal self.new ≡ reason }
+        ensures state { open_items R.window R.Lent.kept self.new ≡
+            items_in (open_items R.window R.Lent.kept self.old)
+                (refused (open_items R.window R.Lent.kept self.old).state)
+                (open_items R.window R.Lent.kept self.old).wanted }
+    {
+        self.from.refuse(reason)
+    }
+
+    /// Closes the array.
+    ///
+    /// Refused by [`Complaint::ItemsLeft`] where items are left, and by
+    /// [`ReadCause::Failed`](bser_format::errors::ReadCause::Failed) after an earlier refusal.
+    #[inline(always)]
+    pub fn end(self) -> Answer<()>
+        ensures ok { OnOk result (ClosesItems (open_items R.window R.Lent.kept self.entry)
+            (state R.window R.Lent.kept self.exit.0.now)) }
+        ensures err { OnErr result (LeavesItems (refusal_in self.exit.0.now)
+            (open_items R.window R.Lent.kept self.entry) (state R.window R.Lent.kept self.exit.0.now)) }
+    {
+        if self.head.remaining != 0 || self.from.is_failed() {
+            return Err(self.from.complain(Complaint::ItemsLeft));
+        }
+        let head = self.head;
+        self.from.close_items(head);
+        Ok(())
+    }
+}
+
+impl<'a, R: DeRead> SeqAccess<'a, R>
+where
+    R::Lent: LendsText,
+{
+    /// Reads the next item, if one is left.
+    ///
+    /// Refused as the type's reading is; the deserializer then refuses each later call.
+    #[inline(always)]
+    pub fn next_element<T: Deserialize<R::Lent>>(&mut self, alloc: Global) -> Answer<Option<T>>
+        ensures same_reference { items_reference self.new ≡ items_reference self.old }
+        ensures found { IfOk result (NextItem T.reads T.holds
+            (open_items R.window R.Lent.kept self.old) (open_items R.window R.Lent.kept self.new)) }
+        ensures refused { OnErr result (RefusesItem T.reads T.asks T.needs (items_refusal self.new)
+            (open_items R.window R.Lent.kept self.old) (open_items R.window R.Lent.kept self.new).state) }
+    {
+        if self.head.remaining == 0 && !self.from.is_failed() {
+            return Ok(None);
+        }
+        self.await_item();
+        let item = T::deserialize(alloc, self.from)?;
+        self.pass_item();
+        Ok(Some(item))
+    }
+
+    /// Reads the next item, which has to be there: where none is left it is refused by
+    /// [`Complaint::TooFewItems`], and the deserializer then refuses each later call.
+    ///
+    /// Refused else as [`SeqAccess::next_element`] is.
+    #[inline(always)]
+    pub fn required_element<T: Deserialize<R::Lent>>(&mut self, alloc: Global) -> Answer<T>
+        ensures same_reference { items_reference self.new ≡ items_reference self.old }
+        ensures found { IfOk result (IsNextItem T.reads T.holds
+            (open_items R.window R.Lent.kept self.old) (open_items R.window R.Lent.kept self.new)) }
+        ensures refused { OnErr result (RefusesRequired T.reads T.asks T.needs (items_refusal self.new)
+            (open_items R.window R.Lent.kept self.old) (open_items R.window R.Lent.kept self.new).state) }
+    {
+        match self.next_element(alloc)? {
+            Some(item) => Ok(item),
+            None => Err(self.from.complain(Complaint::TooFewItems)),
+        }
+    }
+}
