@@ -1,5 +1,5 @@
 -- An integer within the range of a type.
-use Rattle.std.proofs.Common.{◌≡◌, ℕ, ◌-◌, ◌^◌, Bool, true, false, cond, List, ◌++◌, Option, Some, None, sym, ap, ◌∙◌, refl, arith}
+use Rattle.std.proofs.Common.{◌≡◌, ℕ, ◌-◌, ◌^◌, Bool, true, false, cond, List, ◌++◌, Some, None, ap, ◌∙◌, refl, arith}
 use Rattle.std.specs.Prelude.{ℤ, pos, negsuc, if◌then◌else◌, FitsSigned, Result, Ok, Err, OnErr}
 use Rattle.std.specs.Int.{Width, FitsUnsignedBits}
 use mir.Val.{hbits}
@@ -7,14 +7,13 @@ use Rattle.std.proofs.lemmas.Bool.{ltb-true}
 use Rattle.std.proofs.lemmas.Int.{ints}
 use Rattle.bser_format.specs.Tree.{Tree, null, boolean, integer, real, bytes, text, array, object, template}
 use Rattle.bser_format.specs.Content.{Content, number}
-use Rattle.bser_format.specs.Expected.{Due, Fills}
 use Rattle.bser_format.specs.ReadsScalars.{reads_signed, reads_integer, is_signed, is_unsigned}
 use Rattle.bser_format.specs.declared.errors.Error.{Error}
 use Rattle.bser_format.specs.declared.errors.Complaint.TheVariants.{IntegerOutOfRange}
 use Rattle.bser_named.specs.Named.{Answer, reads, refuses, and_then, give, refuse, complain}
 use Rattle.bser_named.specs.DueReaders.{asked, integer_at}
 use Rattle.bser_named.specs.Clauses.{after_a_refusal}
-use Rattle.bser_named.specs.Asks.{asks_integer, in_range}
+use Rattle.bser_named.specs.Asks.{in_range}
 use Rattle.bser_named.proofs.Integers.{integer_passes}
 use Rattle.bser_due.specs.State.{State, refused}
 use Rattle.bser_due.specs.Reading.{Answers, Refuses, bare}

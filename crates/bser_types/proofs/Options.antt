@@ -12,7 +12,7 @@ use Rattle.bser_format.specs.declared.errors.Kind.TheVariants.{NextItem, MapKey}
 use Rattle.bser_named.specs.Named.{reads, give, refuse}
 use Rattle.bser_named.specs.DueReaders.{Seen, tag, name, row, seen, is_tag, is_key_tag}
 use Rattle.bser_named.specs.Asks.{is_null}
-use Rattle.bser_named.proofs.Sights.{Sight, sight, null_tree}
+use Rattle.bser_named.proofs.Sights.{sight, null_tree}
 use Rattle.bser_read.specs.Window.{Window, Grown, Took, left}
 use Rattle.bser_read.proofs.Windows.{grown_none, grown_later, took_grown, left_grown, hand_first}
 use Rattle.bser_due.specs.Dues.{IsTagged}

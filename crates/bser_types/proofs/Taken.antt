@@ -1,5 +1,5 @@
 -- Refusals of a type that are told by what stands before them.
-use Rattle.std.proofs.Common.{◌≡◌, ℕ, Bool, true, false, List, [], ◌++◌, Option, Some, None, ap, sym, subst, ◌∙◌, refl, inl, inr, ◌||◌}
+use Rattle.std.proofs.Common.{◌≡◌, ℕ, true, false, List, [], ◌++◌, Option, Some, None, ap, sym, subst, ◌∙◌, refl, inl, inr, ◌||◌}
 use Rattle.bser_format.specs.Grammar.{Format}
 use Rattle.bser_format.specs.Content.{Meaning, Needs}
 use Rattle.bser_format.specs.declared.errors.Error.{Error}

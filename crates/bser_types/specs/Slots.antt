@@ -1,5 +1,5 @@
 -- Structs, of which each field is read at most once.
-use Rattle.std.specs.Prelude.{◌≡◌, ℕ, zero, suc, ◌||◌, Bool, false, true, List, [], ◌∷◌, length, Option, Some, None, option_map, if◌then◌else◌}
+use Rattle.std.specs.Prelude.{◌≡◌, ℕ, zero, suc, ◌||◌, Bool, false, true, List, [], ◌∷◌, Option, Some, None, option_map, if◌then◌else◌}
 use Rattle.bser_format.specs.Tree.{Tree}
 use Rattle.bser_format.specs.Content.{Content, nothing, Meaning, Needs, each_some}
 use Rattle.bser_format.specs.ReadsHolders.{reads_option, list_of}
@@ -111,7 +111,7 @@ pub record TookValue (tree : Tree) (old new : OpenPairs) : Type 0 where
   pub key : old.pending ≡ true
   pub text : List ℕ
   pub filled : Fills old.state.levels (pair_value old.wanted) tree text
-  pub took : Took old.state.source new.state.source text 
+  pub took : Took old.state.source new.state.source text
   pub state : new.state ≡ past (awaiting (pair_value old.wanted) old.state) new.state.source
   pub after : new ≡ pairs_in old new.state old.wanted false
 

@@ -8,10 +8,10 @@ ghost use Rattle.bser_deserializer.specs.View.{state, refusal_in};
 
 use crate::map::MapAccess;
 use crate::seq::SeqAccess;
-use bser_read::read::DeRead;
 use bser_bunser::refusal::Answer;
 use bser_deserializer::container::Containers;
 use bser_deserializer::deserializer::Deserializer;
+use bser_read::read::DeRead;
 use std::alloc::Global;
 
 /// What opens containers: a [`Deserializer`].
@@ -44,7 +44,7 @@ impl<R: DeRead> ReadsContainers for Deserializer<R> {
     fn read_seq<'a>(&'a mut self, alloc: Global) -> Answer<SeqAccess<'a, R>>
         ensures* rests { sem 𝓛 (RestsIfErr (the_row R.row R.Lent.row R.Lent.Kept.row) self.entry
             items_reference result (λ d. OnErr result (RefusesItems (refusal_in d)
-                (state R.window R.Lent.kept self.old) (state R.window R.Lent.kept d)))) }
+            (state R.window R.Lent.kept self.old) (state R.window R.Lent.kept d)))) }
         ensures same_reference { IfOk result (λ a. items_reference a ≡ self.entry.ghost_name) }
         ensures found { IfOk result (λ a. OpensItems (state R.window R.Lent.kept self.old)
             (open_items R.window R.Lent.kept a)) }
@@ -57,7 +57,7 @@ impl<R: DeRead> ReadsContainers for Deserializer<R> {
     fn read_map<'a>(&'a mut self) -> Answer<MapAccess<'a, R>>
         ensures* rests { sem 𝓛 (RestsIfErr (the_row R.row R.Lent.row R.Lent.Kept.row) self.entry
             pairs_reference result (λ d. OnErr result (RefusesPairs (refusal_in d)
-                (state R.window R.Lent.kept self.old) (state R.window R.Lent.kept d)))) }
+            (state R.window R.Lent.kept self.old) (state R.window R.Lent.kept d)))) }
         ensures same_reference { IfOk result (λ a. pairs_reference a ≡ self.entry.ghost_name) }
         ensures found { IfOk result (λ a. OpensPairs (state R.window R.Lent.kept self.old)
             (open_pairs R.window R.Lent.kept a)) }

@@ -4,10 +4,10 @@ ghost use Rattle.bser_format.specs.Content.{Content, Meaning, Needs, ReadsNoObje
 ghost use Rattle.bser_due.specs.Reading.{Answers, Asking, Refuses};
 ghost use Rattle.bser_deserializer.specs.View.{state, refusal_in};
 
-use bser_read::read::DeRead;
-use bser_source::read::{LendsText, NoLoan};
 use bser_bunser::refusal::Answer;
 use bser_deserializer::deserializer::Deserializer;
+use bser_read::read::DeRead;
+use bser_source::read::{LendsText, NoLoan};
 use std::alloc::Global;
 
 /// The meaning of a type that is read: which trees it reads, and what a value of it holds.

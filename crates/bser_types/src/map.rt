@@ -107,8 +107,8 @@ impl<'a, R: DeRead> MapAccess<'a, R> {
         ensures same_reference { pairs_reference self.new ≡ pairs_reference self.old }
         ensures passed { open_pairs R.window R.Lent.kept self.new ≡
             pairs_in (open_pairs R.window R.Lent.kept self.old)
-                (open_pairs R.window R.Lent.kept self.old).state
-                (pairs_after (open_pairs R.window R.Lent.kept self.old).wanted) true }
+            (open_pairs R.window R.Lent.kept self.old).state
+            (pairs_after (open_pairs R.window R.Lent.kept self.old).wanted) true }
     {
         if self.head.row {
             self.head.at += 1;
@@ -125,9 +125,9 @@ impl<'a, R: DeRead> MapAccess<'a, R> {
         ensures reason { pairs_refusal self.new ≡ reason }
         ensures state { open_pairs R.window R.Lent.kept self.new ≡
             pairs_in (open_pairs R.window R.Lent.kept self.old)
-                (refused (open_pairs R.window R.Lent.kept self.old).state)
-                (open_pairs R.window R.Lent.kept self.old).wanted
-                (open_pairs R.window R.Lent.kept self.old).pending }
+            (refused (open_pairs R.window R.Lent.kept self.old).state)
+            (open_pairs R.window R.Lent.kept self.old).wanted
+            (open_pairs R.window R.Lent.kept self.old).pending }
     {
         self.from.refuse(reason)
     }
@@ -267,11 +267,13 @@ where
             (open_pairs R.window R.Lent.kept self.new).state) }
     {
         if value.is_some() {
-            return Err(self.from.complain(if self.pending {
-                Complaint::ItemsLeft
-            } else {
-                Complaint::ValueOpen
-            }));
+            return Err(
+                self.from.complain(if self.pending {
+                    Complaint::ItemsLeft
+                } else {
+                    Complaint::ValueOpen
+                }),
+            );
         }
         *value = Some(self.next_value::<V>(alloc)?);
         Ok(())

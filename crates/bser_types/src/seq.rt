@@ -42,9 +42,9 @@ impl<'a, R: DeRead> SeqAccess<'a, R> {
         ensures same_reference { items_reference self.new ≡ items_reference self.old }
         ensures awaited { open_items R.window R.Lent.kept self.new ≡
             items_in (open_items R.window R.Lent.kept self.old)
-                (awaiting (item_due (open_items R.window R.Lent.kept self.old).wanted)
-                    (open_items R.window R.Lent.kept self.old).state)
-                (open_items R.window R.Lent.kept self.old).wanted }
+            (awaiting (item_due (open_items R.window R.Lent.kept self.old).wanted)
+            (open_items R.window R.Lent.kept self.old).state)
+            (open_items R.window R.Lent.kept self.old).wanted }
     {
         if self.head.rows {
             self.from.await_row();
@@ -60,8 +60,8 @@ impl<'a, R: DeRead> SeqAccess<'a, R> {
         ensures same_reference { items_reference self.new ≡ items_reference self.old }
         ensures passed { open_items R.window R.Lent.kept self.new ≡
             items_in (open_items R.window R.Lent.kept self.old)
-                (open_items R.window R.Lent.kept self.old).state
-                (items_after (open_items R.window R.Lent.kept self.old).wanted) }
+            (open_items R.window R.Lent.kept self.old).state
+            (items_after (open_items R.window R.Lent.kept self.old).wanted) }
     {
         self.head.remaining -= 1;
     }
@@ -73,8 +73,8 @@ impl<'a, R: DeRead> SeqAccess<'a, R> {
         ensures reason { items_refusal self.new ≡ reason }
         ensures state { open_items R.window R.Lent.kept self.new ≡
             items_in (open_items R.window R.Lent.kept self.old)
-                (refused (open_items R.window R.Lent.kept self.old).state)
-                (open_items R.window R.Lent.kept self.old).wanted }
+            (refused (open_items R.window R.Lent.kept self.old).state)
+            (open_items R.window R.Lent.kept self.old).wanted }
     {
         self.from.refuse(reason)
     }

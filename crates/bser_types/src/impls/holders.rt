@@ -6,12 +6,12 @@ ghost use Rattle.bser_format.specs.ReadsHolders.{reads_option};
 ghost use Rattle.std.proofs.Common.{ap};
 
 use crate::deserialize::{Deserialize, OwnedShape, Shape};
-use bser_read::read::DeRead;
-use bser_source::read::LendsText;
 use bser_bunser::refusal::Answer;
-use bser_format::errors::Error;
 use bser_deserializer::cursor::Cursor;
 use bser_deserializer::deserializer::Deserializer;
+use bser_format::errors::Error;
+use bser_read::read::DeRead;
+use bser_source::read::LendsText;
 use std::alloc::Global;
 
 /// A null or a skipped field is `None`.

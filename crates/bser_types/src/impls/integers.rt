@@ -6,12 +6,12 @@ ghost use Rattle.bser_due.specs.Reading.{bare};
 ghost use Rattle.bser_due.specs.Holds.{HoldsNumber, HoldsSize};
 
 use crate::deserialize::{Deserialize, OwnedShape, Shape};
-use bser_read::read::DeRead;
-use bser_source::read::LendsText;
 use bser_bunser::refusal::Answer;
-use bser_format::errors::Complaint;
 use bser_deserializer::cursor::Cursor;
 use bser_deserializer::deserializer::Deserializer;
+use bser_format::errors::Complaint;
+use bser_read::read::DeRead;
+use bser_source::read::LendsText;
 use std::alloc::Global;
 
 impl Shape for i64 {

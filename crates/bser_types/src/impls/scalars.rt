@@ -7,10 +7,10 @@ ghost use Rattle.bser_due.specs.Holds.{HoldsTruth, HoldsOne};
 ghost use Rattle.bser_types.specs.HoldsReals.{HoldsReal};
 
 use crate::deserialize::{Deserialize, OwnedShape, Shape};
-use bser_read::read::DeRead;
-use bser_source::read::LendsText;
 use bser_bunser::refusal::Answer;
 use bser_deserializer::deserializer::Deserializer;
+use bser_read::read::DeRead;
+use bser_source::read::LendsText;
 use std::alloc::Global;
 
 /// The 64 bits of a real.

@@ -6,12 +6,12 @@ ghost use Rattle.bser_due.specs.Askings.{asking_bytes, asking_string, asking_cha
 ghost use Rattle.bser_due.specs.Reading.{bare, owned, lending};
 
 use crate::deserialize::{Deserialize, OwnedShape, Shape};
-use bser_read::read::DeRead;
-use bser_source::read::{LendsFrom, LendsText};
 use bser_bunser::refusal::Answer;
-use bser_format::errors::Complaint;
 use bser_deserializer::cursor::Cursor;
 use bser_deserializer::deserializer::Deserializer;
+use bser_format::errors::Complaint;
+use bser_read::read::DeRead;
+use bser_source::read::{LendsFrom, LendsText};
 use std::alloc::Global;
 
 /// A text, or a byte string or key that is UTF-8.

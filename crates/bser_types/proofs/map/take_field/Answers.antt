@@ -1,5 +1,4 @@
-use Rattle.std.proofs.Common.{◌≡◌, ◌<◌, ◌∙◌, List, ℕ, map, length, refl, sym, ap, subst, arith}
-use Rattle.std.specs.Prelude.{IsUtf8}
+use Rattle.std.proofs.Common.{◌<◌, ◌∙◌, List, ℕ, map, length, refl, ap, arith}
 use Rattle.std.proofs.lemmas.List.{length-map}
 use Rattle.bser_due.specs.Fields.{field_of}
 use Rattle.bser_due.specs.State.{State}

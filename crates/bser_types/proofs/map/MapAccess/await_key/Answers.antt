@@ -1,4 +1,4 @@
-use Rattle.std.proofs.Common.{◌≡◌, ap, List, ℕ, map, refl, sym, ◌∙◌, arith}
+use Rattle.std.proofs.Common.{◌≡◌, ap, List, ℕ, map, sym, ◌∙◌, arith}
 use Rattle.bser_due.specs.Dues.{name_at}
 use Rattle.bser_types.specs.Accesses.{open_pairs}
 use Rattle.bser_types.proofs.Pairs.{awaits_key, field_key}
