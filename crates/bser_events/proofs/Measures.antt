@@ -1,0 +1,107 @@
+-- How much is left to be done: a number that falls with each step, whatever the counts of the containers inside may be.
+use Rattle.std.proofs.Common.{◌≡◌, ℕ, zero, suc, ◌+◌, ◌-◌, ◌*◌, ◌<◌, ◌≤◌, ◌^◌, List, [], ◌∷◌, ◌++◌, length, take, refl, sym, ap, subst, ◌∙◌, arith, inl, inr}
+use Rattle.std.proofs.Math.Nat.{mul-le-mul_left}
+use Rattle.std.proofs.lemmas.List.{reverse-append}
+use Rattle.std.specs.Prelude.{reverse, Option, Some}
+use Rattle.bser_events.specs.Found.{IsInside}
+use Rattle.bser_events.specs.Frames.{Takes, IsSmall}
+use Rattle.bser_events.specs.declared.frame.Frame.{Frame}
+use Rattle.bser_events.specs.declared.frame.Parts.{Parts}
+use Rattle.bser_events.specs.declared.frame.Parts.TheVariants.{Items, Entries, Rows}
+use Rattle.bser_events.specs.declared.frame.Due.{Due}
+use Rattle.bser_events.specs.declared.frame.Due.TheVariants.{Item, Entry, Field}
+use Rattle.bser_events.proofs.Leads.{frame_of}
+
+-- how many parts are left
+abbrev pub parts_left : Parts → ℕ
+parts_left (Items k) = k
+parts_left (Entries k) = k
+parts_left (Rows f r w) = f + r * w
+
+-- more than all that a value with n levels left can take
+pub cost : ℕ → ℕ
+cost zero = 1
+cost (suc n) = 2 ^ 130 * cost n
+
+-- what is left of the open containers
+pub work : List Frame → ℕ
+work [] = 0
+work (f ∷ fs) = 1 + parts_left f.parts * cost f.levels + work fs
+
+cost_some : (n : ℕ) → 1 ≤ cost n
+unfolding cost
+cost_some zero = omega arith
+cost_some (suc n) = let h = cost_some n in omega (arith, h)
+
+one_less : (due : Due) (p q : Parts) → Takes due p q → parts_left p ≡ suc (parts_left q)
+one_less Item p q (k, old, new) = rw (old, new) refl
+one_less Entry p q (k, old, new) = rw (old, new) refl
+one_less Field p q (f, r, w, new, inl old) = rw (old, new) (grind arith)
+one_less Field p q (f, r, w, new, inr (wide, old)) = rw (old, new, wide) (grind arith)
+
+-- a part was taken
+pub part_taken : (due : Due) (n : ℕ) (p q : Parts) (fs : List Frame) → Takes due p q → work (frame_of n q ∷ fs) < work (frame_of n p ∷ fs)
+unfolding work
+part_taken due n p q fs taken =
+    rw (one_less due p q taken) (let some = cost_some n in omega (arith, some))
+
+-- a container was closed
+pub closed_falls : (f g : Frame) (fs : List Frame) → work (g ∷ fs) < work (f ∷ g ∷ fs)
+unfolding work
+closed_falls f g fs = omega arith
+
+few_parts : (p : Parts) → IsSmall p → parts_left p ≤ 2 ^ 129
+few_parts (Items k) h = omega (arith, h)
+few_parts (Entries k) h = omega (arith, h)
+few_parts (Rows f r w) h =
+    let m : r * w ≤ 2 ^ 64 * 2 ^ 64 = grind (arith, mul-le-mul_left) in
+    omega (arith, m, h.0)
+
+-- a container was opened
+pub opened_falls : (due : Due) (n m : ℕ) (p q i : Parts) (fs : List Frame) → Takes due p q → n ≡ suc m → IsSmall i
+    → work (frame_of m i ∷ frame_of n q ∷ fs) < work (frame_of n p ∷ fs)
+unfolding work cost
+opened_falls due n m p q i fs taken deeper small =
+    rw (one_less due p q taken, deeper)
+    (let some = cost_some m in
+    let most : parts_left i * cost m ≤ 2 ^ 129 * cost m = grind (arith, mul-le-mul_left, few_parts i small) in
+    omega (arith, some, most))
+
+-- each container has fewer levels inside than the one around it, and small counts
+abbrev pub Deep : ℕ → List Frame → Type 0
+Deep levels [] = Unit {0}
+Deep levels (f ∷ fs) = (length fs + f.levels ≤ levels) × IsSmall f.parts × Deep levels fs
+
+-- ---- a list of frames, the last being the innermost but one
+
+pub pushed : (all fs : List Frame) (f : Frame) → all ≡ fs ++ f ∷ [] → reverse all ≡ f ∷ reverse fs
+pushed all fs f e = ap reverse e ∙ reverse-append fs (f ∷ [])
+
+pub none_left : (all fs : List Frame) (n : ℕ) → all ≡ fs ++ [] → fs ≡ take (n - 1) all → n ≡ 0 → reverse all ≡ []
+none_left all fs n whole rest last =
+    let no_rest : fs ≡ [] = rest ∙ ap (λ k. take (k - 1) all) last in
+    ap reverse (whole ∙ ap (λ l. l ++ []) no_rest)
+
+-- the container around the innermost
+pub deep_popped : (levels : ℕ) (f g : Frame) (fs all : List Frame) → all ≡ g ∷ fs → Deep levels (f ∷ all) → Deep levels (g ∷ fs)
+deep_popped levels f g fs all around deep = subst (Deep levels) around deep.2
+
+pub popped_falls : (f g : Frame) (fs all : List Frame) → all ≡ g ∷ fs → work (g ∷ fs) < work (f ∷ all)
+popped_falls f g fs all around = subst (λ l. work (g ∷ fs) < work (f ∷ l)) (sym around) (closed_falls f g fs)
+
+-- a part was taken
+pub deep_taken : (levels n : ℕ) (p q : Parts) (fs : List Frame) → (IsSmall p → IsSmall q) → Deep levels (frame_of n p ∷ fs) → Deep levels (frame_of n q ∷ fs)
+deep_taken levels n p q fs small deep = (deep.0, small deep.1, deep.2)
+
+-- a container was opened
+pub deep_pushed : (levels n : ℕ) (p q : Parts) (o : Option Frame) (f : Frame) (fs all : List Frame) → all ≡ frame_of n q ∷ fs → o ≡ Some f → IsInside n o → (IsSmall p → IsSmall q)
+    → Deep levels (frame_of n p ∷ fs) → Deep levels (f ∷ all)
+deep_pushed levels n p q o f fs all around is inside small deep =
+    let i = subst (IsInside n) is inside in
+    subst (λ l. Deep levels (f ∷ l)) (sym around) (omega (arith, i.0, deep.0), i.1, (deep.0, small deep.1, deep.2))
+
+pub pushed_falls : (due : Due) (n : ℕ) (p q : Parts) (o : Option Frame) (f : Frame) (fs all : List Frame) → all ≡ frame_of n q ∷ fs → o ≡ Some f → IsInside n o → Takes due p q
+    → work (f ∷ all) < work (frame_of n p ∷ fs)
+pushed_falls due n p q o f fs all around is inside taken =
+    let i = subst (IsInside n) is inside in
+    subst (λ l. work (f ∷ l) < work (frame_of n p ∷ fs)) (sym around) (opened_falls due n f.levels p q f.parts fs taken i.0 i.1)

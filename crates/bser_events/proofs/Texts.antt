@@ -1,0 +1,152 @@
+-- Strings and keys that are read and told.
+use Rattle.std.proofs.Common.{◌≡◌, ℕ, Bool, true, false, cond, List, [], ◌∷◌, ◌++◌, length, take, drop, refl, sym, ap, subst, ◌∙◌, arith, inl, inr, IsUtf8}
+use Rattle.std.specs.Str.{is_utf8}
+use Rattle.std.proofs.lemmas.Str.{IsUtf8-from_is_utf8, is_utf8-from_IsUtf8}
+use Rattle.std.proofs.lemmas.Bool.{ne_eqb}
+use Rattle.bser_format.specs.declared.errors.Error.{Error}
+use Rattle.bser_format.specs.declared.errors.Error.TheVariants.{DeInvalidStartByte}
+use Rattle.bser_format.specs.declared.errors.Kind.{Kind}
+use Rattle.bser_named.specs.Named.{Answer, reads, refuses, and_then, give, refuse, front, string, utf8, utf8_wanted, text_of}
+use Rattle.bser_read.specs.Window.{Window, Filled, Took, consumed, closed}
+use Rattle.bser_read.proofs.Windows.{took_then, took_filled}
+use Rattle.bser_bunser.specs.Refusal.{Fails}
+use Rattle.bser_bunser.specs.Names.{Names}
+use Rattle.bser_bunser.specs.Tagged.{TookCounted, TookSome}
+use Rattle.bser_bunser.proofs.Names.{blames_more, names_untaken, names_taken, names_rejected}
+use Rattle.bser_bunser.proofs.Readers.{front_there, string_there}
+use Rattle.bser_bunser.proofs.Refusals.{fails_untaken}
+use Rattle.bser_events.specs.Events as events
+use Rattle.bser_events.specs.Events.{Event}
+use Rattle.bser_events.specs.Found.{Found, IsStringTag, TookKeyTag, Refuses, text_bytes}
+use Rattle.bser_events.proofs.Takings.{takes_one}
+use Rattle.bser_events.proofs.Begins.{nothing_refused}
+
+-- ---- texts
+
+utf8_reads : (s x : List ℕ) → IsUtf8 s → utf8 s x ≡ reads s x
+utf8_reads s x is = ap (λ c. cond c (give s) (refuse utf8_wanted) x) (is_utf8-from_IsUtf8 s is)
+
+utf8_refuses : (s x : List ℕ) → (IsUtf8 s → ⊥) → utf8 s x ≡ refuses utf8_wanted
+utf8_refuses s x never = go (is_utf8 s) refl
+  where
+    go : (c : Bool) → is_utf8 s ≡ c → utf8 s x ≡ refuses utf8_wanted
+    go true e = absurd (never (IsUtf8-from_is_utf8 s e))
+    go false e = ap (λ c. cond c (give s) (refuse utf8_wanted) x) e
+
+pub text_found : {B : Type 0} (takes : B → Event → B → Type 0) (n : ℕ) (s given t : List ℕ) (a b c : Window) (before after : B)
+    → length s ≡ n → Took a b s → given ≡ s → t ≡ given → IsUtf8 given → c ≡ b → takes before (events.text t) after
+    → Found takes (text_bytes n) (λ u. events.text u ∷ []) a c before after
+text_found takes n s given t a b c before after len took lent same is end told = record {
+  text = s;
+  value = s;
+  took = subst (λ w. Took a w s) (sym end) took;
+  passes = λ x. ap (and_then utf8) (front_there n s len x) ∙ utf8_reads s x (subst (λ u. IsUtf8 u) lent is);
+  told = takes_one takes before after (events.text s) (subst (λ u. takes before (events.text u) after) (same ∙ lent) told);
+}
+
+pub text_refused : (n : ℕ) (s given : List ℕ) (a b : Window) → length s ≡ n → Took a b s → given ≡ s → (IsUtf8 given → ⊥) → Names (text_bytes n) utf8_wanted a
+text_refused n s given a b len took lent never =
+    names_taken (text_bytes n) utf8_wanted a b s
+    (λ x. ap (and_then utf8) (front_there n s len x) ∙ utf8_refuses s x (λ is. never (subst (λ u. IsUtf8 u) (sym lent) is))) took
+
+-- ---- byte strings
+
+pub bytes_found : {B : Type 0} (takes : B → Event → B → Type 0) (n : ℕ) (s given : List ℕ) (a b c : Window) (before after : B)
+    → length s ≡ n → Took a b s → given ≡ s → c ≡ b → takes before (events.bytes given) after → Found takes (front n) (λ u. events.bytes u ∷ []) a c before after
+bytes_found takes n s given a b c before after len took lent end told = record {
+  text = s;
+  value = s;
+  took = subst (λ w. Took a w s) (sym end) took;
+  passes = front_there n s len;
+  told = takes_one takes before after (events.bytes s) (subst (λ u. takes before (events.bytes u) after) lent told);
+}
+
+-- bytes that were passed over
+pub bytes_passed : {B : Type 0} (takes : B → Event → B → Type 0) (n : ℕ) (a b : Window) (before after : B)
+    → TookSome n a b → ((s : List ℕ) → length s ≡ n → takes before (events.bytes s) after) → Found takes (front n) (λ u. events.bytes u ∷ []) a b before after
+bytes_passed takes n a b before after some told = bytes_found takes n some.text some.text a b b before after some.len some.took refl refl (told some.text some.len)
+
+-- ---- keys
+
+after_tag : (kind : Kind) (tag : ℕ) (P : Answer (List ℕ) → Type 0) (x : List ℕ) → IsStringTag tag
+    → P (and_then utf8 (string x)) → P (and_then utf8 (and_then utf8 (string x))) → P (text_of kind (tag ∷ x))
+after_tag kind tag P x (inl is) plain text = subst (λ t. P (text_of kind (t ∷ x))) (sym is) plain
+after_tag kind tag P x (inr is) plain text = subst (λ t. P (text_of kind (t ∷ x))) (sym is) text
+
+-- the tag was taken
+pub tag_taken : (tag : ℕ) (a b c : Window) → IsStringTag tag → Filled 1 a b → b.buffered ≡ tag ∷ drop 1 b.buffered → c ≡ consumed 1 b → TookKeyTag a c
+tag_taken tag a b c either filled first end = record {
+  tag = tag;
+  either = either;
+  took = subst (λ w. Took a w (tag ∷ [])) (sym end) (subst (Took a (consumed 1 b)) (ap (take 1) first) (took_filled 1 a b filled));
+}
+
+pub key_found : {B : Type 0} (takes : B → Event → B → Type 0) (kind : Kind) (s given t : List ℕ) (a m b c : Window) (before after : B)
+    → TookKeyTag a m → TookCounted m b s → given ≡ s → t ≡ given → IsUtf8 given → c ≡ b → takes before (events.key t) after
+    → Found takes (text_of kind) (λ u. events.key u ∷ []) a c before after
+key_found takes kind s given t a m b c before after tagged counted lent same is end told =
+    let utf8_is : IsUtf8 s = subst (λ u. IsUtf8 u) lent is in
+    record {
+      text = (tagged.tag ∷ []) ++ counted.text;
+      value = s;
+      took = subst (λ w. Took a w ((tagged.tag ∷ []) ++ counted.text)) (sym end) (took_then a m b (tagged.tag ∷ []) counted.text tagged.took counted.took);
+      passes = λ x.
+          let one = ap (and_then utf8) (string_there s counted.text counted.spelled x) ∙ utf8_reads s x utf8_is in
+          after_tag kind tagged.tag (λ o. o ≡ reads s x) (counted.text ++ x) tagged.either one (ap (and_then utf8) one ∙ utf8_reads s x utf8_is);
+      told = takes_one takes before after (events.key s) (subst (λ u. takes before (events.key u) after) (same ∙ lent) told);
+    }
+
+-- the string is refused
+pub key_names : (kind : Kind) (e : Error) (a m : Window) → TookKeyTag a m → Names string e m → Names (text_of kind) e a
+key_names kind e a m tagged names =
+    names_untaken (text_of kind) (λ x. text_of kind (tagged.tag ∷ x)) e a m (tagged.tag ∷ []) (λ x. refl) tagged.took
+    (blames_more (λ x. string x ≡ refuses e) _ e m
+    (λ x p. after_tag kind tagged.tag (λ o. o ≡ refuses e) x tagged.either (ap (and_then utf8) p) (ap (λ o. and_then utf8 (and_then utf8 o)) p))
+    names)
+
+-- the bytes are not UTF-8
+pub key_refused : (kind : Kind) (s given : List ℕ) (a m b : Window) → TookKeyTag a m → TookCounted m b s → given ≡ s → (IsUtf8 given → ⊥) → Names (text_of kind) utf8_wanted a
+key_refused kind s given a m b tagged counted lent never =
+    names_untaken (text_of kind) (λ x. text_of kind (tagged.tag ∷ x)) utf8_wanted a m (tagged.tag ∷ []) (λ x. refl) tagged.took
+    (names_taken (λ x. text_of kind (tagged.tag ∷ x)) utf8_wanted m b counted.text
+    (λ x.
+    let one = ap (and_then utf8) (string_there s counted.text counted.spelled x) ∙ utf8_refuses s x (λ is. never (subst (λ u. IsUtf8 u) (sym lent) is)) in
+    after_tag kind tagged.tag (λ o. o ≡ refuses utf8_wanted) (counted.text ++ x) tagged.either one (ap (and_then utf8) one))
+    counted.took)
+
+-- no string begins so
+pub tag_names : (kind : Kind) (tag : ℕ) (a b : Window) → Filled 1 a b → b.buffered ≡ tag ∷ drop 1 b.buffered → (IsStringTag tag → ⊥)
+    → Names (text_of kind) (DeInvalidStartByte kind tag) a
+tag_names kind tag a b filled first never =
+    names_rejected (text_of kind) 1 (DeInvalidStartByte kind tag) a b filled.grown
+    (record {
+      some = omega (arith, filled.enough);
+      name = λ more. ap (λ l. text_of kind (l ++ more)) first ∙ rw (ne_eqb tag 0x02 (λ e. never (inl e)), ne_eqb tag 0x0d (λ e. never (inr e))) refl;
+    })
+
+-- no byte is there
+pub nothing_names : (kind : Kind) (e : Error) (a : Window) → Names (front 1) e a → Names (text_of kind) e a
+nothing_names kind e a h = blames_more (λ x. front 1 x ≡ refuses e) (λ x. text_of kind x ≡ refuses e) e a early h
+  where
+    early : (x : List ℕ) → front 1 x ≡ refuses e → text_of kind x ≡ refuses e
+    early [] h = h
+    early (c ∷ y) h = absurd (nothing_refused c y e h)
+
+-- what follows a key's tag is refused
+pub string_refused : (wants : Type 0) (kind : Kind) (e : Error) (a m c : Window) → TookKeyTag a m → Fails e m c → Names string e m → Refuses wants (text_of kind) e a c
+string_refused wants kind e a m c tagged fails names = record {
+  fails = fails_untaken e a m c (tagged.tag ∷ []) tagged.took fails;
+  name = inl (key_names kind e a m tagged names);
+}
+
+pub bytes_refused : (wants : Type 0) (kind : Kind) (s given : List ℕ) (e : Error) (a m b c : Window) → TookKeyTag a m → TookCounted m b s → given ≡ s
+    → (IsUtf8 given → ⊥) → e ≡ utf8_wanted → c ≡ closed b → Refuses wants (text_of kind) e a c
+bytes_refused wants kind s given e a m b c tagged counted lent never is end =
+    subst (λ z. Refuses wants (text_of kind) z a c) (sym is) (subst (λ z. Refuses wants (text_of kind) utf8_wanted a z) (sym end) (record {
+      fails = fails_untaken utf8_wanted a m (closed b) (tagged.tag ∷ []) tagged.took
+          (fails_untaken utf8_wanted m b (closed b) counted.text counted.took (closed_fails b counted.took.failed));
+      name = inl (key_refused kind s given a m b tagged counted lent never);
+    }))
+  where
+    closed_fails : (w : Window) → w.failed ≡ false → Fails utf8_wanted w (closed w)
+    closed_fails w works = record { before = λ old. absurd cc; failed = refl; lends = refl; through = refl; failures = refl }

@@ -1,0 +1,126 @@
+-- What a call that reads and tells came to.
+use Rattle.std.specs.Prelude.{◌≡◌, ◌⊎◌, ℕ, zero, suc, List, [], ◌∷◌, ◌++◌, Option, Some, None, ◌==◌, if◌then◌else◌, ⊤, drop}
+use Rattle.bser_format.specs.Tree.{Tree, fields_of}
+use Rattle.bser_format.specs.declared.errors.Error.{Error}
+use Rattle.bser_format.specs.declared.errors.Error.TheVariants.{OutOfMemory, DeRecursionLimitExceeded}
+use Rattle.bser_format.specs.declared.errors.Kind.TheVariants as kinds
+use Rattle.bser_named.specs.Named.{Reader, reads, refuse, and_then, give, ◌>>=◌, next, front, utf8, text_of, field_of, many, with_text_keys}
+use Rattle.bser_named.specs.DueReaders.{less_one}
+use Rattle.bser_read.specs.Window.{Window, Filled, Took}
+use Rattle.bser_bunser.specs.Refusal.{Fails}
+use Rattle.bser_bunser.specs.Names.{Names}
+use Rattle.bser_bunser.specs.Tokens.{token, token_after, after_token}
+use Rattle.bser_bunser.specs.declared.prefix.Token.{Token}
+use Rattle.bser_bunser.specs.declared.prefix.Token.TheVariants as tokens
+use Rattle.bser_events.specs.Events.{Event, key, TakesAll, events, field_events, close}
+use Rattle.bser_events.specs.Frames.{Left, parts_of, Fits, left_events, IsSmall}
+use Rattle.bser_events.specs.declared.frame.Due.{Due}
+use Rattle.bser_events.specs.declared.frame.Due.TheVariants.{Entry}
+use Rattle.bser_events.specs.declared.frame.Frame.{Frame}
+
+-- ---- plain readers
+
+-- the bytes of a text
+abbrev pub text_bytes : ℕ → Reader (List ℕ)
+text_bytes n = front n >>= utf8
+
+-- so many fields of a row, each with n levels left
+abbrev pub fields_at : ℕ → ℕ → Reader (List (Option Tree))
+fields_at n k = many (field_of (with_text_keys n)) k
+
+-- so many keys of a template
+abbrev pub keys_at : ℕ → Reader (List (List ℕ))
+keys_at k = many (text_of kinds.TemplateKey) k
+
+-- what follows a template's tag, with n levels left for what its rows hold
+abbrev pub table_at : ℕ → Reader Tree
+table_at n = after_token (text_of kinds.MapKey) n tokens.Template
+
+-- the events of a row's fields
+abbrev pub told_of_fields : List (Option Tree) → List Event
+told_of_fields fs = field_events (fields_of fs)
+
+-- a token after its tag, where no level is left
+abbrev pub leaf_after : ℕ → Reader Token
+leaf_after tag =
+    if tag == 0x00 then refuse (DeRecursionLimitExceeded kinds.Array)
+    else if tag == 0x01 then refuse (DeRecursionLimitExceeded kinds.Object)
+    else if tag == 0x0b then refuse (DeRecursionLimitExceeded kinds.Template)
+    else token_after tag
+
+-- a token, where n levels are left
+abbrev pub token_at : ℕ → Reader Token
+token_at zero = next >>= leaf_after
+token_at (suc n) = token
+
+-- what follows a token where a value begins with n levels left
+abbrev pub value_rest : ℕ → Token → Reader Tree
+value_rest n t = after_token (text_of kinds.MapKey) (less_one n) t
+
+-- the token opens a container
+abbrev pub IsContainer : Token → Type 0
+IsContainer (tokens.Array n) = Unit {0}
+IsContainer (tokens.Object n) = Unit {0}
+IsContainer tokens.Template = Unit {0}
+IsContainer _ = ⊥
+
+-- no container's tag stands at the front
+pub record LeafAhead (old new : Window) : Type 0 where
+  pub tag : ℕ
+  pub filled : Filled 1 old new
+  pub next : new.buffered ≡ tag ∷ drop 1 new.buffered
+  pub no_array : tag ≡ 0x00 → ⊥
+  pub no_object : tag ≡ 0x01 → ⊥
+  pub no_template : tag ≡ 0x0b → ⊥
+
+-- a string has this tag
+abbrev pub IsStringTag : ℕ → Type 0
+IsStringTag tag = (tag ≡ 0x02) ⊎ (tag ≡ 0x0d)
+
+-- a string's tag was taken
+pub record TookKeyTag (old new : Window) : Type 0 where
+  pub tag : ℕ
+  pub either : IsStringTag tag
+  pub took : Took old new (tag ∷ [])
+
+-- ---- what was found
+
+-- what the plain reader reads was taken, and its events were told
+pub record Found {X B : Type 0} (takes : B → Event → B → Type 0) (r : Reader X) (told_of : X → List Event) (old new : Window) (before after : B) : Type 0 where
+  pub text : List ℕ
+  pub value : X
+  pub took : Took old new text
+  pub passes : (x : List ℕ) → r (text ++ x) ≡ reads value x
+  pub told : TakesAll takes before (told_of value) after
+
+-- a container was opened: the parts that are left of it are read, and make the tree
+pub record Opened {B : Type 0} (takes : B → Event → B → Type 0) (r : Reader Tree) (f : Frame) (old new : Window) (before after : B) : Type 0 where
+  pub text : List ℕ
+  pub begun : List Event
+  pub tree : Left f.parts → Tree
+  pub took : Took old new text
+  pub continues : (x : List ℕ) → r (text ++ x) ≡ and_then (λ l. give (tree l)) (parts_of f.levels f.parts x)
+  pub whole : (l : Left f.parts) → Fits f.parts l → events (tree l) ≡ begun ++ (left_events f.parts l ++ close ∷ [])
+  pub told : TakesAll takes before begun after
+
+-- a value was read, or a container of these parts was opened
+abbrev pub FoundOrOpened : {B : Type 0} → (B → Event → B → Type 0) → Reader Tree → Window → Window → B → B → Option Frame → Type 0
+FoundOrOpened takes r old new before after None = Found takes r events old new before after
+FoundOrOpened takes r old new before after (Some f) = Opened takes r f old new before after
+
+-- the levels inside, and the parts, of a container that was opened
+abbrev pub IsInside : ℕ → Option Frame → Type 0
+IsInside levels None = ⊤
+IsInside levels (Some f) = (levels ≡ suc f.levels) × IsSmall f.parts
+
+-- a key was found, where an entry is due, and else nothing changed
+abbrev pub KeyFound : {B : Type 0} → (B → Event → B → Type 0) → Due → Window → Window → B → B → Type 0
+KeyFound takes Entry old new before after = Found takes (text_of kinds.MapKey) (λ s. key s ∷ []) old new before after
+KeyFound takes _ old new before after = (new ≡ old) × (after ≡ before)
+
+-- ---- what was refused
+
+-- the plain reader's name of the refusal, or want of memory on this condition
+pub record Refuses {X : Type 0} (wants : Type 0) (r : Reader X) (e : Error) (old new : Window) : Type 0 where
+  pub fails : Fails e old new
+  pub name : Names r e old ⊎ ((e ≡ OutOfMemory) × wants)

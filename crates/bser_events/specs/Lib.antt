@@ -1,0 +1,4 @@
+pub mod Events
+pub mod Told
+pub mod Frames
+pub mod Found

@@ -1,0 +1,82 @@
+//! What is still wanted of the containers that are open.
+ghost use Rattle.bser_events.specs.Frames.{CountsDown, IsSmall};
+
+/// The parts of a container that are still wanted.
+#[derive(Clone, Copy)]
+pub enum Parts {
+    /// So many items of an array.
+    Items(usize),
+    /// So many entries of an object.
+    Entries(usize),
+    /// The rest of a template.
+    Rows {
+        /// How many fields are wanted of the row in work.
+        fields: usize,
+        /// How many rows are wanted after it.
+        rows: usize,
+        /// How many fields each of these has.
+        width: usize,
+    },
+}
+
+/// An open container.
+#[derive(Clone, Copy)]
+pub struct Frame {
+    /// How many levels are left inside.
+    pub levels: usize,
+    /// What is still wanted of it.
+    pub parts: Parts,
+}
+
+/// What is due.
+#[derive(Clone, Copy)]
+pub enum Due {
+    /// A value.
+    Item,
+    /// A key, and then a value.
+    Entry,
+    /// A value, or a skip.
+    Field,
+}
+
+impl Parts {
+    /// Counts the next part down. None where none is left.
+    #[inline(always)]
+    pub fn next(&mut self) -> Option<Due>
+        ensures counted { CountsDown self.old self.new result }
+        ensures small { IsSmall self.old → IsSmall self.new }
+    {
+        match self {
+            Parts::Items(len) => {
+                if *len == 0 {
+                    return None;
+                }
+                *len -= 1;
+                Some(Due::Item)
+            }
+            Parts::Entries(len) => {
+                if *len == 0 {
+                    return None;
+                }
+                *len -= 1;
+                Some(Due::Entry)
+            }
+            Parts::Rows {
+                fields,
+                rows,
+                width,
+            } => {
+                if *fields != 0 {
+                    *fields -= 1;
+                    return Some(Due::Field);
+                }
+                if *rows == 0 || *width == 0 {
+                    return None;
+                }
+                *rows -= 1;
+                *fields = *width - 1;
+                Some(Due::Field)
+            }
+        }
+    }
+}

@@ -1,0 +1,10 @@
+//! Reading one value by one loop, told to a builder event by event.
+#![tactic(auto)]
+
+pub mod builder;
+pub mod event;
+pub mod frame;
+mod heads;
+mod parts;
+pub mod reading;
+mod strings;

@@ -1,0 +1,158 @@
+//! What follows a token where a value begins.
+ghost use Rattle.std.specs.Prelude.{◌≡◌, ◌≢◌, ◌<◌, true, false, MatchBool, IfOk, OnOk, OnErr};
+ghost use Rattle.bser_bunser.specs.Tagged.{bunser_window, refusal_of};
+ghost use Rattle.bser_bunser.specs.Tokens.{LengthFits};
+ghost use Rattle.bser_events.specs.Events.{key_events};
+ghost use Rattle.bser_events.specs.Frames.{IsSmall};
+ghost use Rattle.bser_events.specs.Found.{
+  Found,
+  Opened,
+  FoundOrOpened,
+  IsInside,
+  IsContainer,
+  Refuses,
+  keys_at,
+  table_at,
+  value_rest,
+};
+
+use crate::builder::Builder;
+use crate::event::Event;
+use crate::frame::{Frame, Parts};
+use crate::heads::{refuse_level, refuse_rows, refuse_tag, tell};
+use crate::strings::{read_bytes, read_key, read_text};
+use bser_bunser::bunser::Bunser;
+use bser_bunser::prefix::Token;
+use bser_bunser::refusal::Answer;
+use bser_format::errors::Kind;
+use bser_format::header::{BSER_ARRAY, BSER_SKIP};
+use bser_read::read::DeRead;
+
+/// Reads what follows a token where a value begins, and tells it. Answers the container that it
+/// opens, of which the parts are left.
+#[inline(always)]
+pub fn read_after<R: DeRead, B: Builder>(
+    bunser: &mut Bunser<R>,
+    token: Token,
+    levels: usize,
+    scratch: &mut Vec<u8>,
+    builder: &mut B,
+) -> Answer<Option<Frame>>
+    requires working { (bunser_window R.window bunser.old).failed ≡ false }
+    requires fits { LengthFits token }
+    requires level { IsContainer token → 0 < levels }
+    ensures ok { IfOk result (λ f. FoundOrOpened B.takes (value_rest levels token)
+        (bunser_window R.window bunser.old) (bunser_window R.window bunser.new)
+        builder.old builder.new f) }
+    ensures inside { IfOk result (λ f. IsInside levels f) }
+    ensures err { OnErr result (Refuses (B.memory ≡ true) (value_rest levels token)
+        (refusal_of bunser.new)
+        (bunser_window R.window bunser.old) (bunser_window R.window bunser.new)) }
+{
+    match token {
+        Token::Null => tell(bunser, builder, Event::Null)?,
+        Token::Bool(value) => tell(bunser, builder, Event::Bool(value))?,
+        Token::Int(number) => tell(bunser, builder, Event::Int(number))?,
+        Token::Real(bits) => tell(bunser, builder, Event::Real(bits))?,
+        Token::Str { is_text, len } => {
+            if is_text {
+                read_text(bunser, len, scratch, builder)?;
+            } else {
+                read_bytes(bunser, len, scratch, builder)?;
+            }
+        }
+        Token::Array { len } => {
+            tell(bunser, builder, Event::Array { len })?;
+            return Ok(Some(Frame {
+                levels: levels - 1,
+                parts: Parts::Items(len),
+            }));
+        }
+        Token::Object { len } => {
+            tell(bunser, builder, Event::Object { len })?;
+            return Ok(Some(Frame {
+                levels: levels - 1,
+                parts: Parts::Entries(len),
+            }));
+        }
+        Token::Template => {
+            let frame = read_table(bunser, levels - 1, scratch, builder)?;
+            return Ok(Some(frame));
+        }
+        Token::Skip => return Err(refuse_tag(bunser, Kind::NextItem, BSER_SKIP)),
+    }
+    Ok(None)
+}
+
+/// Reads a template's list of keys and the count of its rows, and tells them.
+#[inline(never)]
+fn read_table<R: DeRead, B: Builder>(
+    bunser: &mut Bunser<R>,
+    levels: usize,
+    scratch: &mut Vec<u8>,
+    builder: &mut B,
+) -> Answer<Frame>
+    ensures ok { IfOk result (λ f. Opened B.takes (table_at levels) f
+        (bunser_window R.window bunser.old) (bunser_window R.window bunser.new)
+        builder.old builder.new) }
+    ensures inside { IfOk result (λ f. f.levels ≡ levels) }
+    ensures small { IfOk result (λ f. IsSmall f.parts) }
+    ensures err { OnErr result (Refuses (B.memory ≡ true) (table_at levels)
+        (refusal_of bunser.new)
+        (bunser_window R.window bunser.old) (bunser_window R.window bunser.new)) }
+{
+    bunser.fill(1)?;
+    let byte = bunser.buffered()[0];
+    if byte != BSER_ARRAY {
+        return Err(refuse_tag(bunser, Kind::TemplateKeys, byte));
+    }
+    if levels == 0 {
+        return Err(refuse_level(bunser, Kind::Array));
+    }
+    bunser.consume(1);
+    let width = bunser.count()?;
+    tell(bunser, builder, Event::Template { len: width })?;
+    read_keys(bunser, width, scratch, builder)?;
+    let rows = bunser.count()?;
+    if lacks_keys(width, rows) {
+        return Err(refuse_rows(bunser));
+    }
+    tell(bunser, builder, Event::Rows { len: rows })?;
+    Ok(Frame {
+        levels,
+        parts: Parts::Rows {
+            fields: 0,
+            rows,
+            width,
+        },
+    })
+}
+
+/// Whether there are rows, and no key.
+#[inline(always)]
+fn lacks_keys(width: usize, rows: usize) -> bool
+    ensures { MatchBool result ((width ≡ 0) × (rows ≢ 0)) (width ≡ 0 → rows ≡ 0) }
+{
+    width == 0 && rows != 0
+}
+
+/// Reads so many keys of a template, and tells each.
+#[inline(always)]
+fn read_keys<R: DeRead, B: Builder>(
+    bunser: &mut Bunser<R>,
+    count: usize,
+    scratch: &mut Vec<u8>,
+    builder: &mut B,
+) -> Answer<()>
+    requires { (bunser_window R.window bunser.old).failed ≡ false }
+    ensures ok { OnOk result (Found B.takes (keys_at count) key_events
+        (bunser_window R.window bunser.old) (bunser_window R.window bunser.new)
+        builder.old builder.new) }
+    ensures err { OnErr result (Refuses (B.memory ≡ true) (keys_at count) (refusal_of bunser.new)
+        (bunser_window R.window bunser.old) (bunser_window R.window bunser.new)) }
+{
+    for _ in 0..count {
+        read_key(bunser, Kind::TemplateKey, scratch, builder)?;
+    }
+    Ok(())
+}
