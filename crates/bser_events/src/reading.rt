@@ -26,8 +26,8 @@ use bser_read::read::DeRead;
 /// `Error::DeRecursionLimitExceeded`, before its count is looked at. A builder that wants memory
 /// and gets none, a scratch over a reader and `frames` that do not grow are
 /// `Error::OutOfMemory`; `frames` with room for as many containers as there are levels need not
-/// grow. After a refusal each later call of `bunser` is refused, and what the builder took is a
-/// beginning of the value.
+/// grow. After a refusal each later call of `bunser` is refused, and no clause says what the
+/// builder is.
 ///
 /// `frames` and `scratch` are room for the reading, and what they held is dropped.
 pub fn read_value<R: DeRead, B: Builder>(

@@ -3,7 +3,7 @@ use Rattle.std.proofs.lemmas.List.{length-map}
 use Rattle.bser_due.specs.Fields.{field_of}
 use Rattle.bser_due.specs.State.{State}
 use Rattle.bser_deserializer.specs.View.{state}
-use Rattle.bser_deserializer.proofs.Strings.{name_taken, named_at, text_answer}
+use Rattle.bser_deserializer.proofs.Texts.{name_taken, named_at, text_answer}
 use Rattle.bser_types.proofs.Keys.{field_named}
 use Rattle.bser_types.proofs.map.take_field.Goals as goal
 
