@@ -4,3 +4,7 @@ pub mod Keys
 pub mod Options
 pub mod Pairs
 pub mod Taken
+pub mod Within
+pub mod Items
+pub mod Arrays
+pub mod Lists

@@ -1,0 +1,297 @@
+-- An array or a template that is read item by item.
+use Rattle.std.proofs.Common.{◌≡◌, ℕ, ◌-◌, ◌<◌, Bool, true, false, ◌||◌, List, [], ◌∷◌, ◌++◌, length, append_assoc, Option, Some, None, refl, sym, ap, subst, ◌∙◌, arith}
+use Rattle.std.proofs.lemmas.List.{append-nil}
+use Rattle.bser_format.specs.Tree.{Tree, array, Items, no_items, item, items}
+use Rattle.bser_format.specs.Grammar.{Format}
+use Rattle.bser_format.specs.Content.{Content, Meaning, Needs}
+use Rattle.bser_format.specs.Expected.{Fills, FillsItems, WantedItems, nodes, rows_over}
+use Rattle.bser_format.specs.declared.errors.Error.{Error}
+use Rattle.bser_format.specs.declared.errors.Error.TheVariants.{OutOfMemory}
+use Rattle.bser_named.specs.Clauses.{left_over}
+use Rattle.bser_read.specs.Window.{Window, Took, closed}
+use Rattle.bser_read.proofs.Windows.{took_then, left_took}
+use Rattle.bser_due.specs.State.{State, past, refused, awaiting}
+use Rattle.bser_due.specs.Reading.{Answers, Asking, NamesAsked, Refuses, RefusesFront, FillsReadably, IsRefusal, owned}
+use Rattle.bser_due.specs.Required.{LacksItem}
+use Rattle.bser_due.specs.Parts.{items_left, item_due, items_after, wanted_items}
+use Rattle.bser_due.specs.Access.{OpenItems, OpensItems, IsItemsHead, inside_items, items_in, IsNextItem, RefusesItem, ClosesItems, KeysOutside, LeavesItems, after_closing}
+use Rattle.bser_due.proofs.Refusals.{first_part, sequel, unfit}
+use Rattle.bser_types.proofs.Taken.{wider_needs, no_room}
+use Rattle.bser_types.proofs.Within.{Within, within_then, DueAs, due_as, one_due}
+use Rattle.bser_types.proofs.Items.{items_whole, items_only, items_begin}
+
+-- ---- the access's own calls
+
+pub left_items : (ks : List (List ℕ)) (rows : Bool) (k : ℕ) → items_left (wanted_items ks rows k) ≡ k
+left_items ks false k = refl
+left_items ks true k = refl
+
+-- one item fewer is left after the next
+pub fewer_left : {A : Type 0} (reads : Meaning) (holds : A → Content → Type 0) (u t : OpenItems) (v : A) → IsNextItem reads holds u t v → items_left t.wanted < items_left u.wanted
+fewer_left reads holds u t v next = at u.wanted t.wanted next.counted (ap (λ a. a.wanted) next.after)
+  where
+    at : (w x : WantedItems) → 0 < items_left w → x ≡ items_after w → items_left x < items_left w
+    at (nodes k) x some e = omega (arith, some, ap items_left e)
+    at (rows_over ks k) x some e = omega (arith, some, ap items_left e)
+
+-- an item is made due in a, read from there on to y, and passed
+pub item_read : {A : Type 0} (reads : Meaning) (holds : A → Content → Type 0) (u a t : OpenItems) (rows : Bool) (k : ℕ) (y : State) (v : A) → 0 < items_left u.wanted → a ≡ items_in u (awaiting (item_due u.wanted) u.state) u.wanted
+    → a.wanted ≡ wanted_items a.state.keys rows k → Answers reads holds a.state y v → t ≡ items_in a y (items_after (wanted_items y.keys rows k)) → IsNextItem reads holds u t v
+item_read reads holds u a t rows k y v some due wanted answers passed =
+    let same : y.keys ≡ a.state.keys = ap (λ z. z.keys) answers.state in
+    let left : wanted_items y.keys rows k ≡ u.wanted = ap (λ ks. wanted_items ks rows k) same ∙ sym wanted ∙ ap (λ z. z.wanted) due in
+    let state : t.state ≡ y = ap (λ z. z.state) passed in
+    record {
+      counted = some;
+      answers = subst (λ x. Answers reads holds x t.state v) (ap (λ z. z.state) due) (subst (λ x. Answers reads holds a.state x v) (sym state) answers);
+      after = passed ∙ ap (λ x. items_in x y (items_after (wanted_items y.keys rows k))) due ∙ ap (λ x. items_in u x (items_after (wanted_items y.keys rows k))) (sym state) ∙ ap (λ w. items_in u t.state (items_after w)) left;
+    }
+
+-- an item is made due in a, and refused in y
+pub item_unread : (reads : Meaning) (asks : Option (Asking reads)) (needs : Needs) (e : Error) (u a : OpenItems) (y : State) → (u.state.source.failed ≡ false → 0 < items_left u.wanted) → a ≡ items_in u (awaiting (item_due u.wanted) u.state) u.wanted
+    → Refuses reads asks needs e a.state y → RefusesItem reads asks needs e u y
+item_unread reads asks needs e u a y some due refuses = record {
+  counted = some;
+  refuses = subst (λ (x : State). Refuses reads asks needs e x y) (ap (λ (w : OpenItems). w.state) due) refuses;
+}
+
+-- ---- the items that are left
+
+-- the items still wanted, of which k makes c
+pub record ItemsLeft (k : List Tree → Option Content) (n : ℕ) (w : WantedItems) (c : Content) (text : List ℕ) : Type 0 where
+  pub parts : Items
+  pub filled : FillsItems n w parts text
+  pub read : k (items parts) ≡ Some c
+
+-- arrays alone are read, by k of their items
+pub record ReadsArrays (reads : Meaning) (k : List Tree → Option Content) : Type 0 where
+  pub same : (us : Items) → reads (array us) ≡ k (items us)
+  pub only : (t : Tree) (c : Content) → reads t ≡ Some c → (us : Items) × (t ≡ array us)
+
+-- the next item is read by T, and k goes on as `after`
+pub record ReadsNext (T : Meaning) (k : List Tree → Option Content) (after : Content → List Tree → Option Content) : Type 0 where
+  pub next : (t : Tree) (c : Content) (ts : List Tree) → T t ≡ Some c → k (t ∷ ts) ≡ after c ts
+  pub some : (t : Tree) (ts : List Tree) (c : Content) → k (t ∷ ts) ≡ Some c → (d : Content) × (T t ≡ Some d)
+
+-- an item, and then the others
+pub record FirstItem (n : ℕ) (w : WantedItems) (us : Items) (text : List ℕ) : Type 0 where
+  pub first : Tree
+  pub others : Items
+  pub parts : us ≡ item first others
+  pub front : List ℕ
+  pub rest : List ℕ
+  pub whole : text ≡ front ++ rest
+  pub filled : Fills n (item_due w) first front
+  pub left : FillsItems n (items_after w) others rest
+
+fills_first : (n : ℕ) (w : WantedItems) (us : Items) (text : List ℕ) → 0 < items_left w → FillsItems n w us text → FirstItem n w us text
+fills_first n (nodes k) no_items text some h = absurd (omega (arith, some, h.0))
+fills_first n (rows_over ks k) no_items text some h = absurd (omega (arith, some, h.0))
+fills_first n (nodes k) (item t us) text some h = record {
+  first = t;
+  others = us;
+  parts = refl;
+  front = h.1.front;
+  rest = h.1.rest;
+  whole = h.1.whole;
+  filled = h.1.first;
+  left = (omega (arith, h.0), h.1.second);
+}
+fills_first n (rows_over ks k) (item t us) text some h = record {
+  first = t;
+  others = us;
+  parts = refl;
+  front = h.1.front;
+  rest = h.1.rest;
+  whole = h.1.whole;
+  filled = h.1.first;
+  left = (omega (arith, h.0), h.1.second);
+}
+
+fills_more : (n : ℕ) (w : WantedItems) (t : Tree) (us : Items) (front rest : List ℕ) → 0 < items_left w → Fills n (item_due w) t front → FillsItems n (items_after w) us rest → FillsItems n w (item t us) (front ++ rest)
+fills_more n (nodes k) t us front rest some f h = (omega (arith, h.0, some), record { front = front; rest = rest; whole = refl; first = f; second = h.1 })
+fills_more n (rows_over ks k) t us front rest some f h = (omega (arith, h.0, some), record { front = front; rest = rest; whole = refl; first = f; second = h.1 })
+
+fills_none : (n : ℕ) (w : WantedItems) → items_left w ≡ 0 → FillsItems n w no_items []
+fills_none n (nodes k) e = (sym e, refl)
+fills_none n (rows_over ks k) e = (sym e, refl)
+
+some_left : (n : ℕ) (w : WantedItems) (us : Items) (text : List ℕ) → FillsItems n w us text → length (items us) ≡ items_left w
+some_left n (nodes k) us text h = h.0
+some_left n (rows_over ks k) us text h = h.0
+
+no_length : {X : Type 0} (xs : List X) → length xs ≡ 0 → xs ≡ []
+no_length [] e = refl
+no_length (x ∷ xs) e = absurd (omega (arith, e))
+
+-- one item was taken
+item_step : (T : Meaning) (k : List Tree → Option Content) (after : Content → List Tree → Option Content) (n : ℕ) (w : WantedItems) (t : Tree) (d : Content) (text : List ℕ) → ReadsNext T k after → 0 < items_left w
+    → Fills n (item_due w) t text → T t ≡ Some d → Within (ItemsLeft k n w) (ItemsLeft (after d) n (items_after w)) text
+item_step T k after n w t d text by some filled read = record {
+  whole = λ c more v. record { parts = item t v.parts; filled = fills_more n w t v.parts text more some filled v.filled; read = by.next t d (items v.parts) read ∙ v.read };
+  only = λ c all rest ys v e.
+      let f = fills_first n w v.parts all some v.filled in
+      let same : f.front ++ (f.rest ++ rest) ≡ text ++ ys = sym (append_assoc f.front f.rest rest) ∙ ap (λ l. l ++ rest) (sym f.whole) ∙ e in
+      let one = one_due n (item_due w) f.first t f.front text (f.rest ++ rest) ys f.filled filled same in
+      let read' : k (t ∷ items f.others) ≡ Some c = ap (λ u. k (u ∷ items f.others)) (sym one.1) ∙ ap (λ us. k (items us)) (sym f.parts) ∙ v.read in
+      (f.rest, f.whole ∙ ap (λ l. l ++ f.rest) one.0, record { parts = f.others; filled = f.left; read = sym (by.next t d (items f.others) read) ∙ read' });
+}
+
+-- ---- an open array
+
+-- how an array that was opened in the state o stands: k makes of the items that are left what the whole reads as
+pub record Inside (reads : Meaning) (o : State) (k : List Tree → Option Content) (u : OpenItems) : Type 0 where
+  pub taken : List ℕ
+  pub within : Within (DueAs reads o) (ItemsLeft k (o.levels - 1) u.wanted) taken
+  pub took : Took o.source u.state.source taken
+  pub state : u.state ≡ inside_items u.wanted o u.state.source
+  pub levels : u.levels ≡ o.levels
+  pub opened : u.opened ≡ o.opened
+
+pub inside_start : (reads : Meaning) (k : List Tree → Option Content) (o : State) (u : OpenItems) → ReadsArrays reads k → OpensItems o u → Inside reads o k u
+inside_start reads k o u by opens = record {
+  taken = opens.text;
+  within = record {
+    whole = λ c more v. record { tree = array v.parts; filled = items_whole o.levels o.due u.wanted v.parts opens.text more opens.head v.filled; read = by.same v.parts ∙ v.read };
+    only = λ c text rest ys d e.
+        let p = by.only d.tree c d.read in
+        let q = items_only o.levels o.due u.wanted p.0 opens.text text rest ys opens.head (subst (λ t. Fills o.levels o.due t text) p.1 d.filled) e in
+        (q.0, q.1, record { parts = p.0; filled = q.2; read = sym (by.same p.0) ∙ ap reads (sym p.1) ∙ d.read });
+  };
+  took = opens.took;
+  state = opens.state;
+  levels = opens.levels;
+  opened = opens.opened;
+}
+
+levels_inside : (w : WantedItems) (o : State) (r : Window) → (inside_items w o r).levels ≡ o.levels - 1
+levels_inside (nodes k) o r = refl
+levels_inside (rows_over ks k) o r = refl
+
+past_item : (w : WantedItems) (o : State) (r x : Window) → past (awaiting (item_due w) (inside_items w o r)) x ≡ inside_items (items_after w) o x
+past_item (nodes k) o r x = refl
+past_item (rows_over ks k) o r x = refl
+
+pub inside_next : {A : Type 0} (T : Meaning) (holds : A → Content → Type 0) (reads : Meaning) (k : List Tree → Option Content) (after : Content → List Tree → Option Content) (o : State) (u t : OpenItems) (v : A)
+    → ReadsNext T k after → Inside reads o k u → (next : IsNextItem T holds u t v) → Inside reads o (after next.answers.content) t
+inside_next T holds reads k after o u t v by h next =
+    let a = next.answers in
+    let level : u.state.levels ≡ o.levels - 1 = ap (λ z. z.levels) h.state ∙ levels_inside u.wanted o u.state.source in
+    let filled : Fills (o.levels - 1) (item_due u.wanted) a.tree a.text = subst (λ n. Fills n (item_due u.wanted) a.tree a.text) level a.filled in
+    let wanted : t.wanted ≡ items_after u.wanted = ap (λ z. z.wanted) next.after in
+    let step = item_step T k after (o.levels - 1) u.wanted a.tree a.content a.text by next.counted filled a.read in
+    record {
+      taken = h.taken ++ a.text;
+      within = subst (λ w. Within (DueAs reads o) (ItemsLeft (after a.content) (o.levels - 1) w) (h.taken ++ a.text)) (sym wanted)
+          (within_then (DueAs reads o) (ItemsLeft k (o.levels - 1) u.wanted) (ItemsLeft (after a.content) (o.levels - 1) (items_after u.wanted)) h.taken a.text h.within step);
+      took = took_then o.source u.state.source t.state.source h.taken a.text h.took a.took;
+      state = a.state ∙ ap (λ z. past (awaiting (item_due u.wanted) z) t.state.source) h.state ∙ past_item u.wanted o u.state.source t.state.source ∙ ap (λ w. inside_items w o t.state.source) (sym wanted);
+      levels = ap (λ z. z.levels) next.after ∙ h.levels;
+      opened = ap (λ z. z.opened) next.after ∙ h.opened;
+    }
+
+-- ---- the end
+
+keys_outside : (w : WantedItems) (o z : State) (r : Window) → KeysOutside w (inside_items w o r) z → (z.keys ≡ o.keys) × (z.outer ≡ o.outer)
+keys_outside (nodes k) o z r h = h
+keys_outside (rows_over ks k) o z r h = h o.keys o.outer refl
+
+abbrev restored : State → ℕ → ℕ → List (List ℕ) → List (List (List ℕ)) → State
+restored s levels opened keys outer = record (after_closing levels opened s) { keys = keys; outer = outer }
+
+restored_past : (w : WantedItems) (o : State) (r : Window) → restored (inside_items w o r) o.levels o.opened o.keys o.outer ≡ past o r
+restored_past (nodes k) o r = refl
+restored_past (rows_over ks k) o r = refl
+
+-- all items are read, and the array is closed
+pub inside_end : {A : Type 0} (holds : A → Content → Type 0) (reads : Meaning) (k : List Tree → Option Content) (o z : State) (u : OpenItems) (c : Content) (v : A)
+    → Inside reads o k u → ClosesItems u z → k [] ≡ Some c → holds v c → Answers reads holds o z v
+inside_end holds reads k o z u c v h closes read held =
+    let due = h.within.whole c [] (record { parts = no_items; filled = fills_none (o.levels - 1) u.wanted closes.counted; read = read }) in
+    let source : z.source ≡ u.state.source = ap (λ y. y.source) closes.state in
+    let keys = keys_outside u.wanted o z u.state.source (subst (λ s. KeysOutside u.wanted s z) h.state closes.keys) in
+    let state : z ≡ past o u.state.source =
+    closes.state
+    ∙ ap (λ s. restored s u.levels u.opened z.keys z.outer) h.state
+    ∙ ap (λ n. restored (inside_items u.wanted o u.state.source) n u.opened z.keys z.outer) h.levels
+    ∙ ap (λ n. restored (inside_items u.wanted o u.state.source) o.levels n z.keys z.outer) h.opened
+    ∙ ap (λ ks. restored (inside_items u.wanted o u.state.source) o.levels o.opened ks z.outer) keys.0
+    ∙ ap (λ os. restored (inside_items u.wanted o u.state.source) o.levels o.opened o.keys os) keys.1
+    ∙ restored_past u.wanted o u.state.source in
+    record {
+      tree = due.tree;
+      content = c;
+      text = h.taken;
+      filled = subst (Fills o.levels o.due due.tree) (append-nil h.taken) due.filled;
+      read = due.read;
+      held = held;
+      took = subst (λ r. Took o.source r h.taken) (sym source) h.took;
+      state = state ∙ ap (past o) (sym source);
+    }
+
+-- ---- refusals
+
+-- what is no array is refused
+pub opening_refused : (reads : Meaning) (k : List Tree → Option Content) (needs : Needs) (N : Type 0) (e : Error) (o z : State) → ReadsArrays reads k → needs.memory ≡ true → RefusesFront owned (IsItemsHead o) N e o.source z.source
+    → Refuses reads None needs e o z
+opening_refused reads k needs N e o z by memory u =
+    first_part needs (IsItemsHead o) (FillsReadably reads o) N Unit e o.source z.source (λ text f.
+    let p = by.only f.tree f.content f.read in
+    items_begin o.levels o.due p.0 text (subst (λ t. Fills o.levels o.due t text) p.1 f.filled))
+    (λ n. tt) (wider_needs owned needs (IsItemsHead o) N N e o.source z.source (λ lent. absurd cc) (λ m. memory) (λ t. ap (λ m. m || needs.keys) memory) (λ n. n) u)
+
+-- after what was taken, a whole goes on by the items that are left
+goes_on : (reads : Meaning) (k : List Tree → Option Content) (o : State) (u : OpenItems) → (h : Inside reads o k u) → (text rest ys : List ℕ) → FillsReadably reads o text → text ++ rest ≡ h.taken ++ ys
+    → (more : List ℕ) × (text ≡ h.taken ++ more) × ((c : Content) × ItemsLeft k (o.levels - 1) u.wanted c more)
+goes_on reads k o u h text rest ys f e = let p = h.within.only f.content text rest ys (due_as reads o text f) e in (p.0, p.1, (f.content, p.2))
+
+-- a refusal of an item
+pub item_refused : (T : Meaning) (asks : Option (Asking T)) (some : Needs) (reads : Meaning) (k : List Tree → Option Content) (after : Content → List Tree → Option Content) (needs : Needs) (e : Error) (o z : State) (u : OpenItems)
+    → ReadsNext T k after → (some.lent ≡ true → needs.lent ≡ true) → (some.memory ≡ true → needs.memory ≡ true) → (some.memory || some.keys ≡ true → needs.memory || needs.keys ≡ true)
+    → Inside reads o k u → RefusesItem T asks some e u z → Refuses reads None needs e o z
+item_refused T asks some reads k after needs e o z u by lent memory takes h refuses =
+    let level : o.levels - 1 ≡ u.state.levels = sym (ap (λ (s : State). s.levels) h.state ∙ levels_inside u.wanted o u.state.source) in
+    let left = refuses.counted h.took.failed in
+    let V : Format = FillsReadably T (awaiting (item_due u.wanted) u.state) in
+    let L : Format = λ x. (c : Content) × ItemsLeft k (o.levels - 1) u.wanted c x in
+    let N : Type 0 = NamesAsked some asks e (awaiting (item_due u.wanted) u.state) in
+    sequel needs L (FillsReadably reads o) N Unit e o.source u.state.source z.source h.taken h.took (goes_on reads k o u h) (λ n. tt)
+    (first_part needs V L N N e u.state.source z.source (λ text v.
+    let f = fills_first (o.levels - 1) u.wanted v.1.parts text left v.1.filled in
+    let read : k (f.first ∷ items f.others) ≡ Some v.0 = ap (λ us. k (items us)) (sym f.parts) ∙ v.1.read in
+    let d = by.some f.first (items f.others) v.0 read in
+    (f.front, f.rest, f.whole, record { tree = f.first; content = d.0; filled = subst (λ n. Fills n (item_due u.wanted) f.first f.front) level f.filled; read = d.1 }))
+    (λ n. n) (wider_needs some needs V N N e u.state.source z.source lent memory takes (λ n. n) refuses.refuses))
+
+-- a refusal where what is left cannot be as is wanted
+never_left : (reads : Meaning) (k : List Tree → Option Content) (needs : Needs) (e : Error) (o z : State) (u : OpenItems) → Inside reads o k u → ((c : Content) (text : List ℕ) → ItemsLeft k (o.levels - 1) u.wanted c text → ⊥)
+    → IsRefusal e → z ≡ refused u.state → Refuses reads None needs e o z
+never_left reads k needs e o z u h never kind state =
+    unfit needs (FillsReadably reads o) Unit e o.source u.state.source z.source h.taken kind h.took (ap (λ (s : State). s.source) state) tt
+    (λ text rest f known.
+    let r = left_took o.source u.state.source h.taken (text ++ rest) h.took known in
+    let p = goes_on reads k o u h text rest r.0 f r.2 in
+    never p.2.0 p.0 p.2.1)
+
+-- more items than are read
+pub leaves_refused : (reads : Meaning) (k : List Tree → Option Content) (needs : Needs) (e : Error) (o z : State) (u : OpenItems) → ((ts : List Tree) (c : Content) → k ts ≡ Some c → ts ≡ [])
+    → Inside reads o k u → LeavesItems e u z → Refuses reads None needs e o z
+leaves_refused reads k needs e o z u none h leaves =
+    never_left reads k needs e o z u h (λ c text v.
+    let size = ap length (none (items v.parts) c v.read) in
+    absurd (omega (arith, size, some_left (o.levels - 1) u.wanted v.parts text v.filled, leaves.counted h.took.failed)))
+    (subst IsRefusal (sym (leaves.name ∙ ap left_over h.took.failed)) tt) leaves.state
+
+-- fewer items than are read
+pub over_refused : (reads : Meaning) (k : List Tree → Option Content) (needs : Needs) (e : Error) (o z : State) (u : OpenItems) → k [] ≡ None → Inside reads o k u → LacksItem e u z → Refuses reads None needs e o z
+over_refused reads k needs e o z u none h lacks =
+    never_left reads k needs e o z u h (λ c text v.
+    let empty = no_length (items v.parts) (some_left (o.levels - 1) u.wanted v.parts text v.filled ∙ lacks.counted) in
+    let read : None ≡ Some c = sym none ∙ ap k (sym empty) ∙ v.read in
+    absurd cc)
+    (subst IsRefusal (sym lacks.name) tt) lacks.state
+
+-- memory was refused after some items
+pub room_refused : (reads : Meaning) (k : List Tree → Option Content) (needs : Needs) (e : Error) (o z : State) (u : OpenItems) → needs.memory ≡ true → Inside reads o k u → e ≡ OutOfMemory → z.source ≡ closed u.state.source
+    → Refuses reads None needs e o z
+room_refused reads k needs e o z u memory h same closes = no_room reads None needs o u.state z h.taken e memory h.took same closes

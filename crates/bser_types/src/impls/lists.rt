@@ -1,0 +1,51 @@
+//! Lists. A template is read as the array of its rows.
+ghost use Rattle.std.specs.Prelude.{true, false, refl, Some, None};
+ghost use Rattle.bser_format.specs.ReadsHolders.{reads_vec};
+ghost use Rattle.bser_due.specs.HoldsLists.{HoldsList};
+
+use crate::container::ReadsContainers;
+use crate::deserialize::{Deserialize, OwnedShape, Shape};
+use bser_bunser::refusal::Answer;
+use bser_deserializer::deserializer::Deserializer;
+use bser_format::errors::Error;
+use bser_read::read::DeRead;
+use bser_source::read::LendsText;
+use std::alloc::Global;
+
+/// An array of any number of items. Want of memory is refused by [`Error::OutOfMemory`].
+///
+/// [`Error::OutOfMemory`]: bser_format::errors::Error::OutOfMemory
+impl<T: Shape> Shape for Vec<T> {
+    ghost reads = { reads_vec T.reads };
+
+    ghost holds = { λ v c. HoldsList T.holds v.items c };
+
+    ghost needs = { record { lent = T.needs.lent; memory = true; keys = false } };
+
+    ghost asks = { None };
+
+    ghost plain = { Some (λ _. refl) };
+}
+
+impl<L: LendsText, T: Deserialize<L>> Deserialize<L> for Vec<T> {
+    fn deserialize<R: DeRead<Lent = L>>(
+        alloc: Global,
+        from: &mut Deserializer<R>,
+    ) -> Answer<Vec<T>> {
+        let mut items = Vec::new(alloc);
+        let mut seq = from.read_seq(alloc)?;
+        while seq.remaining() != 0 {
+            let item = seq.required_element::<T>(alloc)?;
+            match items.push(item) {
+                Ok(()) => {}
+                Err(_) => return Err(seq.refuse(Error::OutOfMemory)),
+            }
+        }
+        seq.end()?;
+        Ok(items)
+    }
+}
+
+impl<T: OwnedShape> OwnedShape for Vec<T> {
+    ghost owned = { T.owned };
+}
