@@ -11,7 +11,7 @@ use Rattle.bser_format.specs.declared.errors.Complaint.TheVariants.{NegativeLeng
 use Rattle.bser_named.specs.Named as named
 use Rattle.bser_named.specs.Named.{eof, refuses, reads, complain, and_then, ◌>>=◌}
 use Rattle.bser_named.specs.Clauses.{after_a_refusal}
-use Rattle.bser_read.specs.Window.{Window, Filled, Took, consumed}
+use Rattle.bser_read.specs.Window.{Window, AreOctets, Filled, Took, consumed}
 use Rattle.bser_read.proofs.Windows.{taken, took_filled, took_then, works}
 use Rattle.bser_bunser.specs.declared.refusal.Refused.{Refused}
 use Rattle.bser_bunser.specs.Refusal.{ShortOf}
@@ -30,12 +30,12 @@ pub record Passing (len left : ℕ) (a b : Window) : Type 0 where
   pub took : Took a b text
 
 -- the first of the buffered bytes were taken
-pub passing : (len n : ℕ) (a : Window) → n ≤ len → n ≤ length a.buffered → a.failed ≡ false
+pub passing : (len n : ℕ) (a : Window) → AreOctets a.buffered → n ≤ len → n ≤ length a.buffered → a.failed ≡ false
     → Passing len (len - n) a (consumed n a)
-passing len n a le fits works = record {
+passing len n a small le fits works = record {
   text = take n a.buffered;
   whole = omega (arith, le, length-take-le n a.buffered fits);
-  took = taken n a fits works;
+  took = taken n a small fits works;
 }
 
 -- some of those left were taken
@@ -67,17 +67,17 @@ passing_names len left n e a b c is le small short =
     is.took (short_blames _ n e b c small short (λ x m fewer same. (fewer, same)))
 
 -- what is buffered was taken at once
-pub took_buffered : (len : ℕ) (a : Window) → 0 < len → len ≤ length a.buffered
+pub took_buffered : (len : ℕ) (a : Window) → AreOctets a.buffered → 0 < len → len ≤ length a.buffered
     → (a.failed ≡ true → a.buffered ≡ []) → Took a (consumed len a) (take len a.buffered)
-took_buffered len a some fits closes =
-    taken len a fits (works a.failed a.buffered len closes some fits)
+took_buffered len a small some fits closes =
+    taken len a small fits (works a.failed a.buffered len closes some fits)
 
-pub pass_buffered : (len : ℕ) (a : Window) → 0 < len → len ≤ length a.buffered
+pub pass_buffered : (len : ℕ) (a : Window) → AreOctets a.buffered → 0 < len → len ≤ length a.buffered
     → (a.failed ≡ true → a.buffered ≡ []) → TookSome len a (consumed len a)
-pass_buffered len a some fits closes = record {
+pass_buffered len a small some fits closes = record {
   text = take len a.buffered;
   len = length-take-le len a.buffered fits;
-  took = took_buffered len a some fits closes;
+  took = took_buffered len a small some fits closes;
 }
 
 -- ---- lengths and counts

@@ -24,6 +24,7 @@ relimited a b c text same took =
     subst (λ s. Took a s text) (sym k) (record {
       more = took.more;
       bytes = took.bytes;
+      octets = took.octets;
       device = took.device;
       within =
           λ x h. (let w : length b.buffered ≤ max (b.limit - b.count) x = took.within x h in omega (arith, w, took.limit));

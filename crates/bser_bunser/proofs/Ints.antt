@@ -1,19 +1,19 @@
 -- Numbers and integers at the front.
-use Rattle.std.proofs.Common.{◌≡◌, ℕ, zero, suc, ◌+◌, ◌-◌, ◌≤◌, ◌<◌, true, List, [], ◌∷◌, ◌++◌, length, take, drop, get_or, refl, sym, ap, subst, ◌∙◌, arith, inl, inr, FitsSigned}
+use Rattle.std.proofs.Common.{◌≡◌, ℕ, zero, suc, ◌+◌, ◌-◌, ◌≤◌, ◌<◌, true, List, [], ◌∷◌, ◌++◌, length, take, drop, get_or, refl, sym, ap, subst, ◌∙◌, arith, lit<, inl, inr, FitsSigned}
 use Rattle.std.specs.Prelude.{ℤ, pos, negsuc, ◌⊎◌}
-use Rattle.std.specs.Int.{Width, to_le_bytes, cast_signed, cast_unsigned}
+use Rattle.std.specs.Int.{Width, w8, w16, w32, w64, to_le_bytes, cast_signed, cast_unsigned, byte_at, byte_len, bytes_low_first}
 use Rattle.std.proofs.Math.Facts.{sfits_to_z, Fits-of_lt}
 use Rattle.std.proofs.Math.Seq.{take-length}
 use Rattle.std.proofs.lemmas.Int.{of_z-to_z}
 use Rattle.std.proofs.lemmas.List.{length-drop, length-take}
 use mir.Val.{Fits}
-use Rattle.bser_format.specs.Grammar.{tag_of, SpellsInteger}
+use Rattle.bser_format.specs.Grammar.{IntSize, int8, int16, int32, int64, int_bytes, tag_of, SpellsInteger}
 use Rattle.bser_format.specs.declared.errors.Error.{Error}
 use Rattle.bser_format.specs.declared.errors.Kind.TheVariants.{Integer}
 use Rattle.bser_source.proofs.NumberBytes.{AreOf}
 use Rattle.bser_named.specs.Named as named
 use Rattle.bser_named.specs.Named.{eof, refuses}
-use Rattle.bser_read.specs.Window.{Window, Grown, consumed}
+use Rattle.bser_read.specs.Window.{Window, AreOctets, Grown, consumed}
 use Rattle.bser_bunser.specs.Refusal.{ShortOf, unexpected_refusal}
 use Rattle.bser_bunser.specs.Names.{Names, IsCutInteger, CutsInteger}
 use Rattle.bser_bunser.specs.Prefixes.{NumberPrefix, IntTagged, CutInt, OtherTag, NegativeInt}
@@ -93,6 +93,27 @@ short_int held n is =
 int_some : (v : ℤ) (b : List ℕ) → SpellsInteger v b → 0 < length b
 int_some v b h = omega (arith, ap length h.spelled)
 
+-- each byte of a number is one
+number_octets : (i k n : ℕ) → AreOctets (bytes_low_first i k n)
+number_octets i zero n = tt
+number_octets i (suc k) n = (one i, number_octets (suc i) k n)
+  where
+    one : (i : ℕ) → byte_at i n < 256
+    one zero = omega arith
+    one (suc i) = omega arith
+
+pub le_octets : (w : Width) (n : ℕ) → AreOctets (to_le_bytes w n)
+le_octets w n = number_octets 0 (byte_len w) n
+
+pub int_octets : (v : ℤ) (b : List ℕ) → SpellsInteger v b → AreOctets b
+int_octets v b h = subst AreOctets (sym h.spelled) (at h.size)
+  where
+    at : (s : IntSize) → AreOctets (int_bytes s v)
+    at int8 = (lit< tt, le_octets w8 (cast_unsigned w8 v))
+    at int16 = (lit< tt, le_octets w16 (cast_unsigned w16 v))
+    at int32 = (lit< tt, le_octets w32 (cast_unsigned w32 v))
+    at int64 = (lit< tt, le_octets w64 (cast_unsigned w64 v))
+
 -- an integer that is buffered was taken
 pub took_int : (len : ℕ) (v out : ℤ) (a b : Window) → out ≡ v → Looking named.int a b
     → (b.failed ≡ true → b.buffered ≡ []) → len ≤ length b.buffered
@@ -102,7 +123,7 @@ took_int len v out a b same is closes fits spelled =
       text = take len b.buffered;
       spelled = spelled;
       took =
-          look_took named.int v len a b is closes (let some = int_some v (take len b.buffered) spelled in omega (arith, some, length-take len b.buffered)) fits (int_there v (take len b.buffered) spelled);
+          look_took named.int v len a b is (int_octets v (take len b.buffered) spelled) closes (let some = int_some v (take len b.buffered) spelled in omega (arith, some, length-take len b.buffered)) fits (int_there v (take len b.buffered) spelled);
     })
 
 -- an integer below 0 is buffered

@@ -6,7 +6,7 @@ use Rattle.std.proofs.Math.Seq.{take-append-add}
 use Rattle.bser_format.specs.declared.errors.Error.{Error}
 use Rattle.bser_named.specs.Named.{Reader, Answer, reads, refuses, eof}
 use Rattle.bser_named.proofs.Steps.{Passes}
-use Rattle.bser_read.specs.Window.{Window, Grown, Filled, Took, consumed}
+use Rattle.bser_read.specs.Window.{Window, Grown, AreOctets, Filled, Took, consumed}
 use Rattle.bser_read.proofs.Windows.{grown_none, grown_then, taken_after, works}
 use Rattle.bser_bunser.specs.Refusal.{ShortOf}
 use Rattle.bser_bunser.specs.Names.{Names}
@@ -67,11 +67,11 @@ least_len {X = X} r v held need len least passes = go (nat_lt len need) refl
         absurd (both (r short) (drop len short) (ap r (sym parts) ∙ passes (drop len short)) (least (omega (arith, less))))
 
 pub look_took : {X : Type 0} (r : Reader X) (v : X) (len : ℕ) (a b : Window) → Looking r a b
-    → (b.failed ≡ true → b.buffered ≡ []) → 0 < len → len ≤ length b.buffered
+    → AreOctets (take len b.buffered) → (b.failed ≡ true → b.buffered ≡ []) → 0 < len → len ≤ length b.buffered
     → Passes r v (take len b.buffered)
     → Took a (consumed len b) (take len b.buffered)
-look_took r v len a b is closes some le passes =
-    taken_after is.need len a b is.grown (least_len r v b.buffered is.need len is.least passes) le (look_works r a b is closes (omega (arith, some, le)))
+look_took r v len a b is small closes some le passes =
+    taken_after is.need len a b is.grown small (least_len r v b.buffered is.need len is.least passes) le (look_works r a b is closes (omega (arith, some, le)))
 
 pub look_names : {X : Type 0} (r : Reader X) (n : ℕ) (e : Error) (a b c : Window) → Looking r a b
     → TooShort r b.buffered n → ShortOf n e b c → Names r e a

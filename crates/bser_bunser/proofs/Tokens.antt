@@ -1,5 +1,5 @@
 -- Tokens at the front.
-use Rattle.std.proofs.Common.{◌≡◌, ℕ, ◌+◌, ◌≤◌, ◌<◌, ◌^◌, true, false, List, [], ◌∷◌, ◌++◌, length, take, drop, get_or, append_assoc, refl, sym, ap, subst, ◌∙◌, arith, inl, inr}
+use Rattle.std.proofs.Common.{◌≡◌, ℕ, ◌+◌, ◌≤◌, ◌<◌, ◌^◌, true, false, List, [], ◌∷◌, ◌++◌, length, take, drop, get_or, append_assoc, refl, sym, ap, subst, ◌∙◌, arith, lit<, inl, inr}
 use Rattle.std.specs.Prelude.{ℤ, pos, ◌⊎◌, FitsSigned}
 use Rattle.std.specs.Int.{w64, to_le_bytes, from_le_bytes, cast_unsigned, byte_len}
 use Rattle.std.proofs.lemmas.Bool.{ne_eqb}
@@ -16,19 +16,19 @@ use Rattle.bser_named.specs.Named.{eof, refuses, reads, complain, and_then, ◌>
 use Rattle.bser_named.proofs.Agreement.{number_same, forgotten}
 use Rattle.bser_named.proofs.Steps.{Passes}
 use Rattle.bser_format.proofs.Fronts.{number_reads}
-use Rattle.bser_read.specs.Window.{Window, consumed}
+use Rattle.bser_read.specs.Window.{Window, AreOctets, consumed}
 use Rattle.bser_bunser.specs.Prefixes.{CutInt, BitsPrefix, IsLengthPrefix}
 use Rattle.bser_bunser.specs.Refusal.{unexpected_refusal}
 use Rattle.bser_bunser.specs.Names.{IsCutInteger}
 use Rattle.bser_bunser.specs.Tagged.{TookToken}
-use Rattle.bser_bunser.specs.Tokens.{SpellsToken, LengthFits, token, TooShort, Rejects, IsTokenPrefix, IsCounted, as_count, fault_after}
+use Rattle.bser_bunser.specs.Tokens.{Headed, SpellsToken, LengthFits, token, TooShort, Rejects, IsTokenPrefix, IsCounted, as_count, fault_after}
 use Rattle.bser_bunser.specs.declared.prefix.Prefix.TheVariants as prefixes
 use Rattle.bser_bunser.specs.declared.prefix.Unexpected.{Unexpected}
 use Rattle.bser_bunser.specs.declared.prefix.Unexpected.TheVariants.{Tag, Length, NegativeLength, NegativeCount}
 use Rattle.bser_bunser.specs.declared.prefix.Token.{Token}
 use Rattle.bser_bunser.specs.declared.prefix.Token.TheVariants as tokens
 use Rattle.bser_bunser.proofs.Readers.{front_there, counted_there, negative_there, cut_front, cut_after, int_cut, other_after}
-use Rattle.bser_bunser.proofs.Ints.{first_and_rest, cut_there}
+use Rattle.bser_bunser.proofs.Ints.{first_and_rest, cut_there, le_octets, int_octets}
 use Rattle.bser_bunser.proofs.Looks.{Looking, look_took}
 
 -- ---- what is read
@@ -76,6 +76,23 @@ token_some (tokens.Str s n) b h = omega (arith, ap length h.whole)
 token_some (tokens.Array n) b h = omega (arith, ap length h.whole)
 token_some (tokens.Object n) b h = omega (arith, ap length h.whole)
 
+headed_octets : (tag n : ℕ) (b : List ℕ) → tag < 256 → Headed tag (SpellsCount n) b → AreOctets b
+headed_octets tag n b small h = subst AreOctets (sym h.whole) (small, int_octets (pos n) h.rest h.body)
+
+-- each byte of a token is one
+token_octets : (t : Token) (b : List ℕ) → SpellsToken t b → AreOctets b
+token_octets tokens.Null b h = subst AreOctets (sym h) (lit< tt, tt)
+token_octets (tokens.Bool true) b h = subst AreOctets (sym h) (lit< tt, tt)
+token_octets (tokens.Bool false) b h = subst AreOctets (sym h) (lit< tt, tt)
+token_octets tokens.Skip b h = subst AreOctets (sym h) (lit< tt, tt)
+token_octets tokens.Template b h = subst AreOctets (sym h) (lit< tt, tt)
+token_octets (tokens.Int v) b h = int_octets v b h
+token_octets (tokens.Real r) b h = subst AreOctets (sym h.1) (lit< tt, le_octets w64 r)
+token_octets (tokens.Str true n) b h = headed_octets 0x0d n b (lit< tt) h
+token_octets (tokens.Str false n) b h = headed_octets 0x02 n b (lit< tt) h
+token_octets (tokens.Array n) b h = headed_octets 0x00 n b (lit< tt) h
+token_octets (tokens.Object n) b h = headed_octets 0x01 n b (lit< tt) h
+
 -- a token that is buffered was taken
 pub took_token : (len : ℕ) (t : Token) (a b : Window) → Looking token a b
     → (b.failed ≡ true → b.buffered ≡ []) → len ≤ length b.buffered
@@ -84,7 +101,7 @@ took_token len t a b is closes fits spelled = record {
   text = take len b.buffered;
   spelled = spelled;
   took =
-      look_took token t len a b is closes (let some = token_some t (take len b.buffered) spelled in omega (arith, some, length-take len b.buffered)) fits (token_there t (take len b.buffered) spelled);
+      look_took token t len a b is (token_octets t (take len b.buffered) spelled) closes (let some = token_some t (take len b.buffered) spelled in omega (arith, some, length-take len b.buffered)) fits (token_there t (take len b.buffered) spelled);
 }
 
 -- ---- what follows a counted tag

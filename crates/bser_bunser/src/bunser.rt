@@ -16,7 +16,7 @@ pub use crate::bunser::pdu::PduInfo;
 use crate::prefix::{Look, Prefix, Token, Unexpected, int_prefix, token_prefix};
 use crate::refusal::{Answer, Refused};
 use bser_format::errors::{Complaint, Error, Kind, ReadCause, Result};
-use bser_read::read::DeRead;
+use bser_read::read::{DeRead, count_octets};
 use std::alloc::Global;
 
 /// Reads the head of a message, integers, tokens and counted bytes from a byte source.
@@ -158,7 +158,7 @@ impl<R: DeRead> Bunser<R> {
             (Names (front n) (refusal_of self.new) (bunser_window R.window self.old)) }
         ensures memory { OnErr result (refusal_of self.new ≢ Error.OutOfMemory) }
     {
-        if n <= self.read.buffered().len() {
+        if n <= count_octets(self.read.buffered()) {
             return Ok(());
         }
         self.fill_on(n)

@@ -1,6 +1,6 @@
 -- The heads of containers: what reads them off the bytes left, what names their refusals, and what is open behind them.
-use Rattle.std.proofs.Common.{◌≡◌, ℕ, zero, suc, ◌+◌, ◌-◌, ◌≤◌, Bool, true, false, cond, ◌||◌, pos, List, [], ◌∷◌, ◌++◌, take, nat_eq, length, refl, sym, ap, subst, ◌∙◌, append-nil, arith}
-use Rattle.std.proofs.lemmas.Bool.{eqb-true}
+use Rattle.std.proofs.Common.{◌≡◌, ℕ, zero, suc, ◌+◌, ◌-◌, ◌≤◌, Bool, true, false, cond, ◌||◌, pos, List, [], ◌∷◌, ◌++◌, take, nat_eq, nat_lt, ◌<◌, length, refl, sym, ap, subst, ◌∙◌, append-nil, arith}
+use Rattle.std.proofs.lemmas.Bool.{eqb-true, ltb-true}
 use Rattle.bser_format.specs.Grammar.{Format, Bytes, SpellsCount, ◌then◌, Each, SpellsKey}
 use Rattle.bser_format.specs.Content.{Needs}
 use Rattle.bser_format.specs.Expected.{Due, nothing_due, node_due, key_due, field_due, name_due, row_due, WantedItems, nodes, rows_over, WantedPairs, entries_of_object, fields_of_row}
@@ -11,8 +11,8 @@ use Rattle.bser_format.specs.declared.errors.Kind.TheVariants as kinds
 use Rattle.bser_format.specs.declared.errors.Kind.TheVariants.{NextItem, TemplateKey}
 use Rattle.bser_source.specs.Device.{one_more}
 use Rattle.std.proofs.KnownBytes.{Consumes-nil}
-use Rattle.bser_read.specs.Window.{Window, Within, Took, consumed}
-use Rattle.bser_read.proofs.Windows.{grown_none, taken, took_then}
+use Rattle.bser_read.specs.Window.{Window, AreOctets, Within, Took, consumed}
+use Rattle.bser_read.proofs.Windows.{grown_none, taken_after, took_then}
 use Rattle.bser_named.specs.Named.{Reader, reads, refuses, give, refuse, and_then, ◌>>=◌, next, count, many, text_of}
 use Rattle.bser_named.specs.DueReaders.{Seen, tag, is_tag, asked, items_at, pairs_at, rows_wanted, table_at}
 use Rattle.bser_named.proofs.Steps.{Passes, passes_then}
@@ -42,6 +42,14 @@ unequal t u other = go (nat_eq t u) refl
 -- a tag that may stand where a value or a field is due
 abbrev pub IsTag : ℕ → Type 0
 IsTag t = (skips : Bool) → is_tag skips t ≡ true
+
+tag_octet : (t : ℕ) → is_tag false t ≡ true → t < 256
+tag_octet t is = go (nat_lt t 0x0c) refl (nat_eq t 0x0d) refl is
+  where
+    go : (a : Bool) → nat_lt t 0x0c ≡ a → (b : Bool) → nat_eq t 0x0d ≡ b → (a || b || false) ≡ true → t < 256
+    go true e b f h = omega (arith, ltb-true t 0x0c e)
+    go false e true f h = omega (arith, eqb-true t 0x0d f)
+    go false e false f h = absurd cc
 
 -- where a value is due, its tag is read first
 asked_tag : {X : Type 0} (k : Seen → Reader X) (o t : ℕ) (d : Due) (x : List ℕ) → IsValueDue d → IsTag t → asked k o d (t ∷ x) ≡ k (tag t) x
@@ -152,17 +160,18 @@ pairs_refused needs e s c no_keys (fails, name) =
     by_name needs (IsPairsHead s) (asked (pairs_at s.levels) s.opened s.due) e s.source c (pairs_front s) (λ x. clean_asked (pairs_at s.levels) (clean_pairs s.levels) s.opened s.due x e) no_keys fails name
 
 -- the tag that is next was taken
-pub took_tag : (t : ℕ) (s : State) (b : Window) → IsBefore t s → b ≡ consumed 1 s.source → Took s.source b (t ∷ [])
-took_tag t s b before after =
+pub took_tag : (t : ℕ) (s : State) (b : Window) → IsBefore t s → IsTag t → b ≡ consumed 1 s.source → Took s.source b (t ∷ [])
+took_tag t s b before is after =
     let fits : 1 ≤ length s.source.buffered = omega (arith, ap length before.next) in
     let first : take 1 s.source.buffered ≡ t ∷ [] = ap (take 1) before.next in
-    subst (Took s.source b) first (subst (λ z. Took s.source z (take 1 s.source.buffered)) (sym after) (taken 1 s.source fits before.working))
+    let octet : AreOctets (take 1 s.source.buffered) = subst AreOctets (sym first) (tag_octet t (is false), tt) in
+    subst (Took s.source b) first (subst (λ z. Took s.source z (take 1 s.source.buffered)) (sym after) (taken_after 0 1 s.source s.source (grown_none s.source) octet (omega arith) fits before.working))
 
 -- what follows the tag is refused, by the same name
 pub rest_refused : {X Y : Type 0} (needs : Needs) (k : Seen → Reader X) (r : Reader Y) (t : ℕ) (e : Error) (s : State) (b c : Window) → IsBefore t s → IsTag t
     → ((x : List ℕ) → r x ≡ refuses e → k (tag t) x ≡ refuses e) → b ≡ consumed 1 s.source → Fails e b c → NamesBy needs r e b → NamedRefusal needs k e s c
 rest_refused needs k r t e s b c before is same after fails name =
-    let took = took_tag t s b before after in (
+    let took = took_tag t s b before is after in (
       fails_untaken e s.source b c (t ∷ []) took fails,
       names_by_untaken needs (asked k s.opened s.due) r e s.source b (t ∷ []) (λ x h. asked_tag k s.opened t s.due x before.due is ∙ same x h) took name,
     )
@@ -257,7 +266,7 @@ opens_array s t m k b c before levels after part state =
     subst (λ z. OpensItems s (record { state = z; wanted = nodes k; levels = s.levels; opened = s.opened })) (sym state) (record {
       text = 0x00 ∷ part.text;
       head = items_begin s.levels s.due (nodes k) (0x00 ∷ part.text) before.due (counted_head 0x00 s.levels m k part.text levels part.spelled);
-      took = took_then s.source b c (0x00 ∷ []) part.text (took_tag 0x00 s b before after) part.took;
+      took = took_then s.source b c (0x00 ∷ []) part.text (took_tag 0x00 s b before (λ z. refl) after) part.took;
       state = inside_less s m c levels;
       levels = refl;
       opened = refl;
@@ -269,7 +278,7 @@ opens_object s t m k b c before levels after part state =
     subst (λ z. OpensPairs s (record { state = z; wanted = entries_of_object k; pending = false; levels = s.levels; opened = s.opened })) (sym state) (record {
       text = 0x01 ∷ part.text;
       head = object_begins s.levels s.due k (0x01 ∷ part.text) before.due (counted_head 0x01 s.levels m k part.text levels part.spelled);
-      took = took_then s.source b c (0x01 ∷ []) part.text (took_tag 0x01 s b before after) part.took;
+      took = took_then s.source b c (0x01 ∷ []) part.text (took_tag 0x01 s b before (λ z. refl) after) part.took;
       state = inside_less s m c levels;
       pending = refl;
       levels = refl;
@@ -281,6 +290,7 @@ took_nothing a works = record {
   more = [];
   bytes = append-nil a.buffered;
   device = Consumes-nil a.beyond;
+  octets = tt;
   within = λ n h. subst (λ k. Within k a) (let e : n + 0 ≡ n = omega arith in e) h;
   count = omega arith;
   limit = refl;

@@ -7,3 +7,5 @@ pub mod Templates
 pub mod Openings
 pub mod TemplateHeads
 pub mod Containers
+pub mod Told
+pub mod Rows

@@ -96,7 +96,7 @@ tag_passes true t e x is = refl
 tag_passes false t e x is = absurd cc
 
 -- a tag that may stand there is seen
-node_passes : (o : ℕ) (d : Due) (text : List ℕ) → BeginsNode d text → (v : Seen) × steps.Passes (seen o d) v text
+pub node_passes : (o : ℕ) (d : Due) (text : List ℕ) → BeginsNode d text → (v : Seen) × steps.Passes (seen o d) v text
 node_passes o nothing_due text h = absurd h
 node_passes o node_due text (t, k, e, is) =
     (tag t, λ x. ap (λ l. seen o node_due (l ++ x)) e ∙ tag_passes (is_tag false t) t (DeInvalidStartByte NextItem t) x (node_tag t k is))

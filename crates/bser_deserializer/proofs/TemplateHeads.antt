@@ -113,7 +113,7 @@ pub opens_table : (s t : State) (m k x : ℕ) (ks : List (List ℕ)) (b c d f : 
     → TookPart (SpellsTable ks k) d f → t ≡ inside_rows s m ks f → OpensItems s (record { state = t; wanted = rows_over t.keys k; levels = s.levels; opened = s.opened })
 opens_table s t m k x ks b c d f before levels after peeks array deep next_after part state =
     let second : Took b d (0x00 ∷ []) = subst (λ y. Took b d (y ∷ [])) array (peek_took x b c d peeks next_after) in
-    let tags : Took s.source d (0x0b ∷ 0x00 ∷ []) = took_then s.source b d (0x0b ∷ []) (0x00 ∷ []) (took_tag 0x0b s b before after) second in
+    let tags : Took s.source d (0x0b ∷ 0x00 ∷ []) = took_then s.source b d (0x0b ∷ []) (0x00 ∷ []) (took_tag 0x0b s b before (λ z. refl) after) second in
     subst (λ (z : State). OpensItems s (record { state = z; wanted = rows_over z.keys k; levels = s.levels; opened = s.opened })) (sym state) (record {
       text = 0x0b ∷ 0x00 ∷ part.text;
       head = items_begin s.levels s.due (rows_over ks k) (0x0b ∷ 0x00 ∷ part.text) before.due (template_head s.levels m ks k part.text levels deep part.spelled);

@@ -53,11 +53,12 @@ string_taken t s a b m is key first rest state = record {
 }
 
 -- a source that works takes nothing
-took_nothing : (a : Window) → a.failed ≡ false → Took a a []
+pub took_nothing : (a : Window) → a.failed ≡ false → Took a a []
 took_nothing a working = record {
   more = [];
   bytes = append-nil a.buffered;
   device = Consumes-nil a.beyond;
+  octets = tt;
   within = λ x h. subst (λ n. Within n a) (let e : x + length {A = ℕ} [] ≡ x = omega arith in e) h;
   count = omega arith;
   limit = refl;

@@ -1,3 +1,4 @@
 pub mod View
 pub mod Strings
 pub mod Templates
+pub mod Any

@@ -4,7 +4,7 @@ use Rattle.std.specs.declared.alloc.Global.{Global}
 use Rattle.std.specs.declared.vec.Vec.{Vec}
 use Rattle.bser_format.specs.declared.errors.Error.{Error}
 use Rattle.bser_read.specs.Window.{Window, Peeks}
-use Rattle.bser_format.specs.Expected.{node_due, field_due}
+use Rattle.bser_format.specs.Expected.{node_due, field_due, name_due}
 use Rattle.bser_format.specs.Expected as expected
 use Rattle.bser_named.specs.Named.{Reader, ◌>>=◌, next}
 use Rattle.bser_named.specs.DueReaders.{asked, nothing_at}
@@ -80,6 +80,15 @@ pub record IsBefore (t : ℕ) (s : State) : Type 0 where
   pub due : IsValueDue s.due
   pub next : s.source.buffered ≡ t ∷ drop 1 s.source.buffered
   pub working : s.source.failed ≡ false
+
+-- the key of a row's field is due, and no call was refused
+pub record IsNameDue (k : List ℕ) (s : State) : Type 0 where
+  pub due : s.due ≡ name_due k
+  pub working : s.source.failed ≡ false
+
+-- the key of no row's field is due, where no call was refused
+abbrev pub NoNameDue : State → Type 0
+NoNameDue s = s.source.failed ≡ false → (k : List ℕ) → s.due ≡ name_due k → ⊥
 
 -- the array or template that this head opened
 abbrev pub items_head : SeqHead → State → OpenItems

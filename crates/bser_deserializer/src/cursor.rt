@@ -1,5 +1,5 @@
 //! What is due, and refusals.
-ghost use Rattle.std.specs.Prelude.{◌≡◌, true, false, IfOk, OnErr, if◌then◌else◌};
+ghost use Rattle.std.specs.Prelude.{◌≡◌, true, false, IfOk, OnErr, IfSome, IfNone, if◌then◌else◌};
 ghost use Rattle.bser_format.specs.Expected.{nothing_due, node_due, key_due, field_due, row_due};
 ghost use Rattle.bser_named.specs.Clauses.{after_a_refusal};
 ghost use Rattle.bser_named.specs.DueReaders as due_readers;
@@ -9,7 +9,7 @@ ghost use Rattle.bser_bunser.specs.Refusal.{Fails};
 ghost use Rattle.bser_due.specs.Dues.{IsValueDue, name_at};
 ghost use Rattle.bser_due.specs.Reading.{NamesBy, NamesDue, bare};
 ghost use Rattle.bser_due.specs.State.{awaiting, refused};
-ghost use Rattle.bser_deserializer.specs.View.{state, refusal_in, due_in, keys_in, value_here, SeesTag};
+ghost use Rattle.bser_deserializer.specs.View.{state, refusal_in, due_in, keys_in, value_here, SeesTag, IsNameDue, NoNameDue};
 
 use crate::deserializer::{Deserializer, Due};
 use bser_bunser::refusal::{Answer, Refused};
@@ -34,6 +34,9 @@ pub trait Cursor {
 
     /// How many levels are left.
     fn levels(&self) -> usize;
+
+    /// The tag of the value that is due. It is not taken.
+    fn value_tag(&mut self) -> Answer<u8>;
 
     /// Makes a value due.
     fn await_node(&mut self);
@@ -100,6 +103,23 @@ impl<R: DeRead> Cursor for Deserializer<R> {
         ensures { result ≡ (state R.window R.Lent.kept self.now).levels }
     {
         self.levels
+    }
+
+    #[inline(always)]
+    fn value_tag(&mut self) -> Answer<u8>
+        ensures found { IfOk result
+            (SeesTag (state R.window R.Lent.kept self.old) (state R.window R.Lent.kept self.new)) }
+        ensures err { OnErr result (Fails (refusal_in self.new)
+            (state R.window R.Lent.kept self.old).source (state R.window R.Lent.kept self.new).source) }
+        ensures names { OnErr result (NamesBy bare (value_here (state R.window R.Lent.kept self.old).opened
+            (state R.window R.Lent.kept self.old).due) (refusal_in self.new)
+            (state R.window R.Lent.kept self.old).source) }
+    {
+        if !self.is_value_due() {
+            return Err(self.refuse_no_value());
+        }
+        self.bunser.fill(1)?;
+        Ok(self.bunser.buffered()[0])
     }
 
     #[inline(always)]
@@ -214,24 +234,6 @@ impl<R: DeRead> Deserializer<R> {
         self.bunser.refuse(reason)
     }
 
-    /// The tag of the value that is due. It is not taken.
-    #[inline(always)]
-    pub(crate) fn value_tag(&mut self) -> Answer<u8>
-        ensures found { IfOk result
-            (SeesTag (state R.window R.Lent.kept self.old) (state R.window R.Lent.kept self.new)) }
-        ensures err { OnErr result (Fails (refusal_in self.new)
-            (state R.window R.Lent.kept self.old).source (state R.window R.Lent.kept self.new).source) }
-        ensures names { OnErr result (NamesBy bare (value_here (state R.window R.Lent.kept self.old).opened
-            (state R.window R.Lent.kept self.old).due) (refusal_in self.new)
-            (state R.window R.Lent.kept self.old).source) }
-    {
-        if !self.is_value_due() {
-            return Err(self.refuse_no_value());
-        }
-        self.bunser.fill(1)?;
-        Ok(self.bunser.buffered()[0])
-    }
-
     /// Refuses, since no value is due.
     #[cold]
     #[inline(never)]
@@ -277,4 +279,17 @@ pub fn keys_of<R: DeRead>(from: &Deserializer<R>) -> &Vec<<R::Lent as Lending>::
     ensures { result.now ≡ keys_in from.now }
 {
     &from.keys
+}
+
+/// The key of a row's field, where it is due and no call was refused.
+#[inline(always)]
+pub fn name_of<R: DeRead>(from: &Deserializer<R>) -> Option<&<R::Lent as Lending>::Kept>
+    ensures some { IfSome result (λ k.
+        IsNameDue (R.Lent.kept k.now) (state R.window R.Lent.kept from.now)) }
+    ensures none { IfNone result (NoNameDue (state R.window R.Lent.kept from.now)) }
+{
+    if from.due != Due::Name || from.place >= from.keys.len() || from.is_failed() {
+        return None;
+    }
+    Some(&from.keys[from.place])
 }

@@ -9,7 +9,7 @@ ghost use Rattle.bser_due.specs.Reading.{Answers, Refuses, bare, owned};
 ghost use Rattle.bser_deserializer.specs.Strings.{TookBytes};
 ghost use Rattle.bser_deserializer.specs.View.{state, refusal_in};
 
-use crate::cursor::{Cursor, is_key_tag};
+use crate::cursor::{Cursor, is_key_tag, name_of};
 use crate::deserializer::{Deserializer, Due};
 use bser_bunser::refusal::Answer;
 use bser_format::bytestring::ByteString;
@@ -76,15 +76,15 @@ impl<R: DeRead> Deserializer<R> {
         ensures refused { OnErr result (Refuses reads_slice (Some asking_bytes) bare (refusal_in self.new)
             (state R.window R.Lent.kept self.old) (state R.window R.Lent.kept self.new)) }
     {
-        if self.due != Due::Name || self.place >= self.keys.len() || self.is_failed() {
-            return Err(self.refuse_no_value());
-        }
-        match <R::Lent as Lending>::lend(&self.keys[self.place], scratch) {
-            Ok(bytes) => {
-                self.due = Due::Nothing;
-                Ok(bytes)
-            }
-            Err(reason) => Err(self.refuse(reason)),
+        match name_of(self) {
+            None => Err(self.refuse_no_value()),
+            Some(key) => match <R::Lent as Lending>::lend(key, scratch) {
+                Ok(bytes) => {
+                    self.due = Due::Nothing;
+                    Ok(bytes)
+                }
+                Err(reason) => Err(self.refuse(reason)),
+            },
         }
     }
 

@@ -1,7 +1,9 @@
 -- Readers that refuse by the bytes alone.
-use Rattle.std.proofs.Common.{◌≡◌, ℕ, zero, suc, ℤ, pos, negsuc, Bool, true, false, cond, ◌||◌, ◌==◌, nat_lt, List, [], ◌∷◌, length, take, drop, refl, ap, subst, ◌∙◌}
+use Rattle.std.proofs.Common.{◌≡◌, ℕ, zero, suc, ℤ, pos, negsuc, Bool, true, false, cond, ◌||◌, ◌==◌, nat_lt, bytes_eq, List, [], ◌∷◌, length, take, drop, refl, ap, subst, ◌∙◌}
 use Rattle.std.specs.Int.{byte_len}
+use Rattle.std.specs.Prelude.{Option, Some, None}
 use Rattle.std.specs.Str.{is_utf8}
+use Rattle.bser_format.specs.Tree.{Tree, template, rows_of}
 use Rattle.bser_format.specs.Grammar.{IntSize, int8, int16, int32, int64, width_of}
 use Rattle.bser_format.specs.Expected.{Due, nothing_due, node_due, key_due, field_due, name_due, row_due}
 use Rattle.bser_format.specs.Plain.{is_positive}
@@ -9,10 +11,10 @@ use Rattle.bser_format.specs.declared.errors.Error.{Error}
 use Rattle.bser_format.specs.declared.errors.Complaint.{Complaint}
 use Rattle.bser_format.specs.declared.errors.Complaint.TheVariants.{NegativeLength, NegativeCount}
 use Rattle.bser_format.specs.declared.errors.Kind.{Kind}
-use Rattle.bser_format.specs.declared.errors.Kind.TheVariants.{TemplateKey}
-use Rattle.bser_named.specs.Named.{Answer, Reader, reads, refuses, give, refuse, and_then, ◌>>=◌, complain, eof, next, front, many, number, int_after, int, natural, size, count, string, utf8, string_after, string_of, text_of, within}
+use Rattle.bser_format.specs.declared.errors.Kind.TheVariants.{MapKey, TemplateKey}
+use Rattle.bser_named.specs.Named.{Answer, Reader, reads, refuses, give, refuse, and_then, ◌>>=◌, complain, eof, next, front, many, number, int_after, int, natural, size, count, string, utf8, string_after, string_of, text_of, within, magic, head, entry_of, field_of, array_body, object_body, rows_body, template_body, template_after, value_after, value, with_text_keys}
 use Rattle.bser_named.specs.DueReaders.{Seen, tag, name, row, is_tag, is_key_tag, seen, asked, nothing_here, bool_at, integer_at, real_at, unit_at, bytes_at, text_at, rows_wanted, table_at, less_one, items_at, pairs_at}
-use Rattle.bser_named.specs.Asks.{done, asks_bool, asks_real, asks_unit, asks_integer, asks_bytes, asks_string, in_range}
+use Rattle.bser_named.specs.Asks.{done, asks_bool, asks_real, asks_unit, asks_integer, asks_bytes, asks_string, asks_any, in_range}
 use Rattle.bser_due.specs.Reading.{IsRefusal}
 
 -- a refusal by r is to blame on the bytes
@@ -83,8 +85,11 @@ clean_string_after : (e : Error) → IsRefusal e → (t : ℕ) → Clean (string
 clean_string_after e kind t =
     clean_if (t == 0x02) _ _ clean_string (clean_if (t == 0x0d) _ _ (clean_then string _ clean_string clean_utf8) (clean_refuse e kind))
 
+clean_string_of : (kind : Kind) → Clean (string_of kind)
+clean_string_of kind = clean_then next _ clean_next (λ t. clean_string_after _ tt t)
+
 clean_text_of : (kind : Kind) → Clean (text_of kind)
-clean_text_of kind = clean_then (string_of kind) _ (clean_then next _ clean_next (λ t. clean_string_after _ tt t)) clean_utf8
+clean_text_of kind = clean_then (string_of kind) _ (clean_string_of kind) clean_utf8
 
 clean_within : {X : Type 0} (deep : Bool) (kind : Kind) (r : Reader X) → Clean r → Clean (within deep kind r)
 clean_within deep kind r is = clean_if deep r _ is (clean_refuse _ tt)
@@ -180,3 +185,72 @@ clean_texts = clean_plain text_at clean_text_at
 
 pub clean_integers : (fits : ℤ → Bool) (o n : ℕ) (d : Due) → Clean (asks_integer fits o n d)
 clean_integers fits o n d = clean_then (asked integer_at o d) (in_range fits) (clean_asked integer_at clean_integer_at o d) (λ v. clean_if (fits v) _ _ (clean_give tt) (clean_refuse _ tt))
+
+-- ---- values
+
+clean_field : (r : Reader Tree) → Clean r → Clean (field_of r)
+clean_field r is [] e h = clean_refuse {X = Option Tree} eof tt [] e h
+clean_field r is (x ∷ b) e h = go (x == 0x0c) h
+  where
+    go : (c : Bool) → cond c (reads None b) ((r >>= λ t. give (Some t)) (x ∷ b)) ≡ refuses e → IsRefusal e
+    go true q = absurd cc
+    go false q = clean_then r (λ t. give (Some t)) is (λ t. clean_give (Some t)) (x ∷ b) e q
+
+clean_entry : (key : Reader (List ℕ)) (r : Reader Tree) → Clean key → Clean r → Clean (entry_of key r)
+clean_entry key r keys is = clean_then key _ keys (λ k. clean_then r _ is (λ t. clean_give (k, t)))
+
+clean_array : (r : Reader Tree) → Clean r → Clean (array_body r)
+clean_array r is = clean_then count _ clean_count (λ n. clean_then (many r n) _ (clean_many r is n) (λ ts. clean_give _))
+
+clean_object : (key : Reader (List ℕ)) (r : Reader Tree) → Clean key → Clean r → Clean (object_body key r)
+clean_object key r keys is =
+    clean_then count _ clean_count (λ n. clean_then (many (entry_of key r) n) _ (clean_many _ (clean_entry key r keys is) n) (λ es. clean_give _))
+
+clean_made : (r : Reader Tree) → Clean r → (ks : List (List ℕ)) (n m : ℕ) → Clean (many (many (field_of r) n) m >>= λ rs. give (template ks (rows_of rs)))
+clean_made r is ks n m = clean_then (many (many (field_of r) n) m) _ (clean_many _ (clean_many _ (clean_field r is) n) m) (λ rs. clean_give _)
+
+clean_rows_body : (r : Reader Tree) → Clean r → (ks : List (List ℕ)) (n m : ℕ) → Clean (rows_body r ks n m)
+clean_rows_body r is ks zero zero = clean_made r is ks zero zero
+clean_rows_body r is ks zero (suc m) = clean_refuse _ tt
+clean_rows_body r is ks (suc n) m = clean_made r is ks (suc n) m
+
+clean_template : (r : Reader Tree) → Clean r → Clean (template_body r)
+clean_template r is =
+    clean_then count _ clean_count (λ n. clean_then (many (text_of TemplateKey) n) _ (clean_many _ (clean_text_of TemplateKey) n) (λ ks. clean_then count _ clean_count (λ m. clean_rows_body r is ks n m)))
+
+clean_keys : (deeper : Bool) (r : Reader Tree) → Clean r → (t : ℕ) → Clean (template_after deeper r t)
+clean_keys deeper r is t = clean_if (t == 0x00) _ _ (clean_within deeper _ _ (clean_template r is)) (clean_refuse _ tt)
+
+clean_after : (deep deeper : Bool) (key : Reader (List ℕ)) (r : Reader Tree) → Clean key → Clean r → (t : ℕ) → Clean (value_after deep deeper key r t)
+clean_after deep deeper key r keys is t =
+    clean_if (t == 0x0a) _ _ (clean_give _)
+    (clean_if (t == 0x08) _ _ (clean_give _)
+    (clean_if (t == 0x09) _ _ (clean_give _)
+    (clean_if (t == 0x07) _ _ (clean_then (front 8) _ (clean_front 8) (λ b. clean_give _))
+    (clean_if (t == 0x02) _ _ (clean_then string _ clean_string (λ s. clean_give _))
+    (clean_if (t == 0x0d) _ _ (clean_then (string >>= utf8) _ (clean_then string _ clean_string clean_utf8) (λ s. clean_give _))
+    (clean_if (t == 0x00) _ _ (clean_within deep _ _ (clean_array r is))
+    (clean_if (t == 0x01) _ _ (clean_within deep _ _ (clean_object key r keys is))
+    (clean_if (t == 0x0b) _ _ (clean_within deep _ _ (clean_then next _ clean_next (clean_keys deeper r is)))
+    (clean_then (int_after _ t) _ (clean_int_after _ tt t) (λ v. clean_give _))))))))))
+
+clean_value : (n : ℕ) → Clean (with_text_keys n)
+unfolding value
+clean_value zero = clean_then next _ clean_next (clean_after false false (text_of MapKey) (refuse eof) (clean_text_of MapKey) (clean_refuse eof tt))
+clean_value (suc n) = clean_then next _ clean_next (clean_after true (is_positive n) (text_of MapKey) (with_text_keys n) (clean_text_of MapKey) (clean_value n))
+
+-- whatever stands there
+pub clean_any : (o n : ℕ) (d : Due) → Clean (asks_any o n d)
+clean_any o n nothing_due = clean_asked unit_at clean_unit_at o nothing_due
+clean_any o n node_due = clean_then (with_text_keys n) done (clean_value n) (λ t. clean_give tt)
+clean_any o n key_due = clean_then (string_of MapKey) done (clean_string_of MapKey) (λ s. clean_give tt)
+clean_any o n field_due = clean_then (field_of (with_text_keys n)) done (clean_field _ (clean_value n)) (λ f. clean_give tt)
+clean_any o n (name_due k) = clean_give tt
+clean_any o n (row_due ks) = clean_then (many (field_of (with_text_keys n)) (length ks)) done (clean_many _ (clean_field _ (clean_value n)) (length ks)) (λ fs. clean_give tt)
+
+-- ---- a message
+
+pub clean_head : Clean head
+clean_head =
+    clean_then magic _ (clean_then (front 2) _ (clean_front 2) (λ s. clean_if (bytes_eq s (0x00 ∷ 0x02 ∷ [])) (give s) _ (clean_give s) (clean_refuse _ tt)))
+    (λ m. clean_then (front 4) _ (clean_front 4) (λ c. clean_then size _ clean_size (λ k. clean_give _)))

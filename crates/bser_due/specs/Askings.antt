@@ -1,7 +1,9 @@
 -- The askings of types without parts.
 use Rattle.std.specs.Prelude.{ℤ, Bool}
 use Rattle.bser_format.specs.ReadsScalars.{reads_bool, reads_real, reads_unit, reads_integer, reads_slice, reads_string, reads_char}
-use Rattle.bser_named.specs.Asks.{asks_bool, asks_real, asks_unit, asks_integer, asks_bytes, asks_string, asks_char}
+use Rattle.bser_format.specs.ReadsAny.{reads_value, reads_ignored}
+use Rattle.bser_named.specs.Asks.{asks_bool, asks_real, asks_unit, asks_integer, asks_bytes, asks_string, asks_char, asks_any}
+use Rattle.bser_named.proofs.Anything.{ignored_passes, value_passes}
 use Rattle.bser_named.proofs.Scalars.{bool_passes, real_passes, unit_passes}
 use Rattle.bser_named.proofs.Integers.{integer_passes}
 use Rattle.bser_named.proofs.Strings.{bytes_passes, string_passes, char_passes}
@@ -34,3 +36,11 @@ asking_string = record { asks = asks_string; passes = string_passes }
 -- a text of one character
 abbrev pub asking_char : Asking reads_char
 asking_char = record { asks = asks_char; passes = char_passes }
+
+-- whatever stands there, of which nothing is kept
+abbrev pub asking_ignored : Asking reads_ignored
+asking_ignored = record { asks = asks_any; passes = ignored_passes }
+
+-- whatever stands there, as a `Value`
+abbrev pub asking_value : Asking reads_value
+asking_value = record { asks = asks_any; passes = value_passes }

@@ -45,6 +45,7 @@ took_none a works = record {
   more = [];
   bytes = append-nil a.buffered;
   device = Consumes-nil a.beyond;
+  octets = tt;
   within = λ x h. subst (λ k. Within k a) (let e : x + 0 ≡ x = omega arith in e) h;
   count = omega arith;
   limit = refl;

@@ -14,6 +14,10 @@ pub each_err : {X E : Type 0} (P S : Type 0) (r : Result X E) → OnErr r P → 
 each_err P S (Ok x) p f = tt
 each_err P S (Err e) p f = f p
 
+pub both_err : {X E : Type 0} (P Q S : Type 0) (r : Result X E) → OnErr r P → OnErr r Q → (P → Q → S) → OnErr r S
+both_err P Q S (Ok x) p q f = tt
+both_err P Q S (Err e) p q f = f p q
+
 -- the first of some bytes
 pub first_is : (c : ℕ) (held : List ℕ) → 1 ≤ length held → get_or held 0 0 ≡ c → held ≡ c ∷ drop 1 held
 first_is c [] some e = absurd (omega (arith, some))

@@ -35,8 +35,11 @@ pub trait Builder {
         ensures err { OnErr result (memory ≡ true) };
 }
 
-/// What is skipped: nothing is kept of it, and no memory is taken.
-#[derive(Clone, Copy)]
+/// Any value, of which nothing is kept: an unknown field of an object, as a rule.
+///
+/// The value has to be well-formed, and its objects' keys UTF-8. It stands for serde's
+/// `IgnoredAny`.
+#[derive(Debug, Clone, Copy, PartialEq, Eq)]
 pub struct Ignored;
 
 impl Builder for Ignored {

@@ -1,9 +1,9 @@
 -- A window that moves: bytes that come to be buffered, and bytes that are taken.
-use Rattle.std.proofs.Common.{◌≡◌, ℕ, ◌+◌, ◌-◌, ◌≤◌, ◌<◌, max, Bool, true, false, List, [], ◌++◌, Option, Some, None, length, take, drop, slice_range, length-append, append_assoc, append-nil, refl, sym, ap, subst, ◌∙◌, arith}
+use Rattle.std.proofs.Common.{◌≡◌, ℕ, zero, suc, ◌+◌, ◌-◌, ◌≤◌, ◌<◌, max, Bool, true, false, List, [], ◌∷◌, ◌++◌, Option, Some, None, length, take, drop, get_or, slice_range, length-append, append_assoc, append-nil, refl, sym, ap, subst, ◌∙◌, arith}
 use Rattle.std.proofs.lemmas.List.{take-append-drop, length-take-le, length-drop, drop-drop, drop-take}
 use Rattle.std.proofs.KnownBytes.{Consumes-nil, Consumes-trans}
 use Rattle.std.specs.Io.KnownBytes.{Consumes, prepend_known}
-use Rattle.bser_read.specs.Window.{Window, left, Within, consumed, Grown, Filled, Took}
+use Rattle.bser_read.specs.Window.{Window, left, Within, consumed, Grown, AreOctets, Filled, Took}
 
 -- where all is refused nothing is buffered
 pub works : (failed : Bool) (held : List ℕ) (n : ℕ) → (failed ≡ true → held ≡ []) → 0 < n → n ≤ length held → failed ≡ false
@@ -53,13 +53,38 @@ grown_later m n a b le grown = record {
   through = grown.through;
 }
 
+-- ---- octets
+
+pub octets_each : (bs : List ℕ) → ((i : ℕ) → get_or bs i 0 < 256) → AreOctets bs
+octets_each [] small = tt
+octets_each (x ∷ bs) small = (small 0, octets_each bs (λ i. small (suc i)))
+
+pub octets_then : (bs cs : List ℕ) → AreOctets bs → AreOctets cs → AreOctets (bs ++ cs)
+octets_then [] cs first second = second
+octets_then (x ∷ bs) cs first second = (first.0, octets_then bs cs first.1 second)
+
+pub octets_front : (n : ℕ) (bs : List ℕ) → AreOctets bs → AreOctets (take n bs)
+octets_front zero [] all = tt
+octets_front zero (x ∷ bs) all = tt
+octets_front (suc n) [] all = tt
+octets_front (suc n) (x ∷ bs) all = (all.0, octets_front n bs all.1)
+
+pub octets_rest : (n : ℕ) (bs : List ℕ) → AreOctets bs → AreOctets (drop n bs)
+octets_rest zero [] all = tt
+octets_rest zero (x ∷ bs) all = all
+octets_rest (suc n) [] all = tt
+octets_rest (suc n) (x ∷ bs) all = octets_rest n bs all.1
+
+-- ---- bytes that are taken
+
 -- bytes came to be buffered, and the first of those buffered were taken
-pub taken_after : (m n : ℕ) (a b : Window) → Grown m a b → m ≤ n → n ≤ length b.buffered → a.failed ≡ false → Took a (consumed n b) (take n b.buffered)
-taken_after m n a b grown le fits working =
+pub taken_after : (m n : ℕ) (a b : Window) → Grown m a b → AreOctets (take n b.buffered) → m ≤ n → n ≤ length b.buffered → a.failed ≡ false → Took a (consumed n b) (take n b.buffered)
+taken_after m n a b grown small le fits working =
     let len : length (take n b.buffered) ≡ n = length-take-le n b.buffered fits in
     record {
       more = grown.more;
       bytes = sym grown.buffered ∙ sym (take-append-drop n b.buffered);
+      octets = small;
       device = grown.device;
       within = λ x h. (let w : length b.buffered ≤ max (b.limit - b.count) (x + n) = grown.within (x + n) (omega (arith, le)) (subst (λ k. Within (x + k) a) len h) in omega (arith, w, fits, length-drop n b.buffered));
       count = omega (arith, len, grown.count);
@@ -72,8 +97,8 @@ taken_after m n a b grown le fits working =
     }
 
 -- the first of the buffered bytes were taken
-pub taken : (n : ℕ) (a : Window) → n ≤ length a.buffered → a.failed ≡ false → Took a (consumed n a) (take n a.buffered)
-taken n a fits working = taken_after 0 n a a (grown_none a) (omega arith) fits working
+pub taken : (n : ℕ) (a : Window) → AreOctets a.buffered → n ≤ length a.buffered → a.failed ≡ false → Took a (consumed n a) (take n a.buffered)
+taken n a small fits working = taken_after 0 n a a (grown_none a) (octets_front n a.buffered small) (omega arith) fits working
 
 -- one call after another
 pub took_then : (a b c : Window) (xs ys : List ℕ) → Took a b xs → Took b c ys → Took a c (xs ++ ys)
@@ -81,6 +106,7 @@ took_then a b c xs ys first second = record {
   more = first.more ++ second.more;
   bytes = sym (append_assoc a.buffered first.more second.more) ∙ ap (λ l. l ++ second.more) first.bytes ∙ append_assoc xs b.buffered second.more
       ∙ ap (λ l. xs ++ l) second.bytes ∙ sym (append_assoc xs ys c.buffered);
+  octets = octets_then xs ys first.octets second.octets;
   device = Consumes-trans a.beyond b.beyond c.beyond first.more second.more first.device second.device;
   within = λ x h. second.within x (first.within (x + length ys) (subst (λ k. Within k a) (let e : x + length (xs ++ ys) ≡ x + length ys + length xs = omega (arith, length-append xs ys) in e) h));
   count = omega (arith, length-append xs ys, first.count, second.count);
@@ -97,6 +123,7 @@ pub took_grown : (a b c : Window) (n : ℕ) (xs : List ℕ) → Grown n a b → 
 took_grown a b c n xs grown le took = record {
   more = grown.more ++ took.more;
   bytes = sym (append_assoc a.buffered grown.more took.more) ∙ ap (λ l. l ++ took.more) (sym grown.buffered) ∙ took.bytes;
+  octets = took.octets;
   device = Consumes-trans a.beyond b.beyond c.beyond grown.more took.more grown.device took.device;
   within = λ x h. took.within x (grown.within (x + length xs) (omega (arith, le)) h);
   count = took.count ∙ ap (λ k. k + length xs) grown.count;
@@ -152,13 +179,13 @@ pub regrown : (n : ℕ) (a b c : Window) → b ≡ a → Grown n b c → Grown n
 regrown n a b c same grown = subst (λ s. Grown n s c) same grown
 
 -- n bytes are buffered already
-pub filled_here : (n : ℕ) (a b : Window) → b ≡ a → n ≤ length a.buffered → a.failed ≡ false → Filled n a b
-filled_here n a b same enough working =
-    subst (Filled n a) (sym same) (record { grown = grown_later 0 n a a (omega arith) (grown_none a); enough = enough; working = working })
+pub filled_here : (n : ℕ) (a b : Window) → b ≡ a → AreOctets a.buffered → n ≤ length a.buffered → a.failed ≡ false → Filled n a b
+filled_here n a b same small enough working =
+    subst (Filled n a) (sym same) (record { grown = grown_later 0 n a a (omega arith) (grown_none a); octets = small; enough = enough; working = working })
 
 -- n bytes came to be buffered, and were taken
 pub took_filled : (n : ℕ) (a b : Window) → Filled n a b → Took a (consumed n b) (take n b.buffered)
-took_filled n a b filled = taken_after n n a b filled.grown (omega arith) filled.enough filled.working
+took_filled n a b filled = taken_after n n a b filled.grown (octets_front n b.buffered filled.octets) (omega arith) filled.enough filled.working
 
 -- the same, by what the last call says
 pub took_by : (n : ℕ) (a b c : Window) (bs : List ℕ) → Filled n a b → c ≡ consumed n b → bs ≡ take n b.buffered → Took a c bs

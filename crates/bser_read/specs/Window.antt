@@ -1,6 +1,7 @@
 -- What a byte source is to its callers: a window on the bytes left.
-use Rattle.std.specs.Prelude.{◌≡◌, ℕ, ◌+◌, ◌-◌, ◌≤◌, max, Bool, true, false, List, [], ◌∷◌, ◌++◌, length, drop, Option}
+use Rattle.std.specs.Prelude.{◌≡◌, ℕ, ◌+◌, ◌-◌, ◌≤◌, ◌<◌, max, Bool, true, false, List, [], ◌∷◌, ◌++◌, length, drop, Option}
 use Rattle.std.specs.Borrow.{GName}
+use Rattle.std.specs.List.{AllByRecursion}
 use Rattle.std.specs.Io.KnownBytes.{Consumes, prepend_known}
 
 -- what a source tells of itself
@@ -51,9 +52,14 @@ pub record Grown (n : ℕ) (old new : Window) : Type 0 where
   pub failures : new.failures ≡ old.failures
   pub through : new.through ≡ old.through
 
+-- each number is one of a byte
+abbrev pub AreOctets : List ℕ → Type 0
+AreOctets = AllByRecursion (λ x. x < 256)
+
 -- n bytes are buffered
 pub record Filled (n : ℕ) (old new : Window) : Type 0 where
   pub grown : Grown n old new
+  pub octets : AreOctets new.buffered
   pub enough : n ≤ length new.buffered
   pub working : old.failed ≡ false
 
@@ -66,6 +72,7 @@ pub record Peeks (old new : Window) (b : ℕ) : Type 0 where
 pub record Took (old new : Window) (bs : List ℕ) : Type 0 where
   pub more : List ℕ
   pub bytes : old.buffered ++ more ≡ bs ++ new.buffered
+  pub octets : AreOctets bs
   pub device : Consumes old.beyond new.beyond more
   pub within : (a : ℕ) → Within (a + length bs) old → Within a new
   pub count : new.count ≡ old.count + length bs

@@ -4,7 +4,7 @@ ghost use Rattle.bser_read.specs.Window.{Grown, Filled, closed};
 ghost use Rattle.bser_read.specs.Refusal.{Refused};
 
 use crate::pull::{pull_at, pull_rest};
-use crate::read::{DeRead, WINDOW};
+use crate::read::{DeRead, WINDOW, count_octets};
 use bser_format::errors::ReadCause;
 use bser_source::device::Source;
 use bser_source::read::NoLoan;
@@ -162,7 +162,7 @@ impl<S: Source> IoRead<S> {
             return Err(self.refuse(ReadCause::Failed));
         }
         self.pack();
-        while self.end < n {
+        while count_octets(self.buffered()) < n {
             self.pull(n)?;
         }
         Ok(())
@@ -187,7 +187,7 @@ impl<S: Source> DeRead for IoRead<S> {
 
     #[inline(always)]
     fn fill(&mut self, n: usize) -> Result<(), ReadCause> {
-        if n <= self.end - self.start {
+        if n <= count_octets(self.buffered()) {
             return Ok(());
         }
         self.pull_to(n)

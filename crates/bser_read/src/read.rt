@@ -2,7 +2,7 @@
 ghost use Rattle.std.specs.Prelude.{◌≡◌, ◌≢◌, ◌≤◌, ◌<◌, ◌∷◌, [], true, false, length, take, MatchOption, IfOk, IfErr, OnOk};
 ghost use Rattle.std.specs.Int.{w32, to_le_bytes};
 ghost use Rattle.bser_source.specs.Refs.{bytes_of, is_lent};
-ghost use Rattle.bser_read.specs.Window.{Window, Filled, Peeks, Took, Expects, consumed, closed};
+ghost use Rattle.bser_read.specs.Window.{Window, AreOctets, Filled, Peeks, Took, Expects, consumed, closed};
 ghost use Rattle.bser_read.specs.Refusal.{Refused};
 
 use bser_format::errors::ReadCause;
@@ -15,6 +15,15 @@ fn little_u32(bytes: &[u8]) -> u32
     ensures { to_le_bytes w32 result ≡ bytes.now }
 {
     LittleEndian::read_u32(bytes)
+}
+
+/// How many bytes these are.
+#[inline(always)]
+pub fn count_octets(bytes: &[u8]) -> usize
+    ensures len { result ≡ length bytes.now }
+    ensures octets { AreOctets bytes.now }
+{
+    bytes.len()
 }
 
 /// How many bytes [`DeRead::fill`] buffers at most.
@@ -156,7 +165,7 @@ pub trait DeRead {
         ensures err { IfErr result (λ e.
             Refused e (Self.window self.old) (Self.window self.new) len) }
     {
-        if len > self.buffered().len() {
+        if len > count_octets(self.buffered()) {
             if len > WINDOW {
                 self.gather(len, scratch)?;
                 return Ok(Reference::Copied(scratch.as_slice()));

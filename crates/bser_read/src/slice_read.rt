@@ -1,7 +1,7 @@
 //! A byte source over a slice.
 ghost use Rattle.std.specs.Prelude.{refl, ◌≡◌, ◌≤◌, true, false, length};
 
-use crate::read::DeRead;
+use crate::read::{DeRead, count_octets};
 use bser_format::errors::ReadCause;
 
 /// A source over a slice, which lends all that is taken and takes no memory.
@@ -52,7 +52,7 @@ impl<'a> DeRead for SliceRead<'a> {
 
     #[inline(always)]
     fn fill(&mut self, n: usize) -> Result<(), ReadCause> {
-        if n <= self.slice.len() - self.index {
+        if n <= count_octets(self.buffered()) {
             return Ok(());
         }
         Err(if self.failed {

@@ -1,5 +1,5 @@
 -- An array or a template that is read item by item.
-use Rattle.std.proofs.Common.{◌≡◌, ℕ, ◌-◌, ◌<◌, Bool, true, false, ◌||◌, List, [], ◌∷◌, ◌++◌, length, append_assoc, Option, Some, None, refl, sym, ap, subst, ◌∙◌, arith}
+use Rattle.std.proofs.Common.{◌≡◌, ℕ, zero, suc, ◌-◌, ◌<◌, Bool, true, false, ◌||◌, List, [], ◌∷◌, ◌++◌, length, append_assoc, Option, Some, None, refl, sym, ap, subst, ◌∙◌, arith}
 use Rattle.std.proofs.lemmas.List.{append-nil}
 use Rattle.bser_format.specs.Tree.{Tree, array, Items, no_items, item, items}
 use Rattle.bser_format.specs.Grammar.{Format}
@@ -7,16 +7,21 @@ use Rattle.bser_format.specs.Content.{Content, Meaning, Needs}
 use Rattle.bser_format.specs.Expected.{Fills, FillsItems, WantedItems, nodes, rows_over}
 use Rattle.bser_format.specs.declared.errors.Error.{Error}
 use Rattle.bser_format.specs.declared.errors.Error.TheVariants.{OutOfMemory}
+use Rattle.bser_format.specs.declared.errors.Complaint.TheVariants as complaints
+use Rattle.bser_source.specs.Device.{one_more}
+use Rattle.bser_named.specs.Named.{Reader, complain}
+use Rattle.bser_named.specs.DueReaders.{asked, items_at, less_one}
 use Rattle.bser_named.specs.Clauses.{left_over}
 use Rattle.bser_read.specs.Window.{Window, Took, closed}
 use Rattle.bser_read.proofs.Windows.{took_then, left_took}
 use Rattle.bser_due.specs.State.{State, past, refused, awaiting}
-use Rattle.bser_due.specs.Reading.{Answers, Asking, NamesAsked, Refuses, RefusesFront, FillsReadably, IsRefusal, owned}
+use Rattle.bser_due.specs.Reading.{Answers, Asking, NamesAsked, NamesBy, NamesDue, Refuses, RefusesFront, FillsReadably, IsRefusal, owned}
 use Rattle.bser_due.specs.Required.{LacksItem}
 use Rattle.bser_due.specs.Parts.{items_left, item_due, items_after, wanted_items}
-use Rattle.bser_due.specs.Access.{OpenItems, OpensItems, IsItemsHead, inside_items, items_in, IsNextItem, RefusesItem, ClosesItems, KeysOutside, LeavesItems, after_closing}
+use Rattle.bser_due.specs.Access.{OpenItems, OpensItems, IsItemsHead, RefusesItems, inside_items, items_in, IsNextItem, RefusesItem, ClosesItems, KeysOutside, LeavesItems, after_closing}
 use Rattle.bser_due.proofs.Refusals.{first_part, sequel, unfit}
-use Rattle.bser_types.proofs.Taken.{wider_needs, no_room}
+use Rattle.bser_types.proofs.Taken.{wider_needs, wider_type, no_room}
+use Rattle.bser_types.proofs.Naming.{Asked, StepAsked, HeadAsked, FirstAsked, NoneAsked, asked_then, names_by_wider, head_named, part_named, none_named}
 use Rattle.bser_types.proofs.Within.{Within, within_then, DueAs, due_as, one_due}
 use Rattle.bser_types.proofs.Items.{items_whole, items_only, items_begin}
 
@@ -139,17 +144,19 @@ item_step T k after n w t d text by some filled read = record {
 
 -- ---- an open array
 
--- how an array that was opened in the state o stands: k makes of the items that are left what the whole reads as
-pub record Inside (reads : Meaning) (o : State) (k : List Tree → Option Content) (u : OpenItems) : Type 0 where
+-- how an array that was opened in the state o stands: k makes of the items that are left what the whole reads as, and `now` is left to be asked for
+pub record Inside (reads : Meaning) (asks : Option (Asking reads)) (o : State) (k : List Tree → Option Content) (now : Reader Unit) (u : OpenItems) : Type 0 where
   pub taken : List ℕ
   pub within : Within (DueAs reads o) (ItemsLeft k (o.levels - 1) u.wanted) taken
   pub took : Took o.source u.state.source taken
+  pub asked : Asked asks o now taken
   pub state : u.state ≡ inside_items u.wanted o u.state.source
   pub levels : u.levels ≡ o.levels
   pub opened : u.opened ≡ o.opened
 
-pub inside_start : (reads : Meaning) (k : List Tree → Option Content) (o : State) (u : OpenItems) → ReadsArrays reads k → OpensItems o u → Inside reads o k u
-inside_start reads k o u by opens = record {
+pub inside_start : (reads : Meaning) (asks : Option (Asking reads)) (k : List Tree → Option Content) (now : Reader Unit) (o : State) (u : OpenItems) → ReadsArrays reads k → (opens : OpensItems o u) → Asked asks o now opens.text
+    → Inside reads asks o k now u
+inside_start reads asks k now o u by opens asked = record {
   taken = opens.text;
   within = record {
     whole = λ c more v. record { tree = array v.parts; filled = items_whole o.levels o.due u.wanted v.parts opens.text more opens.head v.filled; read = by.same v.parts ∙ v.read };
@@ -159,6 +166,7 @@ inside_start reads k o u by opens = record {
         (q.0, q.1, record { parts = p.0; filled = q.2; read = sym (by.same p.0) ∙ ap reads (sym p.1) ∙ d.read });
   };
   took = opens.took;
+  asked = asked;
   state = opens.state;
   levels = opens.levels;
   opened = opens.opened;
@@ -168,26 +176,42 @@ levels_inside : (w : WantedItems) (o : State) (r : Window) → (inside_items w o
 levels_inside (nodes k) o r = refl
 levels_inside (rows_over ks k) o r = refl
 
+opened_inside : (w : WantedItems) (o : State) (r : Window) → (inside_items w o r).opened ≡ one_more o.opened
+opened_inside (nodes k) o r = refl
+opened_inside (rows_over ks k) o r = refl
+
+pub one_less : (n : ℕ) → n - 1 ≡ less_one n
+one_less zero = omega arith
+one_less (suc n) = omega arith
+
+-- the levels inside, and how many containers are open there
+pub inner_levels : (w : WantedItems) (o i : State) → i ≡ inside_items w o i.source → i.levels ≡ less_one o.levels
+inner_levels w o i state = ap (λ (s : State). s.levels) state ∙ levels_inside w o i.source ∙ one_less o.levels
+
+pub inner_opened : (w : WantedItems) (o i : State) → i ≡ inside_items w o i.source → i.opened ≡ one_more o.opened
+inner_opened w o i state = ap (λ (s : State). s.opened) state ∙ opened_inside w o i.source
+
 past_item : (w : WantedItems) (o : State) (r x : Window) → past (awaiting (item_due w) (inside_items w o r)) x ≡ inside_items (items_after w) o x
 past_item (nodes k) o r x = refl
 past_item (rows_over ks k) o r x = refl
 
-pub inside_next : {A : Type 0} (T : Meaning) (holds : A → Content → Type 0) (reads : Meaning) (k : List Tree → Option Content) (after : Content → List Tree → Option Content) (o : State) (u t : OpenItems) (v : A)
-    → ReadsNext T k after → Inside reads o k u → (next : IsNextItem T holds u t v) → Inside reads o (after next.answers.content) t
-inside_next T holds reads k after o u t v by h next =
+pub inside_next : {A : Type 0} (T : Meaning) (holds : A → Content → Type 0) (reads : Meaning) (asks : Option (Asking reads)) (k : List Tree → Option Content) (after : Content → List Tree → Option Content) (now later : Reader Unit) (o : State) (u t : OpenItems) (v : A)
+    → ReadsNext T k after → Inside reads asks o k now u → (next : IsNextItem T holds u t v) → StepAsked asks now later next.answers.text → Inside reads asks o (after next.answers.content) later t
+inside_next T holds reads asks k after now later o u t v by h next step_asked =
     let a = next.answers in
-    let level : u.state.levels ≡ o.levels - 1 = ap (λ z. z.levels) h.state ∙ levels_inside u.wanted o u.state.source in
+    let level : u.state.levels ≡ o.levels - 1 = ap (λ (z : State). z.levels) h.state ∙ levels_inside u.wanted o u.state.source in
     let filled : Fills (o.levels - 1) (item_due u.wanted) a.tree a.text = subst (λ n. Fills n (item_due u.wanted) a.tree a.text) level a.filled in
-    let wanted : t.wanted ≡ items_after u.wanted = ap (λ z. z.wanted) next.after in
+    let wanted : t.wanted ≡ items_after u.wanted = ap (λ (z : OpenItems). z.wanted) next.after in
     let step = item_step T k after (o.levels - 1) u.wanted a.tree a.content a.text by next.counted filled a.read in
     record {
       taken = h.taken ++ a.text;
       within = subst (λ w. Within (DueAs reads o) (ItemsLeft (after a.content) (o.levels - 1) w) (h.taken ++ a.text)) (sym wanted)
           (within_then (DueAs reads o) (ItemsLeft k (o.levels - 1) u.wanted) (ItemsLeft (after a.content) (o.levels - 1) (items_after u.wanted)) h.taken a.text h.within step);
       took = took_then o.source u.state.source t.state.source h.taken a.text h.took a.took;
+      asked = asked_then reads asks o now later h.taken a.text h.asked step_asked;
       state = a.state ∙ ap (λ z. past (awaiting (item_due u.wanted) z) t.state.source) h.state ∙ past_item u.wanted o u.state.source t.state.source ∙ ap (λ w. inside_items w o t.state.source) (sym wanted);
-      levels = ap (λ z. z.levels) next.after ∙ h.levels;
-      opened = ap (λ z. z.opened) next.after ∙ h.opened;
+      levels = ap (λ (z : OpenItems). z.levels) next.after ∙ h.levels;
+      opened = ap (λ (z : OpenItems). z.opened) next.after ∙ h.opened;
     }
 
 -- ---- the end
@@ -204,9 +228,9 @@ restored_past (nodes k) o r = refl
 restored_past (rows_over ks k) o r = refl
 
 -- all items are read, and the array is closed
-pub inside_end : {A : Type 0} (holds : A → Content → Type 0) (reads : Meaning) (k : List Tree → Option Content) (o z : State) (u : OpenItems) (c : Content) (v : A)
-    → Inside reads o k u → ClosesItems u z → k [] ≡ Some c → holds v c → Answers reads holds o z v
-inside_end holds reads k o z u c v h closes read held =
+pub inside_end : {A : Type 0} (holds : A → Content → Type 0) (reads : Meaning) (asks : Option (Asking reads)) (k : List Tree → Option Content) (now : Reader Unit) (o z : State) (u : OpenItems) (c : Content) (v : A)
+    → Inside reads asks o k now u → ClosesItems u z → k [] ≡ Some c → holds v c → Answers reads holds o z v
+inside_end holds reads asks k now o z u c v h closes read held =
     let due = h.within.whole c [] (record { parts = no_items; filled = fills_none (o.levels - 1) u.wanted closes.counted; read = read }) in
     let source : z.source ≡ u.state.source = ap (λ y. y.source) closes.state in
     let keys = keys_outside u.wanted o z u.state.source (subst (λ s. KeysOutside u.wanted s z) h.state closes.keys) in
@@ -231,67 +255,83 @@ inside_end holds reads k o z u c v h closes read held =
 
 -- ---- refusals
 
+-- what begins with no such head is refused
+pub opening_refused : (reads : Meaning) (asks : Option (Asking reads)) (some needs : Needs) (W : Format) (e : Error) (o z : State) → ((text : List ℕ) → FillsReadably reads o text → (first : List ℕ) × (second : List ℕ) × (text ≡ first ++ second) × W first)
+    → HeadAsked asks o (asked (items_at o.levels) o.opened o.due) → (some.lent ≡ true → needs.lent ≡ true) → (some.memory ≡ true → needs.memory ≡ true) → (some.memory || some.keys ≡ true → needs.memory || needs.keys ≡ true)
+    → RefusesFront some W (NamesDue some (items_at o.levels) e o) e o.source z.source → Refuses reads asks needs e o z
+opening_refused reads asks some needs W e o z begins head lent memory takes u =
+    let r = asked (items_at o.levels) o.opened o.due in
+    let M : Type 0 = NamesAsked needs asks e o in
+    first_part needs W (FillsReadably reads o) M M e o.source z.source begins (λ n. n)
+    (wider_needs some needs W (NamesBy some r e o.source) M e o.source z.source lent memory takes (λ n. head_named reads asks needs e o r head (names_by_wider some needs r e o.source lent takes n)) u)
+
 -- what is no array is refused
-pub opening_refused : (reads : Meaning) (k : List Tree → Option Content) (needs : Needs) (N : Type 0) (e : Error) (o z : State) → ReadsArrays reads k → needs.memory ≡ true → RefusesFront owned (IsItemsHead o) N e o.source z.source
-    → Refuses reads None needs e o z
-opening_refused reads k needs N e o z by memory u =
-    first_part needs (IsItemsHead o) (FillsReadably reads o) N Unit e o.source z.source (λ text f.
+pub array_refused : (reads : Meaning) (asks : Option (Asking reads)) (k : List Tree → Option Content) (needs : Needs) (e : Error) (o z : State) → ReadsArrays reads k → HeadAsked asks o (asked (items_at o.levels) o.opened o.due) → needs.memory ≡ true
+    → RefusesItems e o z → Refuses reads asks needs e o z
+array_refused reads asks k needs e o z by head memory u =
+    opening_refused reads asks owned needs (IsItemsHead o) e o z (λ text f.
     let p = by.only f.tree f.content f.read in
     items_begin o.levels o.due p.0 text (subst (λ t. Fills o.levels o.due t text) p.1 f.filled))
-    (λ n. tt) (wider_needs owned needs (IsItemsHead o) N N e o.source z.source (λ lent. absurd cc) (λ m. memory) (λ t. ap (λ m. m || needs.keys) memory) (λ n. n) u)
+    head (λ lent. absurd cc) (λ m. memory) (λ t. ap (λ m. m || needs.keys) memory) u.refuses
 
 -- after what was taken, a whole goes on by the items that are left
-goes_on : (reads : Meaning) (k : List Tree → Option Content) (o : State) (u : OpenItems) → (h : Inside reads o k u) → (text rest ys : List ℕ) → FillsReadably reads o text → text ++ rest ≡ h.taken ++ ys
+goes_on : (reads : Meaning) (asks : Option (Asking reads)) (k : List Tree → Option Content) (now : Reader Unit) (o : State) (u : OpenItems) → (h : Inside reads asks o k now u) → (text rest ys : List ℕ) → FillsReadably reads o text → text ++ rest ≡ h.taken ++ ys
     → (more : List ℕ) × (text ≡ h.taken ++ more) × ((c : Content) × ItemsLeft k (o.levels - 1) u.wanted c more)
-goes_on reads k o u h text rest ys f e = let p = h.within.only f.content text rest ys (due_as reads o text f) e in (p.0, p.1, (f.content, p.2))
+goes_on reads asks k now o u h text rest ys f e = let p = h.within.only f.content text rest ys (due_as reads o text f) e in (p.0, p.1, (f.content, p.2))
 
 -- a refusal of an item
-pub item_refused : (T : Meaning) (asks : Option (Asking T)) (some : Needs) (reads : Meaning) (k : List Tree → Option Content) (after : Content → List Tree → Option Content) (needs : Needs) (e : Error) (o z : State) (u : OpenItems)
+pub item_refused : (T : Meaning) (tells : Option (Asking T)) (some : Needs) (reads : Meaning) (asks : Option (Asking reads)) (k : List Tree → Option Content) (after : Content → List Tree → Option Content) (now : Reader Unit) (needs : Needs) (e : Error) (o z : State) (u : OpenItems)
     → ReadsNext T k after → (some.lent ≡ true → needs.lent ≡ true) → (some.memory ≡ true → needs.memory ≡ true) → (some.memory || some.keys ≡ true → needs.memory || needs.keys ≡ true)
-    → Inside reads o k u → RefusesItem T asks some e u z → Refuses reads None needs e o z
-item_refused T asks some reads k after needs e o z u by lent memory takes h refuses =
+    → Inside reads asks o k now u → FirstAsked asks tells (awaiting (item_due u.wanted) u.state) now → RefusesItem T tells some e u z → Refuses reads asks needs e o z
+item_refused T tells some reads asks k after now needs e o z u by lent memory takes h first refuses =
     let level : o.levels - 1 ≡ u.state.levels = sym (ap (λ (s : State). s.levels) h.state ∙ levels_inside u.wanted o u.state.source) in
     let left = refuses.counted h.took.failed in
-    let V : Format = FillsReadably T (awaiting (item_due u.wanted) u.state) in
+    let p : State = awaiting (item_due u.wanted) u.state in
+    let V : Format = FillsReadably T p in
     let L : Format = λ x. (c : Content) × ItemsLeft k (o.levels - 1) u.wanted c x in
-    let N : Type 0 = NamesAsked some asks e (awaiting (item_due u.wanted) u.state) in
-    sequel needs L (FillsReadably reads o) N Unit e o.source u.state.source z.source h.taken h.took (goes_on reads k o u h) (λ n. tt)
+    let N : Type 0 = NamesAsked needs tells e p in
+    let M : Type 0 = NamesAsked needs asks e o in
+    sequel needs L (FillsReadably reads o) N M e o.source u.state.source z.source h.taken h.took (goes_on reads asks k now o u h) (λ n. part_named reads T asks tells needs e o p now h.taken h.asked h.took first n)
     (first_part needs V L N N e u.state.source z.source (λ text v.
     let f = fills_first (o.levels - 1) u.wanted v.1.parts text left v.1.filled in
     let read : k (f.first ∷ items f.others) ≡ Some v.0 = ap (λ us. k (items us)) (sym f.parts) ∙ v.1.read in
     let d = by.some f.first (items f.others) v.0 read in
     (f.front, f.rest, f.whole, record { tree = f.first; content = d.0; filled = subst (λ n. Fills n (item_due u.wanted) f.first f.front) level f.filled; read = d.1 }))
-    (λ n. n) (wider_needs some needs V N N e u.state.source z.source lent memory takes (λ n. n) refuses.refuses))
+    (λ n. n) (wider_type T tells some needs e p z lent memory takes refuses.refuses))
 
 -- a refusal where what is left cannot be as is wanted
-never_left : (reads : Meaning) (k : List Tree → Option Content) (needs : Needs) (e : Error) (o z : State) (u : OpenItems) → Inside reads o k u → ((c : Content) (text : List ℕ) → ItemsLeft k (o.levels - 1) u.wanted c text → ⊥)
-    → IsRefusal e → z ≡ refused u.state → Refuses reads None needs e o z
-never_left reads k needs e o z u h never kind state =
-    unfit needs (FillsReadably reads o) Unit e o.source u.state.source z.source h.taken kind h.took (ap (λ (s : State). s.source) state) tt
+never_left : (reads : Meaning) (asks : Option (Asking reads)) (k : List Tree → Option Content) (now : Reader Unit) (needs : Needs) (e : Error) (o z : State) (u : OpenItems) → Inside reads asks o k now u
+    → ((c : Content) (text : List ℕ) → ItemsLeft k (o.levels - 1) u.wanted c text → ⊥) → NoneAsked asks now e → IsRefusal e → z ≡ refused u.state → Refuses reads asks needs e o z
+never_left reads asks k now needs e o z u h never none kind state =
+    unfit needs (FillsReadably reads o) (NamesAsked needs asks e o) e o.source u.state.source z.source h.taken kind h.took (ap (λ (s : State). s.source) state)
+    (none_named reads asks needs e o u.state.source now h.taken h.asked h.took none)
     (λ text rest f known.
     let r = left_took o.source u.state.source h.taken (text ++ rest) h.took known in
-    let p = goes_on reads k o u h text rest r.0 f r.2 in
+    let p = goes_on reads asks k now o u h text rest r.0 f r.2 in
     never p.2.0 p.0 p.2.1)
 
 -- more items than are read
-pub leaves_refused : (reads : Meaning) (k : List Tree → Option Content) (needs : Needs) (e : Error) (o z : State) (u : OpenItems) → ((ts : List Tree) (c : Content) → k ts ≡ Some c → ts ≡ [])
-    → Inside reads o k u → LeavesItems e u z → Refuses reads None needs e o z
-leaves_refused reads k needs e o z u none h leaves =
-    never_left reads k needs e o z u h (λ c text v.
+pub leaves_refused : (reads : Meaning) (asks : Option (Asking reads)) (k : List Tree → Option Content) (now : Reader Unit) (needs : Needs) (e : Error) (o z : State) (u : OpenItems) → ((ts : List Tree) (c : Content) → k ts ≡ Some c → ts ≡ [])
+    → Inside reads asks o k now u → (0 < items_left u.wanted → NoneAsked asks now (complain complaints.ItemsLeft)) → LeavesItems e u z → Refuses reads asks needs e o z
+leaves_refused reads asks k now needs e o z u none h named leaves =
+    let name : e ≡ complain complaints.ItemsLeft = leaves.name ∙ ap left_over h.took.failed in
+    let some = leaves.counted h.took.failed in
+    never_left reads asks k now needs e o z u h (λ c text v.
     let size = ap length (none (items v.parts) c v.read) in
-    absurd (omega (arith, size, some_left (o.levels - 1) u.wanted v.parts text v.filled, leaves.counted h.took.failed)))
-    (subst IsRefusal (sym (leaves.name ∙ ap left_over h.took.failed)) tt) leaves.state
+    absurd (omega (arith, size, some_left (o.levels - 1) u.wanted v.parts text v.filled, some)))
+    (subst (NoneAsked asks now) (sym name) (named some)) (subst IsRefusal (sym name) tt) leaves.state
 
 -- fewer items than are read
-pub over_refused : (reads : Meaning) (k : List Tree → Option Content) (needs : Needs) (e : Error) (o z : State) (u : OpenItems) → k [] ≡ None → Inside reads o k u → LacksItem e u z → Refuses reads None needs e o z
-over_refused reads k needs e o z u none h lacks =
-    never_left reads k needs e o z u h (λ c text v.
+pub over_refused : (reads : Meaning) (asks : Option (Asking reads)) (k : List Tree → Option Content) (now : Reader Unit) (needs : Needs) (e : Error) (o z : State) (u : OpenItems) → k [] ≡ None → Inside reads asks o k now u
+    → (items_left u.wanted ≡ 0 → NoneAsked asks now (complain complaints.TooFewItems)) → LacksItem e u z → Refuses reads asks needs e o z
+over_refused reads asks k now needs e o z u none h named lacks =
+    never_left reads asks k now needs e o z u h (λ c text v.
     let empty = no_length (items v.parts) (some_left (o.levels - 1) u.wanted v.parts text v.filled ∙ lacks.counted) in
     let read : None ≡ Some c = sym none ∙ ap k (sym empty) ∙ v.read in
     absurd cc)
-    (subst IsRefusal (sym lacks.name) tt) lacks.state
+    (subst (NoneAsked asks now) (sym lacks.name) (named lacks.counted)) (subst IsRefusal (sym lacks.name) tt) lacks.state
 
 -- memory was refused after some items
-pub room_refused : (reads : Meaning) (k : List Tree → Option Content) (needs : Needs) (e : Error) (o z : State) (u : OpenItems) → needs.memory ≡ true → Inside reads o k u → e ≡ OutOfMemory → z.source ≡ closed u.state.source
-    → Refuses reads None needs e o z
-room_refused reads k needs e o z u memory h same closes = no_room reads None needs o u.state z h.taken e memory h.took same closes
+pub room_refused : (reads : Meaning) (asks : Option (Asking reads)) (k : List Tree → Option Content) (now : Reader Unit) (needs : Needs) (e : Error) (o z : State) (u : OpenItems) → needs.memory ≡ true → Inside reads asks o k now u → e ≡ OutOfMemory
+    → z.source ≡ closed u.state.source → Refuses reads asks needs e o z
+room_refused reads asks k now needs e o z u memory h same closes = no_room reads asks needs o u.state z h.taken e memory h.took same closes

@@ -1,20 +1,29 @@
--- Lists and tuples that are read item by item.
-use Rattle.std.proofs.Common.{◌≡◌, true, false, List, [], ◌∷◌, ◌++◌, append_assoc, ◌<◌, Option, Some, None, inl, inr, refl, sym, ap, ◌∙◌, arith}
+-- Lists that are read item by item.
+use Rattle.std.proofs.Common.{◌≡◌, ℕ, zero, suc, ◌-◌, true, false, List, [], ◌∷◌, ◌++◌, append_assoc, ◌<◌, Option, Some, None, inl, inr, refl, sym, ap, subst, ◌∙◌, arith}
 use Rattle.std.proofs.lemmas.List.{append-nil}
 use Rattle.std.specs.Prelude.{option_map, option_and_then}
 use Rattle.bser_format.specs.Tree.{Tree, null, boolean, integer, real, bytes, text, array, object, template, Items}
 use Rattle.bser_format.specs.Content.{Content, Meaning, Needs, each_some}
-use Rattle.bser_format.specs.ReadsHolders.{list_of, reads_vec, reads_each, reads_tuple}
+use Rattle.bser_format.specs.Expected.{Fills, node_due, row_due, WantedItems, nodes, rows_over}
+use Rattle.bser_format.specs.ReadsHolders.{list_of, reads_vec}
 use Rattle.bser_format.specs.declared.errors.Error.{Error}
 use Rattle.bser_format.specs.declared.errors.Error.TheVariants.{OutOfMemory}
+use Rattle.bser_named.specs.Named.{Reader, refuses, and_then, give}
+use Rattle.bser_named.specs.DueReaders.{asked, items_at, less_one}
+use Rattle.bser_named.specs.Asks.{Asks, all, items_asked}
+use Rattle.bser_named.proofs.Steps as steps
+use Rattle.bser_named.proofs.Steps.{Continues, first_read, part_read}
 use Rattle.bser_read.specs.Window.{closed}
-use Rattle.bser_due.specs.State.{State}
+use Rattle.bser_due.specs.State.{State, awaiting}
 use Rattle.bser_due.specs.Reading.{Answers, Asking, Refuses}
 use Rattle.bser_due.specs.Required.{RefusesRequired}
-use Rattle.bser_due.specs.Parts.{items_left}
-use Rattle.bser_due.specs.Access.{OpenItems, OpensItems, RefusesItems, IsNextItem, RefusesItem, ClosesItems, LeavesItems}
-use Rattle.bser_due.specs.HoldsLists.{HoldsAll, HoldsList, HoldsEach, HoldsTuple}
-use Rattle.bser_types.proofs.Arrays.{ReadsArrays, ReadsNext, Inside, inside_start, inside_next, inside_end, opening_refused, item_refused, room_refused}
+use Rattle.bser_due.specs.Parts.{BeginsItems, items_left, item_due, items_after}
+use Rattle.bser_due.specs.Access.{OpenItems, OpensItems, RefusesItems, IsNextItem, ClosesItems, LeavesItems, inside_items}
+use Rattle.bser_due.specs.HoldsLists.{HoldsAll, HoldsList}
+use Rattle.bser_deserializer.proofs.Containers.{items_pass}
+use Rattle.bser_types.specs.Askings.{counted, asking_vec}
+use Rattle.bser_types.proofs.Naming.{Asked, StepAsked, HeadAsked, FirstAsked, asked_inside, part_passes}
+use Rattle.bser_types.proofs.Arrays.{ReadsArrays, ReadsNext, Inside, inside_start, inside_next, inside_end, inner_levels, inner_opened, array_refused, item_refused, room_refused}
 
 -- ---- what is made of the items that are left
 
@@ -25,31 +34,22 @@ more_of cs left = option_map (λ ds. list_of (cs ++ ds)) left
 abbrev pub rest_of_list : Meaning → List Content → List Tree → Option Content
 rest_of_list T cs ts = more_of cs (each_some T ts)
 
-abbrev pub rest_of_tuple : List Meaning → List Content → List Tree → Option Content
-rest_of_tuple Ts cs ts = more_of cs (reads_each Ts ts)
-
 -- a content, and then those of the rest
 abbrev pub before : Option (List Content) → Option Content → Option (List Content)
 before left first = option_and_then (λ c. option_map (λ cs. c ∷ cs) left) first
 
-one_more : (cs : List Content) (c : Content) (left : Option (List Content)) → more_of cs (before left (Some c)) ≡ more_of (cs ++ c ∷ []) left
-one_more cs c None = refl
-one_more cs c (Some ds) = ap (λ l. Some (list_of l)) (sym (append_assoc cs (c ∷ []) ds))
+pub one_more_content : (cs : List Content) (c : Content) (left : Option (List Content)) → more_of cs (before left (Some c)) ≡ more_of (cs ++ c ∷ []) left
+one_more_content cs c None = refl
+one_more_content cs c (Some ds) = ap (λ l. Some (list_of l)) (sym (append_assoc cs (c ∷ []) ds))
 
-first_some : (cs : List Content) (first : Option Content) (left : Option (List Content)) (c : Content) → more_of cs (before left first) ≡ Some c → (d : Content) × (first ≡ Some d)
+pub first_some : (cs : List Content) (first : Option Content) (left : Option (List Content)) (c : Content) → more_of cs (before left first) ≡ Some c → (d : Content) × (first ≡ Some d)
 first_some cs None left c e = absurd cc
 first_some cs (Some d) left c e = (d, refl)
 
 list_next : (T : Meaning) (cs : List Content) → ReadsNext T (rest_of_list T cs) (λ c. rest_of_list T (cs ++ c ∷ []))
 list_next T cs = record {
-  next = λ t c ts read. ap (λ o. more_of cs (before (each_some T ts) o)) read ∙ one_more cs c (each_some T ts);
+  next = λ t c ts read. ap (λ o. more_of cs (before (each_some T ts) o)) read ∙ one_more_content cs c (each_some T ts);
   some = λ t ts c e. first_some cs (T t) (each_some T ts) c e;
-}
-
-pub tuple_next : (T : Meaning) (Ts : List Meaning) (cs : List Content) → ReadsNext T (rest_of_tuple (T ∷ Ts) cs) (λ c. rest_of_tuple Ts (cs ++ c ∷ []))
-tuple_next T Ts cs = record {
-  next = λ t c ts read. ap (λ o. more_of cs (before (reads_each Ts ts) o)) read ∙ one_more cs c (reads_each Ts ts);
-  some = λ t ts c e. first_some cs (T t) (reads_each Ts ts) c e;
 }
 
 list_only : (T : Meaning) (t : Tree) (c : Content) → reads_vec T t ≡ Some c → (us : Items) × (t ≡ array us)
@@ -63,26 +63,56 @@ list_only T (array us) c e = (us, refl)
 list_only T (object es) c e = absurd cc
 list_only T (template ks rs) c e = absurd cc
 
-pub tuple_only : (Ts : List Meaning) (t : Tree) (c : Content) → reads_tuple Ts t ≡ Some c → (us : Items) × (t ≡ array us)
-tuple_only Ts null c e = absurd cc
-tuple_only Ts (boolean v) c e = absurd cc
-tuple_only Ts (integer v) c e = absurd cc
-tuple_only Ts (real v) c e = absurd cc
-tuple_only Ts (bytes v) c e = absurd cc
-tuple_only Ts (text v) c e = absurd cc
-tuple_only Ts (array us) c e = (us, refl)
-tuple_only Ts (object es) c e = absurd cc
-tuple_only Ts (template ks rs) c e = absurd cc
-
 reads_list : (T : Meaning) → ReadsArrays (reads_vec T) (rest_of_list T [])
 reads_list T = record { same = λ us. refl; only = list_only T }
 
-pub reads_parts : (Ts : List Meaning) → ReadsArrays (reads_tuple Ts) (rest_of_tuple Ts [])
-reads_parts Ts = record { same = λ us. refl; only = tuple_only Ts }
+-- ---- what is left to be asked for
 
-pub no_part : (cs : List Content) (ts : List Tree) (c : Content) → rest_of_tuple [] cs ts ≡ Some c → ts ≡ []
-no_part cs [] c e = refl
-no_part cs (t ∷ ts) c e = absurd cc
+-- the items that are left of an array that was opened in the state o, where its items tell what they ask for
+abbrev pub list_now : {T : Meaning} → Option (Asking T) → State → WantedItems → Reader Unit
+list_now None o w = give tt
+list_now (Some a) o w = items_asked (counted a.asks) (suc o.opened) (less_one o.levels) w
+
+-- an item was passed over
+item_passed : (A : Asks) (o n : ℕ) (w : WantedItems) (taken : List ℕ) → 0 < items_left w → steps.Passes (A o n (item_due w)) tt taken → Continues (items_asked A o n w) (items_asked A o n (items_after w)) taken
+item_passed A o n (nodes zero) taken some is = absurd (omega (arith, some))
+item_passed A o n (nodes (suc k)) taken some is =
+    let e : k ≡ suc k - 1 = omega arith in
+    λ x. part_read (A o n node_due) k taken is x ∙ ap (λ j. all (A o n node_due) j x) e
+item_passed A o n (rows_over ks zero) taken some is = absurd (omega (arith, some))
+item_passed A o n (rows_over ks (suc k)) taken some is =
+    let e : k ≡ suc k - 1 = omega arith in
+    λ x. part_read (A o n (row_due ks)) k taken is x ∙ ap (λ j. all (A o n (row_due ks)) j x) e
+
+-- what refuses an item refuses all that are left
+item_first : (A : Asks) (o n : ℕ) (w : WantedItems) (x : List ℕ) (e : Error) → 0 < items_left w → A o n (item_due w) x ≡ refuses e → items_asked A o n w x ≡ refuses e
+item_first A o n (nodes zero) x e some h = absurd (omega (arith, some))
+item_first A o n (nodes (suc k)) x e some h = ap (and_then (λ u. all (A o n node_due) k)) h
+item_first A o n (rows_over ks zero) x e some h = absurd (omega (arith, some))
+item_first A o n (rows_over ks (suc k)) x e some h = ap (and_then (λ u. all (A o n (row_due ks)) k)) h
+
+list_begins : (T : Meaning) (tells : Option (Asking T)) (o : State) (w : WantedItems) (taken : List ℕ) → BeginsItems o.levels o.due w taken → Asked (option_map asking_vec tells) o (list_now tells o w) taken
+list_begins T None o w taken head = tt
+list_begins T (Some a) o w taken head =
+    first_read (asked (items_at o.levels) o.opened o.due) (items_asked (counted a.asks) (suc o.opened) (less_one o.levels)) w taken (items_pass o.opened o.levels o.due w taken head)
+
+list_head : (T : Meaning) (tells : Option (Asking T)) (o : State) → HeadAsked (option_map asking_vec tells) o (asked (items_at o.levels) o.opened o.due)
+list_head T None o = tt
+list_head T (Some a) o = λ x e h. ap (and_then (items_asked (counted a.asks) (suc o.opened) (less_one o.levels))) h
+
+list_step : (T : Meaning) (tells : Option (Asking T)) (o i : State) (w v : WantedItems) (t : Tree) (c : Content) (taken : List ℕ) → i ≡ inside_items w o i.source → v ≡ items_after w → 0 < items_left w
+    → Fills i.levels (item_due w) t taken → T t ≡ Some c → StepAsked (option_map asking_vec tells) (list_now tells o w) (list_now tells o v) taken
+list_step T None o i w v t c taken state after some filled read = tt
+list_step T (Some a) o i w v t c taken state after some filled read =
+    let A = counted a.asks in
+    subst (λ z. Continues (items_asked A (suc o.opened) (less_one o.levels) w) (items_asked A (suc o.opened) (less_one o.levels) z) taken) (sym after)
+    (item_passed A (suc o.opened) (less_one o.levels) w taken some (part_passes T a o i (less_one o.levels) (item_due w) t c taken (inner_opened w o i state) (inner_levels w o i state) filled read))
+
+list_first : (T : Meaning) (tells : Option (Asking T)) (o i : State) (w : WantedItems) → i ≡ inside_items w o i.source → 0 < items_left w
+    → FirstAsked (option_map asking_vec tells) tells (awaiting (item_due w) i) (list_now tells o w)
+list_first T None o i w state some = tt
+list_first T (Some a) o i w state some =
+    λ x e h. item_first (counted a.asks) (suc o.opened) (less_one o.levels) w x e some (sym (asked_inside a.asks o i (less_one o.levels) (item_due w) x (inner_opened w o i state) (inner_levels w o i state)) ∙ h)
 
 -- ---- a list
 
@@ -93,81 +123,65 @@ holds_last holds (w ∷ vs) [] v c h k = absurd h
 holds_last holds (w ∷ vs) (d ∷ cs) v c h k = (h.0, holds_last holds vs cs v c h.1 k)
 
 -- these items were read of an array that was opened in the state o
-pub record ReadsItems {A : Type 0} (T : Meaning) (holds : A → Content → Type 0) (o : State) (vs : List A) (u : OpenItems) : Type 0 where
+pub record ReadsItems {A : Type 0} (T : Meaning) (tells : Option (Asking T)) (holds : A → Content → Type 0) (o : State) (vs : List A) (u : OpenItems) : Type 0 where
   pub contents : List Content
   pub held : HoldsAll holds vs contents
-  pub inside : Inside (reads_vec T) o (rest_of_list T contents) u
+  pub inside : Inside (reads_vec T) (option_map asking_vec tells) o (rest_of_list T contents) (list_now tells o u.wanted) u
 
-pub items_start : {A : Type 0} (T : Meaning) (holds : A → Content → Type 0) (o : State) (u : OpenItems) → OpensItems o u → ReadsItems T holds o [] u
-items_start T holds o u opens = record { contents = []; held = tt; inside = inside_start (reads_vec T) (rest_of_list T []) o u (reads_list T) opens }
-
-pub items_next : {A : Type 0} (T : Meaning) (holds : A → Content → Type 0) (o : State) (vs : List A) (u t : OpenItems) (v : A) → ReadsItems T holds o vs u → IsNextItem T holds u t v → ReadsItems T holds o (vs ++ v ∷ []) t
-items_next T holds o vs u t v h next = record {
-  contents = h.contents ++ next.answers.content ∷ [];
-  held = holds_last holds vs h.contents v next.answers.content h.held next.answers.held;
-  inside = inside_next T holds (reads_vec T) (rest_of_list T h.contents) (λ c. rest_of_list T (h.contents ++ c ∷ [])) o u t v (list_next T h.contents) h.inside next;
+pub items_start : {A : Type 0} (T : Meaning) (tells : Option (Asking T)) (holds : A → Content → Type 0) (o : State) (u : OpenItems) → OpensItems o u → ReadsItems T tells holds o [] u
+items_start T tells holds o u opens = record {
+  contents = [];
+  held = tt;
+  inside = inside_start (reads_vec T) (option_map asking_vec tells) (rest_of_list T []) (list_now tells o u.wanted) o u (reads_list T) opens (list_begins T tells o u.wanted opens.text opens.head);
 }
 
-pub items_end : {A B : Type 0} (T : Meaning) (holds : A → Content → Type 0) (items_of : B → List A) (o z : State) (u : OpenItems) (v : B) → ReadsItems T holds o (items_of v) u → ClosesItems u z
+pub items_next : {A : Type 0} (T : Meaning) (tells : Option (Asking T)) (holds : A → Content → Type 0) (o : State) (vs : List A) (u t : OpenItems) (v : A) → ReadsItems T tells holds o vs u → IsNextItem T holds u t v
+    → ReadsItems T tells holds o (vs ++ v ∷ []) t
+items_next T tells holds o vs u t v h next =
+    let a = next.answers in
+    let step = list_step T tells o u.state u.wanted t.wanted a.tree a.content a.text h.inside.state (ap (λ (z : OpenItems). z.wanted) next.after) next.counted a.filled a.read in
+    record {
+      contents = h.contents ++ a.content ∷ [];
+      held = holds_last holds vs h.contents v a.content h.held a.held;
+      inside = inside_next T holds (reads_vec T) (option_map asking_vec tells) (rest_of_list T h.contents) (λ c. rest_of_list T (h.contents ++ c ∷ [])) (list_now tells o u.wanted) (list_now tells o t.wanted) o u t v
+          (list_next T h.contents) h.inside next step;
+    }
+
+pub items_end : {A B : Type 0} (T : Meaning) (tells : Option (Asking T)) (holds : A → Content → Type 0) (items_of : B → List A) (o z : State) (u : OpenItems) (v : B) → ReadsItems T tells holds o (items_of v) u → ClosesItems u z
     → Answers (reads_vec T) (λ (w : B) c. HoldsList holds (items_of w) c) o z v
-items_end T holds items_of o z u v h closes =
-    inside_end (λ w c. HoldsList holds (items_of w) c) (reads_vec T) (rest_of_list T h.contents) o z u (list_of (h.contents ++ [])) v h.inside closes refl
+items_end T tells holds items_of o z u v h closes =
+    inside_end (λ w c. HoldsList holds (items_of w) c) (reads_vec T) (option_map asking_vec tells) (rest_of_list T h.contents) (list_now tells o u.wanted) o z u (list_of (h.contents ++ [])) v h.inside closes refl
     (record { contents = h.contents; list = ap list_of (append-nil h.contents); items = h.held })
+
+-- ---- a list that is refused
 
 -- what a list needs of its items' needs
 abbrev pub with_memory : Needs → Needs
 with_memory needs = record { lent = needs.lent; memory = true; keys = false }
 
-pub list_refused : (T : Meaning) (needs : Needs) (e : Error) (o z : State) → RefusesItems e o z → Refuses (reads_vec T) None (with_memory needs) e o z
-list_refused T needs e o z u = opening_refused (reads_vec T) (rest_of_list T []) (with_memory needs) _ e o z (reads_list T) refl u.refuses
+-- how a list is refused
+abbrev pub RefusesList : (T : Meaning) → Option (Asking T) → Needs → Error → State → State → Type 0
+RefusesList T tells needs e o z = Refuses (reads_vec T) (option_map asking_vec tells) (with_memory needs) e o z
 
-pub items_refused : {A : Type 0} (T : Meaning) (asks : Option (Asking T)) (needs : Needs) (holds : A → Content → Type 0) (e : Error) (o z : State) (vs : List A) (u : OpenItems) → ReadsItems T holds o vs u → RefusesItem T asks needs e u z
-    → Refuses (reads_vec T) None (with_memory needs) e o z
-items_refused T asks needs holds e o z vs u h refuses =
-    item_refused T asks needs (reads_vec T) (rest_of_list T h.contents) (λ c. rest_of_list T (h.contents ++ c ∷ [])) (with_memory needs) e o z u (list_next T h.contents) (λ lent. lent) (λ m. refl) (λ t. refl) h.inside refuses
+pub list_refused : (T : Meaning) (tells : Option (Asking T)) (needs : Needs) (e : Error) (o z : State) → RefusesItems e o z → RefusesList T tells needs e o z
+list_refused T tells needs e o z u =
+    array_refused (reads_vec T) (option_map asking_vec tells) (rest_of_list T []) (with_memory needs) e o z (reads_list T) (list_head T tells o) refl u
 
--- an item that was not there, though one was left
-pub item_lacks : {A : Type 0} (T : Meaning) (asks : Option (Asking T)) (needs : Needs) (holds : A → Content → Type 0) (e : Error) (o z : State) (vs : List A) (u : OpenItems) → ReadsItems T holds o vs u → 0 < items_left u.wanted
-    → RefusesRequired T asks needs e u z → Refuses (reads_vec T) None (with_memory needs) e o z
-item_lacks T asks needs holds e o z vs u h some (inl refuses) = items_refused T asks needs holds e o z vs u h refuses
-item_lacks T asks needs holds e o z vs u h some (inr lacks) = absurd (omega (arith, some, lacks.counted))
+-- an item that was refused, or was not there, though one was left
+pub item_lacks : {A : Type 0} (T : Meaning) (tells : Option (Asking T)) (needs : Needs) (holds : A → Content → Type 0) (e : Error) (o z : State) (vs : List A) (u : OpenItems) → ReadsItems T tells holds o vs u → 0 < items_left u.wanted
+    → RefusesRequired T tells needs e u z → RefusesList T tells needs e o z
+item_lacks T tells needs holds e o z vs u h some (inl unread) =
+    item_refused T tells needs (reads_vec T) (option_map asking_vec tells) (rest_of_list T h.contents) (λ c. rest_of_list T (h.contents ++ c ∷ [])) (list_now tells o u.wanted) (with_memory needs) e o z u
+    (list_next T h.contents) (λ lent. lent) (λ m. refl) (λ t. refl) h.inside (list_first T tells o u.state u.wanted h.inside.state some) unread
+item_lacks T tells needs holds e o z vs u h some (inr lacks) = absurd (omega (arith, some, lacks.counted))
 
 -- memory was refused for an item
-pub list_no_room : {A : Type 0} (T : Meaning) (needs : Needs) (holds : A → Content → Type 0) (e : Error) (o z : State) (vs : List A) (u : OpenItems) → ReadsItems T holds o vs u → e ≡ OutOfMemory → z.source ≡ closed u.state.source
-    → Refuses (reads_vec T) None (with_memory needs) e o z
-list_no_room T needs holds e o z vs u h same closes = room_refused (reads_vec T) (rest_of_list T h.contents) (with_memory needs) e o z u refl h.inside same closes
+pub list_no_room : {A : Type 0} (T : Meaning) (tells : Option (Asking T)) (needs : Needs) (holds : A → Content → Type 0) (e : Error) (o z : State) (vs : List A) (u : OpenItems) → ReadsItems T tells holds o vs u → e ≡ OutOfMemory
+    → z.source ≡ closed u.state.source → RefusesList T tells needs e o z
+list_no_room T tells needs holds e o z vs u h same closes =
+    room_refused (reads_vec T) (option_map asking_vec tells) (rest_of_list T h.contents) (list_now tells o u.wanted) (with_memory needs) e o z u refl h.inside same closes
 
 -- items are left at the end, though none was
-pub list_leaves : {A : Type 0} (T : Meaning) (needs : Needs) (holds : A → Content → Type 0) (e : Error) (o z : State) (vs : List A) (u : OpenItems) → ReadsItems T holds o vs u → items_left u.wanted ≡ 0 → LeavesItems e u z
-    → Refuses (reads_vec T) None (with_memory needs) e o z
-list_leaves T needs holds e o z vs u h none leaves = absurd (omega (arith, none, leaves.counted h.inside.took.failed))
-
--- ---- a tuple
-
-each_last : (hs : List (Content → Type 0)) (cs : List Content) (h : Content → Type 0) (c : Content) → HoldsEach hs cs → h c → HoldsEach (hs ++ h ∷ []) (cs ++ c ∷ [])
-each_last [] [] h c e k = (k, tt)
-each_last [] (d ∷ cs) h c e k = absurd e
-each_last (g ∷ hs) [] h c e k = absurd e
-each_last (g ∷ hs) (d ∷ cs) h c e k = (e.0, each_last hs cs h c e.1 k)
-
--- these parts were read of an array that was opened in the state o, and those of the types Ts are left
-pub record ReadsParts (all Ts : List Meaning) (hs : List (Content → Type 0)) (o : State) (u : OpenItems) : Type 0 where
-  pub contents : List Content
-  pub held : HoldsEach hs contents
-  pub inside : Inside (reads_tuple all) o (rest_of_tuple Ts contents) u
-
-pub parts_start : (Ts : List Meaning) (o : State) (u : OpenItems) → OpensItems o u → ReadsParts Ts Ts [] o u
-parts_start Ts o u opens = record { contents = []; held = tt; inside = inside_start (reads_tuple Ts) (rest_of_tuple Ts []) o u (reads_parts Ts) opens }
-
-pub parts_next : {A : Type 0} (T : Meaning) (holds : A → Content → Type 0) (all Ts : List Meaning) (hs : List (Content → Type 0)) (o : State) (u t : OpenItems) (v : A) → ReadsParts all (T ∷ Ts) hs o u → IsNextItem T holds u t v
-    → ReadsParts all Ts (hs ++ holds v ∷ []) o t
-parts_next T holds all Ts hs o u t v h next = record {
-  contents = h.contents ++ next.answers.content ∷ [];
-  held = each_last hs h.contents (holds v) next.answers.content h.held next.answers.held;
-  inside = inside_next T holds (reads_tuple all) (rest_of_tuple (T ∷ Ts) h.contents) (λ c. rest_of_tuple Ts (h.contents ++ c ∷ [])) o u t v (tuple_next T Ts h.contents) h.inside next;
-}
-
-pub parts_end : {B : Type 0} (all : List Meaning) (parts_of : B → List (Content → Type 0)) (o z : State) (u : OpenItems) (v : B) → ReadsParts all [] (parts_of v) o u → ClosesItems u z → Answers (reads_tuple all) (λ (w : B) c. HoldsTuple (parts_of w) c) o z v
-parts_end all parts_of o z u v h closes =
-    inside_end (λ w c. HoldsTuple (parts_of w) c) (reads_tuple all) (rest_of_tuple [] h.contents) o z u (list_of (h.contents ++ [])) v h.inside closes refl
-    (record { contents = h.contents; list = ap list_of (append-nil h.contents); held = h.held })
+pub list_leaves : {A : Type 0} (T : Meaning) (tells : Option (Asking T)) (needs : Needs) (holds : A → Content → Type 0) (e : Error) (o z : State) (vs : List A) (u : OpenItems) → ReadsItems T tells holds o vs u → items_left u.wanted ≡ 0
+    → LeavesItems e u z → RefusesList T tells needs e o z
+list_leaves T tells needs holds e o z vs u h none leaves = absurd (omega (arith, none, leaves.counted h.inside.took.failed))

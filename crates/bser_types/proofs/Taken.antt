@@ -76,7 +76,7 @@ needing reads a needs e s z u =
 
 -- ---- more needs
 
-wider_outside : (some all : Needs) (e : Error) (s : Window) → (some.lent ≡ true → all.lent ≡ true) → (some.memory ≡ true → all.memory ≡ true) → OutsideBy some e s → OutsideBy all e s
+pub wider_outside : (some all : Needs) (e : Error) (s : Window) → (some.lent ≡ true → all.lent ≡ true) → (some.memory ≡ true → all.memory ≡ true) → OutsideBy some e s → OutsideBy all e s
 wider_outside some all OutOfMemory s lent memory (inl h) = inl h
 wider_outside some all OutOfMemory s lent memory (inr h) = inr (memory h)
 wider_outside some all (DeCustom (Fixed BorrowedFromCopying)) s lent memory h = (h.0, lent h.1)

@@ -1,4 +1,6 @@
 pub mod Accesses
+pub mod Askings
 pub mod Fold
 pub mod HoldsReals
 pub mod Slots
+pub mod Tuples

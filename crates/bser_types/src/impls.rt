@@ -1,8 +1,15 @@
 //! The types that are read.
+pub mod hash_maps;
 pub mod holders;
+pub mod ignored;
 pub mod integers;
+pub mod keys;
 pub mod lists;
+pub mod maps;
 pub mod scalars;
 pub mod strings;
+pub mod tuples;
 
+pub use crate::impls::ignored::Ignored;
+pub use crate::impls::keys::MapKey;
 pub use crate::impls::scalars::RealBits;

@@ -1,6 +1,7 @@
 //! Types that are read, and the accesses to what a container holds.
 #![tactic(auto)]
 
+pub mod access;
 pub mod container;
 pub mod deserialize;
 pub mod impls;

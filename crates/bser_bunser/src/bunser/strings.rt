@@ -17,7 +17,7 @@ ghost use Rattle.bser_bunser.specs.Tagged.{
 use crate::bunser::Bunser;
 use crate::refusal::{Answer, Refused};
 use bser_format::errors::{Complaint, Error, ReadCause, Result};
-use bser_read::read::{DeRead, WINDOW};
+use bser_read::read::{DeRead, WINDOW, count_octets};
 use bser_source::read::{Lending, Reference};
 use std::alloc::Global;
 
@@ -37,7 +37,7 @@ impl<R: DeRead> Bunser<R> {
             (Names (front len) (refusal_of self.new) (bunser_window R.window self.old)) }
         ensures memory { OnErr result (refusal_of self.new ≢ Error.OutOfMemory) }
     {
-        if 0 < len && len <= self.read.buffered().len() {
+        if 0 < len && len <= count_octets(self.read.buffered()) {
             self.read.consume(len);
             return Ok(());
         }
@@ -58,7 +58,7 @@ impl<R: DeRead> Bunser<R> {
         if self.read.is_failed() {
             return Err(self.refuse_cause(ReadCause::Failed));
         }
-        let ahead = len.min(self.read.buffered().len());
+        let ahead = len.min(count_octets(self.read.buffered()));
         self.read.consume(ahead);
         let mut left = len - ahead;
         while left > 0 {
@@ -93,7 +93,7 @@ impl<R: DeRead> Bunser<R> {
         ensures names { len ≤ 2 ^ 63 → OnErr result
             (Names (front len) (refusal_of self.new) (bunser_window R.window self.old)) }
     {
-        if len == 0 || len > self.read.buffered().len() {
+        if len == 0 || len > count_octets(self.read.buffered()) {
             return self.bytes_on(len, scratch);
         }
         match self.read.lend(len) {
@@ -130,7 +130,7 @@ impl<R: DeRead> Bunser<R> {
         ensures names { len ≤ 2 ^ 63 → OnErr result
             (NamesOrMemory (front len) (refusal_of self.new) (bunser_window R.window self.old)) }
     {
-        if len == 0 || len > self.read.buffered().len() {
+        if len == 0 || len > count_octets(self.read.buffered()) {
             return self.copy_on(alloc, len);
         }
         match Vec::from_slice(alloc, &self.read.buffered()[..len]) {

@@ -1,8 +1,9 @@
 //! Reading types that hold another.
-ghost use Rattle.std.specs.Prelude.{◌≡◌, true, false, None, option_map};
+ghost use Rattle.std.specs.Prelude.{◌≡◌, true, false, option_map};
 ghost use Rattle.bser_due.specs.Holds.{HoldsBox, HoldsOption};
 ghost use Rattle.bser_format.specs.Content.{just};
 ghost use Rattle.bser_format.specs.ReadsHolders.{reads_option};
+ghost use Rattle.bser_types.specs.Askings.{asking_option};
 ghost use Rattle.std.proofs.Common.{ap};
 
 use crate::deserialize::{Deserialize, OwnedShape, Shape};
@@ -22,7 +23,7 @@ impl<T: Shape> Shape for Option<T> {
 
     ghost needs = { T.needs };
 
-    ghost asks = { None };
+    ghost asks = { option_map asking_option T.asks };
 
     ghost plain = { option_map (λ none es. ap (option_map just) (none es)) T.plain };
 }

@@ -1,7 +1,8 @@
 //! Lists. A template is read as the array of its rows.
-ghost use Rattle.std.specs.Prelude.{true, false, refl, Some, None};
+ghost use Rattle.std.specs.Prelude.{true, false, refl, Some, option_map};
 ghost use Rattle.bser_format.specs.ReadsHolders.{reads_vec};
 ghost use Rattle.bser_due.specs.HoldsLists.{HoldsList};
+ghost use Rattle.bser_types.specs.Askings.{asking_vec};
 
 use crate::container::ReadsContainers;
 use crate::deserialize::{Deserialize, OwnedShape, Shape};
@@ -22,7 +23,7 @@ impl<T: Shape> Shape for Vec<T> {
 
     ghost needs = { record { lent = T.needs.lent; memory = true; keys = false } };
 
-    ghost asks = { None };
+    ghost asks = { option_map asking_vec T.asks };
 
     ghost plain = { Some (λ _. refl) };
 }

@@ -1,14 +1,17 @@
 //! Strings and characters.
 ghost use Rattle.std.specs.Prelude.{◌≡◌, refl, Some, chars, string_bytes};
-ghost use Rattle.bser_format.specs.ReadsScalars.{reads_slice, reads_string, reads_char, one_char};
+ghost use Rattle.bser_format.specs.ReadsScalars.{reads_slice, reads_string, reads_byte_string, reads_char, one_char};
 ghost use Rattle.bser_due.specs.HoldsTexts.{HoldsBytes, HoldsChar, char_content};
 ghost use Rattle.bser_due.specs.Askings.{asking_bytes, asking_string, asking_char};
 ghost use Rattle.bser_due.specs.Reading.{bare, owned, lending};
+ghost use Rattle.bser_types.specs.Askings.{asking_byte_string};
 
 use crate::deserialize::{Deserialize, OwnedShape, Shape};
 use bser_bunser::refusal::Answer;
 use bser_deserializer::cursor::Cursor;
 use bser_deserializer::deserializer::Deserializer;
+use bser_due::node::Node;
+use bser_format::bytestring::ByteString;
 use bser_format::errors::Complaint;
 use bser_read::read::DeRead;
 use bser_source::read::{LendsFrom, LendsText};
@@ -93,6 +96,41 @@ impl<'de, L: LendsFrom<'de>> Deserialize<L> for &'de [u8] {
             None => Err(from.complain(Complaint::BorrowedFromCopying)),
         }
     }
+}
+
+/// The bytes of a string or key, or those of an array of integers from 0 to 255.
+///
+/// Another integer in the array is refused by [`Complaint::IntegerOutOfRange`], another kind of
+/// value by [`Complaint::WrongType`], and want of memory by [`Error::OutOfMemory`].
+///
+/// [`Error::OutOfMemory`]: bser_format::errors::Error::OutOfMemory
+impl Shape for ByteString {
+    ghost reads = { reads_byte_string };
+
+    ghost holds = { HoldsBytes };
+
+    ghost needs = { owned };
+
+    ghost asks = { Some asking_byte_string };
+
+    ghost plain = { Some (λ _. refl) };
+}
+
+impl<L: LendsText> Deserialize<L> for ByteString {
+    #[inline(always)]
+    fn deserialize<R: DeRead<Lent = L>>(
+        alloc: Global,
+        from: &mut Deserializer<R>,
+    ) -> Answer<ByteString> {
+        match from.node()? {
+            Node::Array => Ok(ByteString::from_vec(Vec::<u8>::deserialize(alloc, from)?)),
+            _ => from.read_byte_string(alloc),
+        }
+    }
+}
+
+impl OwnedShape for ByteString {
+    ghost owned = { refl };
 }
 
 /// A text of one character, or a byte string or key that is one in UTF-8.

@@ -1,5 +1,6 @@
-use Rattle.std.proofs.Common.{◌≤◌, ◌^◌, length, arith, ap, sym, ◌∙◌}
+use Rattle.std.proofs.Common.{◌≤◌, ◌^◌, length, arith, ap, sym, subst, ◌∙◌}
 use Rattle.std.proofs.lemmas.Result.{err_from_is_err_and}
+use Rattle.bser_read.specs.Window.{AreOctets}
 use Rattle.bser_bunser.proofs.Counted.{passing, passing_on, passing_short, passing_names}
 use Rattle.bser_bunser.proofs.bunser.Bunser.pass_on.Goals as goal
 
@@ -8,8 +9,9 @@ loop-left-init g c =
     let a = g.R.DeRead.window c.args.self.now.read in
     let n = c.min-ahead.result in
     let within : n ≤ c.args.len = omega (arith, c.min-ahead.ensures) in
-    let fits : n ≤ length a.buffered = omega (arith, c.min-ahead.ensures, ap length c.buffered.ensures) in
-    rw c.consume.ensures (passing c.args.len n a within fits (sym c.is_failed.ensures ∙ c.if-is_failed.false))
+    let fits : n ≤ length a.buffered = omega (arith, c.min-ahead.ensures, c.count_octets.ensures.len, ap length c.buffered.ensures) in
+    let octets : AreOctets a.buffered = subst AreOctets c.buffered.ensures c.count_octets.ensures.octets in
+    rw c.consume.ensures (passing c.args.len n a octets within fits (sym c.is_failed.ensures ∙ c.if-is_failed.false))
 
 pub loop-left-preserved : goal.loop-left-preserved
 loop-left-preserved g c =

@@ -1,7 +1,7 @@
-use Rattle.std.proofs.Common.{arith, ◌-◌, drop, refl, sym, subst, ◌∙◌}
-use Rattle.std.proofs.lemmas.List.{length-take, length-drop}
+use Rattle.std.proofs.Common.{arith, length, refl, sym, ap, subst, ◌∙◌}
 use Rattle.std.proofs.lemmas.Result.{err_from_is_err_and}
 use Rattle.bser_read.specs.Refusal.{Refused}
+use Rattle.bser_read.specs.Window.{AreOctets}
 use Rattle.bser_read.specs.Reader.{io_at}
 use Rattle.bser_read.proofs.Windows.{grown_then, regrown}
 use Rattle.bser_read.proofs.Refusals.{refused_grown}
@@ -26,9 +26,9 @@ returns-in_err-pull-clause-err g c =
 pub returns-clause-ok : goal.returns-clause-ok
 returns-clause-ok g c =
     let i = c.loop-self.invariant in
-    let r = c.loop-self.self in
     record {
       grown = regrown c.args.n _ _ _ c.pack.ensures.window i.grown;
-      enough = omega (arith, i.front, length-take (r.end - r.start) (drop r.start r.block), length-drop r.start r.block);
+      octets = subst AreOctets c.buffered.ensures c.count_octets.ensures.octets;
+      enough = omega (arith, c.count_octets.ensures.len, ap length c.buffered.ensures);
       working = c.if-self.false;
     }

@@ -1,10 +1,9 @@
 -- What is not null is read by the type inside.
 use Rattle.std.proofs.lemmas.Result.{err_from_is_err_and}
-use Rattle.bser_format.specs.ReadsHolders.{reads_option}
 use Rattle.bser_due.specs.State.{State}
 use Rattle.bser_due.specs.Nodes.{IsOther}
 use Rattle.bser_deserializer.specs.View.{state}
-use Rattle.bser_types.proofs.Options.{no_value, something_refused, something_answers}
+use Rattle.bser_types.proofs.Options.{nothing_seen, something_refused, something_answers}
 use Rattle.bser_types.proofs.impls.holders.OptionDeserialize.deserialize.Goals as goal
 
 pub returns-in_err-read_none-clause-refused : goal.returns-in_err-read_none-clause-refused
@@ -12,7 +11,7 @@ returns-in_err-read_none-clause-refused g c =
     let s : State = state g.R.DeRead.window g.L.Lending.kept c.args.from.now in
     let z : State = state g.R.DeRead.window g.L.Lending.kept c.read_none.new.self in
     let p = err_from_is_err_and c.from_residual.result c.from_residual.ensures.1 in
-    rw p.1 (no_value g.T.Shape.needs (reads_option g.T.Shape.reads) s z _ c.in_err-read_none.ensures.refused)
+    rw p.1 (nothing_seen g.T.Shape.needs g.T.Shape.reads g.T.Shape.asks s z _ c.in_err-read_none.ensures.refused)
 
 pub returns-in_err-deserialize-clause-refused : goal.returns-in_err-deserialize-clause-refused
 returns-in_err-deserialize-clause-refused g c =

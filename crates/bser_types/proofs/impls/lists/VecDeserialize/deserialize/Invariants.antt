@@ -10,7 +10,7 @@ invariant-loop-alloc g l =
     let o : State = state g.R.DeRead.window g.L.Lending.kept l.fn.from in
     record {
       same_reference : l.seq.from.ghost_name ≡ l.initial.seq.from.ghost_name;
-      items : ReadsItems g.T.Shape.reads g.T.Shape.holds o l.items.items (open_items g.R.DeRead.window g.L.Lending.kept l.seq);
+      items : ReadsItems g.T.Shape.reads g.T.Shape.asks g.T.Shape.holds o l.items.items (open_items g.R.DeRead.window g.L.Lending.kept l.seq);
     }
 
 abbrev pub decreases-loop-alloc : goal.decreases-loop-alloc

@@ -1,0 +1,36 @@
+-- A key is told as a text where it is UTF-8, and else as bytes.
+use Rattle.std.proofs.Common.{◌≡◌, ◌∙◌, sym}
+use Rattle.std.proofs.lemmas.Result.{err_from_is_err_and}
+use Rattle.bser_events.proofs.Outcomes.{both_ok}
+use Rattle.bser_source.specs.Refs.{bytes_of}
+use Rattle.bser_due.specs.State.{State}
+use Rattle.bser_deserializer.specs.View.{state}
+use Rattle.bser_deserializer.proofs.Told.{any_key_refused, any_text_key, any_bytes_key}
+use Rattle.bser_deserializer.proofs.deserializer.Deserializer.tell_key.Goals as goal
+
+pub returns-in_err-bytes-clause-refused : goal.returns-in_err-bytes-clause-refused
+returns-in_err-bytes-clause-refused g c =
+    let s : State = state g.R.DeRead.window g.R.Lent.Lending.kept c.args.self.now in
+    let n : State = state g.R.DeRead.window g.R.Lent.Lending.kept c.read_bytes.new.self in
+    let p = err_from_is_err_and c.from_residual.result c.from_residual.ensures.1 in
+    rw p.1 (any_key_refused _ s n c.requires c.in_err-bytes.ensures.refused)
+
+pub returns-in-Some-clause-found : goal.returns-in-Some-clause-found
+returns-in-Some-clause-found g c =
+    let s : State = state g.R.DeRead.window g.R.Lent.Lending.kept c.args.self.now in
+    let m : State = state g.R.DeRead.window g.R.Lent.Lending.kept c.read_bytes.new.self in
+    let z : State = state g.R.DeRead.window g.R.Lent.Lending.kept c.tell.new.self in
+    let same : c.in-Some.text.now ≡ bytes_of g.R.Lent.Lending.bytes c.in_ok-bytes.bytes = c.in-Some.ensures.0 ∙ c.get_ref.ensures in
+    both_ok _ _ _ c.tell.result c.tell.ensures.ok c.tell.ensures.same
+    (λ told kept. any_text_key (bytes_of g.R.Lent.Lending.bytes) g.B.Builder.takes s m z c.in_ok-bytes.bytes c.in-Some.text.now c.args.builder.now c.tell.new.builder c.requires
+    c.in_ok-bytes.ensures.found same (rw c.in-Some.ensures.0 c.in-Some.ensures.1) kept told)
+
+pub returns-in-None-clause-found : goal.returns-in-None-clause-found
+returns-in-None-clause-found g c =
+    let s : State = state g.R.DeRead.window g.R.Lent.Lending.kept c.args.self.now in
+    let m : State = state g.R.DeRead.window g.R.Lent.Lending.kept c.read_bytes.new.self in
+    let z : State = state g.R.DeRead.window g.R.Lent.Lending.kept c.tell-in-None.new.self in
+    let same : c.get_ref-in-None.result.now ≡ c.get_ref.result.now = c.get_ref-in-None.ensures ∙ sym c.get_ref.ensures in
+    both_ok _ _ _ c.tell-in-None.result c.tell-in-None.ensures.ok c.tell-in-None.ensures.same
+    (λ told kept. any_bytes_key (bytes_of g.R.Lent.Lending.bytes) g.B.Builder.takes s m z c.in_ok-bytes.bytes c.get_ref-in-None.result.now c.args.builder.now c.tell-in-None.new.builder c.requires
+    c.in_ok-bytes.ensures.found c.get_ref-in-None.ensures (rw same c.in-None.ensures) kept told)

@@ -1,0 +1,185 @@
+//! Reading what is due, whatever it is, told to a builder.
+ghost use Rattle.std.specs.Prelude.{◌≡◌, ◌<◌, length, Some, OnOk, OnErr};
+ghost use Rattle.bser_format.specs.ReadsAny.{reads_ignored};
+ghost use Rattle.bser_format.specs.Expected.{row_due};
+ghost use Rattle.bser_named.specs.Named.{field_of, with_text_keys};
+ghost use Rattle.bser_bunser.specs.Refusal.{Fails};
+ghost use Rattle.bser_events.specs.Told.{told};
+ghost use Rattle.bser_due.specs.Askings.{asking_ignored};
+ghost use Rattle.bser_due.specs.Reading.{NamesBy, Refuses, owned};
+ghost use Rattle.bser_due.specs.State.{awaiting, past, refused};
+ghost use Rattle.bser_deserializer.specs.Any.{TookAny, TookValue, TookField, TellsName, IsKeyDue};
+ghost use Rattle.bser_deserializer.specs.View.{state, refusal_in};
+
+use crate::cursor::Cursor;
+use crate::deserializer::{Deserializer, Due};
+use bser_bunser::refusal::Answer;
+use bser_events::builder::Builder;
+use bser_events::event::Event;
+use bser_events::frame::Frame;
+use bser_events::reading::read_value;
+use bser_format::errors::{Error, ReadCause};
+use bser_format::header::BSER_SKIP;
+use bser_read::read::DeRead;
+use bser_source::read::Lending;
+use bser_source::text::as_text;
+use std::alloc::Global;
+
+impl<R: DeRead> Deserializer<R> {
+    /// Reads what is due, whatever it is, and tells the builder what it finds: a value as it is
+    /// spelled, a skipped field as null, a key as a text where it is UTF-8 and else as bytes, and a
+    /// row as the object of its keys and fields.
+    ///
+    /// The keys of objects have to be UTF-8; a key that is due by itself need not be. It is refused
+    /// by the first fault in the order of reading, as the plain reader names it. A builder that
+    /// wants memory and gets none, and a want of room for the containers that are open or for a
+    /// string over a reader, are [`Error::OutOfMemory`]. After a refusal no clause says what the
+    /// builder is.
+    pub fn read_any<B: Builder>(&mut self, alloc: Global, builder: &mut B) -> Answer<()>
+        ensures found { OnOk result (TookAny B.takes builder.old builder.new
+            (state R.window R.Lent.kept self.old) (state R.window R.Lent.kept self.new)) }
+        ensures refused { OnErr result (Refuses reads_ignored (Some asking_ignored) owned
+            (refusal_in self.new)
+            (state R.window R.Lent.kept self.old) (state R.window R.Lent.kept self.new)) }
+    {
+        let mut frames = Vec::new(alloc);
+        let mut scratch = Vec::new(alloc);
+        match self.due {
+            Due::Node => self.tell_value(&mut frames, &mut scratch, builder),
+            Due::Field => self.tell_field(&mut frames, &mut scratch, builder),
+            Due::Row => self.tell_row(&mut frames, &mut scratch, builder),
+            Due::Nothing | Due::Key | Due::Name => self.tell_key(&mut scratch, builder),
+        }
+    }
+
+    /// Tells the builder an event.
+    #[inline(always)]
+    fn tell<B: Builder>(&mut self, builder: &mut B, event: Event<'_>) -> Answer<()>
+        ensures ok { OnOk result (B.takes builder.old (told event.entry) builder.new) }
+        ensures same { OnOk result (state R.window R.Lent.kept self.new
+            ≡ state R.window R.Lent.kept self.old) }
+        ensures reason { OnErr result (refusal_in self.new ≡ Error.OutOfMemory) }
+        ensures err { OnErr result (state R.window R.Lent.kept self.new
+            ≡ refused (state R.window R.Lent.kept self.old)) }
+    {
+        match builder.take(event) {
+            Ok(()) => Ok(()),
+            Err(_) => Err(self.refuse(Error::OutOfMemory)),
+        }
+    }
+
+    /// Reads a value, and tells it. Nothing is due then.
+    #[inline(always)]
+    fn tell_value<B: Builder>(
+        &mut self,
+        frames: &mut Vec<Frame>,
+        scratch: &mut Vec<u8>,
+        builder: &mut B,
+    ) -> Answer<()>
+        ensures found { OnOk result (TookValue B.takes (state R.window R.Lent.kept self.old).levels
+            builder.old builder.new (state R.window R.Lent.kept self.old).source
+            (state R.window R.Lent.kept self.new).source) }
+        ensures state { OnOk result (state R.window R.Lent.kept self.new
+            ≡ past (state R.window R.Lent.kept self.old) (state R.window R.Lent.kept self.new).source) }
+        ensures err { OnErr result (Fails (refusal_in self.new)
+            (state R.window R.Lent.kept self.old).source (state R.window R.Lent.kept self.new).source) }
+        ensures names { OnErr result (NamesBy owned
+            (with_text_keys (state R.window R.Lent.kept self.old).levels) (refusal_in self.new)
+            (state R.window R.Lent.kept self.old).source) }
+    {
+        read_value(&mut self.bunser, frames, scratch, self.levels, builder)?;
+        self.due = Due::Nothing;
+        Ok(())
+    }
+
+    /// Reads a field of a row, and tells it, a skip as null. Nothing is due then.
+    #[inline(always)]
+    fn tell_field<B: Builder>(
+        &mut self,
+        frames: &mut Vec<Frame>,
+        scratch: &mut Vec<u8>,
+        builder: &mut B,
+    ) -> Answer<()>
+        ensures found { OnOk result (TookField B.takes (state R.window R.Lent.kept self.old).levels
+            builder.old builder.new (state R.window R.Lent.kept self.old).source
+            (state R.window R.Lent.kept self.new).source) }
+        ensures state { OnOk result (state R.window R.Lent.kept self.new
+            ≡ past (state R.window R.Lent.kept self.old) (state R.window R.Lent.kept self.new).source) }
+        ensures err { OnErr result (Fails (refusal_in self.new)
+            (state R.window R.Lent.kept self.old).source (state R.window R.Lent.kept self.new).source) }
+        ensures names { OnErr result (NamesBy owned
+            (field_of (with_text_keys (state R.window R.Lent.kept self.old).levels)) (refusal_in self.new)
+            (state R.window R.Lent.kept self.old).source) }
+    {
+        self.bunser.fill(1)?;
+        if self.bunser.buffered()[0] != BSER_SKIP {
+            return self.tell_value(frames, scratch, builder);
+        }
+        self.bunser.consume(1);
+        self.due = Due::Nothing;
+        self.tell(builder, Event::Null)
+    }
+
+    /// Reads a row, as if one was due, and tells it as the object of its keys and fields.
+    fn tell_row<B: Builder>(
+        &mut self,
+        frames: &mut Vec<Frame>,
+        scratch: &mut Vec<u8>,
+        builder: &mut B,
+    ) -> Answer<()>
+        ensures found { OnOk result (TookAny B.takes builder.old builder.new
+            (awaiting (row_due (state R.window R.Lent.kept self.old).keys)
+            (state R.window R.Lent.kept self.old))
+            (state R.window R.Lent.kept self.new)) }
+        ensures refused { OnErr result (Refuses reads_ignored (Some asking_ignored) owned
+            (refusal_in self.new) (awaiting (row_due (state R.window R.Lent.kept self.old).keys)
+            (state R.window R.Lent.kept self.old))
+            (state R.window R.Lent.kept self.new)) }
+    {
+        if self.is_failed() {
+            return Err(self.refuse(Error::de_reader_error(ReadCause::Failed)));
+        }
+        self.due = Due::Nothing;
+        let len = self.keys.len();
+        self.tell(builder, Event::Object { len })?;
+        for place in 0..len {
+            self.tell_name(place, builder)?;
+            self.tell_field(frames, scratch, builder)?;
+        }
+        self.tell(builder, Event::Close)
+    }
+
+    /// Tells the key at this place.
+    #[inline(always)]
+    fn tell_name<B: Builder>(&mut self, place: usize, builder: &mut B) -> Answer<()>
+        requires { place < length (state R.window R.Lent.kept self.old).keys }
+        ensures ok { OnOk result (TellsName B.takes place
+            (state R.window R.Lent.kept self.old).keys builder.old builder.new) }
+        ensures same { OnOk result (state R.window R.Lent.kept self.new
+            ≡ state R.window R.Lent.kept self.old) }
+        ensures reason { OnErr result (refusal_in self.new ≡ Error.OutOfMemory) }
+        ensures err { OnErr result (state R.window R.Lent.kept self.new
+            ≡ refused (state R.window R.Lent.kept self.old)) }
+    {
+        match builder.take(Event::Key(R::Lent::kept_text(&self.keys[place]))) {
+            Ok(()) => Ok(()),
+            Err(_) => Err(self.refuse(Error::OutOfMemory)),
+        }
+    }
+
+    /// Reads the key that is due, and tells it: a text where it is UTF-8, and else bytes.
+    fn tell_key<B: Builder>(&mut self, scratch: &mut Vec<u8>, builder: &mut B) -> Answer<()>
+        requires { IsKeyDue (state R.window R.Lent.kept self.old).due }
+        ensures found { OnOk result (TookAny B.takes builder.old builder.new
+            (state R.window R.Lent.kept self.old) (state R.window R.Lent.kept self.new)) }
+        ensures refused { OnErr result (Refuses reads_ignored (Some asking_ignored) owned
+            (refusal_in self.new)
+            (state R.window R.Lent.kept self.old) (state R.window R.Lent.kept self.new)) }
+    {
+        let bytes = self.read_bytes(scratch)?;
+        match as_text(bytes.get_ref()) {
+            Some(text) => self.tell(builder, Event::Text(text)),
+            None => self.tell(builder, Event::Bytes(bytes.get_ref())),
+        }
+    }
+}

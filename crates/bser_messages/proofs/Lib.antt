@@ -1,0 +1,4 @@
+pub mod Limits
+pub mod Ends
+pub mod Messages
+pub mod Sources

@@ -1,0 +1,149 @@
+-- What reading a message is to one who holds the slice or the reader.
+use Rattle.std.proofs.Common.{◌≡◌, ◌≢◌, ℕ, ◌+◌, ◌-◌, ◌^◌, ◌<◌, ◌≤◌, Bool, true, false, cond, ◌||◌, List, [], ◌∷◌, ◌++◌, max, Option, None, Some, length, nat_lt, refl, sym, ap, subst, ◌∙◌, arith, inl, inr, ◌⊎◌}
+use Rattle.std.proofs.lemmas.List.{append-nil}
+use Rattle.std.proofs.lemmas.Bool.{ltb-true, ltb-false}
+use Rattle.std.specs.Prelude.{Result, Ok, Err, IfErr}
+use Rattle.std.specs.Borrow.{GName}
+use Rattle.std.specs.Io.KnownBytes.{Consumes}
+use Rattle.bser_format.specs.Content.{Content, Meaning, Needs}
+use Rattle.bser_format.specs.Expected.{node_due}
+use Rattle.bser_format.specs.declared.errors.Error.{Error}
+use Rattle.bser_format.specs.declared.errors.Error.TheVariants.{DeCustom, DeReaderError, OutOfMemory}
+use Rattle.bser_format.specs.declared.errors.Message.TheVariants.{Fixed}
+use Rattle.bser_format.specs.declared.errors.Complaint.TheVariants as complaints
+use Rattle.bser_format.specs.declared.errors.ReadCause.TheVariants.{Reader, Failed}
+use Rattle.bser_source.specs.Device.{one_more, Blamed}
+use Rattle.bser_named.specs.Named as named
+use Rattle.bser_read.specs.Window.{Window, Took, left, with_limit}
+use Rattle.bser_read.specs.Slice.{slice_fresh}
+use Rattle.bser_read.proofs.Windows.{left_took}
+use Rattle.bser_bunser.specs.Refusal.{failures_by}
+use Rattle.bser_bunser.specs.Names.{MayBeLeft}
+use Rattle.bser_due.specs.Reading.{Asking, OutsideBy, MayRefuse, NamesBy, refusing}
+use Rattle.bser_messages.specs.Messages.{BeginsWith, TookMessage, ReadsMessageAs, ReadsMessage, NamesMessage, RefusesMessage, IsMemory, NamesSlice, RefusesSlice, CountsFault, MayCome, IsOutside, NamesReader, RefusesReader}
+
+-- ---- slices
+
+pub slice_read : {A : Type 0} (n : ℕ) (reads : Meaning) (holds : A → Content → Type 0) (bytes : List ℕ) (t : Window) (v : A) → ReadsMessage n reads holds (slice_fresh bytes) t v → BeginsWith n reads holds bytes v
+slice_read n reads holds bytes t v r =
+    let p = left_took (slice_fresh bytes) (with_limit 0 t) r.text (bytes ++ []) r.took refl in
+    record { text = r.text; rest = p.0; front = sym (append-nil bytes) ∙ p.2; content = r.content; message = r.message; held = r.held }
+
+-- what may be left of a slice is the slice
+slice_left : (bytes b : List ℕ) → MayBeLeft (slice_fresh bytes) b → b ≡ bytes
+slice_left bytes b m = m.whole ∙ ap (λ l. bytes ++ l) (m.known [] refl) ∙ append-nil bytes
+
+-- nothing but want of memory is to blame beside the slice
+slice_outside : (needs : Needs) (e : Error) (bytes : List ℕ) → OutsideBy needs e (slice_fresh bytes) → IsMemory needs e
+slice_outside needs OutOfMemory bytes (inl h) = absurd cc
+slice_outside needs OutOfMemory bytes (inr h) = record { memory = refl; needed = h }
+slice_outside needs (DeCustom (Fixed complaints.BorrowedFromCopying)) bytes h = absurd (let f = h.0 in cc)
+slice_outside needs (DeReaderError (Reader fault)) bytes h = absurd cc
+slice_outside needs (DeReaderError Failed) bytes (inl h) = absurd cc
+slice_outside needs (DeReaderError Failed) bytes (inr h) = absurd (let f = h.0 in cc)
+slice_outside needs _ bytes h = absurd h
+
+slice_named : {R : Meaning} (n : ℕ) (needs : Needs) (asks : Option (Asking R)) (e : Error) (bytes : List ℕ) → NamesMessage n needs asks e (slice_fresh bytes) → NamesSlice n asks e bytes
+slice_named n needs None e bytes h = tt
+slice_named n needs (Some k) e bytes (inl (b, m, bad)) = inl (ap (named.message (k.asks 0 n node_due)) (sym (slice_left bytes b m)) ∙ bad)
+slice_named n needs (Some k) e bytes (inr h) = inr ((slice_outside (refusing needs) e bytes h).memory)
+
+either_is : (a b : Bool) → a || b ≡ true → (a ≡ true) ⊎ (b ≡ true)
+either_is true b e = inl refl
+either_is false b e = inr e
+
+slice_memory : (needs : Needs) (e : Error) (bytes : List ℕ) → MayRefuse needs e (slice_fresh bytes) → e ≡ OutOfMemory → (needs.memory ≡ true) ⊎ (needs.keys ≡ true)
+slice_memory needs e bytes may is = go (subst (λ f. MayRefuse needs f (slice_fresh bytes)) is may)
+  where
+    go : MayRefuse needs OutOfMemory (slice_fresh bytes) → (needs.memory ≡ true) ⊎ (needs.keys ≡ true)
+    go (inl h) = absurd h
+    go (inr h) = either_is needs.memory needs.keys ((slice_outside (refusing needs) OutOfMemory bytes h).needed)
+
+pub slice_refused : (n : ℕ) (reads : Meaning) (asks : Option (Asking reads)) (needs : Needs) (e : Error) (bytes : List ℕ) (a t : Window) → a ≡ slice_fresh bytes → RefusesMessage n reads asks needs e a t → RefusesSlice n reads asks needs e bytes
+slice_refused n reads asks needs e bytes a t fresh v =
+    let u : RefusesMessage n reads asks needs e (slice_fresh bytes) t = subst (λ w. RefusesMessage n reads asks needs e w t) fresh v in
+    record {
+      names = slice_named n needs asks e bytes u.names;
+      excuse = λ text rest c readable known. slice_outside needs e bytes (u.excuse text rest (c, readable) (ap Some (append-nil bytes ∙ known)));
+      memory = slice_memory needs e bytes u.may;
+    }
+
+-- ---- readers
+
+-- a reader's window before the first byte is read
+abbrev pub reader_fresh : Option (List ℕ) → ℕ → Option GName → Window
+reader_fresh remaining failures through =
+    record { buffered = []; beyond = remaining; count = 0; limit = 0; lends = false; failed = false; failures = failures; through = through }
+
+-- such a window by what it tells of itself
+pub fresh_itself : (remaining : Option (List ℕ)) (failures : ℕ) (through : Option GName) (a : Window) → a ≡ reader_fresh remaining failures through → a ≡ reader_fresh a.beyond a.failures a.through
+fresh_itself remaining failures through a e = subst (λ w. w ≡ reader_fresh w.beyond w.failures w.through) (sym e) refl
+
+-- no list is shorter than the empty one
+empty : (xs : List ℕ) → length xs ≤ 0 → xs ≡ []
+empty [] h = refl
+empty (x ∷ xs) h = absurd (omega (arith, h))
+
+pub reader_read : {A : Type 0} (n : ℕ) (reads : Meaning) (holds : A → Content → Type 0) (remaining : Option (List ℕ)) (failures : ℕ) (through : Option GName) (t : Window) (v : A)
+    → ReadsMessage n reads holds (reader_fresh remaining failures through) t v → TookMessage n reads holds remaining t.beyond v
+reader_read n reads holds remaining failures through t v r =
+    let ahead : length t.buffered ≤ max (0 - t.count) 0 = r.took.within 0 (omega arith) in
+    let none : t.buffered ≡ [] = empty t.buffered (omega (arith, ahead)) in
+    let taken : r.took.more ≡ r.text = r.took.bytes ∙ ap (λ l. r.text ++ l) none ∙ append-nil r.text in
+    record { text = r.text; bytes = subst (Consumes remaining t.beyond) taken r.took.device; content = r.content; message = r.message; held = r.held }
+
+blamed_more : (n : ℕ) → Blamed n (one_more n)
+blamed_more n = go (nat_lt n (2 ^ 64 - 1)) refl
+  where
+    go : (small : Bool) → nat_lt n (2 ^ 64 - 1) ≡ small → Blamed n (cond small (n + 1) n)
+    go true e = inl (omega arith)
+    go false e = inr (omega (arith, ltb-false n (2 ^ 64 - 1) e))
+
+fault_counted : (e : Error) (before after : ℕ) → after ≡ failures_by e before → CountsFault before after e
+fault_counted (DeReaderError (Reader fault)) before after same = subst (Blamed before) (sym same) (blamed_more before)
+fault_counted _ before after same = tt
+
+-- what may be left of a reader
+reader_left : (remaining : Option (List ℕ)) (failures : ℕ) (through : Option GName) (b : List ℕ) → MayBeLeft (reader_fresh remaining failures through) b → MayCome remaining b
+reader_left remaining failures through b m x known = m.whole ∙ m.known x known
+
+-- what is left of a reader before the first byte is read
+fresh_left : (remaining : Option (List ℕ)) (failures : ℕ) (through : Option GName) (b : List ℕ) → remaining ≡ Some b → left (reader_fresh remaining failures through) ≡ Some b
+fresh_left None failures through b e = absurd cc
+fresh_left (Some xs) failures through b e = e
+
+reader_outside : (needs : Needs) (e : Error) (remaining : Option (List ℕ)) (before after : ℕ) (through : Option GName) → needs.lent ≡ false → after ≡ failures_by e before
+    → OutsideBy needs e (reader_fresh remaining before through) → IsOutside remaining before after e
+reader_outside needs OutOfMemory remaining before after through owned same h = tt
+reader_outside needs (DeCustom (Fixed complaints.BorrowedFromCopying)) remaining before after through owned same h = absurd (let l = h.1 in cc)
+reader_outside needs (DeReaderError (Reader fault)) remaining before after through owned same h = subst (Blamed before) (sym same) (blamed_more before)
+reader_outside needs (DeReaderError Failed) remaining before after through owned same (inl h) = absurd cc
+reader_outside needs (DeReaderError Failed) remaining before after through owned same (inr (lends, (b, m, long))) = (b, reader_left remaining before through b m, omega (arith, long))
+reader_outside needs _ remaining before after through owned same h = absurd h
+
+reader_named : {R : Meaning} (n : ℕ) (needs : Needs) (asks : Option (Asking R)) (e : Error) (remaining : Option (List ℕ)) (before after : ℕ) (through : Option GName) → needs.lent ≡ false → after ≡ failures_by e before
+    → NamesMessage n needs asks e (reader_fresh remaining before through) → NamesReader n asks e remaining before after
+reader_named n needs None e remaining before after through owned same h = tt
+reader_named n needs (Some k) e remaining before after through owned same (inl (b, m, bad)) = inl (b, reader_left remaining before through b m, bad)
+reader_named n needs (Some k) e remaining before after through owned same (inr h) = inr (reader_outside (refusing needs) e remaining before after through owned same h)
+
+pub reader_refused : (n : ℕ) (reads : Meaning) (asks : Option (Asking reads)) (needs : Needs) (e : Error) (a t : Window) → needs.lent ≡ false → a ≡ reader_fresh a.beyond a.failures a.through
+    → RefusesMessage n reads asks needs e a t → RefusesReader n reads asks e a.beyond a.failures t.failures
+reader_refused n reads asks needs e a t owned fresh v =
+    let u : RefusesMessage n reads asks needs e (reader_fresh a.beyond a.failures a.through) t = subst (λ w. RefusesMessage n reads asks needs e w t) fresh v in
+    record {
+      names = reader_named n needs asks e a.beyond a.failures t.failures a.through owned v.failures u.names;
+      excuse = λ text rest c readable known. reader_outside needs e a.beyond a.failures t.failures a.through owned v.failures (u.excuse text rest (c, readable) (fresh_left a.beyond a.failures a.through (text ++ rest) known));
+      counted = fault_counted e a.failures t.failures v.failures;
+    }
+
+-- the same of a reader that is known to have as much left, and to have counted as much
+pub reader_counted : (n : ℕ) (reads : Meaning) (asks : Option (Asking reads)) (e : Error) (left seen : Option (List ℕ)) (a b before after : ℕ) → seen ≡ left → a ≡ before → b ≡ after → RefusesReader n reads asks e seen a b → RefusesReader n reads asks e left before after
+reader_counted n reads asks e left seen a b before after p q r u = rw (sym p, sym q, sym r) u
+
+-- ---- answers
+
+-- a refusal that follows from another
+pub if_refused : {X E : Type 0} (r : Result X E) (P Q : E → Type 0) → ((e : E) → P e → Q e) → IfErr r P → IfErr r Q
+if_refused (Ok v) P Q f h = tt
+if_refused (Err e) P Q f h = f e h

@@ -1,0 +1,134 @@
+-- What a message as a whole is read as.
+use Rattle.std.specs.Prelude.{◌≡◌, ◌⊎◌, ℕ, ◌≤◌, ◌^◌, max, List, ◌++◌, length, true, Option, Some, None}
+use Rattle.std.specs.Io.KnownBytes.{Consumes}
+use Rattle.bser_format.specs.Tree.{Tree}
+use Rattle.bser_format.specs.Expand.{expand}
+use Rattle.bser_format.specs.Message.{IsMessage}
+use Rattle.bser_format.specs.Content.{Content, Meaning, Needs}
+use Rattle.bser_format.specs.Expected.{node_due}
+use Rattle.bser_format.specs.Grammar.{Format}
+use Rattle.bser_format.specs.declared.errors.Error.{Error}
+use Rattle.bser_format.specs.declared.errors.Error.TheVariants.{DeReaderError, OutOfMemory}
+use Rattle.bser_format.specs.declared.errors.ReadCause.TheVariants.{Reader, Failed}
+use Rattle.bser_source.specs.Device.{Blamed}
+use Rattle.bser_named.specs.Named as named
+use Rattle.bser_read.specs.Window.{Window, Took, left, with_limit}
+use Rattle.bser_bunser.specs.Refusal.{failures_by}
+use Rattle.bser_due.specs.State.{State, Begins}
+use Rattle.bser_due.specs.Reading.{Answers, Asking, OutsideBy, MayRefuse, NamesBy, RefusesFront}
+
+-- ---- what is read
+
+-- the text is a message of at most n levels, whose expanded tree reads as the content
+pub record ReadsMessageAs (n : ℕ) (reads : Meaning) (text : List ℕ) (c : Content) : Type 0 where
+  pub capabilities : ℕ
+  pub tree : Tree
+  pub message : IsMessage n capabilities tree text
+  pub read : reads (expand tree) ≡ Some c
+
+-- a front of the bytes is a message that reads as what v holds
+pub record BeginsWith {A : Type 0} (n : ℕ) (reads : Meaning) (holds : A → Content → Type 0) (bytes : List ℕ) (v : A) : Type 0 where
+  pub text : List ℕ
+  pub rest : List ℕ
+  pub front : bytes ≡ text ++ rest
+  pub content : Content
+  pub message : ReadsMessageAs n reads text content
+  pub held : holds v content
+
+-- exactly one message was taken, which reads as what v holds
+pub record TookMessage {A : Type 0} (n : ℕ) (reads : Meaning) (holds : A → Content → Type 0) (old new : Option (List ℕ)) (v : A) : Type 0 where
+  pub text : List ℕ
+  pub bytes : Consumes old new text
+  pub content : Content
+  pub message : ReadsMessageAs n reads text content
+  pub held : holds v content
+
+-- a source took exactly one message, and may not take bytes past it
+pub record ReadsMessage {A : Type 0} (n : ℕ) (reads : Meaning) (holds : A → Content → Type 0) (old new : Window) (v : A) : Type 0 where
+  pub text : List ℕ
+  pub content : Content
+  pub message : ReadsMessageAs n reads text content
+  pub held : holds v content
+  pub took : Took old (with_limit old.limit new) text
+  pub limit : new.limit ≤ max old.limit new.count
+
+-- a message's head and its value were taken
+pub record ReadsBody {A : Type 0} (n : ℕ) (reads : Meaning) (holds : A → Content → Type 0) (old : Window) (new : State) (v : A) : Type 0 where
+  pub begun : State
+  pub begins : Begins n old begun
+  pub answers : Answers reads holds begun new v
+
+-- the text is a message that reads
+abbrev pub IsReadableMessage : ℕ → Meaning → Format
+IsReadableMessage n reads text = (c : Content) × ReadsMessageAs n reads text c
+
+-- ---- how it is refused
+
+-- the name that a type gives a message, where the type tells of names
+abbrev pub NamesMessage : {R : Meaning} → ℕ → Needs → Option (Asking R) → Error → Window → Type 0
+NamesMessage n needs None e s = Unit {0}
+NamesMessage n needs (Some a) e s = NamesBy needs (named.message (a.asks 0 n node_due)) e s
+
+-- the head or the value of a message is refused
+abbrev pub RefusesBody : ℕ → (reads : Meaning) → Option (Asking reads) → Needs → Error → Window → Window → Type 0
+RefusesBody n reads asks needs e old new = RefusesFront needs (IsReadableMessage n reads) (NamesMessage n needs asks e old) e old new
+
+-- a message is refused: by its name, and where a front of the bytes left is one that the type reads, only for a reason outside them
+pub record RefusesMessage (n : ℕ) (reads : Meaning) (asks : Option (Asking reads)) (needs : Needs) (e : Error) (old new : Window) : Type 0 where
+  pub through : new.through ≡ old.through
+  pub failures : new.failures ≡ failures_by e old.failures
+  pub may : MayRefuse needs e old
+  pub names : NamesMessage n needs asks e old
+  pub excuse : (text rest : List ℕ) → IsReadableMessage n reads text → left old ≡ Some (text ++ rest) → OutsideBy needs e old
+
+-- ---- slices
+
+-- want of memory, of a type that takes some to read a value
+pub record IsMemory (needs : Needs) (e : Error) : Type 0 where
+  pub memory : e ≡ OutOfMemory
+  pub needed : needs.memory ≡ true
+
+-- a slice is refused by the name of its first fault, where the type tells of names, or for want of memory
+abbrev pub NamesSlice : {R : Meaning} → ℕ → Option (Asking R) → Error → List ℕ → Type 0
+NamesSlice n None e bytes = Unit {0}
+NamesSlice n (Some a) e bytes = (named.message (a.asks 0 n node_due) bytes ≡ named.refuses e) ⊎ (e ≡ OutOfMemory)
+
+-- a refusal of a slice: no front of it is a message that the type reads, or memory was refused to a type that takes some to read a value; want of memory is named only by a type that may take some
+pub record RefusesSlice (n : ℕ) (reads : Meaning) (asks : Option (Asking reads)) (needs : Needs) (e : Error) (bytes : List ℕ) : Type 0 where
+  pub names : NamesSlice n asks e bytes
+  pub excuse : (text rest : List ℕ) (c : Content) → ReadsMessageAs n reads text c → bytes ≡ text ++ rest → IsMemory needs e
+  pub memory : e ≡ OutOfMemory → (needs.memory ≡ true) ⊎ (needs.keys ≡ true)
+
+-- ---- readers
+
+-- want of memory, or a failure that the reader counted
+abbrev pub IsReaderFault : ℕ → ℕ → Error → Type 0
+IsReaderFault before after OutOfMemory = Unit {0}
+IsReaderFault before after (DeReaderError (Reader fault)) = Blamed before after
+IsReaderFault before after _ = ⊥
+
+-- a fault of the reader is answered only where it counted a failure
+abbrev pub CountsFault : ℕ → ℕ → Error → Type 0
+CountsFault before after (DeReaderError (Reader fault)) = Blamed before after
+CountsFault before after _ = Unit {0}
+
+-- bytes that the reader may still give
+abbrev pub MayCome : Option (List ℕ) → List ℕ → Type 0
+MayCome left b = (x : List ℕ) → left ≡ Some x → b ≡ x
+
+-- want of memory, a failure that the reader counted, or 2^62 bytes and more
+abbrev pub IsOutside : Option (List ℕ) → ℕ → ℕ → Error → Type 0
+IsOutside left before after (DeReaderError Failed) = (b : List ℕ) × MayCome left b × (2 ^ 62 ≤ length b)
+IsOutside left before after e = IsReaderFault before after e
+
+-- a reader is refused by the name of the first fault of the bytes left, where the type tells of names, or for a reason outside them
+abbrev pub NamesReader : {R : Meaning} → ℕ → Option (Asking R) → Error → Option (List ℕ) → ℕ → ℕ → Type 0
+NamesReader n None e left before after = Unit {0}
+NamesReader n (Some a) e left before after =
+    ((b : List ℕ) × MayCome left b × (named.message (a.asks 0 n node_due) b ≡ named.refuses e)) ⊎ IsOutside left before after e
+
+-- a refusal of a reader: no front of the bytes left is a message that the type reads, or there is a reason outside them
+pub record RefusesReader (n : ℕ) (reads : Meaning) (asks : Option (Asking reads)) (e : Error) (left : Option (List ℕ)) (before after : ℕ) : Type 0 where
+  pub names : NamesReader n asks e left before after
+  pub excuse : (text rest : List ℕ) (c : Content) → ReadsMessageAs n reads text c → left ≡ Some (text ++ rest) → IsOutside left before after e
+  pub counted : CountsFault before after e

@@ -1,0 +1,136 @@
+//! Reading whole messages.
+ghost use Rattle.std.specs.Prelude.{◌≡◌, ◌≤◌, [], IfOk, IfErr, OnErr};
+ghost use Rattle.bser_deserializer.specs.View.{state, refusal_in};
+ghost use Rattle.bser_messages.specs.Messages.{
+  BeginsWith,
+  TookMessage,
+  ReadsBody,
+  ReadsMessage,
+  RefusesBody,
+  RefusesMessage,
+  RefusesSlice,
+  RefusesReader,
+};
+
+use bser_bunser::refusal::{Answer, Refused};
+use bser_deserializer::deserializer::{Deserializer, LEVELS};
+use bser_format::errors::Result;
+use bser_read::io_read::IoRead;
+use bser_read::read::DeRead;
+use bser_read::slice_read::SliceRead;
+use bser_source::device::Source;
+use bser_source::read::LendsText;
+use bser_types::deserialize::{Deserialize, DeserializeOwned};
+use std::alloc::Global;
+
+/// Reads a value from the message at the front of `bytes`, of at most 128 levels. What follows the
+/// message is ignored.
+///
+/// Answers a value exactly where a front of `bytes` is a well-formed message whose tree, templates
+/// written out, the type reads as that value. Refused else by the name of the first fault in the
+/// order of reading, or for want of memory, and that only of a type that takes memory. The crate
+/// takes no allocator.
+pub fn from_slice<'de, T: Deserialize<&'de [u8]>>(alloc: Global, bytes: &'de [u8]) -> Result<T>
+    ensures found { IfOk result (BeginsWith 128 T.reads T.holds bytes.now) }
+    ensures refused { IfErr result (λ e. RefusesSlice 128 T.reads T.asks T.needs e bytes.now) }
+{
+    from_slice_within(alloc, LEVELS, bytes)
+}
+
+/// Reads a value from the message at the front of `bytes`, of at most `limit` levels.
+///
+/// As [`from_slice`], with `limit` for 128.
+pub fn from_slice_within<'de, T: Deserialize<&'de [u8]>>(
+    alloc: Global,
+    limit: usize,
+    bytes: &'de [u8],
+) -> Result<T>
+    requires { limit ≤ 1024 }
+    ensures found { IfOk result (BeginsWith limit T.reads T.holds bytes.now) }
+    ensures refused { IfErr result (λ e. RefusesSlice limit T.reads T.asks T.needs e bytes.now) }
+{
+    let mut from = Deserializer::unread(alloc, SliceRead::new(bytes));
+    read_message(alloc, limit, &mut from)
+}
+
+/// Reads a value from the reader's next message, of at most 128 levels, and leaves what follows it.
+///
+/// Answers a value exactly where a front of the bytes left is a well-formed message whose tree,
+/// templates written out, the type reads as that value, want of memory and faults that the reader
+/// counts aside. Refused else by the name of the first fault in the order of reading. After a
+/// refusal nothing is said of how far the reader went. The crate takes the reader by value, and no
+/// allocator.
+pub fn from_reader<S: Source, T: DeserializeOwned>(alloc: Global, reader: &mut S) -> Result<T>
+    ensures found { IfOk result
+        (TookMessage 128 T.reads T.holds (S.remaining reader.old) (S.remaining reader.new)) }
+    ensures refused { IfErr result (λ e. RefusesReader 128 T.reads T.asks e
+        (S.remaining reader.old) (S.failures reader.old) (S.failures reader.new)) }
+{
+    from_reader_within(alloc, LEVELS, reader)
+}
+
+/// Reads a value from the reader's next message, of at most `limit` levels.
+///
+/// As [`from_reader`], with `limit` for 128.
+pub fn from_reader_within<S: Source, T: DeserializeOwned>(
+    alloc: Global,
+    limit: usize,
+    reader: &mut S,
+) -> Result<T>
+    requires { limit ≤ 1024 }
+    ensures found { IfOk result
+        (TookMessage limit T.reads T.holds (S.remaining reader.old) (S.remaining reader.new)) }
+    ensures refused { IfErr result (λ e. RefusesReader limit T.reads T.asks e
+        (S.remaining reader.old) (S.failures reader.old) (S.failures reader.new)) }
+{
+    let mut from = Deserializer::unread(alloc, IoRead::new(reader));
+    let answer = read_message(alloc, limit, &mut from);
+    let _reader = from.into_inner().into_inner();
+    answer
+}
+
+/// Reads one message as a value.
+fn read_message<R: DeRead, T: Deserialize<R::Lent>>(
+    alloc: Global,
+    limit: usize,
+    from: &mut Deserializer<R>,
+) -> Result<T>
+where
+    R::Lent: LendsText,
+    requires opened { (state R.window R.Lent.kept from.old).opened ≡ 0 }
+    requires keys { (state R.window R.Lent.kept from.old).keys ≡ [] }
+    requires outer { (state R.window R.Lent.kept from.old).outer ≡ [] }
+    requires start { (state R.window R.Lent.kept from.old).source.count ≡ 0 }
+    ensures found { IfOk result (ReadsMessage limit T.reads T.holds
+        (state R.window R.Lent.kept from.old).source (state R.window R.Lent.kept from.new).source) }
+    ensures refused { IfErr result (λ e. RefusesMessage limit T.reads T.asks T.needs e
+        (state R.window R.Lent.kept from.old).source (state R.window R.Lent.kept from.new).source) }
+{
+    match read_body(alloc, limit, from) {
+        Ok(value) => {
+            from.end()?;
+            Ok(value)
+        }
+        Err(Refused) => Err(from.take_refusal()),
+    }
+}
+
+/// Reads a message's head and its value.
+fn read_body<R: DeRead, T: Deserialize<R::Lent>>(
+    alloc: Global,
+    limit: usize,
+    from: &mut Deserializer<R>,
+) -> Answer<T>
+where
+    R::Lent: LendsText,
+    requires opened { (state R.window R.Lent.kept from.old).opened ≡ 0 }
+    requires keys { (state R.window R.Lent.kept from.old).keys ≡ [] }
+    requires outer { (state R.window R.Lent.kept from.old).outer ≡ [] }
+    ensures found { IfOk result (ReadsBody limit T.reads T.holds
+        (state R.window R.Lent.kept from.old).source (state R.window R.Lent.kept from.new)) }
+    ensures refused { OnErr result (RefusesBody limit T.reads T.asks T.needs (refusal_in from.new)
+        (state R.window R.Lent.kept from.old).source (state R.window R.Lent.kept from.new).source) }
+{
+    from.read_head(limit)?;
+    T::deserialize(alloc, from)
+}

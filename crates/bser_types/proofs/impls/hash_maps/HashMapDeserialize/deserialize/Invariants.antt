@@ -1,0 +1,37 @@
+use Rattle.std.proofs.Common.{◌≡◌}
+use Rattle.bser_due.specs.HoldsMaps.{HoldsNames}
+use Rattle.bser_due.specs.State.{State}
+use Rattle.bser_deserializer.specs.View.{state}
+use Rattle.bser_types.specs.Accesses.{open_pairs}
+use Rattle.bser_due.specs.Parts.{pairs_left}
+use Rattle.bser_types.proofs.Maps.{MapOf, AtEntry}
+use Rattle.bser_types.proofs.impls.hash_maps.HashMapDeserialize.deserialize.Given as goal
+
+-- the types of this map
+abbrev pub types : goal.Over → MapOf
+types g = record {
+  Key = g.row.K.Denot;
+  Val = g.row.V.Denot;
+  name = g.K.MapKey.name;
+  keys = g.K.Shape.reads;
+  key_asks = g.K.Shape.asks;
+  holds_key = g.K.Shape.holds;
+  key_needs = g.K.Shape.needs;
+  vals = g.V.Shape.reads;
+  val_asks = g.V.Shape.asks;
+  holds = g.V.Shape.holds;
+  val_needs = g.V.Shape.needs;
+  read = g.met.K.MapKey.read_by_name;
+  held = g.met.K.MapKey.held_by_name;
+}
+
+abbrev pub invariant-loop-entries : goal.invariant-loop-entries
+invariant-loop-entries g l =
+    let o : State = state g.R.DeRead.window g.L.Lending.kept l.fn.from in
+    record {
+      same_reference : l.map.from.ghost_name ≡ l.initial.map.from.ghost_name;
+      at : AtEntry (types g) o (HoldsNames g.K.MapKey.name g.V.Shape.holds l.entries.entries) (open_pairs g.R.DeRead.window g.L.Lending.kept l.map);
+    }
+
+abbrev pub decreases-loop-entries : goal.decreases-loop-entries
+decreases-loop-entries g l = pairs_left (open_pairs g.R.DeRead.window g.L.Lending.kept l.map).wanted

@@ -1,0 +1,5 @@
+pub mod Names
+pub mod Refused
+pub mod Opened
+pub mod VariantNames
+pub mod EnumNames

@@ -1,0 +1,4 @@
+pub mod Names
+pub mod Variants
+pub mod EnumAccess
+pub mod EnumNames
