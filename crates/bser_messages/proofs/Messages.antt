@@ -50,11 +50,11 @@ took_message a s t head body first kept announced second = record {
   octets = octets_then head body first.octets second.octets;
   device = Consumes-trans a.beyond s.beyond t.beyond first.more second.more first.device second.device;
   within = λ x h. (
-    let sum : x + length (head ++ body) ≡ x + length body + length head = omega (arith, length-append head body) in
-    let u : length s.buffered ≤ max (a.limit - s.count) (x + length body) = first.within (x + length body) (subst (λ k. Within k a) sum h) in
-    let v : Within (x + length body) s = omega (arith, u, kept) in
-    let w : length t.buffered ≤ max (t.limit - t.count) x = second.within x v in
-    omega (arith, w, announced, second.limit, second.count));
+      let sum : x + length (head ++ body) ≡ x + length body + length head = omega (arith, length-append head body) in
+      let u : length s.buffered ≤ max (a.limit - s.count) (x + length body) = first.within (x + length body) (subst (λ k. Within k a) sum h) in
+      let v : Within (x + length body) s = omega (arith, u, kept) in
+      let w : length t.buffered ≤ max (t.limit - t.count) x = second.within x v in
+      omega (arith, w, announced, second.limit, second.count));
   count = omega (arith, length-append head body, first.count, second.count);
   limit = refl;
   lends = second.lends ∙ first.lends;
@@ -78,7 +78,7 @@ read_whole n reads holds a t v body over =
     let start : t.start ≡ s.start = ap (λ z. z.start) answers.state in
     let len : t.len ≡ s.len = ap (λ z. z.len) answers.state in
     let long : t.len ≡ pos (length answers.text) =
-        body_len t.start t.len s.source.count (length answers.text) t.source.count (start ∙ body.begins.start) answers.took.count over.ends.small over.ends.sum in
+    body_len t.start t.len s.source.count (length answers.text) t.source.count (start ∙ body.begins.start) answers.took.count over.ends.small over.ends.sum in
     let size : pos head.size ≡ pos (length answers.text) = sym head.value ∙ sym len ∙ long in
     let same : length answers.text ≡ head.size = omega (arith, ints, size) in
     let announced : s.source.limit ≤ max a.limit (s.source.count + length answers.text) = omega (arith, same, head.limit) in
@@ -141,8 +141,8 @@ value_named n needs None e a s begins h = tt
 value_named n needs (Some k) e a s begins h =
     let head = begins.took in
     let here : NamesBy needs (k.asks 0 n node_due) e s.source =
-        subst (λ o. NamesBy needs (k.asks o n node_due) e s.source) begins.opened
-        (subst (λ l. NamesBy needs (k.asks s.opened l node_due) e s.source) begins.levels (subst (λ d. NamesBy needs (k.asks s.opened s.levels d) e s.source) begins.due h)) in
+    subst (λ o. NamesBy needs (k.asks o n node_due) e s.source) begins.opened
+    (subst (λ l. NamesBy needs (k.asks s.opened l node_due) e s.source) begins.levels (subst (λ d. NamesBy needs (k.asks s.opened s.levels d) e s.source) begins.due h)) in
     names_by_untaken needs (named.message (k.asks 0 n node_due)) (k.asks 0 n node_due) e a (with_limit a.limit s.source) head.text
     (λ x bad. value_bad (k.asks 0 n node_due) e s.capabilities head.size head.text x (head_there s.capabilities head.size head.text head.head) bad)
     head.took (names_within a.limit needs (k.asks 0 n node_due) e s.source here)
@@ -221,10 +221,10 @@ end_named {R = R} n needs (Some k) holds e a s t v begins answers fresh refused 
     let second = left_untaken s.source t.source answers.text x answers.took after in
     let first = left_untaken a (with_limit a.limit s.source) head.text (answers.text ++ x) head.took (left_within a.limit s.source (answers.text ++ x) second) in
     let said : e ≡ end_refusal (pos (length head.text)) (pos head.size) (length head.text + length answers.text) =
-        named ∙ end_is n a s t answers.text begins answers.state fresh answers.took.failed answers.took.count in
+    named ∙ end_is n a s t answers.text begins answers.state fresh answers.took.failed answers.took.count in
     let bad = end_bad r s.capabilities head.size head.text answers.text x (head_there s.capabilities head.size head.text head.head)
-        (k.passes 0 n node_due answers.tree answers.content answers.text x node answers.read)
-        (λ same short. no_end n a s t answers.text begins answers.state fresh answers.took.failed answers.took.count refused (omega (arith, same)) (omega (arith, same, short))) in
+    (k.passes 0 n node_due answers.tree answers.content answers.text x node answers.read)
+    (λ same short. no_end n a s t answers.text begins answers.state fresh answers.took.failed answers.took.count refused (omega (arith, same)) (omega (arith, same, short))) in
     inl (head.text ++ (answers.text ++ x), first, bad ∙ ap refuses (sym said))
 
 -- where a message stands there, its end is reached
