@@ -1,8 +1,8 @@
 -- What the structs of an answer are read from, and what they hold.
 use Rattle.std.specs.Prelude.{[], ◌∷◌, codes}
-use Rattle.bser_base.specs.Content.{Content, Meaning, Needs}
-use Rattle.bser_base.specs.ReadsHolders.{reads_vec}
-use Rattle.bser_base.specs.ReadsScalars.{reads_bool, reads_unsigned}
+use Rattle.bser_format.specs.Content.{Content, Meaning, Needs}
+use Rattle.bser_format.specs.ReadsHolders.{reads_vec}
+use Rattle.bser_format.specs.ReadsScalars.{reads_bool, reads_unsigned}
 use Rattle.serde_bser.specs.Holds.{HoldsOption, HoldsSize, HoldsTruth}
 use Rattle.serde_bser.specs.HoldsLists.{HoldsList, HoldsTuple}
 use Rattle.serde_bser.specs.Reading.{bare}

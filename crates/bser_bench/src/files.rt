@@ -1,7 +1,7 @@
 //! The answer of Watchman that is measured: 500 files of six fields each, in an object.
 use crate::table::TABLE;
 use anyhow::{Context, Result};
-use bser_base::bytestring::ByteString;
+use bser_format::bytestring::ByteString;
 use serde_bser::value::Value;
 use std::alloc::Global;
 use std::collections::BTreeMap;

@@ -5,8 +5,7 @@ ghost use Rattle.serde_bser.specs.Slots.{struct_needs};
 ghost use Rattle.bser_bench.specs.Rows.{reads_file, HoldsFile, file_needs, reads_files, HoldsFiles};
 
 use serde_bser::bytestring::ByteString;
-use serde_bser::de::{Deserializer, Optional, Required};
-use serde_bser::errors::Result;
+use serde_bser::de::{Answer, Deserializer, Optional, Required};
 use serde_bser::prelude::*;
 use std::alloc::Global;
 
@@ -28,6 +27,8 @@ impl<B: Shape, S: Shape> Shape for File<B, S> {
 
     ghost needs = { file_needs B.needs S.needs };
 
+    ghost asks = { None };
+
     ghost plain = { None };
 }
 
@@ -35,7 +36,7 @@ impl<L: LendsText, B: Deserialize<L>, S: Deserialize<L>> Deserialize<L> for File
     fn deserialize<R: DeRead<Lent = L>>(
         alloc: Global,
         from: &mut Deserializer<R>,
-    ) -> Result<File<B, S>> {
+    ) -> Answer<File<B, S>> {
         let (name, (size, (mtime_ms, (exists, (mode, (kind, ())))))) = from.read_fields::<
             (
                 Required<B>,
@@ -94,6 +95,8 @@ impl<B: Shape, S: Shape> Shape for Files<B, S> {
 
     ghost needs = { struct_needs (file_needs B.needs S.needs ∷ []) };
 
+    ghost asks = { None };
+
     ghost plain = { None };
 }
 
@@ -101,14 +104,15 @@ impl<L: LendsText, B: Deserialize<L>, S: Deserialize<L>> Deserialize<L> for File
     fn deserialize<R: DeRead<Lent = L>>(
         alloc: Global,
         from: &mut Deserializer<R>,
-    ) -> Result<Files<B, S>> {
+    ) -> Answer<Files<B, S>> {
         let (files, ()) = from.read_fields::<(Required<Vec<File<B, S>>>, ())>(alloc, &["files"])?;
         Ok(Files { files })
     }
 }
 
 impl<B: OwnedShape, S: OwnedShape> OwnedShape for Files<B, S> {
-    ghost owned = { ap (λ a. (a || (S.needs.lent || false)) || false) B.owned ∙ ap (λ a. (a || false) || false) S.owned };
+    ghost owned = { ap (λ a. (a || (S.needs.lent || false)) || false) B.owned ∙ ap
+        (λ a. (a || false) || false) S.owned };
 }
 
 impl<B: Bytes, S: Bytes> Files<B, S> {

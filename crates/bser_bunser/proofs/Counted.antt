@@ -1,5 +1,5 @@
 -- Lengths, and as many bytes.
-use Rattle.std.proofs.Common.{◌≡◌, ℕ, ◌+◌, ◌-◌, ◌≤◌, ◌<◌, ◌^◌, false, true, Bool, List, [], ◌++◌, length, take, length-append, refl, sym, ap, subst, ◌∙◌, arith, inl, inr}
+use Rattle.std.proofs.Common.{◌≡◌, ℕ, ◌+◌, ◌-◌, ◌≤◌, ◌<◌, false, true, Bool, List, [], ◌++◌, length, take, length-append, refl, sym, ap, subst, ◌∙◌, arith, inl, inr}
 use Rattle.std.specs.Prelude.{ℤ, pos, negsuc, Result, Ok, Err, IfOk, OnErr}
 use Rattle.std.proofs.lemmas.Bool.{ltb-true}
 use Rattle.std.proofs.lemmas.List.{length-take-le}
@@ -49,22 +49,17 @@ passing_on len left n a b c is filled le = record {
       took_then a b (consumed n c) is.text (take n c.buffered) is.took (took_filled n b c filled);
 }
 
--- all were
-pub passed : (len left : ℕ) (a b : Window) → Passing len left a b → left ≡ 0 → TookSome len a b
-passed len left a b is none =
-    record { text = is.text; len = omega (arith, is.whole, none); took = is.took }
-
 pub passing_short : (len left n : ℕ) (e : Error) (a b c : Window) → Passing len left a b → n ≤ left
     → ShortOf n e b c → ShortOf len e a c
 passing_short len left n e a b c is le short =
     short_untaken e a b c is.text n len is.took (omega (arith, is.whole, le)) short
 
 pub passing_names : (len left n : ℕ) (e : Error) (a b c : Window) → Passing len left a b → n ≤ left
-    → n ≤ 2 ^ 63 → ShortOf n e b c → Names (named.front len) e a
-passing_names len left n e a b c is le small short =
-    blames_untaken (λ x. (length x < n) × (e ≡ eof)) _ e a b is.text
-    (λ x p. cut_front len (is.text ++ x) (omega (arith, p.0, le, is.whole, length-append is.text x)) ∙ ap refuses (sym p.1))
-    is.took (short_blames _ n e b c small short (λ x m fewer same. (fewer, same)))
+    → ShortOf n e b c → Names (named.front len) e a
+passing_names len left n e a b c is le short =
+    blames_untaken (λ f x. (length x < n) × (f ≡ eof)) _ e a b is.text
+    (λ f x p. cut_front len (is.text ++ x) (omega (arith, p.0, le, is.whole, length-append is.text x)) ∙ ap refuses (sym p.1))
+    is.took (short_blames _ n e b c short (λ x m fewer. (fewer, refl)))
 
 -- what is buffered was taken at once
 pub took_buffered : (len : ℕ) (a : Window) → AreOctets a.buffered → 0 < len → len ≤ length a.buffered
@@ -141,7 +136,7 @@ negative_names (negsuc n) a less = go a.failed refl
     go true old = inr (inl old)
     go false works = inl (a.buffered ++ known_rest a.beyond, left_now a, refl)
 
-pub bytes_names : (v : ℤ) (n : ℕ) (e : Error) (a c : Window) → pos n ≡ v → n ≤ 2 ^ 63
+pub bytes_names : (v : ℤ) (n : ℕ) (e : Error) (a c : Window) → pos n ≡ v
     → ShortOf n e a c → Names (bytes_after v) e a
-bytes_names v n e a c same le short =
-    subst (λ z. Names (bytes_after z) e a) same (short_names n e a c le short)
+bytes_names v n e a c same short =
+    subst (λ z. Names (bytes_after z) e a) same (short_names n e a c short)

@@ -10,7 +10,7 @@ use mir.Val.{Fits}
 use Rattle.bser_format.specs.Grammar.{IntSize, int8, int16, int32, int64, int_bytes, tag_of, SpellsInteger}
 use Rattle.bser_format.specs.declared.errors.Error.{Error}
 use Rattle.bser_format.specs.declared.errors.Kind.TheVariants.{Integer}
-use Rattle.bser_source.proofs.NumberBytes.{AreOf}
+use Rattle.bser_bunser.proofs.NumberBytes.{AreOf}
 use Rattle.bser_named.specs.Named as named
 use Rattle.bser_named.specs.Named.{eof, refuses}
 use Rattle.bser_read.specs.Window.{Window, AreOctets, Grown, consumed}
@@ -139,7 +139,7 @@ pub short_cuts : (m n : ℕ) (e : Error) (a b c : Window) → Grown m a b → Cu
     → ShortOf n e b c → CutsInteger e a
 short_cuts m n e a b c grown is short =
     blames_before _ m e a b grown
-    (short_blames _ n e b c (omega (arith, is.most)) short (λ x l fewer same. (subst IsCutInteger (sym l.whole) (cut_there b.buffered l.more n is (subst (λ z. length z < n) l.whole fewer)), same)))
+    (short_blames _ n e b c short (λ x l fewer. (subst IsCutInteger (sym l.whole) (cut_there b.buffered l.more n is (subst (λ z. length z < n) l.whole fewer)), refl)))
 
 -- a byte that is no integer's tag, whatever follows
 pub other_int : (b : ℕ) (held : List ℕ) → OtherTag b held

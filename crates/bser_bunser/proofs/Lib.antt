@@ -1,3 +1,4 @@
+pub mod NumberBytes
 pub mod Readers
 pub mod Refusals
 pub mod Names

@@ -77,4 +77,4 @@ pub look_names : {X : Type 0} (r : Reader X) (n : ℕ) (e : Error) (a b c : Wind
     → TooShort r b.buffered n → ShortOf n e b c → Names r e a
 look_names r n e a b c is short refused =
     blames_before _ is.need e a b is.grown
-    (short_blames _ n e b c (omega (arith, short.most)) refused (λ x m fewer same. ap r m.whole ∙ short.cut m.more (subst (λ l. length l < n) m.whole fewer) ∙ ap refuses (sym same)))
+    (short_blames _ n e b c refused (λ x m fewer. ap r m.whole ∙ short.cut m.more (subst (λ l. length l < n) m.whole fewer)))

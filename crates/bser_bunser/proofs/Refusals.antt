@@ -78,8 +78,8 @@ excuse_untaken a b text n m took le Utf8 h = h
 excuse_untaken a b text n m took le (Reader e) h = sym took.lends ∙ h
 excuse_untaken a b text n m took le Memory h = sym took.lends ∙ h
 excuse_untaken a b text n m took le Failed (inl h) = (let works = took.failed in absurd cc)
-excuse_untaken a b text n m took le Failed (inr (l, k)) =
-    inr (sym took.lends ∙ l, omega (arith, took.count, le, k))
+excuse_untaken a b text n m took le Failed (inr (l, k, few)) =
+    inr (sym took.lends ∙ l, omega (arith, took.count, le, k), omega (arith, few, le, ap length took.bytes, length-append a.buffered took.more, length-append text b.buffered))
 
 -- after some of the bytes that are wanted were taken
 pub short_untaken : (e : Error) (a b c : Window) (text : List ℕ) (n m : ℕ) → Took a b text

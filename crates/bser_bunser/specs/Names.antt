@@ -1,5 +1,5 @@
 -- Which refusal is named, and when another may stand in its place.
-use Rattle.std.specs.Prelude.{◌≡◌, ◌⊎◌, ◌≤◌, ◌<◌, ◌+◌, ◌^◌, ℕ, ℤ, true, false, List, [], ◌∷◌, ◌++◌, length, Some}
+use Rattle.std.specs.Prelude.{◌≡◌, ◌⊎◌, ◌≤◌, ◌<◌, ◌+◌, ◌^◌, ℕ, ℤ, suc, true, false, List, [], ◌∷◌, ◌++◌, length, Some}
 use Rattle.std.specs.Int.{byte_len}
 use Rattle.bser_format.specs.Grammar.{Format, IntSize, tag_of, width_of}
 use Rattle.bser_format.specs.declared.errors.Error.{Error}
@@ -17,24 +17,52 @@ pub record MayBeLeft (s : Window) (b : List ℕ) : Type 0 where
   pub whole : b ≡ s.buffered ++ more
   pub known : (rest : List ℕ) → s.beyond ≡ Some rest → more ≡ rest
 
--- 2^62 bytes or more were taken or may be left
-abbrev pub IsLong : Window → Type 0
-IsLong s = (b : List ℕ) × MayBeLeft s b × (2 ^ 62 ≤ s.count + length b)
+-- as far as both go they are the same bytes
+abbrev pub Agree : List ℕ → List ℕ → Type 0
+Agree xs ys = (x : List ℕ) × (y : List ℕ) × (xs ++ x ≡ ys ++ y)
+
+-- bytes that may come: those buffered, and then such as agree with what is known of the others
+pub record MayCome (s : Window) (b : List ℕ) : Type 0 where
+  pub more : List ℕ
+  pub whole : b ≡ s.buffered ++ more
+  pub known : (rest : List ℕ) → s.beyond ≡ Some rest → Agree more rest
+
+-- what some bytes are to blame for, by this name
+abbrev pub Blame : Type 1
+Blame = Error → List ℕ → Type 0
+
+-- bytes that may come are too few, and with one more there are 2^64 since the start
+pub record Overflows (P : Blame) (s : Window) : Type 0 where
+  pub text : List ℕ
+  pub comes : MayCome s text
+  pub few : P named.eof text
+  pub long : 2 ^ 64 ≤ suc (s.count + length text)
 
 -- a refusal that the bytes left are not to blame for, where there is a reason for it
-abbrev pub Outside : Error → Window → Type 0
-Outside OutOfMemory s = s.lends ≡ false
-Outside (DeReaderError (Reader fault)) s = s.lends ≡ false
-Outside (DeReaderError Failed) s = (s.failed ≡ true) ⊎ ((s.lends ≡ false) × IsLong s)
-Outside _ s = ⊥
+abbrev pub Outside : Blame → Error → Window → Type 0
+Outside P OutOfMemory s = s.lends ≡ false
+Outside P (DeReaderError (Reader fault)) s = s.lends ≡ false
+Outside P (DeReaderError Failed) s = (s.failed ≡ true) ⊎ ((s.lends ≡ false) × Overflows P s)
+Outside P _ s = ⊥
+
+-- the same, where the bytes wanted are in front, n of them
+abbrev pub Excused : ℕ → Error → Window → Type 0
+Excused n OutOfMemory s = s.lends ≡ false
+Excused n (DeReaderError (Reader fault)) s = s.lends ≡ false
+Excused n (DeReaderError Failed) s = (s.failed ≡ true) ⊎ ((s.lends ≡ false) × (2 ^ 64 ≤ s.count + n))
+Excused n _ s = ⊥
 
 -- the bytes that may be left are to blame in this way, or nothing of them is
-abbrev pub Blames : (List ℕ → Type 0) → Error → Window → Type 0
-Blames P e s = ((b : List ℕ) × MayBeLeft s b × P b) ⊎ Outside e s
+abbrev pub Blames : Blame → Error → Window → Type 0
+Blames P e s = ((b : List ℕ) × MayBeLeft s b × P e b) ⊎ Outside P e s
+
+-- the plain reader refuses such bytes by this name
+abbrev pub RefusedAs : {X : Type 0} → named.Reader X → Blame
+RefusedAs r e b = r b ≡ named.refuses e
 
 -- the plain reader refuses what is left by this name, or there is a reason outside the bytes
 abbrev pub Names : {X : Type 0} → named.Reader X → Error → Window → Type 0
-Names r e s = Blames (λ b. r b ≡ named.refuses e) e s
+Names r e s = Blames (RefusedAs r) e s
 
 -- the same, or memory was refused
 abbrev pub NamesOrMemory : {X : Type 0} → named.Reader X → Error → Window → Type 0
@@ -44,7 +72,7 @@ NamesOrMemory r e s = Names r e s ⊎ (e ≡ OutOfMemory)
 abbrev pub Excuses : {X : Type 0} → Format → named.Reader X → Type 0
 Excuses F r =
     (text rest : List ℕ) (e : Error) (s : Window)
-    → F text → left s ≡ Some (text ++ rest) → Names r e s → Outside e s
+    → F text → left s ≡ Some (text ++ rest) → Names r e s → Excused (length text) e s
 
 -- an integer's tag, and fewer bytes than its number has
 pub record CutNumber (b : List ℕ) : Type 0 where
@@ -59,7 +87,7 @@ IsCutInteger b = (b ≡ []) ⊎ CutNumber b
 
 -- an integer is cut short
 abbrev pub CutsInteger : Error → Window → Type 0
-CutsInteger e s = Blames (λ b. IsCutInteger b × (e ≡ named.eof)) e s
+CutsInteger e s = Blames (λ f b. IsCutInteger b × (f ≡ named.eof)) e s
 
 -- an integer of 0 or more, with this complaint of another
 abbrev pub natural_of : Complaint → named.Reader ℕ

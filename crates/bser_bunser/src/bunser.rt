@@ -1,5 +1,5 @@
 //! Tagged values over a byte source.
-ghost use Rattle.std.specs.Prelude.{◌≡◌, ◌≢◌, ◌≤◌, ◌<◌, ◌-◌, ◌^◌, pos, length, IfOk, IfErr, OnOk, OnErr, min};
+ghost use Rattle.std.specs.Prelude.{◌≡◌, ◌≢◌, ◌≤◌, ◌<◌, ◌-◌, ◌^◌, pos, length, IfOk, IfErr, IfSome, IfNone, OnOk, OnErr, min};
 ghost use Rattle.bser_format.specs.Errors.{error_of};
 ghost use Rattle.bser_named.specs.Named.{next, front, int};
 ghost use Rattle.bser_read.specs.Window.{Filled, Peeks, Took, consumed, closed};
@@ -8,6 +8,7 @@ ghost use Rattle.bser_bunser.specs.Refusal.{ShortOf, Fails, unexpected_refusal};
 ghost use Rattle.bser_bunser.specs.Tagged.{bunser_window, bunser_source, refusal_of, TookInt, LooksForInt, TookToken};
 ghost use Rattle.bser_bunser.specs.Tokens.{token, LengthFits};
 
+mod integers;
 mod numbers;
 mod pdu;
 mod strings;
@@ -42,6 +43,7 @@ impl<R: DeRead> Bunser<R> {
     /// Reads from the source's next byte on. Nothing is taken, and nothing reserved.
     ///
     /// The crate's call has no allocator.
+    #[inline(always)]
     pub fn new(_alloc: Global, read: R) -> Self
         ensures { bunser_window R.window result ≡ R.window read }
     {
@@ -52,6 +54,7 @@ impl<R: DeRead> Bunser<R> {
     }
 
     /// Gives the byte source back, as far as it was read.
+    #[inline(always)]
     pub fn into_inner(self) -> R
         ensures { result ≡ bunser_source self }
     {
@@ -227,71 +230,6 @@ impl<R: DeRead> Bunser<R> {
         ensures { bunser_window R.window self.new ≡ consumed n (bunser_window R.window self.old) }
     {
         self.read.consume(n);
-    }
-
-    /// Takes an integer of any width. Where another tag stands nothing is taken, and it is
-    /// [`Look::Unexpected`] with [`Unexpected::Tag`].
-    ///
-    /// An integer that is cut short, or none at all, is refused as by [`Self::fill`]. The crate has
-    /// no such call.
-    #[inline(always)]
-    pub fn next_int(&mut self) -> Answer<Look<i64>>
-        ensures ok { IfOk result (λ l.
-            LooksForInt (bunser_window R.window self.old) (bunser_window R.window self.new) l) }
-        ensures err { OnErr result (Fails (refusal_of self.new)
-            (bunser_window R.window self.old) (bunser_window R.window self.new)) }
-        ensures names { OnErr result
-            (CutsInteger (refusal_of self.new) (bunser_window R.window self.old)) }
-        ensures memory { OnErr result (refusal_of self.new ≢ Error.OutOfMemory) }
-    {
-        loop {
-            match int_prefix(self.read.buffered()) {
-                Prefix::Found { value, len } => {
-                    self.read.consume(len);
-                    return Ok(Look::Taken(value));
-                }
-                Prefix::Short { need } => self.fill_on(need)?,
-                Prefix::Unexpected(why) => return Ok(Look::Unexpected(why)),
-            }
-        }
-    }
-
-    /// Takes an integer of any width.
-    ///
-    /// Refusals are those of [`Self::check_next_int`].
-    #[inline(always)]
-    fn int(&mut self) -> Answer<i64>
-        ensures ok { IfOk result (λ v.
-            TookInt (bunser_window R.window self.old) (bunser_window R.window self.new) v) }
-        ensures err { OnErr result (Fails (refusal_of self.new)
-            (bunser_window R.window self.old) (bunser_window R.window self.new)) }
-        ensures names { OnErr result
-            (Names int (refusal_of self.new) (bunser_window R.window self.old)) }
-        ensures memory { OnErr result (refusal_of self.new ≢ Error.OutOfMemory) }
-    {
-        match self.next_int()? {
-            Look::Taken(number) => Ok(number),
-            Look::Unexpected(why) => Err(self.refuse_unexpected(Kind::Integer, why)),
-        }
-    }
-
-    /// Takes an integer of any width.
-    ///
-    /// Another tag is [`Error::DeInvalidStartByte`] of kind [`Kind::Integer`], with that tag. An
-    /// integer that is cut short, or none at all, is refused as by [`Self::fill`].
-    #[inline(always)]
-    pub fn check_next_int(&mut self) -> Result<i64>
-        ensures ok { IfOk result (λ v.
-            TookInt (bunser_window R.window self.old) (bunser_window R.window self.new) v) }
-        ensures err { IfErr result (λ e.
-            Fails e (bunser_window R.window self.old) (bunser_window R.window self.new)) }
-        ensures names { IfErr result (λ e. Names int e (bunser_window R.window self.old)) }
-        ensures memory { IfErr result (λ e. e ≢ Error.OutOfMemory) }
-    {
-        match self.int() {
-            Ok(number) => Ok(number),
-            Err(Refused) => Err(self.take_refusal()),
-        }
     }
 
     /// Takes a token. The bytes of a string, and what a container holds, are left.

@@ -1,5 +1,5 @@
 //! What bytes begin with, as far as they tell: an integer, a length or a token.
-ghost use Rattle.std.specs.Prelude.{◌≡◌, ◌<◌, length, slice_index, MatchOption};
+ghost use Rattle.std.specs.Prelude.{◌≡◌, ◌<◌, length, slice_index, MatchOption, IfSome};
 ghost use Rattle.std.specs.Int.{w8, w16, w32, w64};
 ghost use Rattle.bser_bunser.specs.Prefixes.{NumberPrefix, BitsPrefix, IsIntPrefix, IsLengthPrefix};
 ghost use Rattle.bser_bunser.specs.Tokens.{IsTokenPrefix, IsNoIntTag, IsCounted, IsTokenOf, fault_after};
@@ -170,6 +170,21 @@ pub fn length_prefix(bytes: &[u8]) -> Prefix<usize>
             Prefix::Unexpected(Unexpected::Length(byte))
         }
         Prefix::Unexpected(why) => Prefix::Unexpected(why),
+    }
+}
+
+/// The length in front of these bytes, where it is an integer of one byte. None of another.
+#[inline(always)]
+pub(crate) fn short_length(bytes: &[u8]) -> Option<usize>
+    ensures length { IfSome result (λ n. IsLengthPrefix bytes.now (Prefix.Found n 2)) }
+    ensures short { IfSome result (λ n. n < 128) }
+{
+    if bytes.is_empty() || bytes[0] != BSER_INT8 {
+        return None;
+    }
+    match i8_prefix(&bytes[1..]) {
+        Some(number) if number >= 0 => Some(number as usize),
+        _ => None,
     }
 }
 

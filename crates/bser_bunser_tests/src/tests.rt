@@ -1,7 +1,9 @@
 //! Tests of what is read over a window: from a slice, and from readers of a few bytes a call.
+mod bunser;
 mod messages;
 mod refusals;
 mod sources;
+mod text;
 
 use bser_read::io_read::IoRead;
 use bser_source::device::Watched;

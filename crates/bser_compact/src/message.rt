@@ -5,9 +5,9 @@ ghost use Rattle.bser_ser.specs.Sent.{Sent};
 ghost use Rattle.bser_compact.specs.Texts.{compact_tree, Breaks, value_text, items_text, entries_text, rows_text, row_text};
 
 use crate::template::{add_template_head, shared_keys};
-use bser_base::device::Sink;
 use bser_ser::message::serialize_to;
 use bser_ser::{Refused, Serialize, Serializer};
+use bser_source::device::Sink;
 use bser_value::value::Value;
 use std::alloc::Global;
 use std::collections::BTreeMap;
@@ -28,7 +28,7 @@ pub fn serialize_compact<W: Sink>(
     alloc: Global,
     writer: &mut W,
     value: &Value,
-) -> bser_base::errors::Result<()>
+) -> bser_format::errors::Result<()>
     ensures ok { OnOk result (Wrote W.took (Some (compact_tree value.now)) writer.old writer.new) }
     ensures err { IfErr result
         (Missed W.took W.failures (Some (compact_tree value.now)) writer.old writer.new) }
@@ -49,7 +49,7 @@ impl Serialize for Compact<'_> {
         &self,
         _alloc: Global,
         out: &mut Serializer<W>,
-    ) -> bser_base::errors::Result<()> {
+    ) -> bser_format::errors::Result<()> {
         match add_compact(self.value, out) {
             Ok(()) => Ok(()),
             Err(_) => Err(out.refusal()),

@@ -169,11 +169,11 @@ took_tag t s b before is after =
 
 -- what follows the tag is refused, by the same name
 pub rest_refused : {X Y : Type 0} (needs : Needs) (k : Seen → Reader X) (r : Reader Y) (t : ℕ) (e : Error) (s : State) (b c : Window) → IsBefore t s → IsTag t
-    → ((x : List ℕ) → r x ≡ refuses e → k (tag t) x ≡ refuses e) → b ≡ consumed 1 s.source → Fails e b c → NamesBy needs r e b → NamedRefusal needs k e s c
+    → ((f : Error) (x : List ℕ) → r x ≡ refuses f → k (tag t) x ≡ refuses f) → b ≡ consumed 1 s.source → Fails e b c → NamesBy needs r e b → NamedRefusal needs k e s c
 rest_refused needs k r t e s b c before is same after fails name =
     let took = took_tag t s b before is after in (
       fails_untaken e s.source b c (t ∷ []) took fails,
-      names_by_untaken needs (asked k s.opened s.due) r e s.source b (t ∷ []) (λ x h. asked_tag k s.opened t s.due x before.due is ∙ same x h) took name,
+      names_by_untaken needs (asked k s.opened s.due) r e s.source b (t ∷ []) (λ f x h. asked_tag k s.opened t s.due x before.due is ∙ same f x h) took name,
     )
 
 -- whatever follows the tag, no level is left for it
@@ -220,11 +220,11 @@ object_count (suc n) m e x some h = ap (and_then (λ k. give (entries_of_object 
 
 pub array_refused : (e : Error) (s : State) (m : ℕ) (b c : Window) → IsBefore 0x00 s → s.levels ≡ m + 1 → b ≡ consumed 1 s.source → Fails e b c → Names count e b → RefusesHead bare e s c
 array_refused e s m b c before some after fails name =
-    items_refused bare e s c refl (rest_refused bare (items_at s.levels) count 0x00 e s b c before (λ z. refl) (λ x h. array_count s.levels m e x some h) after fails (names_any bare count e b name))
+    items_refused bare e s c refl (rest_refused bare (items_at s.levels) count 0x00 e s b c before (λ z. refl) (λ f x h. array_count s.levels m f x some h) after fails (names_any bare count e b name))
 
 pub object_refused : (e : Error) (s : State) (m : ℕ) (b c : Window) → IsBefore 0x01 s → s.levels ≡ m + 1 → b ≡ consumed 1 s.source → Fails e b c → Names count e b → RefusesPairsHead bare e s c
 object_refused e s m b c before some after fails name =
-    pairs_refused bare e s c refl (rest_refused bare (pairs_at s.levels) count 0x01 e s b c before (λ z. refl) (λ x h. object_count s.levels m e x some h) after fails (names_any bare count e b name))
+    pairs_refused bare e s c refl (rest_refused bare (pairs_at s.levels) count 0x01 e s b c before (λ z. refl) (λ f x h. object_count s.levels m f x some h) after fails (names_any bare count e b name))
 
 -- ---- what was opened
 

@@ -1,11 +1,14 @@
 pub mod Tags
 pub mod Scalars
 pub mod Nodes
+pub mod Nulls
 pub mod Strings
 pub mod Texts
+pub mod Copies
 pub mod Templates
 pub mod Openings
 pub mod TemplateHeads
 pub mod Containers
+pub mod WholeRows
 pub mod Told
 pub mod Rows

@@ -59,7 +59,7 @@ node_tag t k e = (tag_told t).0 ∙ ap is_some e
 no_node_tag : (t : ℕ) → tag_node t ≡ None → is_tag false t ≡ false
 no_node_tag t e = (tag_told t).0 ∙ ap is_some e
 
-null_node : (t : ℕ) → tag_node t ≡ Some kinds.Null → nat_eq t 0x0a ≡ true
+pub null_node : (t : ℕ) → tag_node t ≡ Some kinds.Null → nat_eq t 0x0a ≡ true
 unfolding is_null
 null_node t e = (tag_told t).1 ∙ ap is_null e
 
@@ -111,7 +111,7 @@ node_passes o (row_due ks) text h = (row ks, λ x. ap (λ l. reads (row ks) (l +
 pub node_refused : (e : Error) (s : State) (b : Window) → Fails e s.source b → NamesBy bare (seen s.opened s.due) e s.source
     → RefusesFront bare (BeginsNode s.due) (NamesBy bare (seen s.opened s.due) e s.source) e s.source b
 node_refused e s b fails said =
-    front_refused bare (seen s.opened s.due) (seen s.opened s.due) (BeginsNode s.due) e s.source b (λ x p. p) (λ x h. clean_seen s.opened s.due x h)
+    front_refused bare (seen s.opened s.due) (seen s.opened s.due) (BeginsNode s.due) e s.source b (λ f x p. p) (λ x h. clean_seen s.opened s.due x h)
     (node_passes s.opened s.due) fails said
 
 -- a tag that may not stand there is refused

@@ -19,11 +19,12 @@ use Rattle.bser_due.specs.Dues.{IsTagged, name_at, due_of}
 use Rattle.bser_due.specs.declared.due.Due as code
 use Rattle.bser_due.specs.declared.due.Due.TheVariants as due
 use Rattle.bser_due.specs.State.{State, with_source, refused}
-use Rattle.bser_due.specs.Reading.{RefusesFront, NamesBy, NamesDue, MayRefuse, OutsideBy, bare, owned, only_keys, refusing}
+use Rattle.bser_bunser.specs.Names.{Blame, RefusedAs}
+use Rattle.bser_due.specs.Reading.{RefusesFront, NamesBy, NamesDue, MayRefuse, OutsideBy, ExcusedBy, bare, owned, only_keys, refusing}
 use Rattle.bser_due.specs.Parts.{BeginsItems}
 use Rattle.bser_due.specs.Access.{OpenItems, OpenPairs, OpensItems, OpensPairs, IsItemsHead, IsArrayHead, IsPairsHead, RefusesItems, inside_items, inside_pairs}
 use Rattle.bser_due.proofs.Clean.{clean_items, clean_pairs}
-use Rattle.bser_due.proofs.Refusals.{outside_by_before, fails_before, names_bare, with_needs, narrower}
+use Rattle.bser_due.proofs.Refusals.{excused_before, fails_before, names_bare, with_needs, narrower}
 use Rattle.bser_deserializer.specs.View.{SeesTag, value_here}
 use Rattle.bser_deserializer.proofs.Tags.{peeked_took, peeked_names, nothing_left, failed_names, tagged_value, key_tag_told, WantsValue, wants_value, value_refused, stray_refused}
 use Rattle.bser_deserializer.proofs.Containers.{RefusesHead, RefusesPairsHead, unequal, value_or_field, counted_rest, items_pass, pairs_pass, items_front, pairs_front, pairs_refused}
@@ -46,12 +47,12 @@ refused_grown needs W N M e n a b c grown name u = record {
   fails = fails_before n e a b c grown u.fails;
   may = may u.may;
   names = name u.names;
-  excuse = λ text rest wanted known. outside_by_before needs n a b e grown (u.excuse text rest wanted (left_grown n a b (text ++ rest) grown known));
+  excuse = λ text rest wanted known. excused_before needs n (length text) a b e grown (u.excuse text rest wanted (left_grown n a b (text ++ rest) grown known));
 }
   where
     may : MayRefuse needs e b → MayRefuse needs e a
     may (inl h) = inl h
-    may (inr h) = inr (outside_by_before (refusing needs) n a b e grown h)
+    may (inr h) = inr (excused_before (refusing needs) n 0 a b e grown h)
 
 -- a reader that reads what has a tag takes some bytes
 some_read : {X : Type 0} (k : Seen → Reader X) (o : ℕ) (d : Due) (v : X) (text : List ℕ) → IsTagged d → Passes (asked k o d) v text → 0 < length text
@@ -103,7 +104,7 @@ looked needs k front e s m t c fit sees refusal =
     let r = asked (k s.levels) s.opened s.due in
     let x = m.source in
     let u = subst (λ (z : State). RefusesFront needs (front z) (NamesDue needs (k z.levels) e z) e z.source c) sees.state refusal in
-    refused_grown needs (front s) (NamesBy needs r e x) (NamesBy needs r e s.source) e 1 s.source x c sees.peeks.filled.grown (peeked_names needs r r e s.source x t (λ y h. h) sees.peeks)
+    refused_grown needs (front s) (NamesBy needs r e x) (NamesBy needs r e s.source) e 1 s.source x c sees.peeks.filled.grown (peeked_names needs r r e s.source x t (λ f y h. h) sees.peeks)
     (narrower needs (front (with_source s x)) (front s) (NamesBy needs r e x) (NamesBy needs r e x) e x c (fit x) (λ n. n) u)
 
 pub refused_items : (needs : Needs) (e : Error) (s m : State) (t : ℕ) (c : Window) → SeesTag s m t → RefusesHead needs e m c → RefusesHead needs e s c
@@ -125,18 +126,23 @@ bare_items e s t u =
     }
 
 -- memory is taken for a value or for the keys of a template
-keys_or_value : (e : Error) (s : Window) → OutsideBy (refusing owned) e s → OutsideBy (refusing only_keys) e s
-keys_or_value OutOfMemory s h = h
-keys_or_value (DeCustom (Fixed BorrowedFromCopying)) s h = h
-keys_or_value _ s h = h
+keys_or_value : (P : Blame) (e : Error) (s : Window) → OutsideBy (refusing owned) P e s → OutsideBy (refusing only_keys) P e s
+keys_or_value P OutOfMemory s h = h
+keys_or_value P (DeCustom (Fixed BorrowedFromCopying)) s h = h
+keys_or_value P _ s h = h
+
+excused_keys : (e : Error) (s : Window) → ExcusedBy (refusing owned) 0 e s → ExcusedBy (refusing only_keys) 0 e s
+excused_keys OutOfMemory s h = h
+excused_keys (DeCustom (Fixed BorrowedFromCopying)) s h = h
+excused_keys _ s h = h
 
 keys_names : {X : Type 0} (r : Reader X) (e : Error) (s : Window) → NamesBy owned r e s → NamesBy only_keys r e s
 keys_names r e s (inl h) = inl h
-keys_names r e s (inr h) = inr (keys_or_value e s h)
+keys_names r e s (inr h) = inr (keys_or_value (RefusedAs r) e s h)
 
 keys_may : (e : Error) (s : Window) → MayRefuse owned e s → MayRefuse only_keys e s
 keys_may e s (inl h) = inl h
-keys_may e s (inr h) = inr (keys_or_value e s h)
+keys_may e s (inr h) = inr (excused_keys e s h)
 
 array_first : (n : ℕ) (d : Due) (k : ℕ) (text : List ℕ) → BeginsItems n d (nodes k) text → (rest : List ℕ) × (text ≡ 0x00 ∷ rest)
 array_first n d k text h = let p = value_or_field n d (nodes k) text h in counted_rest 0x00 n k text p.1

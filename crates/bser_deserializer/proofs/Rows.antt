@@ -12,13 +12,12 @@ use Rattle.bser_format.specs.ReadsAny.{has_utf8_keys, entries_have_utf8_keys, re
 use Rattle.bser_format.specs.Plain as plain
 use Rattle.bser_format.proofs.Fronts.{value_reads, field_reads}
 use Rattle.bser_format.specs.declared.errors.Error.{Error}
-use Rattle.bser_format.specs.declared.errors.Error.TheVariants.{OutOfMemory}
 use Rattle.bser_named.specs.Named.{Reader, reads, refuses, give, and_then, ◌>>=◌, many, field_of, any, with_text_keys}
 use Rattle.bser_named.specs.NamedLaws.{HasTextKeys}
 use Rattle.bser_named.specs.Asks.{done, asks_any}
 use Rattle.bser_named.proofs.Agreement.{forgotten, value_same, field_same, no_skip}
 use Rattle.bser_named.proofs.TextKeys.{join, KeyedField, field_sifts, text_keys_sift}
-use Rattle.bser_read.specs.Window.{Took, closed}
+use Rattle.bser_read.specs.Window.{Took}
 use Rattle.bser_read.proofs.Windows.{took_then}
 use Rattle.bser_bunser.specs.Refusal.{Fails}
 use Rattle.bser_events.specs.Events as events
@@ -28,8 +27,9 @@ use Rattle.bser_due.specs.State.{State, awaiting, past}
 use Rattle.bser_due.specs.Reading.{NamesBy, Refuses, owned}
 use Rattle.bser_due.specs.Askings.{asking_ignored}
 use Rattle.bser_due.proofs.Refusals.{fails_untaken, names_by_untaken}
+use Rattle.bser_deserializer.proofs.WholeRows.{row_whole}
 use Rattle.bser_deserializer.specs.Any.{TookAny, TookField, TellsName, told_field}
-use Rattle.bser_deserializer.proofs.Told.{any_refused, memory_fails, memory_names}
+use Rattle.bser_deserializer.proofs.Told.{any_refused}
 use Rattle.bser_deserializer.proofs.Texts.{took_nothing}
 
 -- ---- keys beside fields
@@ -187,6 +187,7 @@ row_ends takes place len first before mid after s m z full count p opens closes 
         stands = ap trees.object (beside_expanded ks p.row);
         spelled = subst (λ l. Each (SpellsField (Spells s.levels)) l p.text) (sym (fields_again p.row)) whole;
       };
+      rows = row_whole s.levels ks p.row p.text whole;
       keys = p.keys;
       took = p.took;
       state = p.state;
@@ -204,7 +205,7 @@ row_asked o n ks x e h = ap (and_then done) h
 pub row_refused : (e : Error) (s z : State) → Fails e s.source z.source → NamesBy owned (many (field_of (with_text_keys s.levels)) (length s.keys)) e s.source
     → Refuses reads_ignored (Some asking_ignored) owned e (awaiting (row_due s.keys) s) z
 row_refused e s z fails said =
-    any_refused (many (field_of (with_text_keys s.levels)) (length s.keys)) e (awaiting (row_due s.keys) s) z (λ x p. row_asked s.opened s.levels s.keys x e p) fails said
+    any_refused (many (field_of (with_text_keys s.levels)) (length s.keys)) e (awaiting (row_due s.keys) s) z (λ f x p. row_asked s.opened s.levels s.keys x f p) fails said
 
 -- the next field is refused
 pub next_refused : {B : Type 0} (takes : B → Event → B → Type 0) (place : ℕ) (before mid : B) (e : Error) (s m z : State) → RowPart takes place before mid s m → place < length s.keys
@@ -216,11 +217,5 @@ next_refused takes place before mid e s m z p less fails said =
     let said' : NamesBy owned r e m.source = subst (λ n. NamesBy owned (field_of (with_text_keys n)) e m.source) (ap (λ w. w.levels) p.state) said in
     row_refused e s z (fails_untaken e s.source m.source z.source p.text p.took fails)
     (names_by_untaken owned (many r (length s.keys)) r e s.source m.source p.text
-    (λ x h. subst (λ j. many r j (p.text ++ x) ≡ refuses e) all (p.refused (suc left) x e (ap (and_then (λ v. many r left >>= λ vs. give (v ∷ vs))) h)))
+    (λ f x h. subst (λ j. many r j (p.text ++ x) ≡ refuses f) all (p.refused (suc left) x f (ap (and_then (λ v. many r left >>= λ vs. give (v ∷ vs))) h)))
     p.took said')
-
--- the builder wants memory
-pub row_memory : {B : Type 0} (takes : B → Event → B → Type 0) (place : ℕ) (before mid : B) (e : Error) (s m z : State) → RowPart takes place before mid s m → e ≡ OutOfMemory
-    → z.source ≡ closed m.source → Refuses reads_ignored (Some asking_ignored) owned e (awaiting (row_due s.keys) s) z
-row_memory takes place before mid e s m z p same end =
-    row_refused e s z (memory_fails e s.source m.source z.source p.text p.took same end) (memory_names (many (field_of (with_text_keys s.levels)) (length s.keys)) e s.source same)

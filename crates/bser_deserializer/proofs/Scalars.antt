@@ -85,7 +85,7 @@ pub record AsksFor {X : Type 0} (k : Seen → named.Reader X) (means : Meaning) 
 pub due_refused : {X : Type 0} (k : Seen → named.Reader X) (means : Meaning) (a : Asking means) (e : Error) (s : State) (b : Window) → AsksFor k means a
     → Fails e s.source b → NamesDue bare k e s → Refuses means (Some a) bare e s (with_source s b)
 due_refused k means a e s b is fails said =
-    asking_refused bare means a (asked k s.opened s.due) e s (with_source s b) (λ x p. is.first s.opened s.levels s.due x e p)
+    asking_refused bare means a (asked k s.opened s.due) e s (with_source s b) (λ f x p. is.first s.opened s.levels s.due x f p)
     (is.clean s.opened s.levels s.due) fails said
 
 -- the tag of a value was refused
@@ -93,14 +93,14 @@ pub no_tag_refused : {X : Type 0} (k : Seen → named.Reader X) (means : Meaning
     → WantsValue k s.due → Fails e s.source b → NamesBy bare (value_here s.opened s.due) e s.source → Refuses means (Some a) bare e s (with_source s b)
 no_tag_refused k means a e s b is wants fails said =
     asking_refused bare means a (value_here s.opened s.due) e s (with_source s b)
-    (λ x p. is.first s.opened s.levels s.due x e (value_asked k s.opened s.due x e wants p)) (is.clean s.opened s.levels s.due) fails said
+    (λ f x p. is.first s.opened s.levels s.due x f (value_asked k s.opened s.due x f wants p)) (is.clean s.opened s.levels s.due) fails said
 
 -- no value is due
 pub no_value_refused : {X : Type 0} (k : Seen → named.Reader X) (means : Meaning) (a : Asking means) (e : Error) (s : State) (b : Window) → AsksFor k means a
     → WantsValue k s.due → (IsValueDue s.due → ⊥) → Fails e s.source b → NamesDue bare nothing_at e s → Refuses means (Some a) bare e s (with_source s b)
 no_value_refused k means a e s b is wants none fails said =
     asking_refused bare means a (asked nothing_at s.opened s.due) e s (with_source s b)
-    (λ x p. is.first s.opened s.levels s.due x e (no_value_asked k s.opened s.due x e none wants p)) (is.clean s.opened s.levels s.due) fails said
+    (λ f x p. is.first s.opened s.levels s.due x f (no_value_asked k s.opened s.due x f none wants p)) (is.clean s.opened s.levels s.due) fails said
 
 -- what stands there is refused by its tag
 pub seen_refused : {X : Type 0} (k : Seen → named.Reader X) (means : Meaning) (a : Asking means) (e : Error) (x : ℕ) (s m t : State) → AsksFor k means a
@@ -244,7 +244,7 @@ pub real_refused : (e : Error) (s m : State) (b : Window) (x : ℕ) → x ≡ 0x
     → Refuses reads_real (Some asking_real) bare e s (with_source s b)
 real_refused e s m b x is sees fails said =
     due_refused real_at reads_real asking_real e s b asks_for_real (fails_before 1 e s.source m.source b sees.peeks.filled.grown fails)
-    (peeked_names bare (asked real_at s.opened s.due) (front 9) e s.source m.source 0x07 (λ y p. real_asked s.opened s.due y e sees.due (nine y e p))
+    (peeked_names bare (asked real_at s.opened s.due) (front 9) e s.source m.source 0x07 (λ f y p. real_asked s.opened s.due y f sees.due (nine y f p))
     (subst (Peeks s.source m.source) is sees.peeks) (names_any bare (front 9) e m.source said))
 
 -- the bits of a real were taken
@@ -285,7 +285,7 @@ cut_asked o field_due x is (inr h) = ap (asked integer_at o field_due) h.whole �
 pub cut_names : (e : Error) (s : State) → IsValueDue s.due → CutsInteger e s.source → NamesDue bare integer_at e s
 cut_names e s is h =
     names_any bare (asked integer_at s.opened s.due) e s.source
-    (blames_more _ _ e s.source (λ x p. cut_asked s.opened s.due x is p.0 ∙ ap refuses (sym p.1)) h)
+    (blames_more _ _ e s.source (λ f x p. cut_asked s.opened s.due x is p.0 ∙ ap refuses (sym p.1)) h)
 
 -- a byte that is no integer's tag stands there
 pub no_int_names : (t : ℕ) (s : State) (b : Window) → IsValueDue s.due → NoInt s.source b (Tag t) → NamesDue bare integer_at (stray_at s.due t) s

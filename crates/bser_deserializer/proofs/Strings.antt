@@ -13,7 +13,7 @@ use Rattle.bser_named.specs.DueReaders.{Seen, tag, is_key_tag, seen, asked, byte
 use Rattle.bser_named.specs.Asks.{done, asks_bytes, asks_string}
 use Rattle.bser_read.specs.Window.{Window, Filled, Peeks, Took, closed, consumed}
 use Rattle.bser_read.proofs.Windows.{took_by}
-use Rattle.bser_bunser.specs.Names.{Names}
+use Rattle.bser_bunser.specs.Names.{Names, RefusedAs}
 use Rattle.bser_bunser.specs.Refusal.{Fails, failures_by}
 use Rattle.bser_bunser.specs.Tagged.{SpellsCounted}
 use Rattle.bser_bunser.specs.Tokens.{tag_of_string}
@@ -150,10 +150,10 @@ taken_fails e a m b text none took same =
 -- the name where bytes are asked for is that of their type
 bytes_refused : (e : Error) (old new : State) → Fails e old.source new.source → NamesDue bare bytes_at e old → Refuses reads_slice (Some asking_bytes) bare e old new
 bytes_refused e old new fails named =
-    asking_refused bare reads_slice asking_bytes (asked bytes_at old.opened old.due) e old new (λ x p. ap (and_then done) p) (clean_bytes old.opened old.levels old.due) fails named
+    asking_refused bare reads_slice asking_bytes (asked bytes_at old.opened old.due) e old new (λ f x p. ap (and_then done) p) (clean_bytes old.opened old.levels old.due) fails named
 
 -- what refuses bytes refuses a text
-text_asked : (o n : ℕ) (d : Due) (x : List ℕ) (e : Error) → asks_bytes o n d x ≡ refuses e → asks_string o n d x ≡ refuses e
+pub text_asked : (o n : ℕ) (d : Due) (x : List ℕ) (e : Error) → asks_bytes o n d x ≡ refuses e → asks_string o n d x ≡ refuses e
 text_asked o n d x e = of_seen (seen o d x)
   where
     of_bytes : (a : Answer (List ℕ)) → and_then done a ≡ refuses e → and_then done (and_then utf8 a) ≡ refuses e
@@ -167,7 +167,7 @@ text_asked o n d x e = of_seen (seen o d x)
 pub text_refused : (e : Error) (old new : State) → Refuses reads_slice (Some asking_bytes) bare e old new → Refuses reads_string (Some asking_string) bare e old new
 text_refused e old new u =
     asking_refused bare reads_string asking_string (asks_bytes old.opened old.levels old.due) e old new
-    (λ x p. text_asked old.opened old.levels old.due x e p) (clean_texts old.opened old.levels old.due) u.fails u.names
+    (λ f x p. text_asked old.opened old.levels old.due x f p) (clean_texts old.opened old.levels old.due) u.fails u.names
 
 -- ---- refusals where a tag is due
 
@@ -176,7 +176,7 @@ pub look_refused : (e : Error) (a b : State) → IsTagged a.due → Fails e a.so
 look_refused e a b is fails h =
     bytes_refused e a b fails
     (names_any bare (asked bytes_at a.opened a.due) e a.source
-    (blames_more (λ x. front 1 x ≡ refuses e) (λ x. asked bytes_at a.opened a.due x ≡ refuses e) e a.source (λ x p. none_asked bytes_at a.opened a.due x e is p) h))
+    (blames_more (RefusedAs (front 1)) (RefusedAs (asked bytes_at a.opened a.due)) e a.source (λ f x p. none_asked bytes_at a.opened a.due x f is p) h))
 
 -- another tag
 pub other_refused : (held : List ℕ) (a b : State) (m : Window) → IsTagged a.due → held ≡ m.buffered → Filled 1 a.source m → is_key_tag (get_or held 0 0) ≡ false → b.source ≡ closed m
@@ -193,8 +193,8 @@ pub rest_refused : (t : ℕ) (e : Error) (a b : State) (m : Window) → IsTagged
 rest_refused t e a b m is key took fails h =
     bytes_refused e a b (fails_untaken e a.source m b.source (t ∷ []) took fails)
     (names_any bare (asked bytes_at a.opened a.due) e a.source
-    (blames_untaken (λ x. string x ≡ refuses e) (λ x. asked bytes_at a.opened a.due x ≡ refuses e) e a.source m (t ∷ [])
-    (λ x p. ap (and_then bytes_at) (key_seen a.opened a.due t x is key) ∙ refused_after wrong_type e t x key p) took h))
+    (blames_untaken (RefusedAs string) (RefusedAs (asked bytes_at a.opened a.due)) e a.source m (t ∷ [])
+    (λ f x p. ap (and_then bytes_at) (key_seen a.opened a.due t x is key) ∙ refused_after wrong_type f t x key p) took h))
 
 -- ---- refusals of a row's key
 
@@ -219,15 +219,15 @@ pub no_name_refused : (e : Error) (a b : State) → (IsTagged a.due → ⊥) →
     → Refuses reads_slice (Some asking_bytes) bare e a b
 no_name_refused e a b untagged (inl unnamed) fails named =
     bytes_refused e a b fails
-    (names_by_more bare (asked bytes_at a.opened a.due) (asked nothing_at a.opened a.due) e a.source (λ x p. at a.opened a.due x untagged unnamed p) named)
+    (names_by_more bare (asked bytes_at a.opened a.due) (asked nothing_at a.opened a.due) e a.source (λ f x p. at f a.opened a.due x untagged unnamed p) named)
   where
-    at : (o : ℕ) (d : Due) (x : List ℕ) → (IsTagged d → ⊥) → ((k : List ℕ) → d ≡ name_due k → ⊥) → asked nothing_at o d x ≡ refuses e → asked bytes_at o d x ≡ refuses e
-    at o nothing_due x untagged unnamed h = same_name _ e h
-    at o node_due x untagged unnamed h = absurd (untagged tt)
-    at o key_due x untagged unnamed h = absurd (untagged tt)
-    at o field_due x untagged unnamed h = absurd (untagged tt)
-    at o (name_due k) x untagged unnamed h = absurd (unnamed k refl)
-    at o (row_due ks) x untagged unnamed h = same_name wrong_type e h
+    at : (e : Error) (o : ℕ) (d : Due) (x : List ℕ) → (IsTagged d → ⊥) → ((k : List ℕ) → d ≡ name_due k → ⊥) → asked nothing_at o d x ≡ refuses e → asked bytes_at o d x ≡ refuses e
+    at e o nothing_due x untagged unnamed h = same_name _ e h
+    at e o node_due x untagged unnamed h = absurd (untagged tt)
+    at e o key_due x untagged unnamed h = absurd (untagged tt)
+    at e o field_due x untagged unnamed h = absurd (untagged tt)
+    at e o (name_due k) x untagged unnamed h = absurd (unnamed k refl)
+    at e o (row_due ks) x untagged unnamed h = same_name wrong_type e h
 no_name_refused e a b untagged (inr failed) fails named = bytes_refused e a b fails (failed_names bare (asked bytes_at a.opened a.due) e a.source b.source failed fails)
 
 -- ---- bytes that are not UTF-8
@@ -273,7 +273,7 @@ bytes_not_utf8 a m b is_text s took under bad state =
 pub text_not_utf8 : (a m b : State) (is_text : Bool) (s : List ℕ) → TookBytes a m is_text s → ¬ (IsUtf8 s) → b ≡ refused m → Refuses reads_string (Some asking_string) bare utf8_wanted a b
 text_not_utf8 a m b is_text s took bad state =
     let r = asked text_at a.opened a.due in
-    asking_refused bare reads_string asking_string r utf8_wanted a b (λ x p. ap (and_then done) p) (clean_texts a.opened a.levels a.due)
+    asking_refused bare reads_string asking_string r utf8_wanted a b (λ f x p. ap (and_then done) p) (clean_texts a.opened a.levels a.due)
     (taken_fails utf8_wanted a.source m.source b.source took.text (λ n. refl) took.took (ap (λ z. z.source) state))
     (names_any bare r utf8_wanted a.source
     (names_taken r utf8_wanted a.source m.source took.text (λ x. bad_text a.opened a.due is_text s took.text x took.filled bad) took.took))

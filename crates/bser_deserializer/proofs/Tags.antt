@@ -21,8 +21,9 @@ use Rattle.bser_due.specs.Dues.{IsValueDue, IsTagged, name_at, due_of}
 use Rattle.bser_due.specs.declared.due.Due as code
 use Rattle.bser_due.specs.declared.due.Due.TheVariants as due
 use Rattle.bser_due.specs.State.{State}
+use Rattle.bser_bunser.specs.Names.{RefusedAs}
 use Rattle.bser_due.specs.Reading.{OutsideBy, IsRefusal, Asking, NamesBy, NamesDue, RefusesFront, FillsReadably, Refuses, bare, refusing}
-use Rattle.bser_due.proofs.Refusals.{outside_by_before, names_bare, names_by_more, no_failure, fails_closed, fails_before, with_needs, by_name}
+use Rattle.bser_due.proofs.Refusals.{names_bare, names_by_grown, names_by_more, no_failure, fails_closed, fails_before, with_needs, by_name}
 use Rattle.bser_due.proofs.Clean.{Clean, clean_asked}
 use Rattle.bser_deserializer.specs.View.{value_here}
 
@@ -30,7 +31,7 @@ use Rattle.bser_deserializer.specs.View.{value_here}
 
 -- the name that one reader gives is that of another, which reads what is wanted
 pub front_refused : {X Y : Type 0} (needs : Needs) (r : named.Reader X) (s : named.Reader Y) (W : Format) (e : Error) (a b : Window)
-    → ((x : List ℕ) → s x ≡ refuses e → r x ≡ refuses e) → Clean r → ((text : List ℕ) → W text → (v : X) × steps.Passes r v text)
+    → ((f : Error) (x : List ℕ) → s x ≡ refuses f → r x ≡ refuses f) → Clean r → ((text : List ℕ) → W text → (v : X) × steps.Passes r v text)
     → Fails e a b → NamesBy bare s e a → RefusesFront needs W (NamesBy needs r e a) e a b
 front_refused needs r s W e a b same clean passes fails said =
     with_needs needs W (NamesBy bare r e a) (NamesBy needs r e a) e a b (names_bare needs r e a)
@@ -38,7 +39,7 @@ front_refused needs r s W e a b same clean passes fails said =
 
 -- a refusal by the name that a type gives
 pub asking_refused : {X : Type 0} (needs : Needs) (reads : Meaning) (a : Asking reads) (s : named.Reader X) (e : Error) (old new : State)
-    → ((x : List ℕ) → s x ≡ refuses e → a.asks old.opened old.levels old.due x ≡ refuses e) → Clean (a.asks old.opened old.levels old.due)
+    → ((f : Error) (x : List ℕ) → s x ≡ refuses f → a.asks old.opened old.levels old.due x ≡ refuses f) → Clean (a.asks old.opened old.levels old.due)
     → Fails e old.source new.source → NamesBy bare s e old.source → Refuses reads (Some a) needs e old new
 asking_refused needs reads a s e old new same clean fails said =
     front_refused needs (a.asks old.opened old.levels old.due) s (FillsReadably reads old) e old.source new.source same clean
@@ -50,20 +51,13 @@ same_name f e h = (let same : f ≡ e = cc in ap refuses same)
 
 -- what has failed refuses by a reason outside the bytes
 pub failed_names : {X : Type 0} (needs : Needs) (r : named.Reader X) (e : Error) (a b : Window) → a.failed ≡ true → Fails e a b → NamesBy needs r e a
-failed_names needs r e a b failed fails = inr (subst (λ z. OutsideBy (refusing needs) z a) (sym (fails.before failed)) (inl failed))
+failed_names needs r e a b failed fails = inr (subst (λ z. OutsideBy (refusing needs) (RefusedAs r) z a) (sym (fails.before failed)) (inl failed))
 
 -- ---- a look at the next byte
 
 -- the next byte and others came to be taken
 pub peeked_took : (a b c : Window) (t : ℕ) (bs : List ℕ) → Peeks a b t → Took b c bs → 0 < length bs → Took a c bs
 peeked_took a b c t bs peeks took some = took_grown a b c 1 bs peeks.filled.grown (omega (arith, some)) took
-
-begun_by : (t : ℕ) (held more bs rest : List ℕ) → held ≡ t ∷ drop 1 held → held ++ more ≡ bs ++ rest → 0 < length bs → bs ≡ t ∷ drop 1 bs
-begun_by t held more [] rest next same some = absurd (omega (arith, some))
-begun_by t held more (x ∷ bs) rest next same some =
-    let whole : t ∷ (drop 1 held ++ more) ≡ x ∷ (bs ++ rest) = ap (λ l. l ++ more) (sym next) ∙ same in
-    let first : x ≡ t = cc in
-    ap (λ y. y ∷ bs) first
 
 front_of : (l : List ℕ) → 1 ≤ length l → l ≡ get_or l 0 0 ∷ drop 1 l
 front_of [] some = absurd (omega (arith, some))
@@ -73,10 +67,6 @@ front_of (x ∷ l) some = refl
 pub peeked : (a b : Window) (held : List ℕ) → Filled 1 a b → held ≡ b.buffered → Peeks a b (get_or held 0 0)
 peeked a b held filled same =
     subst (λ l. Peeks a b (get_or l 0 0)) (sym same) (record { filled = filled; next = front_of b.buffered filled.enough })
-
--- what is taken then begins with it
-pub peeked_first : (a b c : Window) (t : ℕ) (bs : List ℕ) → Peeks a b t → Took b c bs → 0 < length bs → bs ≡ t ∷ drop 1 bs
-peeked_first a b c t bs peeks took some = begun_by t b.buffered took.more bs c.buffered peeks.next took.bytes some
 
 -- bytes that may be left begin with it
 pub grown_left : {X : Type 0} (needs : Needs) (r : named.Reader X) (e : Error) (n : ℕ) (a b : Window) (t : ℕ)
@@ -88,11 +78,13 @@ grown_left needs r e n a b t is grown first =
 
 -- what is refused with the byte in sight
 pub peeked_names : {X Y : Type 0} (needs : Needs) (r : named.Reader X) (s : named.Reader Y) (e : Error) (a b : Window) (t : ℕ)
-    → ((y : List ℕ) → s (t ∷ y) ≡ refuses e → r (t ∷ y) ≡ refuses e) → Peeks a b t → NamesBy needs s e b → NamesBy needs r e a
-peeked_names needs r s e a b t same peeks (inl (x, m, p)) =
-    let whole : x ≡ t ∷ (drop 1 b.buffered ++ m.more) = m.whole ∙ ap (λ l. l ++ m.more) peeks.next in
-    inl (x, left_before 1 a b x peeks.filled.grown m, ap r whole ∙ same (drop 1 b.buffered ++ m.more) (ap s (sym whole) ∙ p))
-peeked_names needs r s e a b t same peeks (inr h) = inr (outside_by_before (refusing needs) 1 a b e peeks.filled.grown h)
+    → ((f : Error) (y : List ℕ) → s (t ∷ y) ≡ refuses f → r (t ∷ y) ≡ refuses f) → Peeks a b t → NamesBy needs s e b → NamesBy needs r e a
+peeked_names needs r s e a b t same peeks h = names_by_grown needs r s e 1 a b peeks.filled.grown from h
+  where
+    from : (f : Error) (x more : List ℕ) → x ≡ b.buffered ++ more → s x ≡ refuses f → r x ≡ refuses f
+    from f x more whole p =
+        let first : x ≡ t ∷ (drop 1 b.buffered ++ more) = whole ∙ ap (λ l. l ++ more) peeks.next in
+        ap r first ∙ same f (drop 1 b.buffered ++ more) (ap s (sym first) ∙ p)
 
 -- nothing is left
 pub nothing_left : {X : Type 0} (k : Seen → named.Reader X) (o : ℕ) (d : Due) (x : List ℕ) → IsTagged d → x ≡ [] → asked k o d x ≡ refuses named.eof
@@ -197,7 +189,7 @@ complained_names needs r f e s same is = go s.failed refl same
   where
     go : (c : Bool) → s.failed ≡ c → e ≡ after_a_refusal c f → NamesBy needs r e s
     go false h k = inl (s.buffered ++ known_rest s.beyond, left_now s, is (s.buffered ++ known_rest s.beyond) ∙ ap refuses (sym k))
-    go true h k = inr (subst (λ z. OutsideBy (refusing needs) z s) (sym k) (inl h))
+    go true h k = inr (subst (λ z. OutsideBy (refusing needs) (RefusedAs r) z s) (sym k) (inl h))
 
 -- the same as a refusal where what is due is never what was wanted
 pub complained_fails : (f e : Error) (a b : Window) → IsRefusal f → e ≡ after_a_refusal a.failed f → b ≡ closed a → Fails e a b
@@ -280,20 +272,13 @@ value_asked k o field_due (t ∷ y) e wants h = absurd cc
 value_asked k o (name_due s) x e wants h = no_value_asked k o (name_due s) x e (λ u. u) wants h
 value_asked k o (row_due ks) x e wants h = no_value_asked k o (row_due ks) x e (λ u. u) wants h
 
--- a value's tag is refused where k asks for what is due
-pub value_names : {X : Type 0} (needs : Needs) (k : Seen → named.Reader X) (e : Error) (s : State) → WantsValue k s.due
-    → NamesBy bare (value_here s.opened s.due) e s.source → NamesDue needs k e s
-value_names needs k e s wants h =
-    names_bare needs (asked k s.opened s.due) e s.source
-    (names_by_more bare (asked k s.opened s.due) (value_here s.opened s.due) e s.source (λ x p. value_asked k s.opened s.due x e wants p) h)
-
 -- the same as the refusal of a call that wants a front which k reads
 pub value_refused : {X : Type 0} (needs : Needs) (k : Seen → named.Reader X) (W : Format) (e : Error) (s : State) (b : Window) → WantsValue k s.due
     → ((z : Seen) → Clean (k z)) → ((text : List ℕ) → W text → (v : X) × steps.Passes (asked k s.opened s.due) v text)
     → Fails e s.source b → NamesBy bare (value_here s.opened s.due) e s.source → RefusesFront needs W (NamesDue needs k e s) e s.source b
 value_refused needs k W e s b wants clean passes fails said =
     front_refused needs (asked k s.opened s.due) (value_here s.opened s.due) W e s.source b
-    (λ x p. value_asked k s.opened s.due x e wants p) (clean_asked k clean s.opened s.due) passes fails said
+    (λ f x p. value_asked k s.opened s.due x f wants p) (clean_asked k clean s.opened s.due) passes fails said
 
 -- a tag of another kind as the refusal of such a call
 pub stray_refused : {X : Type 0} (needs : Needs) (k : Seen → named.Reader X) (W : Format) (t : ℕ) (s : State) (b c : Window) → IsTagged s.due
@@ -302,4 +287,4 @@ pub stray_refused : {X : Type 0} (needs : Needs) (k : Seen → named.Reader X) (
     → Peeks s.source b t → c ≡ closed b → RefusesFront needs W (NamesDue needs k (stray_at s.due t) s) (stray_at s.due t) s.source c
 stray_refused needs k W t s b c is clean other passes peeks same =
     front_refused needs (asked k s.opened s.due) (asked k s.opened s.due) W (stray_at s.due t) s.source c
-    (λ x p. p) (clean_asked k clean s.opened s.due) passes (stray_fails s.due t s.source b c peeks same) (stray_names k t s b is peeks other)
+    (λ f x p. p) (clean_asked k clean s.opened s.due) passes (stray_fails s.due t s.source b c peeks same) (stray_names k t s b is peeks other)

@@ -33,7 +33,7 @@ template_at (suc n) m x some = (let same : n ≡ m = omega (arith, some) in ap (
 inner_refused : (e : Error) (s : State) (m : ℕ) (b c : Window) → IsBefore 0x0b s → s.levels ≡ m + 1 → b ≡ consumed 1 s.source
     → Fails e b c → NamesBy owned (next >>= table_at m) e b → RefusesHead owned e s c
 inner_refused e s m b c before some after fails name =
-    items_refused owned e s c refl (rest_refused owned (items_at s.levels) (next >>= table_at m) 0x0b e s b c before (λ z. refl) (λ x h. template_at s.levels m x some ∙ h) after fails name)
+    items_refused owned e s c refl (rest_refused owned (items_at s.levels) (next >>= table_at m) 0x0b e s b c before (λ z. refl) (λ f x h. template_at s.levels m x some ∙ h) after fails name)
 
 front_one : {X : Type 0} (k : ℕ → Reader X) (x : List ℕ) (e : Error) → front 1 x ≡ refuses e → (next >>= k) x ≡ refuses e
 front_one k [] e h = (let same : eof ≡ e = cc in ap refuses same)
@@ -48,7 +48,7 @@ pub no_byte_refused : (e : Error) (s : State) (m : ℕ) (b c : Window) → IsBef
     → ShortOf 1 e b c → Names (front 1) e b → RefusesHead owned e s c
 no_byte_refused e s m b c before some after short name =
     inner_refused e s m b c before some after short.fails
-    (names_by_more owned (next >>= table_at m) (front 1) e b (λ x h. front_one (table_at m) x e h) (names_any owned (front 1) e b name))
+    (names_by_more owned (next >>= table_at m) (front 1) e b (λ f x h. front_one (table_at m) x f h) (names_any owned (front 1) e b name))
 
 -- the second byte is refused, whatever follows
 byte_refused : (e : Error) (s : State) (m t : ℕ) (b c d : Window) → IsBefore 0x0b s → s.levels ≡ m + 1 → b ≡ consumed 1 s.source → Peeks b c t → IsRefusal e → d ≡ closed c
@@ -96,7 +96,7 @@ pub table_refused : (e : Error) (s : State) (m t : ℕ) (b c d f : Window) → I
 table_refused e s m t b c d f before some after peeks array deep next_after fails name =
     let took = peek_took t b c d peeks next_after in
     inner_refused e s m b f before some after (fails_untaken e b d f (t ∷ []) took fails)
-    (names_by_untaken owned (next >>= table_at m) table e b d (t ∷ []) (λ x h. table_same m t x deep array ∙ h) took name)
+    (names_by_untaken owned (next >>= table_at m) table e b d (t ∷ []) (λ f x h. table_same m t x deep array ∙ h) took name)
 
 -- ---- what was opened
 

@@ -18,7 +18,7 @@ use Rattle.bser_named.proofs.Steps.{Passes}
 use Rattle.bser_named.proofs.Heads.{count_passes}
 use Rattle.bser_read.specs.Window.{Window, Filled, Took}
 use Rattle.bser_read.proofs.Windows.{took_then}
-use Rattle.bser_bunser.specs.Names.{Names}
+use Rattle.bser_bunser.specs.Names.{Names, RefusedAs}
 use Rattle.bser_bunser.specs.Tagged.{TookInt, TookCounted}
 use Rattle.bser_bunser.proofs.Names.{names_rejected, names_taken, blames_untaken}
 use Rattle.bser_due.specs.Reading.{NamesBy, owned}
@@ -46,7 +46,7 @@ no_key held a b same filled other =
 pub key_refused : (t : ℕ) (e : Error) (a m : Window) → is_key_tag t ≡ true → Took a m (t ∷ []) → Names string e m → NamesBy owned (text_of TemplateKey) e a
 key_refused t e a m tag took h =
     names_any owned (text_of TemplateKey) e a
-    (blames_untaken (λ x. string x ≡ refuses e) (λ x. text_of TemplateKey x ≡ refuses e) e a m (t ∷ []) (λ x p. ap (and_then utf8) (refused_after (DeInvalidStartByte TemplateKey t) e t x tag p)) took h)
+    (blames_untaken (RefusedAs string) (RefusedAs (text_of TemplateKey)) e a m (t ∷ []) (λ f x p. ap (and_then utf8) (refused_after (DeInvalidStartByte TemplateKey t) f t x tag p)) took h)
 
 -- a key was taken
 pub took_key : (t : ℕ) (s : List ℕ) (a m b : Window) → is_key_tag t ≡ true → Took a m (t ∷ []) → TookCounted m b s → IsUtf8 s → TookPart (SpellsKey s) a b
@@ -112,7 +112,7 @@ progress_end a s ks left none p = record {
 pub next_refused : (a s : Window) (ks : List (List ℕ)) (left n : ℕ) (e : Error) → Progress a s ks left → left ≡ suc n → NamesBy owned (text_of TemplateKey) e s → NamesBy owned keys_after_number e a
 next_refused a s ks left n e p same h =
     names_by_untaken owned keys_after_number (text_of TemplateKey) e a s p.text
-    (λ x q. p.refused x e (ap (λ m. many (text_of TemplateKey) m x) same ∙ ap (and_then (λ l. many (text_of TemplateKey) n >>= λ ls. give (l ∷ ls))) q))
+    (λ f x q. p.refused x f (ap (λ m. many (text_of TemplateKey) m x) same ∙ ap (and_then (λ l. many (text_of TemplateKey) n >>= λ ls. give (l ∷ ls))) q))
     p.took h
 
 -- ---- a table
@@ -129,7 +129,7 @@ rows_after ks b x h = ap (and_then (λ ls. count >>= rows_wanted ls)) (keys_pass
 
 pub rows_refused : (e : Error) (a b : Window) (ks : List (List ℕ)) → TookPart (SpellsKeys ks) a b → Names count e b → NamesBy owned table e a
 rows_refused e a b ks t h =
-    names_by_untaken owned table count e a b t.text (λ x p. rows_after ks t.text x t.spelled ∙ ap (and_then (rows_wanted ks)) p) t.took (names_any owned count e b h)
+    names_by_untaken owned table count e a b t.text (λ f x p. rows_after ks t.text x t.spelled ∙ ap (and_then (rows_wanted ks)) p) t.took (names_any owned count e b h)
 
 pub rows_without_keys : (a b c : Window) (ks : List (List ℕ)) (k : ℕ) → TookPart (SpellsKeys ks) a b → TookPart (SpellsCount k) b c → ks ≡ [] → (k ≡ 0 → ⊥) → NamesBy owned table (complain RowsWithoutKeys) a
 rows_without_keys a b c ks k t u empty some =

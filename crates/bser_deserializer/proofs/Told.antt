@@ -13,20 +13,17 @@ use Rattle.bser_format.specs.ReadsAny.{reads_ignored}
 use Rattle.bser_format.specs.ReadsScalars.{reads_slice}
 use Rattle.bser_format.proofs.KeyNames.{slice_key}
 use Rattle.bser_format.specs.declared.errors.Error.{Error}
-use Rattle.bser_format.specs.declared.errors.Error.TheVariants.{DeInvalidStartByte, OutOfMemory}
+use Rattle.bser_format.specs.declared.errors.Error.TheVariants.{DeInvalidStartByte}
 use Rattle.bser_format.specs.declared.errors.Kind.TheVariants.{MapKey}
-use Rattle.bser_named.specs.Named.{Reader, reads, refuses, give, refuse, and_then, front, string_after, field_of, with_text_keys}
+use Rattle.bser_named.specs.Named.{Reader, reads, refuses, give, refuse, and_then, string_after, field_of, with_text_keys}
 use Rattle.bser_named.specs.NamedLaws.{HasTextKeys}
 use Rattle.bser_named.specs.DueReaders.{tag, is_key_tag, bytes_at, wrong_type}
 use Rattle.bser_named.specs.Asks.{done, asks_bytes, asks_any}
 use Rattle.bser_named.proofs.Anything.{ignored_passes}
 use Rattle.bser_named.proofs.TextLaws.{reads_text_keys}
-use Rattle.bser_read.specs.Window.{Window, AreOctets, Filled, Took, closed, consumed}
+use Rattle.bser_read.specs.Window.{Window, AreOctets, Filled, Took, consumed}
 use Rattle.bser_read.proofs.Windows.{took_grown}
-use Rattle.bser_bunser.specs.Names.{Names}
-use Rattle.bser_bunser.specs.Refusal.{Fails, failures_by}
-use Rattle.bser_bunser.proofs.Names.{blames_more}
-use Rattle.bser_bunser.proofs.Readers.{front_there}
+use Rattle.bser_bunser.specs.Refusal.{Fails}
 use Rattle.bser_events.specs.Events as events
 use Rattle.bser_events.specs.Events.{Event, TakesAll}
 use Rattle.bser_events.specs.Found as found
@@ -35,41 +32,25 @@ use Rattle.bser_due.specs.declared.due.Due as code
 use Rattle.bser_due.specs.declared.due.Due.TheVariants as due
 use Rattle.bser_due.specs.Dues.{due_of, name_at}
 use Rattle.bser_due.specs.State.{State, past}
-use Rattle.bser_due.specs.Reading.{Answers, OutsideBy, NamesBy, FillsReadably, Refuses, owned, bare, refusing}
+use Rattle.bser_due.specs.Reading.{Answers, NamesBy, FillsReadably, Refuses, owned, bare}
 use Rattle.bser_due.specs.Askings.{asking_bytes, asking_ignored}
 use Rattle.bser_due.proofs.Clean.{clean_any}
-use Rattle.bser_due.proofs.Refusals.{by_name, fails_before, fails_closed, fails_untaken, names_any, names_bare, names_by_more}
+use Rattle.bser_due.proofs.Refusals.{by_name, names_bare, names_by_more}
 use Rattle.bser_deserializer.specs.Any.{TookAny, TookValue, TookField, told_field, IsKeyDue}
 use Rattle.bser_deserializer.proofs.Strings.{key_tags, other_after, took_first, peeks_first}
-use Rattle.bser_deserializer.proofs.Tags.{same_name, peeked_names}
+use Rattle.bser_deserializer.proofs.Tags.{peeked_names}
+use Rattle.bser_deserializer.proofs.WholeRows.{spelled_whole, field_whole}
 
 -- ---- refusals
 
 -- what r refuses of what is due, each type refuses that reads whatever stands there
-pub any_refused : {X : Type 0} (r : Reader X) (e : Error) (s z : State) → ((x : List ℕ) → r x ≡ refuses e → asks_any s.opened s.levels s.due x ≡ refuses e)
+pub any_refused : {X : Type 0} (r : Reader X) (e : Error) (s z : State) → ((f : Error) (x : List ℕ) → r x ≡ refuses f → asks_any s.opened s.levels s.due x ≡ refuses f)
     → Fails e s.source z.source → NamesBy owned r e s.source → Refuses reads_ignored (Some asking_ignored) owned e s z
 any_refused r e s z same fails said =
     by_name owned (FillsReadably reads_ignored s) (asks_any s.opened s.levels s.due) e s.source z.source
     (λ text f. (tt, λ x. ignored_passes s.opened s.levels s.due f.tree f.content text x f.filled f.read))
     (λ x h. clean_any s.opened s.levels s.due x e h) refl fails
     (names_by_more owned (asks_any s.opened s.levels s.due) r e s.source same said)
-
--- memory was refused after what was taken
-pub memory_fails : (e : Error) (a b c : Window) (text : List ℕ) → Took a b text → e ≡ OutOfMemory → c ≡ closed b → Fails e a c
-memory_fails e a b c text took same end =
-    fails_untaken e a b c text took
-    (fails_closed e b c (λ f. absurd (let w = took.failed in cc)) (λ n. subst (λ f. failures_by f n ≡ n) (sym same) refl) end)
-
-pub memory_names : {X : Type 0} (r : Reader X) (e : Error) (a : Window) → e ≡ OutOfMemory → NamesBy owned r e a
-memory_names r e a same = inr (subst (λ f. OutsideBy (refusing owned) f a) (sym same) (inr refl))
-
--- a refusal while events were told
-pub told_names : {X : Type 0} (wants : Type 0) (r : Reader X) (e : Error) (a b : Window) → found.Refuses wants r e a b → NamesBy owned r e a
-told_names wants r e a b h = go h.name
-  where
-    go : Names r e a ⊎ ((e ≡ OutOfMemory) × wants) → NamesBy owned r e a
-    go (inl n) = names_any owned r e a n
-    go (inr m) = memory_names r e a m.0
 
 -- ---- values
 
@@ -137,18 +118,7 @@ pub field_names : (n : ℕ) (held : List ℕ) (e : Error) (a b : Window) → hel
     → NamesBy owned (with_text_keys n) e b → NamesBy owned (field_of (with_text_keys n)) e a
 field_names n held e a b same filled never h =
     peeked_names owned (field_of (with_text_keys n)) (with_text_keys n) e a b (get_or held 0 0)
-    (λ y p. field_other (with_text_keys n) (get_or held 0 0) y e never p) (peeks_first held a b same filled) h
-
-pub field_fails : (e : Error) (a b c : Window) → Filled 1 a b → Fails e b c → Fails e a c
-field_fails e a b c filled h = fails_before 1 e a b c filled.grown h
-
--- no byte is there
-pub no_field_names : (n : ℕ) (e : Error) (a : Window) → Names (front 1) e a → NamesBy owned (field_of (with_text_keys n)) e a
-no_field_names n e a h = names_any owned (field_of (with_text_keys n)) e a (blames_more (λ x. front 1 x ≡ refuses e) _ e a early h)
-  where
-    early : (x : List ℕ) → front 1 x ≡ refuses e → field_of (with_text_keys n) x ≡ refuses e
-    early [] p = same_name _ e p
-    early (t ∷ y) p = absurd (let some : front 1 (t ∷ y) ≡ reads (t ∷ []) y = front_there 1 (t ∷ []) refl y in cc)
+    (λ f y p. field_other (with_text_keys n) (get_or held 0 0) y f never p) (peeks_first held a b same filled) h
 
 -- ---- a value or a field that is due
 
@@ -158,6 +128,7 @@ any_value takes s z before after due v state = record {
   tree = v.tree;
   text = v.text;
   filled = subst (λ d. Fills s.levels d (expand v.tree) v.text) (sym due) (record { tree = v.tree; stands = refl; spelled = v.spelled });
+  rows = spelled_whole s.levels v.tree v.text v.spelled;
   keys = v.keys;
   took = v.took;
   state = state;
@@ -168,7 +139,7 @@ pub any_value_refused : (e : Error) (s z : State) → s.due ≡ node_due → Fai
     → Refuses reads_ignored (Some asking_ignored) owned e s z
 any_value_refused e s z due fails said =
     any_refused (with_text_keys s.levels) e s z
-    (λ x p. subst (λ d. asks_any s.opened s.levels d x ≡ refuses e) (sym due) (ap (and_then done) p)) fails said
+    (λ f x p. subst (λ d. asks_any s.opened s.levels d x ≡ refuses f) (sym due) (ap (and_then done) p)) fails said
 
 field_filled : (n : ℕ) (f : Option Tree) (text : List ℕ) → SpellsField (Spells n) f text → Fills n field_due (expand (told_field f)) text
 field_filled n None text h = inl (refl, h)
@@ -180,6 +151,7 @@ any_field takes s z before after due f state = record {
   tree = told_field f.field;
   text = f.text;
   filled = subst (λ d. Fills s.levels d (expand (told_field f.field)) f.text) (sym due) (field_filled s.levels f.field f.text f.spelled);
+  rows = field_whole s.levels f.field f.text f.spelled;
   keys = f.keys;
   took = f.took;
   state = state;
@@ -190,7 +162,7 @@ pub any_field_refused : (e : Error) (s z : State) → s.due ≡ field_due → Fa
     → Refuses reads_ignored (Some asking_ignored) owned e s z
 any_field_refused e s z due fails said =
     any_refused (field_of (with_text_keys s.levels)) e s z
-    (λ x p. subst (λ d. asks_any s.opened s.levels d x ≡ refuses e) (sym due) (ap (and_then done) p)) fails said
+    (λ f x p. subst (λ d. asks_any s.opened s.levels d x ≡ refuses f) (sym due) (ap (and_then done) p)) fails said
 
 -- ---- keys
 
@@ -229,7 +201,7 @@ key_asked o n (row_due ks) x e is h = absurd is
 
 pub any_key_refused : (e : Error) (s z : State) → IsKeyDue s.due → Refuses reads_slice (Some asking_bytes) bare e s z → Refuses reads_ignored (Some asking_ignored) owned e s z
 any_key_refused e s z is u =
-    any_refused (asks_bytes s.opened s.levels s.due) e s z (λ x p. key_asked s.opened s.levels s.due x e is p) u.fails
+    any_refused (asks_bytes s.opened s.levels s.due) e s z (λ f x p. key_asked s.opened s.levels s.due x f is p) u.fails
     (names_bare owned (asks_bytes s.opened s.levels s.due) e s.source u.names)
 
 -- the tree of a key that was taken
@@ -265,6 +237,7 @@ any_text_key held takes s m z v t before after is a same good end told =
       tree = trees.text t;
       text = a.text;
       filled = subst (λ u. Fills s.levels s.due u a.text) b a.filled;
+      rows = tt;
       keys = refl;
       took = a.took;
       state = a.state;
@@ -279,15 +252,9 @@ any_bytes_key held takes s m z v t before after is a same bad end told =
       tree = trees.bytes t;
       text = a.text;
       filled = subst (λ u. Fills s.levels s.due u a.text) b a.filled;
+      rows = tt;
       keys = refl;
       took = a.took;
       state = a.state;
       told = takes_one takes before after (events.bytes t) told;
     })
-
--- the builder wants memory
-pub key_memory : {A : Type 0} (held : A → List ℕ) (e : Error) (s m z : State) (v : A) → Answers reads_slice (λ r c. c ≡ byte_list (held r)) s m v → e ≡ OutOfMemory
-    → z.source ≡ closed m.source → Refuses reads_ignored (Some asking_ignored) owned e s z
-key_memory held e s m z v a same end =
-    any_refused (asks_any s.opened s.levels s.due) e s z (λ x p. p) (memory_fails e s.source m.source z.source a.text a.took same end)
-    (memory_names (asks_any s.opened s.levels s.due) e s.source same)

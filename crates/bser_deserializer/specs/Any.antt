@@ -8,12 +8,14 @@ use Rattle.bser_named.specs.NamedLaws.{HasTextKeys}
 use Rattle.bser_read.specs.Window.{Window, Took}
 use Rattle.bser_events.specs.Events.{Event, key, TakesAll, events}
 use Rattle.bser_due.specs.State.{State, past}
+use Rattle.bser_deserializer.specs.WholeRows.{HasWholeRows}
 
 -- what was due was taken: the bytes fill it with what a tree stands for, and the events of that tree were told
 pub record TookAny {B : Type 0} (takes : B → Event → B → Type 0) (before after : B) (old new : State) : Type 0 where
   pub tree : Tree
   pub text : List ℕ
   pub filled : Fills old.levels old.due (expand tree) text
+  pub rows : HasWholeRows tree
   pub keys : HasTextKeys tree
   pub took : Took old.source new.source text
   pub state : new ≡ past old new.source

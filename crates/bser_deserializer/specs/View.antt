@@ -1,5 +1,5 @@
 -- What callers see of a deserializer over any source.
-use Rattle.std.specs.Prelude.{◌≡◌, ℕ, List, ◌∷◌, map, drop, Bool, false, ◌||◌, ◌==◌}
+use Rattle.std.specs.Prelude.{◌≡◌, ℕ, List, ◌∷◌, map, drop, Bool, true, false, ◌||◌, ◌==◌, Option, Some, None}
 use Rattle.std.specs.declared.alloc.Global.{Global}
 use Rattle.std.specs.declared.vec.Vec.{Vec}
 use Rattle.bser_format.specs.declared.errors.Error.{Error}
@@ -17,6 +17,8 @@ use Rattle.bser_due.specs.Dues.{IsValueDue, due_of}
 use Rattle.bser_due.specs.Parts.{wanted_items, wanted_pairs}
 use Rattle.bser_due.specs.State.{State, with_source}
 use Rattle.bser_due.specs.declared.due.Due.{Due}
+use Rattle.bser_due.specs.declared.node.Node.{Node}
+use Rattle.bser_due.specs.declared.node.Node.TheVariants as kinds
 use Rattle.bser_due.specs.declared.frames.SeqHead.{SeqHead}
 use Rattle.bser_due.specs.declared.frames.MapHead.{MapHead}
 use Rattle.bser_deserializer.specs.declared.deserializer.Deserializer.{Deserializer}
@@ -68,6 +70,12 @@ value_here opened d = asked nothing_at opened d
 abbrev pub is_null_at : expected.Due → ℕ → Bool
 is_null_at field_due t = (t == 0x0a) || (t == 0x0c)
 is_null_at _ t = t == 0x0a
+
+-- a kind of values, and another than that of null
+abbrev pub is_other_kind : Option Node → Bool
+is_other_kind None = false
+is_other_kind (Some kinds.Null) = false
+is_other_kind (Some _) = true
 
 -- a value is due whose tag is this one, and nothing is taken
 pub record SeesTag (old new : State) (t : ℕ) : Type 0 where

@@ -80,9 +80,11 @@ impl<R: DeRead> Deserializer<R> {
             builder.old builder.new (state R.window R.Lent.kept self.old).source
             (state R.window R.Lent.kept self.new).source) }
         ensures state { OnOk result (state R.window R.Lent.kept self.new
-            ≡ past (state R.window R.Lent.kept self.old) (state R.window R.Lent.kept self.new).source) }
+            ≡ past (state R.window R.Lent.kept self.old)
+            (state R.window R.Lent.kept self.new).source) }
         ensures err { OnErr result (Fails (refusal_in self.new)
-            (state R.window R.Lent.kept self.old).source (state R.window R.Lent.kept self.new).source) }
+            (state R.window R.Lent.kept self.old).source
+            (state R.window R.Lent.kept self.new).source) }
         ensures names { OnErr result (NamesBy owned
             (with_text_keys (state R.window R.Lent.kept self.old).levels) (refusal_in self.new)
             (state R.window R.Lent.kept self.old).source) }
@@ -104,11 +106,14 @@ impl<R: DeRead> Deserializer<R> {
             builder.old builder.new (state R.window R.Lent.kept self.old).source
             (state R.window R.Lent.kept self.new).source) }
         ensures state { OnOk result (state R.window R.Lent.kept self.new
-            ≡ past (state R.window R.Lent.kept self.old) (state R.window R.Lent.kept self.new).source) }
+            ≡ past (state R.window R.Lent.kept self.old)
+            (state R.window R.Lent.kept self.new).source) }
         ensures err { OnErr result (Fails (refusal_in self.new)
-            (state R.window R.Lent.kept self.old).source (state R.window R.Lent.kept self.new).source) }
+            (state R.window R.Lent.kept self.old).source
+            (state R.window R.Lent.kept self.new).source) }
         ensures names { OnErr result (NamesBy owned
-            (field_of (with_text_keys (state R.window R.Lent.kept self.old).levels)) (refusal_in self.new)
+            (field_of (with_text_keys (state R.window R.Lent.kept self.old).levels))
+            (refusal_in self.new)
             (state R.window R.Lent.kept self.old).source) }
     {
         self.bunser.fill(1)?;

@@ -54,6 +54,7 @@ impl<R: DeRead> Containers for Deserializer<R> {
     fn open_pairs(&mut self) -> Answer<MapHead>
         ensures found { IfOk result (λ h. OpensPairs (state R.window R.Lent.kept self.old)
             (pairs_head h (state R.window R.Lent.kept self.new))) }
+        ensures first { IfOk result (λ h. h.row ≡ true → h.at ≡ 0) }
         ensures refused { OnErr result (RefusesPairs (refusal_in self.new)
             (state R.window R.Lent.kept self.old) (state R.window R.Lent.kept self.new)) }
     {
@@ -161,8 +162,9 @@ impl<R: DeRead> Deserializer<R> {
         requires due { (state R.window R.Lent.kept self.old).due
             ≡ row_due (state R.window R.Lent.kept self.old).keys }
         requires working { (state R.window R.Lent.kept self.old).source.failed ≡ false }
-        ensures { OpensPairs (state R.window R.Lent.kept self.old)
+        ensures opened { OpensPairs (state R.window R.Lent.kept self.old)
             (pairs_head result (state R.window R.Lent.kept self.new)) }
+        ensures first { result.at ≡ 0 }
     {
         let head = MapHead {
             at: 0,
@@ -182,7 +184,8 @@ impl<R: DeRead> Deserializer<R> {
             (items_head h (state R.window R.Lent.kept self.new))) }
         ensures refused { OnErr result (RefusesFront bare
             (IsItemsHead (state R.window R.Lent.kept self.old))
-            (NamesDue bare (items_at (state R.window R.Lent.kept self.old).levels) (refusal_in self.new)
+            (NamesDue bare (items_at (state R.window R.Lent.kept self.old).levels)
+            (refusal_in self.new)
             (state R.window R.Lent.kept self.old))
             (refusal_in self.new) (state R.window R.Lent.kept self.old).source
             (state R.window R.Lent.kept self.new).source) }
@@ -208,7 +211,8 @@ impl<R: DeRead> Deserializer<R> {
             (items_head h (state R.window R.Lent.kept self.new))) }
         ensures refused { OnErr result (RefusesFront owned
             (IsItemsHead (state R.window R.Lent.kept self.old))
-            (NamesDue owned (items_at (state R.window R.Lent.kept self.old).levels) (refusal_in self.new)
+            (NamesDue owned (items_at (state R.window R.Lent.kept self.old).levels)
+            (refusal_in self.new)
             (state R.window R.Lent.kept self.old))
             (refusal_in self.new) (state R.window R.Lent.kept self.old).source
             (state R.window R.Lent.kept self.new).source) }
@@ -244,6 +248,7 @@ impl<R: DeRead> Deserializer<R> {
         requires { IsBefore 0x01 (state R.window R.Lent.kept self.old) }
         ensures found { IfOk result (λ h. OpensPairs (state R.window R.Lent.kept self.old)
             (pairs_head h (state R.window R.Lent.kept self.new))) }
+        ensures entries { IfOk result (λ h. h.row ≡ false) }
         ensures refused { OnErr result (RefusesPairs (refusal_in self.new)
             (state R.window R.Lent.kept self.old) (state R.window R.Lent.kept self.new)) }
     {

@@ -1,4 +1,4 @@
-//! What is due, and refusals.
+//! What is due.
 ghost use Rattle.std.specs.Prelude.{◌≡◌, true, false, IfOk, OnErr, IfSome, IfNone, if◌then◌else◌};
 ghost use Rattle.bser_format.specs.Expected.{nothing_due, node_due, key_due, field_due, row_due};
 ghost use Rattle.bser_named.specs.Clauses.{after_a_refusal};
@@ -18,16 +18,10 @@ use bser_format::header::{BSER_BYTESTRING, BSER_SKIP, BSER_UTF8STRING};
 use bser_read::read::DeRead;
 use bser_source::read::Lending;
 
-/// What the crates above see and change of what is due, and refusals: a [`Deserializer`].
+/// What the crates above see and change of what is due: a [`Deserializer`].
 pub trait Cursor {
     /// Whether a call was refused before, so that each later one is.
     fn is_failed(&self) -> bool;
-
-    /// Refuses all calls from now on, and keeps the reason.
-    fn refuse(&mut self, reason: Error) -> Refused;
-
-    /// Refuses by this complaint, or because of an earlier refusal.
-    fn complain(&mut self, complaint: Complaint) -> Refused;
 
     /// What is due.
     fn due(&self) -> Due;
@@ -65,32 +59,6 @@ impl<R: DeRead> Cursor for Deserializer<R> {
         self.bunser.is_failed()
     }
 
-    #[cold]
-    #[inline(never)]
-    fn refuse(&mut self, reason: Error) -> Refused
-        ensures reason { refusal_in self.new ≡ reason }
-        ensures state { state R.window R.Lent.kept self.new
-            ≡ refused (state R.window R.Lent.kept self.old) }
-    {
-        self.bunser.refuse(reason)
-    }
-
-    #[cold]
-    #[inline(never)]
-    fn complain(&mut self, complaint: Complaint) -> Refused
-        ensures reason { refusal_in self.new
-            ≡ after_a_refusal (state R.window R.Lent.kept self.old).source.failed (complain complaint) }
-        ensures state { state R.window R.Lent.kept self.new
-            ≡ refused (state R.window R.Lent.kept self.old) }
-    {
-        if self.bunser.is_failed() {
-            return self
-                .bunser
-                .refuse(Error::de_reader_error(ReadCause::Failed));
-        }
-        self.bunser.refuse(Error::de_custom(complaint))
-    }
-
     #[inline(always)]
     fn due(&self) -> Due
         ensures { result ≡ due_in self.now }
@@ -110,8 +78,10 @@ impl<R: DeRead> Cursor for Deserializer<R> {
         ensures found { IfOk result
             (SeesTag (state R.window R.Lent.kept self.old) (state R.window R.Lent.kept self.new)) }
         ensures err { OnErr result (Fails (refusal_in self.new)
-            (state R.window R.Lent.kept self.old).source (state R.window R.Lent.kept self.new).source) }
-        ensures names { OnErr result (NamesBy bare (value_here (state R.window R.Lent.kept self.old).opened
+            (state R.window R.Lent.kept self.old).source
+            (state R.window R.Lent.kept self.new).source) }
+        ensures names { OnErr result (NamesBy bare
+            (value_here (state R.window R.Lent.kept self.old).opened
             (state R.window R.Lent.kept self.old).due) (refusal_in self.new)
             (state R.window R.Lent.kept self.old).source) }
     {
@@ -226,7 +196,8 @@ impl<R: DeRead> Deserializer<R> {
     #[cold]
     #[inline(never)]
     pub(crate) fn refuse_tag(&mut self, tag: u8) -> Refused
-        ensures reason { refusal_in self.new ≡ stray_at (state R.window R.Lent.kept self.old).due tag }
+        ensures reason { refusal_in self.new ≡ stray_at
+            (state R.window R.Lent.kept self.old).due tag }
         ensures state { state R.window R.Lent.kept self.new
             ≡ refused (state R.window R.Lent.kept self.old) }
     {
@@ -240,7 +211,8 @@ impl<R: DeRead> Deserializer<R> {
     pub(crate) fn refuse_no_value(&mut self) -> Refused
         requires { IsValueDue (state R.window R.Lent.kept self.old).due → ⊥ }
         ensures err { Fails (refusal_in self.new)
-            (state R.window R.Lent.kept self.old).source (state R.window R.Lent.kept self.new).source }
+            (state R.window R.Lent.kept self.old).source
+            (state R.window R.Lent.kept self.new).source }
         ensures names { NamesDue bare nothing_at (refusal_in self.new)
             (state R.window R.Lent.kept self.old) }
     {

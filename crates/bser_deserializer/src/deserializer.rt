@@ -2,10 +2,12 @@
 ghost use Rattle.std.specs.Prelude.{IsTrue, ◌≡◌, ◌≢◌, ◌≤◌, [], true, false, IfOk, IfErr, OnOk, OnErr};
 ghost use Rattle.bser_format.specs.Errors.{error_of};
 ghost use Rattle.bser_format.specs.Expected.{nothing_due};
+ghost use Rattle.bser_named.specs.Clauses.{after_a_refusal};
 ghost use Rattle.bser_named.specs.Named as named;
+ghost use Rattle.bser_named.specs.Named.{complain};
 ghost use Rattle.bser_bunser.specs.Names.{Names};
 ghost use Rattle.bser_bunser.specs.Refusal.{Fails};
-ghost use Rattle.bser_due.specs.State.{Begins, IsAtEnd};
+ghost use Rattle.bser_due.specs.State.{Begins, IsAtEnd, refused};
 
 use bser_bunser::bunser::{Bunser, PduInfo};
 use bser_bunser::refusal::{Answer, Refused};
@@ -55,7 +57,8 @@ impl<R: DeRead + Drop> Deserializer<R> {
     /// Refused as [`Bunser::read_pdu`] is. The crate has the limit 128 alone.
     pub fn with_limit(alloc: Global, limit: usize, read: R) -> Result<Self>
         requires { limit ≤ 1024 }
-        ensures ok { IfOk result (λ d. Begins limit (R.window read) (state R.window R.Lent.kept d)) }
+        ensures ok { IfOk result (λ d. Begins limit (R.window read)
+            (state R.window R.Lent.kept d)) }
         ensures names { IfErr result (λ e. Names named.head e (R.window read)) }
     {
         let mut from = Self::unread(alloc, read);
@@ -70,6 +73,7 @@ impl<R: DeRead> Deserializer<R> {
     ghost use Rattle.bser_deserializer.specs.View.{state, refusal_in, not_at_end, IsSourceOf};
 
     /// Reads from the source's next byte on. Nothing is due before the head is read.
+    #[inline(always)]
     pub fn unread(alloc: Global, read: R) -> Self
         ensures source { (state R.window R.Lent.kept result).source ≡ R.window read }
         ensures due { (state R.window R.Lent.kept result).due ≡ nothing_due }
@@ -103,7 +107,8 @@ impl<R: DeRead> Deserializer<R> {
         ensures ok { OnOk result (Begins limit (state R.window R.Lent.kept self.old).source
             (state R.window R.Lent.kept self.new)) }
         ensures err { OnErr result (Fails (refusal_in self.new)
-            (state R.window R.Lent.kept self.old).source (state R.window R.Lent.kept self.new).source) }
+            (state R.window R.Lent.kept self.old).source
+            (state R.window R.Lent.kept self.new).source) }
         ensures names { OnErr result (Names named.head (refusal_in self.new)
             (state R.window R.Lent.kept self.old).source) }
     {
@@ -111,6 +116,39 @@ impl<R: DeRead> Deserializer<R> {
         self.due = Due::Node;
         self.levels = limit;
         Ok(())
+    }
+
+    /// Refuses all calls from now on, and keeps the reason, which [`Deserializer::take_refusal`] gives.
+    ///
+    /// A type that is read refuses so what it does not read. The crate has no such call.
+    #[cold]
+    #[inline(never)]
+    pub fn refuse(&mut self, reason: Error) -> Refused
+        ensures reason { refusal_in self.new ≡ reason }
+        ensures state { state R.window R.Lent.kept self.new
+            ≡ refused (state R.window R.Lent.kept self.old) }
+    {
+        self.bunser.refuse(reason)
+    }
+
+    /// Refuses by this complaint, or by [`ReadCause::Failed`] after an earlier refusal.
+    ///
+    /// The crate has no such call.
+    #[cold]
+    #[inline(never)]
+    pub fn complain(&mut self, complaint: Complaint) -> Refused
+        ensures reason { refusal_in self.new
+            ≡ after_a_refusal (state R.window R.Lent.kept self.old).source.failed
+            (complain complaint) }
+        ensures state { state R.window R.Lent.kept self.new
+            ≡ refused (state R.window R.Lent.kept self.old) }
+    {
+        if self.bunser.is_failed() {
+            return self
+                .bunser
+                .refuse(Error::de_reader_error(ReadCause::Failed));
+        }
+        self.bunser.refuse(Error::de_custom(complaint))
     }
 
     /// Takes the reason of the last refusal, or [`ReadCause::Failed`] where none is kept.
@@ -133,7 +171,8 @@ impl<R: DeRead> Deserializer<R> {
     /// changes nothing.
     pub fn end(&self) -> Result<()>
         ensures ok { OnOk result (IsAtEnd (state R.window R.Lent.kept self.now)) }
-        ensures working { OnOk result ((state R.window R.Lent.kept self.now).source.failed ≡ false) }
+        ensures working { OnOk result ((state R.window R.Lent.kept self.now).source.failed
+            ≡ false) }
         ensures err { OnErr result (IsAtEnd (state R.window R.Lent.kept self.now)
             → IsTrue (state R.window R.Lent.kept self.now).source.failed) }
         ensures name { IfErr result (λ e. e ≡ not_at_end (state R.window R.Lent.kept self.now)) }
@@ -167,6 +206,7 @@ impl<R: DeRead> Deserializer<R> {
     }
 
     /// Gives the byte source back, as far as it was read.
+    #[inline(always)]
     pub fn into_inner(self) -> R
         ensures { IsSourceOf result self }
     {

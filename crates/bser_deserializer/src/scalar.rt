@@ -4,10 +4,10 @@ ghost use Rattle.bser_format.specs.Content.{one, truth, number};
 ghost use Rattle.bser_format.specs.ReadsScalars.{reads_bool, reads_unit, reads_integer, reads_signed, reads_real};
 ghost use Rattle.bser_named.specs.DueReaders.{seen};
 ghost use Rattle.bser_due.specs.Askings.{asking_bool, asking_real, asking_unit, asking_integer};
-ghost use Rattle.bser_due.specs.Dues.{IsTagged};
-ghost use Rattle.bser_due.specs.Nodes.{SeesNode, BeginsNode, TookNull, IsOther};
+ghost use Rattle.bser_due.specs.Dues.{IsTagged, IsValueDue};
+ghost use Rattle.bser_due.specs.Nodes.{tag_node, SeesNode, BeginsNode, TookNull, IsOther};
 ghost use Rattle.bser_due.specs.Reading.{Answers, Refuses, RefusesFront, NamesBy, bare};
-ghost use Rattle.bser_deserializer.specs.View.{state, refusal_in, is_null_at};
+ghost use Rattle.bser_deserializer.specs.View.{state, refusal_in, is_null_at, is_other_kind};
 
 use crate::cursor::Cursor;
 use crate::deserializer::{Deserializer, Due};
@@ -15,8 +15,18 @@ use bser_bunser::prefix::{Look, Unexpected};
 use bser_bunser::refusal::Answer;
 pub use bser_due::node::Node;
 use bser_format::errors::Complaint;
-use bser_format::header::{BSER_FALSE, BSER_NULL, BSER_REAL, BSER_SKIP, BSER_TRUE};
+use bser_format::header::{
+    BSER_FALSE, BSER_NULL, BSER_REAL, BSER_SKIP, BSER_TEMPLATE, BSER_TRUE, BSER_UTF8STRING,
+};
 use bser_read::read::DeRead;
+
+/// Whether a value with this tag is of a kind, and of another than null.
+#[inline(always)]
+fn is_something(tag: u8) -> bool
+    ensures { result ≡ is_other_kind (tag_node tag) }
+{
+    tag < BSER_NULL || tag == BSER_UTF8STRING || tag == BSER_TEMPLATE
+}
 
 impl<R: DeRead> Deserializer<R> {
     /// What kind of value is due. It is not taken: what is read next begins with the tag that was
@@ -95,6 +105,36 @@ impl<R: DeRead> Deserializer<R> {
             (refusal_in self.new) (state R.window R.Lent.kept self.old).source
             (state R.window R.Lent.kept self.new).source) }
     {
+        if !self.is_value_due() {
+            return self.read_no_value();
+        }
+        self.bunser.fill(1)?;
+        let tag = self.bunser.buffered()[0];
+        if is_something(tag) {
+            return Ok(false);
+        }
+        if !self.is_null_tag(tag) {
+            return Err(self.refuse_tag(tag));
+        }
+        self.bunser.consume(1);
+        self.due = Due::Nothing;
+        Ok(true)
+    }
+
+    /// Reads no value: a key or a row is due, or nothing is.
+    #[inline(never)]
+    fn read_no_value(&mut self) -> Answer<bool>
+        ensures found { IfOk result (λ b. MatchBool b
+            (TookNull (state R.window R.Lent.kept self.old) (state R.window R.Lent.kept self.new))
+            (IsOther (state R.window R.Lent.kept self.old) (state R.window R.Lent.kept self.new))) }
+        ensures refused { OnErr result (RefusesFront bare
+            (BeginsNode (state R.window R.Lent.kept self.old).due)
+            (NamesBy bare (seen (state R.window R.Lent.kept self.old).opened
+            (state R.window R.Lent.kept self.old).due) (refusal_in self.new)
+            (state R.window R.Lent.kept self.old).source)
+            (refusal_in self.new) (state R.window R.Lent.kept self.old).source
+            (state R.window R.Lent.kept self.new).source) }
+    {
         match self.node()? {
             Node::Null => {
                 self.bunser.consume(1);
@@ -110,7 +150,8 @@ impl<R: DeRead> Deserializer<R> {
     pub fn read_bool(&mut self) -> Answer<bool>
         ensures found { IfOk result (Answers reads_bool (λ v c. c ≡ truth v)
             (state R.window R.Lent.kept self.old) (state R.window R.Lent.kept self.new)) }
-        ensures refused { OnErr result (Refuses reads_bool (Some asking_bool) bare (refusal_in self.new)
+        ensures refused { OnErr result (Refuses reads_bool (Some asking_bool) bare
+            (refusal_in self.new)
             (state R.window R.Lent.kept self.old) (state R.window R.Lent.kept self.new)) }
     {
         let tag = self.value_tag()?;
@@ -136,6 +177,26 @@ impl<R: DeRead> Deserializer<R> {
         if !self.is_value_due() {
             return Err(self.refuse_no_value());
         }
+        match self.bunser.buffered_int() {
+            Some(number) => {
+                self.due = Due::Nothing;
+                Ok(number)
+            }
+            None => self.read_i64_on(),
+        }
+    }
+
+    /// Reads an integer of any width, and buffers its bytes before.
+    #[cold]
+    #[inline(never)]
+    fn read_i64_on(&mut self) -> Answer<i64>
+        requires { IsValueDue (state R.window R.Lent.kept self.old).due }
+        ensures found { IfOk result (Answers (reads_signed 64) (λ v c. c ≡ number v)
+            (state R.window R.Lent.kept self.old) (state R.window R.Lent.kept self.new)) }
+        ensures refused { OnErr result ((fits : ℤ → Bool) → Refuses (reads_integer fits)
+            (Some (asking_integer fits)) bare (refusal_in self.new)
+            (state R.window R.Lent.kept self.old) (state R.window R.Lent.kept self.new)) }
+    {
         match self.bunser.next_int()? {
             Look::Taken(number) => {
                 self.due = Due::Nothing;
@@ -151,7 +212,8 @@ impl<R: DeRead> Deserializer<R> {
     pub fn read_real_bits(&mut self) -> Answer<u64>
         ensures found { IfOk result (Answers reads_real (λ v c. c ≡ number (pos v))
             (state R.window R.Lent.kept self.old) (state R.window R.Lent.kept self.new)) }
-        ensures refused { OnErr result (Refuses reads_real (Some asking_real) bare (refusal_in self.new)
+        ensures refused { OnErr result (Refuses reads_real (Some asking_real) bare
+            (refusal_in self.new)
             (state R.window R.Lent.kept self.old) (state R.window R.Lent.kept self.new)) }
     {
         let tag = self.value_tag()?;
@@ -168,7 +230,8 @@ impl<R: DeRead> Deserializer<R> {
     pub fn read_unit(&mut self) -> Answer<()>
         ensures found { IfOk result (Answers reads_unit (λ _ c. c ≡ one)
             (state R.window R.Lent.kept self.old) (state R.window R.Lent.kept self.new)) }
-        ensures refused { OnErr result (Refuses reads_unit (Some asking_unit) bare (refusal_in self.new)
+        ensures refused { OnErr result (Refuses reads_unit (Some asking_unit) bare
+            (refusal_in self.new)
             (state R.window R.Lent.kept self.old) (state R.window R.Lent.kept self.new)) }
     {
         let tag = self.value_tag()?;

@@ -2,21 +2,24 @@
 ghost use Rattle.std.specs.Prelude.{◌≡◌, Some, false, string_bytes, IfOk, OnErr};
 ghost use Rattle.bser_format.specs.Content.{byte_list};
 ghost use Rattle.bser_format.specs.ReadsScalars.{reads_slice, reads_string};
+ghost use Rattle.bser_format.specs.Errors.{error_of};
 ghost use Rattle.bser_source.specs.Refs.{bytes_of, is_lent, text_bytes, is_lent_text};
 ghost use Rattle.bser_due.specs.Askings.{asking_bytes, asking_string};
 ghost use Rattle.bser_due.specs.Dues.{IsTagged};
 ghost use Rattle.bser_due.specs.Reading.{Answers, Refuses, bare, owned};
+ghost use Rattle.bser_due.specs.State.{refused};
 ghost use Rattle.bser_deserializer.specs.Strings.{TookBytes};
 ghost use Rattle.bser_deserializer.specs.View.{state, refusal_in};
 
 use crate::cursor::{Cursor, is_key_tag, name_of};
 use crate::deserializer::{Deserializer, Due};
-use bser_bunser::refusal::Answer;
+use bser_bunser::refusal::{Answer, Refused};
 use bser_format::bytestring::ByteString;
 use bser_format::errors::{Complaint, Error, ReadCause};
 use bser_format::header::BSER_UTF8STRING;
 use bser_read::read::DeRead;
 use bser_source::read::{Lending, LendsText, Reference, TextReference};
+use bser_source::text::as_text;
 use std::alloc::Global;
 
 impl<R: DeRead> Deserializer<R> {
@@ -27,17 +30,31 @@ impl<R: DeRead> Deserializer<R> {
     /// are [`ReadCause::Utf8`].
     #[inline(always)]
     pub fn read_bytes<'s>(&mut self, scratch: &'s mut Vec<u8>) -> Answer<Reference<'s, R::Lent>>
-        ensures found { IfOk result (Answers reads_slice (λ r c. c ≡ byte_list (bytes_of R.Lent.bytes r))
+        ensures found { IfOk result (Answers reads_slice
+            (λ r c. c ≡ byte_list (bytes_of R.Lent.bytes r))
             (state R.window R.Lent.kept self.old) (state R.window R.Lent.kept self.new)) }
-        ensures lent { IfOk result (λ r. is_lent r ≡ (state R.window R.Lent.kept self.old).source.lends) }
-        ensures refused { OnErr result (Refuses reads_slice (Some asking_bytes) bare (refusal_in self.new)
+        ensures lent { IfOk result (λ r. is_lent r ≡
+            (state R.window R.Lent.kept self.old).source.lends) }
+        ensures refused { OnErr result (Refuses reads_slice (Some asking_bytes) bare
+            (refusal_in self.new)
             (state R.window R.Lent.kept self.old) (state R.window R.Lent.kept self.new)) }
     {
         let (bytes, is_text) = self.take_bytes(scratch)?;
         if is_text && str::from_utf8(bytes.get_ref()).is_err() {
-            return Err(self.refuse(Error::de_reader_error(ReadCause::Utf8)));
+            return Err(self.refuse_utf8());
         }
         Ok(bytes)
+    }
+
+    /// Refuses bytes that are not UTF-8.
+    #[cold]
+    #[inline(never)]
+    fn refuse_utf8(&mut self) -> Refused
+        ensures reason { refusal_in self.new ≡ error_of ReadCause.Utf8 }
+        ensures state { state R.window R.Lent.kept self.new
+            ≡ refused (state R.window R.Lent.kept self.old) }
+    {
+        self.refuse(Error::de_reader_error(ReadCause::Utf8))
     }
 
     /// Takes the bytes of the string or key that is due, UTF-8 or not, and tells whether they stood
@@ -46,8 +63,10 @@ impl<R: DeRead> Deserializer<R> {
     fn take_bytes<'s>(&mut self, scratch: &'s mut Vec<u8>) -> Answer<(Reference<'s, R::Lent>, bool)>
         ensures found { IfOk result (λ p. TookBytes (state R.window R.Lent.kept self.old)
             (state R.window R.Lent.kept self.new) p.1 (bytes_of R.Lent.bytes p.0)) }
-        ensures lent { IfOk result (λ p. is_lent p.0 ≡ (state R.window R.Lent.kept self.old).source.lends) }
-        ensures refused { OnErr result (Refuses reads_slice (Some asking_bytes) bare (refusal_in self.new)
+        ensures lent { IfOk result (λ p. is_lent p.0 ≡
+            (state R.window R.Lent.kept self.old).source.lends) }
+        ensures refused { OnErr result (Refuses reads_slice (Some asking_bytes) bare
+            (refusal_in self.new)
             (state R.window R.Lent.kept self.old) (state R.window R.Lent.kept self.new)) }
     {
         match self.due {
@@ -66,14 +85,60 @@ impl<R: DeRead> Deserializer<R> {
         }
     }
 
+    /// Takes the bytes of the string or key that is due as a copy, UTF-8 or not, and tells whether
+    /// they stood under the text's tag.
+    #[inline(always)]
+    fn take_copy(&mut self, alloc: Global) -> Answer<(Vec<u8>, bool)>
+        ensures found { IfOk result (λ p. TookBytes (state R.window R.Lent.kept self.old)
+            (state R.window R.Lent.kept self.new) p.1 p.0.items) }
+        ensures refused { OnErr result (Refuses reads_slice (Some asking_bytes) owned
+            (refusal_in self.new)
+            (state R.window R.Lent.kept self.old) (state R.window R.Lent.kept self.new)) }
+    {
+        match self.due {
+            Due::Node | Due::Field | Due::Key => {
+                self.bunser.fill(1)?;
+                let tag = self.bunser.buffered()[0];
+                if !is_key_tag(tag) {
+                    return Err(self.refuse_tag(tag));
+                }
+                self.bunser.consume(1);
+                let bytes = self.bunser.next_copy(alloc)?;
+                self.due = Due::Nothing;
+                Ok((bytes, tag == BSER_UTF8STRING))
+            }
+            _ => Ok((self.copy_name(alloc)?, false)),
+        }
+    }
+
+    /// Takes the key of a row's field as a copy.
+    #[inline(never)]
+    fn copy_name(&mut self, alloc: Global) -> Answer<Vec<u8>>
+        requires { IsTagged (state R.window R.Lent.kept self.old).due → ⊥ }
+        ensures found { IfOk result (λ s. TookBytes (state R.window R.Lent.kept self.old)
+            (state R.window R.Lent.kept self.new) false s.items) }
+        ensures refused { OnErr result (Refuses reads_slice (Some asking_bytes) owned
+            (refusal_in self.new)
+            (state R.window R.Lent.kept self.old) (state R.window R.Lent.kept self.new)) }
+    {
+        let mut scratch = Vec::new(alloc);
+        let bytes = self.take_name(&mut scratch)?;
+        match Vec::from_slice(alloc, bytes.get_ref()) {
+            Ok(copy) => Ok(copy),
+            Err(_) => Err(self.refuse(Error::OutOfMemory)),
+        }
+    }
+
     /// Takes the key of a row's field, which has no bytes of its own.
     #[inline(never)]
     fn take_name<'s>(&mut self, scratch: &'s mut Vec<u8>) -> Answer<Reference<'s, R::Lent>>
         requires { IsTagged (state R.window R.Lent.kept self.old).due → ⊥ }
         ensures found { IfOk result (λ r. TookBytes (state R.window R.Lent.kept self.old)
             (state R.window R.Lent.kept self.new) false (bytes_of R.Lent.bytes r)) }
-        ensures lent { IfOk result (λ r. is_lent r ≡ (state R.window R.Lent.kept self.old).source.lends) }
-        ensures refused { OnErr result (Refuses reads_slice (Some asking_bytes) bare (refusal_in self.new)
+        ensures lent { IfOk result (λ r. is_lent r ≡
+            (state R.window R.Lent.kept self.old).source.lends) }
+        ensures refused { OnErr result (Refuses reads_slice (Some asking_bytes) bare
+            (refusal_in self.new)
             (state R.window R.Lent.kept self.old) (state R.window R.Lent.kept self.new)) }
     {
         match name_of(self) {
@@ -95,15 +160,15 @@ impl<R: DeRead> Deserializer<R> {
     pub fn read_byte_string(&mut self, alloc: Global) -> Answer<ByteString>
         ensures found { IfOk result (Answers reads_slice (λ s c. c ≡ byte_list s)
             (state R.window R.Lent.kept self.old) (state R.window R.Lent.kept self.new)) }
-        ensures refused { OnErr result (Refuses reads_slice (Some asking_bytes) owned (refusal_in self.new)
+        ensures refused { OnErr result (Refuses reads_slice (Some asking_bytes) owned
+            (refusal_in self.new)
             (state R.window R.Lent.kept self.old) (state R.window R.Lent.kept self.new)) }
     {
-        let mut scratch = Vec::new(alloc);
-        let bytes = self.read_bytes(&mut scratch)?;
-        match Vec::from_slice(alloc, bytes.get_ref()) {
-            Ok(copy) => Ok(ByteString::from_vec(copy)),
-            Err(_) => Err(self.refuse(Error::OutOfMemory)),
+        let (bytes, is_text) = self.take_copy(alloc)?;
+        if is_text && str::from_utf8(&bytes).is_err() {
+            return Err(self.refuse_utf8());
         }
+        Ok(ByteString::from_vec(bytes))
     }
 }
 
@@ -126,7 +191,8 @@ where
             (state R.window R.Lent.kept self.old) (state R.window R.Lent.kept self.new)) }
         ensures lent { IfOk result (λ t.
             is_lent_text t ≡ (state R.window R.Lent.kept self.old).source.lends) }
-        ensures refused { OnErr result (Refuses reads_string (Some asking_string) bare (refusal_in self.new)
+        ensures refused { OnErr result (Refuses reads_string (Some asking_string) bare
+            (refusal_in self.new)
             (state R.window R.Lent.kept self.old) (state R.window R.Lent.kept self.new)) }
     {
         let (bytes, _) = self.take_bytes(scratch)?;
@@ -143,14 +209,14 @@ where
     pub fn read_string(&mut self, alloc: Global) -> Answer<String>
         ensures found { IfOk result (Answers reads_string (λ s c. c ≡ byte_list (string_bytes s))
             (state R.window R.Lent.kept self.old) (state R.window R.Lent.kept self.new)) }
-        ensures refused { OnErr result (Refuses reads_string (Some asking_string) owned (refusal_in self.new)
+        ensures refused { OnErr result (Refuses reads_string (Some asking_string) owned
+            (refusal_in self.new)
             (state R.window R.Lent.kept self.old) (state R.window R.Lent.kept self.new)) }
     {
-        let mut scratch = Vec::new(alloc);
-        let text = self.read_text(&mut scratch)?;
-        match String::from_str(alloc, text.get_ref()) {
-            Ok(string) => Ok(string),
-            Err(_) => Err(self.refuse(Error::OutOfMemory)),
+        let (bytes, _) = self.take_copy(alloc)?;
+        if as_text(&bytes).is_none() {
+            return Err(self.refuse_utf8());
         }
+        Ok(unsafe { String::from_utf8_unchecked(bytes) })
     }
 }

@@ -1,5 +1,5 @@
 -- What a reading type answers.
-use Rattle.std.specs.Prelude.{◌≡◌, ◌⊎◌, ℕ, true, false, ◌||◌, List, ◌++◌, Option, Some, None}
+use Rattle.std.specs.Prelude.{◌≡◌, ◌⊎◌, ℕ, true, false, ◌||◌, List, ◌++◌, length, Option, Some, None}
 use Rattle.bser_format.specs.Tree.{Tree}
 use Rattle.bser_format.specs.Grammar.{Format}
 use Rattle.bser_format.specs.Content.{Content, Meaning, Needs}
@@ -16,7 +16,7 @@ use Rattle.bser_named.specs.Asks.{Asks}
 use Rattle.bser_named.specs.TypeLaws.{Passes}
 use Rattle.bser_read.specs.Window.{Window, Took, left}
 use Rattle.bser_bunser.specs.Refusal.{Fails}
-use Rattle.bser_bunser.specs.Names.{MayBeLeft, Outside}
+use Rattle.bser_bunser.specs.Names.{Blame, Excused, MayBeLeft, Outside, RefusedAs}
 use Rattle.bser_due.specs.State.{State, past}
 
 -- what was due is read: the bytes that were taken fill it, and the tree that they stand for reads as what v holds
@@ -55,12 +55,18 @@ refusing needs = record needs { memory = needs.memory || needs.keys }
 -- ---- refusals
 
 -- a refusal that the bytes left are not to blame for, where these needs, the source or an earlier call give reason for it
-abbrev pub OutsideBy : Needs → Error → Window → Type 0
-OutsideBy needs OutOfMemory s = (s.lends ≡ false) ⊎ (needs.memory ≡ true)
-OutsideBy needs (DeCustom (Fixed BorrowedFromCopying)) s = (s.lends ≡ false) × (needs.lent ≡ true)
-OutsideBy needs e s = Outside e s
+abbrev pub OutsideBy : Needs → Blame → Error → Window → Type 0
+OutsideBy needs P OutOfMemory s = (s.lends ≡ false) ⊎ (needs.memory ≡ true)
+OutsideBy needs P (DeCustom (Fixed BorrowedFromCopying)) s = (s.lends ≡ false) × (needs.lent ≡ true)
+OutsideBy needs P e s = Outside P e s
 
--- a refusal by the bytes, the type or the order of the calls
+-- the same, where the bytes wanted are in front, n of them
+abbrev pub ExcusedBy : Needs → ℕ → Error → Window → Type 0
+ExcusedBy needs n OutOfMemory s = (s.lends ≡ false) ⊎ (needs.memory ≡ true)
+ExcusedBy needs n (DeCustom (Fixed BorrowedFromCopying)) s = (s.lends ≡ false) × (needs.lent ≡ true)
+ExcusedBy needs n e s = Excused n e s
+
+-- a refusal by the bytes, the type, the order of the calls or an earlier refusal
 abbrev pub IsRefusal : Error → Type 0
 IsRefusal OutOfMemory = ⊥
 IsRefusal (DeReaderError (Reader fault)) = ⊥
@@ -69,11 +75,11 @@ IsRefusal _ = Unit {0}
 
 -- a refusal that these needs and this source leave room for
 abbrev pub MayRefuse : Needs → Error → Window → Type 0
-MayRefuse needs e s = IsRefusal e ⊎ OutsideBy (refusing needs) e s
+MayRefuse needs e s = IsRefusal e ⊎ ExcusedBy (refusing needs) 0 e s
 
 -- r refuses what is left by this name, or there is a reason outside the bytes
 abbrev pub NamesBy : {X : Type 0} → Needs → named.Reader X → Error → Window → Type 0
-NamesBy needs r e s = ((b : List ℕ) × MayBeLeft s b × (r b ≡ refuses e)) ⊎ OutsideBy (refusing needs) e s
+NamesBy needs r e s = ((b : List ℕ) × MayBeLeft s b × (r b ≡ refuses e)) ⊎ OutsideBy (refusing needs) (RefusedAs r) e s
 
 -- a call that wants bytes of this form is refused, by a name of which this tells
 pub record RefusesFront (needs : Needs) (Wanted : Format) (Named : Type 0) (e : Error) (old new : Window) : Type 0 where
@@ -81,7 +87,7 @@ pub record RefusesFront (needs : Needs) (Wanted : Format) (Named : Type 0) (e : 
   pub may : MayRefuse needs e old
   pub names : Named
   -- where the bytes left begin as is wanted, they are not to blame
-  pub excuse : (text rest : List ℕ) → Wanted text → left old ≡ Some (text ++ rest) → OutsideBy needs e old
+  pub excuse : (text rest : List ℕ) → Wanted text → left old ≡ Some (text ++ rest) → ExcusedBy needs (length text) e old
 
 -- ---- refusals of a type
 

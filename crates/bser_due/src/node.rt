@@ -37,7 +37,8 @@ impl Node {
     /// The kind of what has this tag where this is due. None where such a tag may not stand there.
     #[inline(always)]
     pub fn at(due: Due, byte: u8) -> Option<Node>
-        ensures { (ks : List (List ℕ)) (place : ℕ) → result ≡ node_at (due_of ks place due) (tag byte) }
+        ensures { (ks : List (List ℕ)) (place : ℕ) → result ≡ node_at (due_of ks place due)
+            (tag byte) }
     {
         match (due, byte) {
             (Due::Key, BSER_BYTESTRING | BSER_UTF8STRING) => Some(Node::Key),

@@ -1,5 +1,5 @@
 -- Values and fields begin with tokens, whatever levels are left.
-use Rattle.std.proofs.Common.{◌≡◌, ℕ, zero, suc, ◌<◌, ◌≤◌, Bool, true, false, List, [], ◌∷◌, ◌++◌, length, drop, refl, sym, ap, subst, ◌∙◌, arith, nat_eq, inl, inr}
+use Rattle.std.proofs.Common.{◌≡◌, ℕ, zero, suc, ◌<◌, ◌≤◌, Bool, true, false, List, [], ◌∷◌, ◌++◌, length, drop, refl, sym, ap, subst, ◌∙◌, arith, nat_eq}
 use Rattle.std.specs.Prelude.{Some, None, Result, Ok, Err, IfOk}
 use Rattle.std.proofs.lemmas.Bool.{ne_eqb, eqb-true}
 use Rattle.bser_format.specs.Tree.{Tree}
@@ -12,16 +12,17 @@ use Rattle.bser_named.specs.Named.{Answer, reads, refuses, Reader, eof, give, an
 use Rattle.bser_read.specs.Window.{Window, Filled}
 use Rattle.bser_read.proofs.Windows.{took_grown}
 use Rattle.bser_bunser.specs.declared.refusal.Refused.{Refused}
-use Rattle.bser_bunser.specs.Names.{Names}
+use Rattle.bser_bunser.specs.Refusal.{failures_by, Fails}
+use Rattle.bser_bunser.specs.Names.{Names, RefusedAs}
 use Rattle.bser_bunser.specs.Tagged.{TookToken}
 use Rattle.bser_bunser.specs.Tokens.{SpellsToken, token, after_token}
 use Rattle.bser_bunser.specs.declared.prefix.Token.{Token}
 use Rattle.bser_bunser.specs.declared.prefix.Token.TheVariants as tokens
-use Rattle.bser_bunser.proofs.Names.{left_before, blames_before, blames_more, names_rejected}
+use Rattle.bser_bunser.proofs.Names.{blames_grown, blames_more, names_rejected}
 use Rattle.bser_bunser.proofs.Readers.{front_there}
 use Rattle.bser_bunser.proofs.Tokens.{token_there}
 use Rattle.bser_bunser.proofs.Values.{tokens_begin}
-use Rattle.bser_events.specs.Found.{leaf_after, token_at, value_rest, IsContainer, LeafAhead}
+use Rattle.bser_events.specs.Found.{leaf_after, token_at, value_rest, IsContainer, LeafAhead, LevelsFor}
 
 -- ---- the first byte of a token
 
@@ -147,6 +148,24 @@ field_begins n t b h level never x =
     ∙ ap (λ l. and_then (λ u. give (Some u)) (with_text_keys n (l ++ x))) (sym f.whole)
     ∙ ap (and_then (λ u. give (Some u))) (value_begins n t b h level x)
 
+-- a value where a field is due
+pub value_field : (n : ℕ) (b x : List ℕ) (v : Tree) → with_text_keys n b ≡ reads v x → field_of (with_text_keys n) b ≡ reads (Some v) x
+unfolding value
+value_field n [] x v h = absurd (none n h)
+  where
+    none : (n : ℕ) → with_text_keys n [] ≡ reads v x → ⊥
+    none zero h = cc
+    none (suc n) h = cc
+value_field n (c ∷ y) x v h = by_tag (nat_eq c 0x0c) refl
+  where
+    none : (n : ℕ) → with_text_keys n (0x0c ∷ y) ≡ reads v x → ⊥
+    none zero h = cc
+    none (suc n) h = cc
+
+    by_tag : (d : Bool) → nat_eq c 0x0c ≡ d → field_of (with_text_keys n) (c ∷ y) ≡ reads (Some v) x
+    by_tag true s = absurd (none n (ap (λ z. with_text_keys n (z ∷ y)) (sym (eqb-true c 0x0c s)) ∙ h))
+    by_tag false s = rw s (ap (and_then (λ t. give (Some t))) h)
+
 -- a skip
 pub skip_there : (r : Reader Tree) (b : List ℕ) → SpellsToken tokens.Skip b → (x : List ℕ) → field_of r (b ++ x) ≡ reads None x
 skip_there r b h x = ap (λ l. field_of r (l ++ x)) h
@@ -177,15 +196,13 @@ starts : (c : ℕ) (held : List ℕ) (x more : List ℕ) → held ≡ c ∷ drop
 starts c held x more first whole = whole ∙ ap (λ l. l ++ more) first
 
 -- a leaf is refused as a token
-pub leaf_names : (e : Error) (a b : Window) → LeafAhead a b → Names token e b → Names (token_at 0) e a
-leaf_names e a b ahead (inl (x, m, h)) =
-    let s = starts ahead.tag b.buffered x m.more ahead.next m.whole in
-    inl (
-      x,
-      left_before 1 a b x ahead.filled.grown m,
-      ap (token_at 0) s ∙ leaf_token ahead.tag _ ahead.no_array ahead.no_object ahead.no_template ∙ ap token (sym s) ∙ h,
-    )
-leaf_names e a b ahead (inr h) = blames_before (λ x. token_at 0 x ≡ refuses e) 1 e a b ahead.filled.grown (inr h)
+leaf_names : (e : Error) (a b : Window) → LeafAhead a b → Names token e b → Names (token_at 0) e a
+leaf_names e a b ahead h = blames_grown (RefusedAs token) (RefusedAs (token_at 0)) 1 e a b ahead.filled.grown leaf h
+  where
+    leaf : (f : Error) (x more : List ℕ) → x ≡ b.buffered ++ more → token x ≡ refuses f → token_at 0 x ≡ refuses f
+    leaf f x more whole h =
+        let s = starts ahead.tag b.buffered x more ahead.next whole in
+        ap (token_at 0) s ∙ leaf_token ahead.tag _ ahead.no_array ahead.no_object ahead.no_template ∙ ap token (sym s) ∙ h
 
 -- a container's tag, where no level is left
 pub level_names : (kind : Kind) (c : ℕ) (a b : Window) → Filled 1 a b → b.buffered ≡ c ∷ drop 1 b.buffered
@@ -208,9 +225,9 @@ nothing_refused c y e h = both (front 1 (c ∷ y)) (front_there 1 (c ∷ []) ref
 pub none_names : (e : Error) (a : Window) → Names (front 1) e a → Names (token_at 0) e a
 none_names e a h = blames_more _ _ e a early h
   where
-    early : (x : List ℕ) → front 1 x ≡ refuses e → token_at 0 x ≡ refuses e
-    early [] h = carried eof e h
-    early (c ∷ y) h = absurd (nothing_refused c y e h)
+    early : (e : Error) (x : List ℕ) → front 1 x ≡ refuses e → token_at 0 x ≡ refuses e
+    early e [] h = carried eof e h
+    early e (c ∷ y) h = absurd (nothing_refused c y e h)
 
 -- the token of a leaf opens no container
 tag_first : (c d : ℕ) (held more text rest new : List ℕ) → held ≡ c ∷ drop 1 held → text ≡ d ∷ rest → held ++ more ≡ text ++ new → c ≡ d
@@ -237,7 +254,7 @@ text_some t [] h = (let e : refuses eof ≡ reads t [] = token_there t [] h [] i
 text_some t (c ∷ y) h = omega arith
 
 -- it was taken from where the look began
-pub leaf_took : (r : Result Token Refused) (a b c : Window) → LeafAhead a b → IfOk r (λ t. TookToken b c t) → IfOk r (λ t. TookToken a c t)
+leaf_took : (r : Result Token Refused) (a b c : Window) → LeafAhead a b → IfOk r (λ t. TookToken b c t) → IfOk r (λ t. TookToken a c t)
 leaf_took (Ok t) a b c ahead took = record {
   text = took.text;
   spelled = took.spelled;
@@ -245,11 +262,38 @@ leaf_took (Ok t) a b c ahead took = record {
 }
 leaf_took (Err e) a b c ahead took = tt
 
-pub leaf_levels : (r : Result Token Refused) (a b c : Window) → LeafAhead a b → IfOk r (λ t. TookToken b c t) → IfOk r (λ t. IsContainer t → 0 < 0)
+leaf_levels : (r : Result Token Refused) (a b c : Window) → LeafAhead a b → IfOk r (λ t. TookToken b c t) → IfOk r (λ t. IsContainer t → 0 < 0)
 leaf_levels (Ok t) a b c ahead took = leaf_level t a b c ahead took
 leaf_levels (Err e) a b c ahead took = tt
 
--- a token, where a level is left
-pub token_inside : (n : ℕ) → (n ≡ 0 → ⊥) → token_at n ≡ token
-token_inside zero never = absurd (never refl)
-token_inside (suc n) never = refl
+-- the same, however many levels are left
+pub within_took : (n : ℕ) (r : Result Token Refused) (a b c : Window) → LevelsFor n a b → IfOk r (λ t. TookToken b c t) → IfOk r (λ t. TookToken a c t)
+within_took zero r a b c ahead took = leaf_took r a b c ahead took
+within_took (suc n) r a b c same took = subst (λ w. IfOk r (λ t. TookToken w c t)) same took
+
+pub within_level : (n : ℕ) (r : Result Token Refused) (a b c : Window) → LevelsFor n a b → IfOk r (λ t. TookToken b c t) → IfOk r (λ t. IsContainer t → 0 < n)
+within_level zero r a b c ahead took = leaf_levels r a b c ahead took
+within_level (suc n) (Ok t) a b c same took = λ is. omega arith
+within_level (suc n) (Err e) a b c same took = tt
+
+pub within_names : (n : ℕ) (e : Error) (a b : Window) → LevelsFor n a b → Names token e b → Names (token_at n) e a
+within_names zero e a b ahead h = leaf_names e a b ahead h
+within_names (suc n) e a b same h = subst (Names token e) same h
+
+pub within_fails : (n : ℕ) (e : Error) (a b c : Window) → LevelsFor n a b → Fails e b c → Fails e a c
+within_fails zero e a b c ahead h =
+    let grown = ahead.filled.grown in
+    record { before = λ old. h.before (grown.failed ∙ old); failed = h.failed; lends = h.lends ∙ grown.lends; through = h.through ∙ grown.through; failures = h.failures ∙ ap (failures_by e) grown.failures }
+within_fails (suc n) e a b c same h = subst (λ w. Fails e w c) same h
+
+-- no level is left
+pub no_level : (n : ℕ) (e : Error) (a : Window) → n ≡ 0 → Names (token_at 0) e a → Names (token_at n) e a
+no_level n e a last h = subst (λ k. Names (token_at k) e a) (sym last) h
+
+pub leaf_ahead : (n : ℕ) (a b : Window) → n ≡ 0 → LeafAhead a b → LevelsFor n a b
+leaf_ahead n a b last h = subst (λ k. LevelsFor k a b) (sym last) h
+
+-- a level is left
+pub level_left : (n : ℕ) (a b : Window) → (n ≡ 0 → ⊥) → b ≡ a → LevelsFor n a b
+level_left zero a b never same = absurd (never refl)
+level_left (suc n) a b never same = same

@@ -6,3 +6,5 @@ pub mod Texts
 pub mod Tables
 pub mod Measures
 pub mod Outcomes
+pub mod InFront
+pub mod Runs

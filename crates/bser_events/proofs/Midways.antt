@@ -11,11 +11,11 @@ use Rattle.bser_named.proofs.Steps.{Continues}
 use Rattle.bser_read.specs.Window.{Window, Within, Took, closed}
 use Rattle.bser_read.proofs.Windows.{took_then}
 use Rattle.bser_bunser.specs.Refusal.{Fails}
-use Rattle.bser_bunser.specs.Names.{Names}
+use Rattle.bser_bunser.specs.Names.{Names, RefusedAs}
 use Rattle.bser_bunser.specs.Tagged.{TookToken}
 use Rattle.bser_bunser.specs.declared.prefix.Token.{Token}
 use Rattle.bser_bunser.specs.declared.prefix.Token.TheVariants as tokens
-use Rattle.bser_bunser.proofs.Names.{blames_untaken}
+use Rattle.bser_bunser.proofs.Names.{blames_more, blames_untaken}
 use Rattle.bser_bunser.proofs.Refusals.{fails_untaken}
 use Rattle.bser_events.specs.Events.{Event, TakesAll, none, key, skip, close, events, part_events}
 use Rattle.bser_events.specs.Frames.{Left, parts_of, Fits, left_events, Takes, IsDone}
@@ -220,7 +220,7 @@ midway_ends takes whole ev f a b before after done m =
 untaken : {X Y : Type 0} (whole now : Reader Y) (r : Reader X) (k : X → Reader Y) (e : Error) (a b : Window) (text : List ℕ)
     → Continues whole now text → ((x : List ℕ) → now x ≡ (r >>= k) x) → Took a b text → Names r e b → Names whole e a
 untaken whole now r k e a b text on same took h =
-    blames_untaken (λ x. r x ≡ refuses e) (λ x. whole x ≡ refuses e) e a b text (λ x p. on x ∙ same x ∙ ap (and_then k) p) took h
+    blames_untaken (RefusedAs r) (RefusedAs whole) e a b text (λ f x p. on x ∙ same x ∙ ap (and_then k) p) took h
 
 named_or : {P Q M N : Type 0} → (P → Q) → (M → N) → P ⊎ M → Q ⊎ N
 named_or f g (inl h) = inl (f h)
@@ -242,9 +242,8 @@ key_refused takes whole due n Next wants wanted e a b c before after more is m r
     midway_refused takes whole (text_of MapKey) (λ s. key s ∷ []) (Awaits (with_text_keys n) events Next) wants wanted e a b c before after more
     (subst (λ d. Midway takes whole (AwaitsDue d n Next) a b before after) is m) refused
 
-names_of : {X : Type 0} (n : ℕ) (r : Reader X) (e : Error) (a : Window) → ((b : List ℕ) → token_at n b ≡ refuses e → r b ≡ refuses e) → Names (token_at n) e a → Names r e a
-names_of n r e a same (inl (x, m, p)) = inl (x, m, same x p)
-names_of n r e a same (inr h) = inr h
+names_of : {X : Type 0} (n : ℕ) (r : Reader X) (e : Error) (a : Window) → ((f : Error) (b : List ℕ) → token_at n b ≡ refuses f → r b ≡ refuses f) → Names (token_at n) e a → Names r e a
+names_of n r e a same h = blames_more (RefusedAs (token_at n)) (RefusedAs r) e a same h
 
 -- a token is refused
 pub token_refused : {Y B : Type 0} (takes : B → Event → B → Type 0) (whole : Reader Y) (due : Due) (n : ℕ) (Next : Reader Y → List Event → Type 0)
@@ -252,13 +251,13 @@ pub token_refused : {Y B : Type 0} (takes : B → Event → B → Type 0) (whole
     → Midway takes whole (AwaitsPart due n Next) a b before after → Fails e b c → Names (token_at n) e b → Refuses wanted whole e a c
 token_refused takes whole Item n Next wanted e a b c before after m fails names =
     midway_refused takes whole (with_text_keys n) events Next wanted wanted e a b c before after (λ h. h) m
-    (record { fails = fails; name = inl (names_of n (with_text_keys n) e b (λ x h. value_refused n x e h) names) })
+    (record { fails = fails; name = inl (names_of n (with_text_keys n) e b (λ f x h. value_refused n x f h) names) })
 token_refused takes whole Entry n Next wanted e a b c before after m fails names =
     midway_refused takes whole (with_text_keys n) events Next wanted wanted e a b c before after (λ h. h) m
-    (record { fails = fails; name = inl (names_of n (with_text_keys n) e b (λ x h. value_refused n x e h) names) })
+    (record { fails = fails; name = inl (names_of n (with_text_keys n) e b (λ f x h. value_refused n x f h) names) })
 token_refused takes whole Field n Next wanted e a b c before after m fails names =
     midway_refused takes whole (field_of (with_text_keys n)) part_events Next wanted wanted e a b c before after (λ h. h) m
-    (record { fails = fails; name = inl (names_of n (field_of (with_text_keys n)) e b (λ x h. field_refused n x e h) names) })
+    (record { fails = fails; name = inl (names_of n (field_of (with_text_keys n)) e b (λ f x h. field_refused n x f h) names) })
 
 -- for want of memory
 pub no_memory : {X : Type 0} (wants : Type 0) (r : Reader X) (e : Error) (a b c : Window) (text : List ℕ) → Took a b text → e ≡ OutOfMemory → wants → c ≡ closed b → Refuses wants r e a c

@@ -11,7 +11,7 @@ use Rattle.bser_named.specs.Named.{Answer, Reader, reads, refuses, and_then, ◌
 use Rattle.bser_read.specs.Window.{Window, Filled, Took, consumed, closed}
 use Rattle.bser_read.proofs.Windows.{took_then, took_filled}
 use Rattle.bser_bunser.specs.Refusal.{failures_by, Fails}
-use Rattle.bser_bunser.specs.Names.{Names}
+use Rattle.bser_bunser.specs.Names.{Names, RefusedAs}
 use Rattle.bser_bunser.specs.Tagged.{TookInt}
 use Rattle.bser_bunser.specs.declared.prefix.Token.{Token}
 use Rattle.bser_bunser.specs.declared.prefix.Token.TheVariants as tokens
@@ -104,7 +104,7 @@ then_refused wants r k e a b h = record {
 }
   where
     first : {P : Type 0} → Names r e a ⊎ P → Names (r >>= k) e a ⊎ P
-    first (inl n) = inl (blames_more (λ x. r x ≡ refuses e) (λ x. (r >>= k) x ≡ refuses e) e a (λ x p. ap (and_then k) p) n)
+    first (inl n) = inl (blames_more (RefusedAs r) (RefusedAs (r >>= k)) e a (λ f x p. ap (and_then k) p) n)
     first (inr m) = inr m
 
 -- ---- a reading step by step
@@ -258,11 +258,11 @@ table_begun takes n tag a b c before never is filled first end =
 
 -- no byte is there
 pub table_ends : (n : ℕ) (e : Error) (a : Window) → Names (front 1) e a → Names (table_at n) e a
-table_ends n e a h = blames_more (λ x. front 1 x ≡ refuses e) (λ x. table_at n x ≡ refuses e) e a early h
+table_ends n e a h = blames_more (RefusedAs (front 1)) (RefusedAs (table_at n)) e a early h
   where
-    early : (x : List ℕ) → front 1 x ≡ refuses e → table_at n x ≡ refuses e
-    early [] h = carried _ e h
-    early (c ∷ y) h = absurd (nothing_refused c y e h)
+    early : (e : Error) (x : List ℕ) → front 1 x ≡ refuses e → table_at n x ≡ refuses e
+    early e [] h = carried _ e h
+    early e (c ∷ y) h = absurd (nothing_refused c y e h)
 
 -- another tag than that of an array
 pub table_tag : (n tag : ℕ) (a b : Window) → Filled 1 a b → b.buffered ≡ tag ∷ drop 1 b.buffered → (tag ≡ 0x00 → ⊥) → Names (table_at n) (DeInvalidStartByte kinds.TemplateKeys tag) a

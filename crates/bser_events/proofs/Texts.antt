@@ -10,20 +10,20 @@ use Rattle.bser_named.specs.Named.{Answer, reads, refuses, and_then, give, refus
 use Rattle.bser_read.specs.Window.{Window, Filled, Took, consumed, closed}
 use Rattle.bser_read.proofs.Windows.{took_then, took_filled}
 use Rattle.bser_bunser.specs.Refusal.{Fails}
-use Rattle.bser_bunser.specs.Names.{Names}
+use Rattle.bser_bunser.specs.Names.{Names, RefusedAs}
 use Rattle.bser_bunser.specs.Tagged.{TookCounted, TookSome}
 use Rattle.bser_bunser.proofs.Names.{blames_more, names_untaken, names_taken, names_rejected}
 use Rattle.bser_bunser.proofs.Readers.{front_there, string_there}
 use Rattle.bser_bunser.proofs.Refusals.{fails_untaken}
 use Rattle.bser_events.specs.Events as events
 use Rattle.bser_events.specs.Events.{Event}
-use Rattle.bser_events.specs.Found.{Found, IsStringTag, TookKeyTag, Refuses, text_bytes}
+use Rattle.bser_events.specs.Found.{Found, IsStringTag, Refuses, text_bytes}
 use Rattle.bser_events.proofs.Takings.{takes_one}
 use Rattle.bser_events.proofs.Begins.{nothing_refused}
 
 -- ---- texts
 
-utf8_reads : (s x : List ℕ) → IsUtf8 s → utf8 s x ≡ reads s x
+pub utf8_reads : (s x : List ℕ) → IsUtf8 s → utf8 s x ≡ reads s x
 utf8_reads s x is = ap (λ c. cond c (give s) (refuse utf8_wanted) x) (is_utf8-from_IsUtf8 s is)
 
 utf8_refuses : (s x : List ℕ) → (IsUtf8 s → ⊥) → utf8 s x ≡ refuses utf8_wanted
@@ -68,12 +68,17 @@ bytes_passed takes n a b before after some told = bytes_found takes n some.text 
 
 -- ---- keys
 
-after_tag : (kind : Kind) (tag : ℕ) (P : Answer (List ℕ) → Type 0) (x : List ℕ) → IsStringTag tag
+pub after_tag : (kind : Kind) (tag : ℕ) (P : Answer (List ℕ) → Type 0) (x : List ℕ) → IsStringTag tag
     → P (and_then utf8 (string x)) → P (and_then utf8 (and_then utf8 (string x))) → P (text_of kind (tag ∷ x))
 after_tag kind tag P x (inl is) plain text = subst (λ t. P (text_of kind (t ∷ x))) (sym is) plain
 after_tag kind tag P x (inr is) plain text = subst (λ t. P (text_of kind (t ∷ x))) (sym is) text
 
--- the tag was taken
+-- a string's tag was taken
+pub record TookKeyTag (old new : Window) : Type 0 where
+  pub tag : ℕ
+  pub either : IsStringTag tag
+  pub took : Took old new (tag ∷ [])
+
 pub tag_taken : (tag : ℕ) (a b c : Window) → IsStringTag tag → Filled 1 a b → b.buffered ≡ tag ∷ drop 1 b.buffered → c ≡ consumed 1 b → TookKeyTag a c
 tag_taken tag a b c either filled first end = record {
   tag = tag;
@@ -100,8 +105,8 @@ key_found takes kind s given t a m b c before after tagged counted lent same is 
 pub key_names : (kind : Kind) (e : Error) (a m : Window) → TookKeyTag a m → Names string e m → Names (text_of kind) e a
 key_names kind e a m tagged names =
     names_untaken (text_of kind) (λ x. text_of kind (tagged.tag ∷ x)) e a m (tagged.tag ∷ []) (λ x. refl) tagged.took
-    (blames_more (λ x. string x ≡ refuses e) _ e m
-    (λ x p. after_tag kind tagged.tag (λ o. o ≡ refuses e) x tagged.either (ap (and_then utf8) p) (ap (λ o. and_then utf8 (and_then utf8 o)) p))
+    (blames_more (RefusedAs string) (RefusedAs (λ x. text_of kind (tagged.tag ∷ x))) e m
+    (λ f x p. after_tag kind tagged.tag (λ o. o ≡ refuses f) x tagged.either (ap (and_then utf8) p) (ap (λ o. and_then utf8 (and_then utf8 o)) p))
     names)
 
 -- the bytes are not UTF-8
@@ -126,11 +131,11 @@ tag_names kind tag a b filled first never =
 
 -- no byte is there
 pub nothing_names : (kind : Kind) (e : Error) (a : Window) → Names (front 1) e a → Names (text_of kind) e a
-nothing_names kind e a h = blames_more (λ x. front 1 x ≡ refuses e) (λ x. text_of kind x ≡ refuses e) e a early h
+nothing_names kind e a h = blames_more (RefusedAs (front 1)) (RefusedAs (text_of kind)) e a early h
   where
-    early : (x : List ℕ) → front 1 x ≡ refuses e → text_of kind x ≡ refuses e
-    early [] h = h
-    early (c ∷ y) h = absurd (nothing_refused c y e h)
+    early : (e : Error) (x : List ℕ) → front 1 x ≡ refuses e → text_of kind x ≡ refuses e
+    early e [] h = h
+    early e (c ∷ y) h = absurd (nothing_refused c y e h)
 
 -- what follows a key's tag is refused
 pub string_refused : (wants : Type 0) (kind : Kind) (e : Error) (a m c : Window) → TookKeyTag a m → Fails e m c → Names string e m → Refuses wants (text_of kind) e a c

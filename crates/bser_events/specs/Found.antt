@@ -73,15 +73,14 @@ pub record LeafAhead (old new : Window) : Type 0 where
   pub no_object : tag ≡ 0x01 → ⊥
   pub no_template : tag ≡ 0x0b → ⊥
 
+-- with n levels left: none, and no container's tag stands at the front, or some, and nothing changed
+abbrev pub LevelsFor : ℕ → Window → Window → Type 0
+LevelsFor zero old new = LeafAhead old new
+LevelsFor (suc n) old new = new ≡ old
+
 -- a string has this tag
 abbrev pub IsStringTag : ℕ → Type 0
 IsStringTag tag = (tag ≡ 0x02) ⊎ (tag ≡ 0x0d)
-
--- a string's tag was taken
-pub record TookKeyTag (old new : Window) : Type 0 where
-  pub tag : ℕ
-  pub either : IsStringTag tag
-  pub took : Took old new (tag ∷ [])
 
 -- ---- what was found
 

@@ -56,5 +56,10 @@ IsDone (Rows f r w) = (f ≡ 0) × ((r ≡ 0) ⊎ (w ≡ 0))
 
 -- the next part is due, or none is left
 abbrev pub CountsDown : Parts → Parts → Option Due → Type 0
-CountsDown old new None = IsDone old
+CountsDown old new None = IsDone old × (new ≡ old)
 CountsDown old new (Some due) = Takes due old new
+
+-- after a key of an entry its value is due, and else the next part
+abbrev pub CountsOn : Due → Parts → Parts → Option Due → Type 0
+CountsOn Entry old new due = (due ≡ Some Item) × (new ≡ old)
+CountsOn _ old new due = CountsDown old new due

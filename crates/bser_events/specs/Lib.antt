@@ -2,3 +2,4 @@ pub mod Events
 pub mod Told
 pub mod Frames
 pub mod Found
+pub mod Pieces

@@ -18,7 +18,7 @@ pub trait Builder {
     ghost BYTES: { Bool };
 
     /// Whether the bytes of byte strings are wanted. Where they are not, [`Builder::bytes_passed`]
-    /// stands for them.
+    /// stands for those that are not buffered whole.
     const BYTES: bool;
 
     /// Takes an event. A refusal is for want of memory alone.
@@ -26,12 +26,11 @@ pub trait Builder {
         ensures ok { OnOk result (Self.takes self.old (told event.entry) self.new) }
         ensures err { OnErr result (Self.memory ≡ true) };
 
-    /// Takes a byte string of `len` bytes, which were passed over. A refusal is for want of memory
-    /// alone.
+    /// Takes a byte string of `len` bytes, which were passed over: the bytes of byte strings are not
+    /// wanted. A refusal is for want of memory alone.
     fn bytes_passed(&mut self, len: usize) -> Result<(), AllocError>
-        requires { BYTES ≡ false }
-        ensures ok { OnOk result
-            ((s : List ℕ) → length s ≡ len → takes self.old (events.bytes s) self.new) }
+        ensures ok { OnOk result (BYTES ≡ false
+            → (s : List ℕ) → length s ≡ len → takes self.old (events.bytes s) self.new) }
         ensures err { OnErr result (memory ≡ true) };
 }
 

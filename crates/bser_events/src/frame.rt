@@ -1,5 +1,5 @@
 //! What is still wanted of the containers that are open.
-ghost use Rattle.bser_events.specs.Frames.{CountsDown, IsSmall};
+ghost use Rattle.bser_events.specs.Frames.{CountsDown, CountsOn, IsSmall};
 
 /// The parts of a container that are still wanted.
 #[derive(Clone, Copy)]
@@ -77,6 +77,18 @@ impl Parts {
                 *fields = *width - 1;
                 Some(Due::Field)
             }
+        }
+    }
+    /// What is due after this piece: the value of an entry after its key, or the next part. None
+    /// where none is left.
+    #[inline(always)]
+    pub fn next_after(&mut self, due: Due) -> Option<Due>
+        ensures counted { CountsOn due self.old self.new result }
+        ensures small { IsSmall self.old → IsSmall self.new }
+    {
+        match due {
+            Due::Entry => Some(Due::Item),
+            Due::Item | Due::Field => self.next(),
         }
     }
 }

@@ -1,5 +1,5 @@
 //! Tokens where only so many levels are left, and the events that are told.
-ghost use Rattle.std.specs.Prelude.{◌≡◌, ◌≢◌, ◌<◌, true, IfOk, OnOk, OnErr};
+ghost use Rattle.std.specs.Prelude.{◌≡◌, ◌<◌, true, false, IfOk, OnOk, OnErr};
 ghost use Rattle.bser_format.specs.Errors.{error_of};
 ghost use Rattle.bser_named.specs.Named.{complain, utf8_wanted};
 ghost use Rattle.bser_read.specs.Window.{closed};
@@ -8,7 +8,7 @@ ghost use Rattle.bser_bunser.specs.Names.{Names};
 ghost use Rattle.bser_bunser.specs.Tagged.{bunser_window, refusal_of, TookToken};
 ghost use Rattle.bser_bunser.specs.Tokens.{LengthFits};
 ghost use Rattle.bser_events.specs.Told.{told};
-ghost use Rattle.bser_events.specs.Found.{token_at, IsContainer, LeafAhead};
+ghost use Rattle.bser_events.specs.Found.{token_at, IsContainer, LevelsFor};
 
 use crate::builder::Builder;
 use crate::event::Event;
@@ -52,38 +52,23 @@ pub fn token_within<R: DeRead>(bunser: &mut Bunser<R>, levels: usize) -> Answer<
     ensures names { OnErr result
         (Names (token_at levels) (refusal_of bunser.new) (bunser_window R.window bunser.old)) }
 {
-    if levels == 0 {
-        return leaf_token(bunser);
-    }
+    check_level(bunser, levels)?;
     bunser.token()
 }
 
-/// Takes a token where no level is left.
-#[cold]
-#[inline(never)]
-fn leaf_token<R: DeRead>(bunser: &mut Bunser<R>) -> Answer<Token>
-    ensures ok { IfOk result (λ t.
-        TookToken (bunser_window R.window bunser.old) (bunser_window R.window bunser.new) t) }
-    ensures fits { IfOk result (λ t. LengthFits t) }
-    ensures level { IfOk result (λ t. IsContainer t → 0 < 0) }
-    ensures err { OnErr result (Fails (refusal_of bunser.new)
-        (bunser_window R.window bunser.old) (bunser_window R.window bunser.new)) }
-    ensures names { OnErr result
-        (Names (token_at 0) (refusal_of bunser.new) (bunser_window R.window bunser.old)) }
-{
-    check_level(bunser)?;
-    bunser.token()
-}
-
-/// Refuses the tag of a container.
-fn check_level<R: DeRead>(bunser: &mut Bunser<R>) -> Answer<()>
+/// Refuses the tag of a container where no level is left.
+#[inline(always)]
+fn check_level<R: DeRead>(bunser: &mut Bunser<R>, levels: usize) -> Answer<()>
     ensures ok { OnOk result
-        (LeafAhead (bunser_window R.window bunser.old) (bunser_window R.window bunser.new)) }
+        (LevelsFor levels (bunser_window R.window bunser.old) (bunser_window R.window bunser.new)) }
     ensures err { OnErr result (Fails (refusal_of bunser.new)
         (bunser_window R.window bunser.old) (bunser_window R.window bunser.new)) }
     ensures names { OnErr result
-        (Names (token_at 0) (refusal_of bunser.new) (bunser_window R.window bunser.old)) }
+        (Names (token_at levels) (refusal_of bunser.new) (bunser_window R.window bunser.old)) }
 {
+    if levels != 0 {
+        return Ok(());
+    }
     bunser.fill(1)?;
     match bunser.buffered()[0] {
         BSER_ARRAY => Err(refuse_level(bunser, Kind::Array)),
@@ -138,14 +123,19 @@ pub fn refuse_text<R: DeRead>(bunser: &mut Bunser<R>) -> Refused
 }
 
 /// Refuses what comes after a refusal.
-#[cold]
-#[inline(never)]
-pub fn refuse_failed<R: DeRead>(bunser: &mut Bunser<R>) -> Refused
-    ensures reason { refusal_of bunser.new ≡ error_of ReadCause.Failed }
-    ensures state { bunser_window R.window bunser.new
-        ≡ closed (bunser_window R.window bunser.old) }
+pub fn check_working<R: DeRead>(bunser: &mut Bunser<R>) -> Answer<()>
+    ensures ok { OnOk result ((bunser_window R.window bunser.old).failed ≡ false) }
+    ensures same { OnOk result
+        (bunser_window R.window bunser.new ≡ bunser_window R.window bunser.old) }
+    ensures failed { OnErr result ((bunser_window R.window bunser.old).failed ≡ true) }
+    ensures reason { OnErr result (refusal_of bunser.new ≡ error_of ReadCause.Failed) }
+    ensures state { OnErr result
+        (bunser_window R.window bunser.new ≡ closed (bunser_window R.window bunser.old)) }
 {
-    bunser.refuse(Error::de_reader_error(ReadCause::Failed))
+    if bunser.is_failed() {
+        return Err(bunser.refuse(Error::de_reader_error(ReadCause::Failed)));
+    }
+    Ok(())
 }
 
 /// Refuses the rows of a template that has no keys.

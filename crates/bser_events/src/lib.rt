@@ -6,5 +6,6 @@ pub mod event;
 pub mod frame;
 mod heads;
 mod parts;
+mod pieces;
 pub mod reading;
 mod strings;

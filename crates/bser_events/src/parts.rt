@@ -20,6 +20,7 @@ use crate::builder::Builder;
 use crate::event::Event;
 use crate::frame::{Frame, Parts};
 use crate::heads::{refuse_level, refuse_rows, refuse_tag, tell};
+use crate::pieces::scalar;
 use crate::strings::{read_bytes, read_key, read_text};
 use bser_bunser::bunser::Bunser;
 use bser_bunser::prefix::Token;
@@ -49,39 +50,39 @@ pub fn read_after<R: DeRead, B: Builder>(
         (refusal_of bunser.new)
         (bunser_window R.window bunser.old) (bunser_window R.window bunser.new)) }
 {
+    if let Some(event) = scalar(token) {
+        tell(bunser, builder, event)?;
+        return Ok(None);
+    }
     match token {
-        Token::Null => tell(bunser, builder, Event::Null)?,
-        Token::Bool(value) => tell(bunser, builder, Event::Bool(value))?,
-        Token::Int(number) => tell(bunser, builder, Event::Int(number))?,
-        Token::Real(bits) => tell(bunser, builder, Event::Real(bits))?,
         Token::Str { is_text, len } => {
             if is_text {
                 read_text(bunser, len, scratch, builder)?;
             } else {
                 read_bytes(bunser, len, scratch, builder)?;
             }
+            Ok(None)
         }
         Token::Array { len } => {
             tell(bunser, builder, Event::Array { len })?;
-            return Ok(Some(Frame {
+            Ok(Some(Frame {
                 levels: levels - 1,
                 parts: Parts::Items(len),
-            }));
+            }))
         }
         Token::Object { len } => {
             tell(bunser, builder, Event::Object { len })?;
-            return Ok(Some(Frame {
+            Ok(Some(Frame {
                 levels: levels - 1,
                 parts: Parts::Entries(len),
-            }));
+            }))
         }
         Token::Template => {
             let frame = read_table(bunser, levels - 1, scratch, builder)?;
-            return Ok(Some(frame));
+            Ok(Some(frame))
         }
-        Token::Skip => return Err(refuse_tag(bunser, Kind::NextItem, BSER_SKIP)),
+        _ => Err(refuse_tag(bunser, Kind::NextItem, BSER_SKIP)),
     }
-    Ok(None)
 }
 
 /// Reads a template's list of keys and the count of its rows, and tells them.

@@ -1,7 +1,9 @@
-//! Reading what is due, whatever it is, by one loop over tokens.
-ghost use Rattle.std.specs.Prelude.{◌≡◌, ◌≢◌, ◌⊎◌, ◌<◌, true, vec_capacity, MatchBool, OnOk, OnErr};
+//! Reading what is due, whatever it is: pieces that are buffered by one loop, and one token where
+//! that ends.
+ghost use Rattle.std.specs.Prelude.{◌≡◌, ◌≢◌, ◌⊎◌, ◌≤◌, ◌<◌, ◌++◌, ◌∷◌, [], true, length, vec_capacity, MatchBool, OnOk, OnErr};
 ghost use Rattle.bser_format.specs.declared.errors.Kind.TheVariants as kinds;
 ghost use Rattle.bser_named.specs.Named.{text_of, with_text_keys};
+ghost use Rattle.bser_read.specs.Window.{closed};
 ghost use Rattle.bser_bunser.specs.Tagged.{bunser_window, refusal_of};
 ghost use Rattle.bser_events.specs.Events as events;
 ghost use Rattle.bser_events.specs.Frames.{parts_of, left_events, IsSmall};
@@ -10,13 +12,14 @@ ghost use Rattle.bser_events.specs.Found.{Found, KeyFound, Refuses, fields_at, t
 use crate::builder::Builder;
 use crate::event::Event;
 use crate::frame::{Due, Frame, Parts};
-use crate::heads::{refuse_failed, refuse_memory, tell, token_within};
+use crate::heads::{check_working, refuse_memory, tell, token_within};
 use crate::parts::read_after;
+use crate::pieces::due_piece;
 use crate::strings::read_key;
 use bser_bunser::bunser::Bunser;
 use bser_bunser::prefix::Token;
 use bser_bunser::refusal::Answer;
-use bser_format::errors::Kind;
+use bser_format::errors::{Error, Kind};
 use bser_read::read::DeRead;
 
 /// Reads a value where `levels` levels are left, and tells the builder what it finds.
@@ -84,6 +87,9 @@ pub fn read_fields<R: DeRead, B: Builder>(
 }
 
 /// Reads what is wanted, and tells the builder what it finds.
+///
+/// Pieces that are buffered whole are told one after the other, and then taken at once. What stands
+/// after them is read by calls of `bunser`, which may buffer more.
 fn read_parts<R: DeRead, B: Builder>(
     bunser: &mut Bunser<R>,
     frames: &mut Vec<Frame>,
@@ -101,13 +107,25 @@ fn read_parts<R: DeRead, B: Builder>(
         (parts_of whole.levels whole.parts) (refusal_of bunser.new)
         (bunser_window R.window bunser.old) (bunser_window R.window bunser.new)) }
 {
-    if bunser.is_failed() {
-        return Err(refuse_failed(bunser));
-    }
+    check_working(bunser)?;
     frames.clear();
     let mut frame = whole;
     'parts: loop {
-        let Some(due) = frame.parts.next() else {
+        let bytes = bunser.buffered();
+        let mut at = 0;
+        let mut due = frame.parts.next();
+        'pieces: while let Some(wanted) = due {
+            let Some(piece) = due_piece(wanted, &bytes[at..]) else {
+                break;
+            };
+            if builder.take(piece.event).is_err() {
+                return Err(refuse_memory(bunser));
+            }
+            at += piece.len;
+            due = frame.parts.next_after(wanted);
+        }
+        bunser.consume(at);
+        let Some(due) = due else {
             let Some(outer) = frames.pop() else {
                 return Ok(());
             };
@@ -124,11 +142,31 @@ fn read_parts<R: DeRead, B: Builder>(
         let Some(inner) = read_after(bunser, token, frame.levels, scratch, builder)? else {
             continue;
         };
-        if frames.push(frame).is_err() {
-            return Err(refuse_memory(bunser));
-        }
+        push_frame(bunser, frames, frame)?;
         frame = inner;
     }
+}
+
+/// Keeps an open container, in which another was opened.
+#[inline(always)]
+fn push_frame<R: DeRead>(
+    bunser: &mut Bunser<R>,
+    frames: &mut Vec<Frame>,
+    frame: Frame,
+) -> Answer<()>
+    ensures pushed { OnOk result (frames.new.items ≡ frames.old.items ++ frame ∷ []) }
+    ensures same { OnOk result
+        (bunser_window R.window bunser.new ≡ bunser_window R.window bunser.old) }
+    ensures room { OnOk result (vec_capacity frames.old ≤ vec_capacity frames.new) }
+    ensures full { OnErr result (vec_capacity frames.old ≤ length frames.old.items) }
+    ensures reason { OnErr result (refusal_of bunser.new ≡ Error.OutOfMemory) }
+    ensures state { OnErr result
+        (bunser_window R.window bunser.new ≡ closed (bunser_window R.window bunser.old)) }
+{
+    if frames.push(frame).is_err() {
+        return Err(refuse_memory(bunser));
+    }
+    Ok(())
 }
 
 /// Reads the key of an entry, where one is due, and tells it.

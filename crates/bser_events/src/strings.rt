@@ -1,11 +1,9 @@
 //! Strings and keys.
 ghost use Rattle.std.specs.Prelude.{◌≡◌, ◌<◌, ◌^◌, ◌∷◌, [], true, false, MatchBool, OnOk, OnErr};
 ghost use Rattle.bser_named.specs.Named.{front, text_of};
-ghost use Rattle.bser_bunser.specs.Refusal.{Fails};
-ghost use Rattle.bser_bunser.specs.Names.{Names};
 ghost use Rattle.bser_bunser.specs.Tagged.{bunser_window, refusal_of};
 ghost use Rattle.bser_events.specs.Events as events;
-ghost use Rattle.bser_events.specs.Found.{Found, Refuses, IsStringTag, TookKeyTag, text_bytes};
+ghost use Rattle.bser_events.specs.Found.{Found, Refuses, IsStringTag, text_bytes};
 
 use crate::builder::Builder;
 use crate::event::Event;
@@ -65,25 +63,6 @@ pub fn read_bytes<R: DeRead, B: Builder>(
     }
 }
 
-/// Takes the tag of a key.
-#[inline(always)]
-fn key_tag<R: DeRead>(bunser: &mut Bunser<R>, kind: Kind) -> Answer<()>
-    ensures ok { OnOk result
-        (TookKeyTag (bunser_window R.window bunser.old) (bunser_window R.window bunser.new)) }
-    ensures err { OnErr result (Fails (refusal_of bunser.new)
-        (bunser_window R.window bunser.old) (bunser_window R.window bunser.new)) }
-    ensures names { OnErr result
-        (Names (text_of kind) (refusal_of bunser.new) (bunser_window R.window bunser.old)) }
-{
-    bunser.fill(1)?;
-    let byte = bunser.buffered()[0];
-    if is_string_tag(byte) {
-        bunser.consume(1);
-        return Ok(());
-    }
-    Err(refuse_tag(bunser, kind, byte))
-}
-
 /// Whether a string has this tag.
 #[inline(always)]
 fn is_string_tag(byte: u8) -> bool
@@ -111,7 +90,12 @@ pub fn read_key<R: DeRead, B: Builder>(
     ensures err { OnErr result (Refuses (B.memory ≡ true) (text_of kind) (refusal_of bunser.new)
         (bunser_window R.window bunser.old) (bunser_window R.window bunser.new)) }
 {
-    key_tag(bunser, kind)?;
+    bunser.fill(1)?;
+    let byte = bunser.buffered()[0];
+    if !is_string_tag(byte) {
+        return Err(refuse_tag(bunser, kind, byte));
+    }
+    bunser.consume(1);
     let bytes = bunser.next_string(scratch)?;
     match as_text(bytes.get_ref()) {
         Some(text) => tell(bunser, builder, Event::Key(text)),

@@ -1,5 +1,5 @@
 -- The canonical message is a message, and reads back.
-use Rattle.std.proofs.Common.{◌≡◌, ℕ, max, ◌<◌, ◌≤◌, ◌^◌, List, [], ◌∷◌, ◌++◌, length, Some, option_map, fold, refl, sym, ap, subst, ◌∙◌, arith, append_assoc, append-nil, Ordering, Less, Greater, nat_cmp}
+use Rattle.std.proofs.Common.{◌≡◌, ℕ, ◌<◌, ◌≤◌, ◌^◌, List, [], ◌∷◌, ◌++◌, length, Some, option_map, fold, refl, sym, ap, subst, ◌∙◌, arith, append_assoc, append-nil, Ordering, Less, Greater, nat_cmp}
 use Rattle.std.proofs.lemmas.List.{length-append}
 use Rattle.std.proofs.lemmas.Str.{is_utf8-from_IsUtf8}
 use Rattle.std.proofs.lemmas.Cmp.{nat_list_cmp_total}
@@ -21,7 +21,6 @@ use Rattle.bser_format.specs.Compact.{keys}
 use Rattle.bser_format.specs.ValueTree.{IsValueTree, ItemsAreValueTrees, EntriesAreValueTrees}
 use Rattle.bser_format.proofs.Canon.{joined, count_spelled, text_spelled}
 use Rattle.bser_format.proofs.Fronts.{entries_back}
-use Rattle.bser_format.proofs.Laws.{one_message}
 
 pub canon_message : (n : ℕ) (t : Tree) → IsWritable t → depth t ≤ n → length (canonical_message t) < 2 ^ 63 → IsMessage n 0 t (canonical_message t)
 canon_message n t h l short =
@@ -34,11 +33,6 @@ canon_message n t h l short =
       value = text_spelled n t h l;
       short = short;
     }
-
-pub equal_canon : (t u : Tree) → IsWritable t → IsWritable u → length (canonical_message t) < 2 ^ 63 → canonical_message t ≡ canonical_message u → t ≡ u
-equal_canon t u h k short e =
-    let n : ℕ = max (depth t) (depth u) in
-    (one_message n 0 0 (canonical_message t) (canonical_message u) [] [] t u (canon_message n t h (omega arith) short) (canon_message n u k (omega arith) (subst (λ b. length b < 2 ^ 63) e short)) (ap (λ b. b ++ []) e)).2
 
 -- ---- a settled tree stands for itself, and is its own normal form
 

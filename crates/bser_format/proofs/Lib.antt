@@ -13,7 +13,6 @@ pub mod Fits
 pub mod Values
 pub mod Bounds
 pub mod Frames
-pub mod Tags
 pub mod OneHead
 pub mod Escapes
 pub mod Strays

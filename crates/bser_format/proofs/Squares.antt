@@ -1,5 +1,5 @@
 -- A value's depth is below twice the levels, and its text is at most the square of its bytes.
-use Rattle.std.proofs.Common.{◌≡◌, ℕ, zero, suc, ◌+◌, ◌-◌, ◌*◌, ◌≤◌, List, [], ◌∷◌, length, Option, Some, None, sym, ap, subst, arith}
+use Rattle.std.proofs.Common.{◌≡◌, ℕ, zero, suc, ◌+◌, ◌-◌, ◌*◌, ◌≤◌, List, [], ◌∷◌, length, Some, sym, ap, subst, arith}
 use Rattle.std.proofs.lemmas.List.{length-append}
 use Rattle.std.proofs.lemmas.Option.{same_Some}
 use Rattle.std.proofs.Math.Nat.{mul-le-mul_left}
@@ -56,9 +56,6 @@ depth_below (suc (suc n)) (template ks rs) b h =
     omega (arith, rows_deep (Spells (suc n)) (2 * suc n - 1) (depth_below (suc n)) ks rs rest.rest rest.second)
 
 -- ---- size
-
-square : ℕ → ℕ
-square n = n * n
 
 squares_add : (a b m n k : ℕ) → a ≤ m * m → b ≤ n * n → k ≡ m + n → a + b ≤ k * k
 squares_add a b m n k p q e = subst (λ j. a + b ≤ j * j) (sym e) (omega arith)
@@ -138,10 +135,6 @@ rows_squared F one ks (row fs rs) b us h e =
       subst (λ ws. length (canonical_items ws) ≤ suc (length (rows rs)) * head_size ks + length b * length b) same (omega (arith, length-append (canonical_body u) (canonical_items vs))),
       subst (λ ws. length (items ws) ≡ suc (length (rows rs))) same (ap suc others.1),
     )
-
-field_nonempty : (n : ℕ) (f : Option Tree) (b : List ℕ) → SpellsField (Spells n) f b → 1 ≤ length b
-field_nonempty n None b h = omega (arith, ap length h)
-field_nonempty n (Some t) b h = omega (arith, nodes_below n t b h)
 
 -- with a key, each row has a byte
 rows_few : (n : ℕ) (ks : List (List ℕ)) (rs : Rows) (b : List ℕ) → IsTemplate ks (rows rs) → Each (Each (SpellsField (Spells n))) (rows rs) b → length (rows rs) ≤ length b

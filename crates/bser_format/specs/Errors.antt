@@ -2,9 +2,7 @@
 use Rattle.bser_format.specs.declared.errors.ReadCause.{ReadCause}
 use Rattle.bser_format.specs.declared.errors.ReadCause.TheVariants.{Eof, Utf8, Reader, Memory, Failed}
 use Rattle.bser_format.specs.declared.errors.Error.{Error}
-use Rattle.bser_format.specs.declared.errors.Error.TheVariants.{DeReaderError, DeCustom, OutOfMemory}
-use Rattle.bser_format.specs.declared.errors.Message.TheVariants.{Fixed}
-use Rattle.bser_format.specs.declared.errors.Complaint.TheVariants.{BorrowedFromCopying}
+use Rattle.bser_format.specs.declared.errors.Error.TheVariants.{DeReaderError, OutOfMemory}
 
 -- the refusal for a byte source's cause
 abbrev pub error_of : ReadCause → Error
@@ -13,7 +11,3 @@ error_of Utf8 = DeReaderError Utf8
 error_of (Reader e) = DeReaderError (Reader e)
 error_of Memory = OutOfMemory
 error_of Failed = DeReaderError Failed
-
--- the refusal to borrow from a source that copies
-abbrev pub copying : Error
-copying = DeCustom (Fixed BorrowedFromCopying)

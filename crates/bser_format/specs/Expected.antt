@@ -61,19 +61,3 @@ FillsPair n e = SpellsString e.0 then Fills n node_due e.1
 abbrev pub FillsPairs : ℕ → WantedPairs → Entries → Format
 FillsPairs n (entries_of_object k) us = Given (length (entries us) ≡ k) (Each (FillsPair n) (entries us))
 FillsPairs n (fields_of_row ks) us = Given (map (λ e. e.0) (entries us) ≡ ks) (Each (λ e. Fills n field_due e.1) (entries us))
-
--- an open container, with the levels that are left inside it: an array, an object, or an object of which the value of a key that was read is still wanted
-pub data Open : Type 0 where
-  open_items : ℕ → WantedItems → Open
-  open_pairs : ℕ → WantedPairs → Open
-  open_value : ℕ → Due → WantedPairs → Open
-
--- the bytes that an open container still wants
-abbrev pub FillsOpen : Open → Format
-FillsOpen (open_items n w) b = (us : Items) × FillsItems n w us b
-FillsOpen (open_pairs n w) b = (us : Entries) × FillsPairs n w us b
-FillsOpen (open_value n d w) b = (u : Tree) × (us : Entries) × (Fills n d u then FillsPairs n w us) b
-
--- the bytes that all open containers still want, the innermost first
-abbrev pub FillsAll : List Open → Format
-FillsAll = Each FillsOpen

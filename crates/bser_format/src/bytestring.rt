@@ -70,7 +70,8 @@ impl ByteString {
 
     /// The bytes, to be changed in place, where the Rust crate has `DerefMut`. Their number stays.
     pub fn as_mut_bytes(&mut self) -> &mut [u8]
-        ensures* writes_back { sem 𝓛 (Lends the_row (Array u8 0) self.entry result (overwritten self.old)) }
+        ensures* writes_back { sem 𝓛 (Lends the_row (Array u8 0) self.entry result
+            (overwritten self.old)) }
         ensures value { result.now ≡ self.old }
     {
         self.bytes.as_mut_slice()
@@ -237,7 +238,8 @@ fn low_digit(byte: u8) -> char
 
 /// Appends each byte as `\x` and two digits.
 fn push_escaped(text: &mut String, bytes: &[u8]) -> Result<(), AllocError>
-    ensures { OnOk result (string_bytes text.new ≡ string_bytes text.old ++ encode_utf8_all (flat_map escaped_byte bytes.now)) }
+    ensures { OnOk result (string_bytes text.new ≡ string_bytes text.old ++ encode_utf8_all
+        (flat_map escaped_byte bytes.now)) }
 {
     for byte in bytes {
         text.push_str("\\x")?;
@@ -248,7 +250,8 @@ fn push_escaped(text: &mut String, bytes: &[u8]) -> Result<(), AllocError>
 }
 
 fn write_quoted<W: fmt::Write>(bytes: &[u8], nul: NulForm, f: &mut fmt::Formatter<W>) -> fmt::Result
-    ensures { WritesOnOk W.write_str_gives f.old result (encode_utf8_all (quoted (escape_by nul) bytes.now)) f.new }
+    ensures { WritesOnOk W.write_str_gives f.old result
+        (encode_utf8_all (quoted (escape_by nul) bytes.now)) f.new }
 {
     f.write_char('"')?;
     for chunk in bytes.utf8_chunks() {
@@ -260,7 +263,8 @@ fn write_quoted<W: fmt::Write>(bytes: &[u8], nul: NulForm, f: &mut fmt::Formatte
 
 /// Writes each character of the text in its escaped form.
 fn write_text<W: fmt::Write>(text: &str, nul: NulForm, f: &mut fmt::Formatter<W>) -> fmt::Result
-    ensures { WritesOnOk W.write_str_gives f.old result (encode_utf8_all (flat_map (escape_by nul) (chars text.now))) f.new }
+    ensures { WritesOnOk W.write_str_gives f.old result
+        (encode_utf8_all (flat_map (escape_by nul) (chars text.now))) f.new }
 {
     for c in text.chars() {
         write_char(c, nul, f)?;
@@ -288,7 +292,8 @@ fn write_default<W: fmt::Write>(c: char, f: &mut fmt::Formatter<W>) -> fmt::Resu
 
 /// Writes each byte as an escaped backslash, `x` and two digits.
 fn write_stray<W: fmt::Write>(bytes: &[u8], f: &mut fmt::Formatter<W>) -> fmt::Result
-    ensures { WritesOnOk W.write_str_gives f.old result (encode_utf8_all (flat_map quoted_byte bytes.now)) f.new }
+    ensures { WritesOnOk W.write_str_gives f.old result
+        (encode_utf8_all (flat_map quoted_byte bytes.now)) f.new }
 {
     for byte in bytes {
         f.write_str("\\\\x")?;

@@ -1,7 +1,6 @@
 -- How the plain reader of messages refuses: by the head, by the value, or where the body ends.
-use Rattle.std.proofs.Common.{◌≡◌, ℕ, ◌+◌, ◌-◌, ◌^◌, ◌<◌, Bool, true, false, cond, List, [], ◌∷◌, ◌++◌, length, length-append, append_assoc, nat_eq, nat_lt, refl, sym, ap, ◌∙◌, arith}
+use Rattle.std.proofs.Common.{◌≡◌, ℕ, ◌+◌, ◌-◌, ◌^◌, ◌<◌, Bool, true, false, cond, List, ◌++◌, length, length-append, nat_eq, nat_lt, refl, ap, ◌∙◌, arith}
 use Rattle.std.specs.Prelude.{pos}
-use Rattle.std.specs.Int.{w32, to_le_bytes}
 use Rattle.std.proofs.lemmas.Bool.{ltb-true, eqb-true}
 use Rattle.bser_format.specs.Grammar.{IntSize, int8, int16, int32, int64, int_bytes, SpellsCount}
 use Rattle.bser_format.specs.Message.{Head}

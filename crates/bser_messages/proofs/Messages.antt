@@ -1,11 +1,10 @@
 -- A message that was read, and one that was refused.
-use Rattle.std.proofs.Common.{◌≡◌, ℕ, ◌+◌, ◌-◌, ◌≤◌, ◌<◌, ◌^◌, min, max, List, [], ◌∷◌, ◌++◌, Option, None, Some, length, length-append, append_assoc, refl, sym, ap, subst, ◌∙◌, arith, true, false, inl, inr}
+use Rattle.std.proofs.Common.{◌≡◌, ℕ, ◌+◌, ◌-◌, ◌≤◌, ◌<◌, ◌^◌, min, max, List, ◌++◌, Option, None, Some, length, length-append, append_assoc, refl, sym, ap, subst, ◌∙◌, arith, true, false, inl}
 use Rattle.std.proofs.lemmas.List.{append_cancel_left}
 use Rattle.std.specs.Prelude.{ℤ, pos, ◌+ℤ◌, IsTrue}
 use Rattle.std.proofs.KnownBytes.{Consumes-trans}
 use Rattle.std.proofs.lemmas.Int.{ints}
 use Rattle.bser_format.specs.Tree.{Tree}
-use Rattle.bser_format.specs.Grammar.{Spells}
 use Rattle.bser_format.specs.Expand.{expand}
 use Rattle.bser_format.specs.Expected.{Fills, FillsNode, nothing_due, node_due}
 use Rattle.bser_format.specs.Content.{Content, Meaning, Needs}
@@ -19,8 +18,8 @@ use Rattle.bser_named.specs.Clauses.{after_a_refusal, still_open}
 use Rattle.bser_read.specs.Window.{Window, Within, Took, left, with_limit}
 use Rattle.bser_read.proofs.Windows.{left_took, octets_then}
 use Rattle.bser_bunser.specs.Tagged.{IsHead}
-use Rattle.bser_bunser.specs.Refusal.{Fails, failures_by, end_refusal}
-use Rattle.bser_bunser.specs.Names.{Names, MayBeLeft}
+use Rattle.bser_bunser.specs.Refusal.{Fails, end_refusal}
+use Rattle.bser_bunser.specs.Names.{Names}
 use Rattle.bser_bunser.proofs.Names.{known_rest, left_now, left_untaken}
 use Rattle.bser_bunser.proofs.Readers.{head_there}
 use Rattle.bser_due.specs.State.{State, Begins, IsAtEnd}
@@ -108,7 +107,7 @@ head_first n reads text (c, r) =
 -- by the name of the head
 head_named : {R : Meaning} (n : ℕ) (needs : Needs) (asks : Option (Asking R)) (e : Error) (a : Window) → NamesBy needs named.head e a → NamesMessage n needs asks e a
 head_named n needs None e a h = tt
-head_named n needs (Some k) e a h = names_by_more needs (named.message (k.asks 0 n node_due)) named.head e a (λ x bad. head_bad (k.asks 0 n node_due) e x bad) h
+head_named n needs (Some k) e a h = names_by_more needs (named.message (k.asks 0 n node_due)) named.head e a (λ f x bad. head_bad (k.asks 0 n node_due) f x bad) h
 
 pub head_refused : (n : ℕ) (reads : Meaning) (asks : Option (Asking reads)) (needs : Needs) (e : Error) (a b : Window) → Fails e a b → Names named.head e a → RefusesBody n reads asks needs e a b
 head_refused n reads asks needs e a b fails name =
@@ -144,7 +143,7 @@ value_named n needs (Some k) e a s begins h =
     subst (λ o. NamesBy needs (k.asks o n node_due) e s.source) begins.opened
     (subst (λ l. NamesBy needs (k.asks s.opened l node_due) e s.source) begins.levels (subst (λ d. NamesBy needs (k.asks s.opened s.levels d) e s.source) begins.due h)) in
     names_by_untaken needs (named.message (k.asks 0 n node_due)) (k.asks 0 n node_due) e a (with_limit a.limit s.source) head.text
-    (λ x bad. value_bad (k.asks 0 n node_due) e s.capabilities head.size head.text x (head_there s.capabilities head.size head.text head.head) bad)
+    (λ f x bad. value_bad (k.asks 0 n node_due) f s.capabilities head.size head.text x (head_there s.capabilities head.size head.text head.head) bad)
     head.took (names_within a.limit needs (k.asks 0 n node_due) e s.source here)
 
 pub value_refused : (n : ℕ) (reads : Meaning) (asks : Option (Asking reads)) (needs : Needs) (e : Error) (a : Window) (s t : State) → Begins n a s → Refuses reads asks needs e s t
@@ -152,10 +151,6 @@ pub value_refused : (n : ℕ) (reads : Meaning) (asks : Option (Asking reads)) (
 value_refused n reads asks needs e a s t begins u =
     sequel needs (FillsReadably reads s) (IsReadableMessage n reads) (NamesAsked needs asks e s) (NamesMessage n needs asks e a) e a (with_limit a.limit s.source) t.source begins.took.text begins.took.took
     (body_second n reads a s begins) (value_named n needs asks e a s begins) (refuses_within a.limit needs (FillsReadably reads s) (NamesAsked needs asks e s) e s.source t.source u)
-
--- a message whose head or value is refused is refused
-pub body_refused : (n : ℕ) (reads : Meaning) (asks : Option (Asking reads)) (needs : Needs) (e : Error) (a b : Window) → RefusesBody n reads asks needs e a b → RefusesMessage n reads asks needs e a b
-body_refused n reads asks needs e a b u = record { through = u.fails.through; failures = u.fails.failures; may = u.may; names = u.names; excuse = u.excuse }
 
 -- ---- a body that does not end where it was to
 

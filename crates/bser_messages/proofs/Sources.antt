@@ -1,11 +1,10 @@
 -- What reading a message is to one who holds the slice or the reader.
-use Rattle.std.proofs.Common.{◌≡◌, ◌≢◌, ℕ, ◌+◌, ◌-◌, ◌^◌, ◌<◌, ◌≤◌, Bool, true, false, cond, ◌||◌, List, [], ◌∷◌, ◌++◌, max, Option, None, Some, length, nat_lt, refl, sym, ap, subst, ◌∙◌, arith, inl, inr, ◌⊎◌}
+use Rattle.std.proofs.Common.{◌≡◌, ℕ, ◌+◌, ◌-◌, ◌^◌, ◌<◌, Bool, true, false, cond, ◌||◌, List, [], ◌++◌, Option, None, Some, length, nat_lt, refl, sym, ap, subst, ◌∙◌, arith, inl, inr, ◌⊎◌}
 use Rattle.std.proofs.lemmas.List.{append-nil}
-use Rattle.std.proofs.lemmas.Bool.{ltb-true, ltb-false}
+use Rattle.std.proofs.lemmas.Bool.{ltb-false}
 use Rattle.std.specs.Prelude.{Result, Ok, Err, IfErr}
 use Rattle.std.specs.Borrow.{GName}
-use Rattle.std.specs.Io.KnownBytes.{Consumes}
-use Rattle.bser_format.specs.Content.{Content, Meaning, Needs}
+use Rattle.bser_format.specs.Content.{Meaning, Needs}
 use Rattle.bser_format.specs.Expected.{node_due}
 use Rattle.bser_format.specs.declared.errors.Error.{Error}
 use Rattle.bser_format.specs.declared.errors.Error.TheVariants.{DeCustom, DeReaderError, OutOfMemory}
@@ -14,39 +13,43 @@ use Rattle.bser_format.specs.declared.errors.Complaint.TheVariants as complaints
 use Rattle.bser_format.specs.declared.errors.ReadCause.TheVariants.{Reader, Failed}
 use Rattle.bser_source.specs.Device.{one_more, Blamed}
 use Rattle.bser_named.specs.Named as named
-use Rattle.bser_read.specs.Window.{Window, Took, left, with_limit}
+use Rattle.bser_read.specs.Window.{Window, left}
 use Rattle.bser_read.specs.Slice.{slice_fresh}
-use Rattle.bser_read.proofs.Windows.{left_took}
 use Rattle.bser_bunser.specs.Refusal.{failures_by}
-use Rattle.bser_bunser.specs.Names.{MayBeLeft}
-use Rattle.bser_due.specs.Reading.{Asking, OutsideBy, MayRefuse, NamesBy, refusing}
-use Rattle.bser_messages.specs.Messages.{BeginsWith, TookMessage, ReadsMessageAs, ReadsMessage, NamesMessage, RefusesMessage, IsMemory, NamesSlice, RefusesSlice, CountsFault, MayCome, IsOutside, NamesReader, RefusesReader}
+use Rattle.bser_bunser.specs.Names as bunser
+use Rattle.bser_bunser.specs.Names.{Agree, Blame, MayBeLeft, RefusedAs}
+use Rattle.bser_due.specs.Reading.{Asking, OutsideBy, ExcusedBy, MayRefuse, refusing}
+use Rattle.bser_messages.specs.Messages.{NamesMessage, RefusesMessage, IsMemory, NamesSlice, RefusesSlice, CountsFault, MayCome, IsReaderFault, IsOutside, NamesReader, RefusesReader}
 
 -- ---- slices
-
-pub slice_read : {A : Type 0} (n : ℕ) (reads : Meaning) (holds : A → Content → Type 0) (bytes : List ℕ) (t : Window) (v : A) → ReadsMessage n reads holds (slice_fresh bytes) t v → BeginsWith n reads holds bytes v
-slice_read n reads holds bytes t v r =
-    let p = left_took (slice_fresh bytes) (with_limit 0 t) r.text (bytes ++ []) r.took refl in
-    record { text = r.text; rest = p.0; front = sym (append-nil bytes) ∙ p.2; content = r.content; message = r.message; held = r.held }
 
 -- what may be left of a slice is the slice
 slice_left : (bytes b : List ℕ) → MayBeLeft (slice_fresh bytes) b → b ≡ bytes
 slice_left bytes b m = m.whole ∙ ap (λ l. bytes ++ l) (m.known [] refl) ∙ append-nil bytes
 
 -- nothing but want of memory is to blame beside the slice
-slice_outside : (needs : Needs) (e : Error) (bytes : List ℕ) → OutsideBy needs e (slice_fresh bytes) → IsMemory needs e
-slice_outside needs OutOfMemory bytes (inl h) = absurd cc
-slice_outside needs OutOfMemory bytes (inr h) = record { memory = refl; needed = h }
-slice_outside needs (DeCustom (Fixed complaints.BorrowedFromCopying)) bytes h = absurd (let f = h.0 in cc)
-slice_outside needs (DeReaderError (Reader fault)) bytes h = absurd cc
-slice_outside needs (DeReaderError Failed) bytes (inl h) = absurd cc
-slice_outside needs (DeReaderError Failed) bytes (inr h) = absurd (let f = h.0 in cc)
-slice_outside needs _ bytes h = absurd h
+slice_outside : (needs : Needs) (P : Blame) (e : Error) (bytes : List ℕ) → OutsideBy needs P e (slice_fresh bytes) → IsMemory needs e
+slice_outside needs P OutOfMemory bytes (inl h) = absurd cc
+slice_outside needs P OutOfMemory bytes (inr h) = record { memory = refl; needed = h }
+slice_outside needs P (DeCustom (Fixed complaints.BorrowedFromCopying)) bytes h = absurd (let f = h.0 in cc)
+slice_outside needs P (DeReaderError (Reader fault)) bytes h = absurd cc
+slice_outside needs P (DeReaderError Failed) bytes (inl h) = absurd cc
+slice_outside needs P (DeReaderError Failed) bytes (inr h) = absurd (let f = h.0 in cc)
+slice_outside needs P _ bytes h = absurd h
+
+slice_excused : (needs : Needs) (n : ℕ) (e : Error) (bytes : List ℕ) → ExcusedBy needs n e (slice_fresh bytes) → IsMemory needs e
+slice_excused needs n OutOfMemory bytes (inl h) = absurd cc
+slice_excused needs n OutOfMemory bytes (inr h) = record { memory = refl; needed = h }
+slice_excused needs n (DeCustom (Fixed complaints.BorrowedFromCopying)) bytes h = absurd (let f = h.0 in cc)
+slice_excused needs n (DeReaderError (Reader fault)) bytes h = absurd cc
+slice_excused needs n (DeReaderError Failed) bytes (inl h) = absurd cc
+slice_excused needs n (DeReaderError Failed) bytes (inr h) = absurd (let f = h.0 in cc)
+slice_excused needs n _ bytes h = absurd h
 
 slice_named : {R : Meaning} (n : ℕ) (needs : Needs) (asks : Option (Asking R)) (e : Error) (bytes : List ℕ) → NamesMessage n needs asks e (slice_fresh bytes) → NamesSlice n asks e bytes
 slice_named n needs None e bytes h = tt
 slice_named n needs (Some k) e bytes (inl (b, m, bad)) = inl (ap (named.message (k.asks 0 n node_due)) (sym (slice_left bytes b m)) ∙ bad)
-slice_named n needs (Some k) e bytes (inr h) = inr ((slice_outside (refusing needs) e bytes h).memory)
+slice_named n needs (Some k) e bytes (inr h) = inr ((slice_outside (refusing needs) (RefusedAs (named.message (k.asks 0 n node_due))) e bytes h).memory)
 
 either_is : (a b : Bool) → a || b ≡ true → (a ≡ true) ⊎ (b ≡ true)
 either_is true b e = inl refl
@@ -57,14 +60,14 @@ slice_memory needs e bytes may is = go (subst (λ f. MayRefuse needs f (slice_fr
   where
     go : MayRefuse needs OutOfMemory (slice_fresh bytes) → (needs.memory ≡ true) ⊎ (needs.keys ≡ true)
     go (inl h) = absurd h
-    go (inr h) = either_is needs.memory needs.keys ((slice_outside (refusing needs) OutOfMemory bytes h).needed)
+    go (inr h) = either_is needs.memory needs.keys ((slice_excused (refusing needs) 0 OutOfMemory bytes h).needed)
 
 pub slice_refused : (n : ℕ) (reads : Meaning) (asks : Option (Asking reads)) (needs : Needs) (e : Error) (bytes : List ℕ) (a t : Window) → a ≡ slice_fresh bytes → RefusesMessage n reads asks needs e a t → RefusesSlice n reads asks needs e bytes
 slice_refused n reads asks needs e bytes a t fresh v =
     let u : RefusesMessage n reads asks needs e (slice_fresh bytes) t = subst (λ w. RefusesMessage n reads asks needs e w t) fresh v in
     record {
       names = slice_named n needs asks e bytes u.names;
-      excuse = λ text rest c readable known. slice_outside needs e bytes (u.excuse text rest (c, readable) (ap Some (append-nil bytes ∙ known)));
+      excuse = λ text rest c readable known. slice_excused needs (length text) e bytes (u.excuse text rest (c, readable) (ap Some (append-nil bytes ∙ known)));
       memory = slice_memory needs e bytes u.may;
     }
 
@@ -78,19 +81,6 @@ reader_fresh remaining failures through =
 -- such a window by what it tells of itself
 pub fresh_itself : (remaining : Option (List ℕ)) (failures : ℕ) (through : Option GName) (a : Window) → a ≡ reader_fresh remaining failures through → a ≡ reader_fresh a.beyond a.failures a.through
 fresh_itself remaining failures through a e = subst (λ w. w ≡ reader_fresh w.beyond w.failures w.through) (sym e) refl
-
--- no list is shorter than the empty one
-empty : (xs : List ℕ) → length xs ≤ 0 → xs ≡ []
-empty [] h = refl
-empty (x ∷ xs) h = absurd (omega (arith, h))
-
-pub reader_read : {A : Type 0} (n : ℕ) (reads : Meaning) (holds : A → Content → Type 0) (remaining : Option (List ℕ)) (failures : ℕ) (through : Option GName) (t : Window) (v : A)
-    → ReadsMessage n reads holds (reader_fresh remaining failures through) t v → TookMessage n reads holds remaining t.beyond v
-reader_read n reads holds remaining failures through t v r =
-    let ahead : length t.buffered ≤ max (0 - t.count) 0 = r.took.within 0 (omega arith) in
-    let none : t.buffered ≡ [] = empty t.buffered (omega (arith, ahead)) in
-    let taken : r.took.more ≡ r.text = r.took.bytes ∙ ap (λ l. r.text ++ l) none ∙ append-nil r.text in
-    record { text = r.text; bytes = subst (Consumes remaining t.beyond) taken r.took.device; content = r.content; message = r.message; held = r.held }
 
 blamed_more : (n : ℕ) → Blamed n (one_more n)
 blamed_more n = go (nat_lt n (2 ^ 64 - 1)) refl
@@ -112,20 +102,35 @@ fresh_left : (remaining : Option (List ℕ)) (failures : ℕ) (through : Option 
 fresh_left None failures through b e = absurd cc
 fresh_left (Some xs) failures through b e = e
 
-reader_outside : (needs : Needs) (e : Error) (remaining : Option (List ℕ)) (before after : ℕ) (through : Option GName) → needs.lent ≡ false → after ≡ failures_by e before
-    → OutsideBy needs e (reader_fresh remaining before through) → IsOutside remaining before after e
-reader_outside needs OutOfMemory remaining before after through owned same h = tt
-reader_outside needs (DeCustom (Fixed complaints.BorrowedFromCopying)) remaining before after through owned same h = absurd (let l = h.1 in cc)
-reader_outside needs (DeReaderError (Reader fault)) remaining before after through owned same h = subst (Blamed before) (sym same) (blamed_more before)
-reader_outside needs (DeReaderError Failed) remaining before after through owned same (inl h) = absurd cc
-reader_outside needs (DeReaderError Failed) remaining before after through owned same (inr (lends, (b, m, long))) = (b, reader_left remaining before through b m, omega (arith, long))
-reader_outside needs _ remaining before after through owned same h = absurd h
+-- bytes that may come from a reader agree with those left
+reader_comes : (remaining : Option (List ℕ)) (failures : ℕ) (through : Option GName) (b : List ℕ) → bunser.MayCome (reader_fresh remaining failures through) b → (x : List ℕ) → remaining ≡ Some x → Agree b x
+reader_comes remaining failures through b m x known = subst (λ l. Agree l x) (sym m.whole) (m.known x known)
+
+reader_outside : {X : Type 0} (needs : Needs) (r : named.Reader X) (e : Error) (remaining : Option (List ℕ)) (before after : ℕ) (through : Option GName) → needs.lent ≡ false → after ≡ failures_by e before
+    → OutsideBy needs (RefusedAs r) e (reader_fresh remaining before through) → IsOutside r remaining before after e
+reader_outside needs r OutOfMemory remaining before after through owned same h = tt
+reader_outside needs r (DeCustom (Fixed complaints.BorrowedFromCopying)) remaining before after through owned same h = absurd (let l = h.1 in cc)
+reader_outside needs r (DeReaderError (Reader fault)) remaining before after through owned same h = subst (Blamed before) (sym same) (blamed_more before)
+reader_outside needs r (DeReaderError Failed) remaining before after through owned same (inl h) = absurd cc
+reader_outside needs r (DeReaderError Failed) remaining before after through owned same (inr (lends, o)) =
+    record { text = o.text; comes = reader_comes remaining before through o.text o.comes; few = o.few; long = omega (arith, o.long) }
+reader_outside needs r _ remaining before after through owned same h = absurd h
+
+-- no message is so long that its bytes are not counted
+reader_excused : (needs : Needs) (n : ℕ) (e : Error) (remaining : Option (List ℕ)) (before after : ℕ) (through : Option GName) → needs.lent ≡ false → after ≡ failures_by e before → n < 2 ^ 63
+    → ExcusedBy needs n e (reader_fresh remaining before through) → IsReaderFault before after e
+reader_excused needs n OutOfMemory remaining before after through owned same short h = tt
+reader_excused needs n (DeCustom (Fixed complaints.BorrowedFromCopying)) remaining before after through owned same short h = absurd (let l = h.1 in cc)
+reader_excused needs n (DeReaderError (Reader fault)) remaining before after through owned same short h = subst (Blamed before) (sym same) (blamed_more before)
+reader_excused needs n (DeReaderError Failed) remaining before after through owned same short (inl h) = absurd cc
+reader_excused needs n (DeReaderError Failed) remaining before after through owned same short (inr h) = absurd (omega (arith, h.1, short))
+reader_excused needs n _ remaining before after through owned same short h = absurd h
 
 reader_named : {R : Meaning} (n : ℕ) (needs : Needs) (asks : Option (Asking R)) (e : Error) (remaining : Option (List ℕ)) (before after : ℕ) (through : Option GName) → needs.lent ≡ false → after ≡ failures_by e before
     → NamesMessage n needs asks e (reader_fresh remaining before through) → NamesReader n asks e remaining before after
 reader_named n needs None e remaining before after through owned same h = tt
 reader_named n needs (Some k) e remaining before after through owned same (inl (b, m, bad)) = inl (b, reader_left remaining before through b m, bad)
-reader_named n needs (Some k) e remaining before after through owned same (inr h) = inr (reader_outside (refusing needs) e remaining before after through owned same h)
+reader_named n needs (Some k) e remaining before after through owned same (inr h) = inr (reader_outside (refusing needs) (named.message (k.asks 0 n node_due)) e remaining before after through owned same h)
 
 pub reader_refused : (n : ℕ) (reads : Meaning) (asks : Option (Asking reads)) (needs : Needs) (e : Error) (a t : Window) → needs.lent ≡ false → a ≡ reader_fresh a.beyond a.failures a.through
     → RefusesMessage n reads asks needs e a t → RefusesReader n reads asks e a.beyond a.failures t.failures
@@ -133,7 +138,7 @@ reader_refused n reads asks needs e a t owned fresh v =
     let u : RefusesMessage n reads asks needs e (reader_fresh a.beyond a.failures a.through) t = subst (λ w. RefusesMessage n reads asks needs e w t) fresh v in
     record {
       names = reader_named n needs asks e a.beyond a.failures t.failures a.through owned v.failures u.names;
-      excuse = λ text rest c readable known. reader_outside needs e a.beyond a.failures t.failures a.through owned v.failures (u.excuse text rest (c, readable) (fresh_left a.beyond a.failures a.through (text ++ rest) known));
+      excuse = λ text rest c readable known. reader_excused needs (length text) e a.beyond a.failures t.failures a.through owned v.failures readable.message.short (u.excuse text rest (c, readable) (fresh_left a.beyond a.failures a.through (text ++ rest) known));
       counted = fault_counted e a.failures t.failures v.failures;
     }
 

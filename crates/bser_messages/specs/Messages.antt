@@ -1,5 +1,5 @@
 -- What a message as a whole is read as.
-use Rattle.std.specs.Prelude.{◌≡◌, ◌⊎◌, ℕ, ◌≤◌, ◌^◌, max, List, ◌++◌, length, true, Option, Some, None}
+use Rattle.std.specs.Prelude.{◌≡◌, ◌⊎◌, ℕ, suc, ◌≤◌, ◌^◌, max, List, ◌++◌, length, true, Option, Some, None}
 use Rattle.std.specs.Io.KnownBytes.{Consumes}
 use Rattle.bser_format.specs.Tree.{Tree}
 use Rattle.bser_format.specs.Expand.{expand}
@@ -15,7 +15,8 @@ use Rattle.bser_named.specs.Named as named
 use Rattle.bser_read.specs.Window.{Window, Took, left, with_limit}
 use Rattle.bser_bunser.specs.Refusal.{failures_by}
 use Rattle.bser_due.specs.State.{State, Begins}
-use Rattle.bser_due.specs.Reading.{Answers, Asking, OutsideBy, MayRefuse, NamesBy, RefusesFront}
+use Rattle.bser_bunser.specs.Names.{Agree}
+use Rattle.bser_due.specs.Reading.{Answers, Asking, ExcusedBy, MayRefuse, NamesBy, RefusesFront}
 
 -- ---- what is read
 
@@ -79,7 +80,7 @@ pub record RefusesMessage (n : ℕ) (reads : Meaning) (asks : Option (Asking rea
   pub failures : new.failures ≡ failures_by e old.failures
   pub may : MayRefuse needs e old
   pub names : NamesMessage n needs asks e old
-  pub excuse : (text rest : List ℕ) → IsReadableMessage n reads text → left old ≡ Some (text ++ rest) → OutsideBy needs e old
+  pub excuse : (text rest : List ℕ) → IsReadableMessage n reads text → left old ≡ Some (text ++ rest) → ExcusedBy needs (length text) e old
 
 -- ---- slices
 
@@ -116,19 +117,27 @@ CountsFault before after _ = Unit {0}
 abbrev pub MayCome : Option (List ℕ) → List ℕ → Type 0
 MayCome left b = (x : List ℕ) → left ≡ Some x → b ≡ x
 
--- want of memory, a failure that the reader counted, or 2^62 bytes and more
-abbrev pub IsOutside : Option (List ℕ) → ℕ → ℕ → Error → Type 0
-IsOutside left before after (DeReaderError Failed) = (b : List ℕ) × MayCome left b × (2 ^ 62 ≤ length b)
-IsOutside left before after e = IsReaderFault before after e
+-- bytes that agree with what the reader may still give are too few for r, and with one more there are 2^64
+pub record TooMany {X : Type 0} (r : named.Reader X) (left : Option (List ℕ)) : Type 0 where
+  pub text : List ℕ
+  pub comes : (x : List ℕ) → left ≡ Some x → Agree text x
+  pub few : r text ≡ named.refuses named.eof
+  pub long : 2 ^ 64 ≤ suc (length text)
+
+-- want of memory, a failure that the reader counted, or more bytes than are counted
+abbrev pub IsOutside : {X : Type 0} → named.Reader X → Option (List ℕ) → ℕ → ℕ → Error → Type 0
+IsOutside r left before after (DeReaderError Failed) = TooMany r left
+IsOutside r left before after e = IsReaderFault before after e
 
 -- a reader is refused by the name of the first fault of the bytes left, where the type tells of names, or for a reason outside them
 abbrev pub NamesReader : {R : Meaning} → ℕ → Option (Asking R) → Error → Option (List ℕ) → ℕ → ℕ → Type 0
 NamesReader n None e left before after = Unit {0}
 NamesReader n (Some a) e left before after =
-    ((b : List ℕ) × MayCome left b × (named.message (a.asks 0 n node_due) b ≡ named.refuses e)) ⊎ IsOutside left before after e
+    ((b : List ℕ) × MayCome left b × (named.message (a.asks 0 n node_due) b ≡ named.refuses e))
+    ⊎ IsOutside (named.message (a.asks 0 n node_due)) left before after e
 
--- a refusal of a reader: no front of the bytes left is a message that the type reads, or there is a reason outside them
+-- a refusal of a reader: no front of the bytes left is a message that the type reads, or memory was refused or the reader failed
 pub record RefusesReader (n : ℕ) (reads : Meaning) (asks : Option (Asking reads)) (e : Error) (left : Option (List ℕ)) (before after : ℕ) : Type 0 where
   pub names : NamesReader n asks e left before after
-  pub excuse : (text rest : List ℕ) (c : Content) → ReadsMessageAs n reads text c → left ≡ Some (text ++ rest) → IsOutside left before after e
+  pub excuse : (text rest : List ℕ) (c : Content) → ReadsMessageAs n reads text c → left ≡ Some (text ++ rest) → IsReaderFault before after e
   pub counted : CountsFault before after e

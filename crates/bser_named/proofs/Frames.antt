@@ -21,9 +21,6 @@ use Rattle.bser_named.proofs.Agreement.{Same, forget, forgotten, bind_same, map_
 plain_head : plain.Reader (ℕ × ℕ)
 plain_head = plain.◌>>=◌ plain.magic (λ m. plain.◌>>=◌ (plain.front 4) (λ c. plain.◌>>=◌ plain.count (λ k. plain.give (from_le_bytes w32 c, k))))
 
-is_header : List ℕ → Bool
-is_header s = bytes_eq s (0x00 ∷ 0x02 ∷ [])
-
 magic_same : Same magic plain.magic
 magic_same = bind_same (front 2) (plain.front 2) _ _ (front_same 2) (λ s. if_same (bytes_eq s (0x00 ∷ 0x02 ∷ [])) (give s) _ (plain.give s) plain.fail (λ b. refl) (refuse_same (DeInvalidMagic s)))
 

@@ -1,8 +1,7 @@
 -- Reading in steps: what the whole would answer is what is still to be read answers now.
-use Rattle.std.proofs.Common.{◌≡◌, ℕ, suc, List, [], ◌++◌, refl, ap, ◌∙◌, append_assoc}
-use Rattle.bser_named.specs.Named.{reads, refuses, Reader, and_then, ◌>>=◌}
+use Rattle.std.proofs.Common.{◌≡◌, ℕ, suc, List, ◌++◌, ap, ◌∙◌, append_assoc}
+use Rattle.bser_named.specs.Named.{reads, Reader, and_then, ◌>>=◌}
 use Rattle.bser_format.specs.Grammar.{Format, ◌then◌}
-use Rattle.bser_format.specs.declared.errors.Error.{Error}
 use Rattle.bser_named.specs.Asks.{all}
 
 -- after these bytes were taken, `now` is left of `whole`
@@ -12,10 +11,6 @@ Continues whole now taken = (x : List ℕ) → whole (taken ++ x) ≡ now x
 -- r reads v off this text, whatever follows
 abbrev pub Passes : {X : Type 0} → Reader X → X → List ℕ → Type 0
 Passes r v text = (x : List ℕ) → r (text ++ x) ≡ reads v x
-
--- nothing was taken
-pub begins : {X : Type 0} (r : Reader X) → Continues r r []
-begins r x = refl
 
 -- one step after the others
 pub goes_on : {X : Type 0} (r s t : Reader X) (a b : List ℕ) → Continues r s a → Continues s t b → Continues r t (a ++ b)
@@ -28,10 +23,6 @@ first_read r k v text is x = ap (and_then k) (is x)
 -- one of so many parts was read
 pub part_read : (r : Reader Unit) (k : ℕ) (text : List ℕ) → Passes r tt text → Continues (all r (suc k)) (all r k) text
 part_read r k text is = first_read r (λ u. all r k) tt text is
-
--- what refuses the rest refuses the whole
-pub refused_then : {X : Type 0} (r s : Reader X) (taken x : List ℕ) (e : Error) → Continues r s taken → s x ≡ refuses e → r (taken ++ x) ≡ refuses e
-refused_then r s taken x e is h = is x ∙ h
 
 -- r reads v off a front of these bytes, and leaves a rest of the form G
 pub record Leaves {X : Type 0} (r : Reader X) (v : X) (G : Format) (b : List ℕ) : Type 0 where

@@ -21,7 +21,8 @@ excuse_grown m n a b grown Utf8 h = h
 excuse_grown m n a b grown (Reader e) h = sym grown.lends ∙ h
 excuse_grown m n a b grown Memory h = sym grown.lends ∙ h
 excuse_grown m n a b grown Failed (inl h) = inl (sym grown.failed ∙ h)
-excuse_grown m n a b grown Failed (inr (l, k)) = inr (sym grown.lends ∙ l, omega (arith, grown.count, k))
+excuse_grown m n a b grown Failed (inr (l, k, fewer)) =
+    inr (sym grown.lends ∙ l, omega (arith, grown.count, k), omega (arith, fewer, ap length grown.buffered, length-append a.buffered grown.more))
 
 -- a source that copies refuses after some bytes came to be buffered
 pub refused_grown : (m n : ℕ) (e : ReadCause) (a b c : Window) → a.lends ≡ false → a.failed ≡ false → Grown m a b → Refused e b c n → Refused e a c n

@@ -11,7 +11,7 @@ Excuse Eof s n = IfSome (left s) (λ xs. length xs < n) × (length s.buffered < 
 Excuse Utf8 s n = ⊥
 Excuse (Reader e) s n = s.lends ≡ false
 Excuse Memory s n = s.lends ≡ false
-Excuse Failed s n = (s.failed ≡ true) ⊎ ((s.lends ≡ false) × (2 ^ 64 ≤ s.count + n))
+Excuse Failed s n = (s.failed ≡ true) ⊎ ((s.lends ≡ false) × (2 ^ 64 ≤ s.count + n) × (length s.buffered < n))
 
 -- a source that lends is unchanged by a refusal, and any other refuses from then on
 pub record Refused (cause : ReadCause) (old new : Window) (n : ℕ) : Type 0 where

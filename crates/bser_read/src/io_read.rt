@@ -48,6 +48,7 @@ impl<S: Source> IoRead<S> {
     ///
     /// The crate takes a `Read`; here [`Watched`](bser_source::device::Watched) makes a [`Source`]
     /// of one.
+    #[inline(always)]
     pub fn new(reader: S) -> Self
         ensures { ⟦<IoRead<S> as DeRead>⟧.window result
             ≡ io_fresh S.remaining S.failures S.through reader }
@@ -64,6 +65,7 @@ impl<S: Source> IoRead<S> {
     }
 
     /// Gives the reader back. Bytes that were buffered are lost. The crate has no such call.
+    #[inline(always)]
     pub fn into_inner(self) -> S
         ensures { result ≡ io_reader self }
     {

@@ -1,7 +1,7 @@
 -- What a writer took of a line.
 use Rattle.std.proofs.Common.{◌≡◌, ℕ, ◌≤◌, true, List, [], ◌++◌, length, take, drop, subst, sym, refl, inl, inr, arith}
 use Rattle.std.proofs.lemmas.List.{append-nil, take-append-drop, take_all}
-use Rattle.bser_base.specs.Device.{Blamed, counted}
+use Rattle.bser_source.specs.Device.{Blamed, counted}
 use Rattle.bser_rewriting.specs.Line.{PutsLine}
 
 blamed : (a b c : ℕ) → a ≤ b → c ≡ counted true b → Blamed a c

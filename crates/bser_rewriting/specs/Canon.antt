@@ -1,11 +1,12 @@
 -- One message read as a `Value`, and that value written in a form: as its tree, or as another tree that stands for the same.
 use Rattle.std.specs.Prelude.{◌≡◌, ℕ, ◌<◌, ◌^◌, List, length, Option, Some, ◌⊎◌}
-use Rattle.bser_base.specs.Tree.{Tree}
-use Rattle.bser_base.specs.Canonical.{canonical_body, canonical_message}
-use Rattle.bser_base.specs.Content.{Meaning}
-use Rattle.bser_base.specs.declared.errors.Error.{Error}
+use Rattle.bser_format.specs.Tree.{Tree}
+use Rattle.bser_format.specs.Canonical.{canonical_body, canonical_message}
+use Rattle.bser_format.specs.Content.{Meaning}
+use Rattle.bser_format.specs.declared.errors.Error.{Error}
 use Rattle.bser_ser.specs.Message.{Missed}
 use Rattle.serde_bser.specs.Messages.{TookMessage, RefusesReader}
+use Rattle.serde_bser.specs.Reading.{Asking}
 use Rattle.serde_bser.specs.ValueView.{tree_of, HoldsValue}
 use Rattle.bser_value.specs.declared.value.Value.{Value}
 
@@ -21,8 +22,8 @@ pub record Rewrote {R W : Type 0} (form : Tree → Tree) (reads : Meaning) (left
   pub short : length (canonical_body (form (tree_of value))) < 2 ^ 63
 
 -- reading was refused, and nothing was written
-pub record Unread {R W : Type 0} (reads : Meaning) (left : R → Option (List ℕ)) (failures : R → ℕ) (old new : R) (before after : W) (e : Error) : Type 0 where
-  pub refused : RefusesReader 128 reads e (left old) (failures old) (failures new)
+pub record Unread {R W : Type 0} (reads : Meaning) (asks : Option (Asking reads)) (left : R → Option (List ℕ)) (failures : R → ℕ) (old new : R) (before after : W) (e : Error) : Type 0 where
+  pub refused : RefusesReader 128 reads asks e (left old) (failures old) (failures new)
   pub untouched : after ≡ before
 
 -- exactly one message was taken, which reads as a value, and the writing of that value was refused
@@ -32,6 +33,6 @@ pub record Unwritten {R W : Type 0} (form : Tree → Tree) (reads : Meaning) (le
   pub missed : Missed took faults (Some (form (tree_of value))) before after e
 
 -- a refusal, of the reading or of the writing
-abbrev pub RefusesRewriting : {R W : Type 0} → (Tree → Tree) → Meaning → (R → Option (List ℕ)) → (R → ℕ) → (W → W → List ℕ → Type 0) → (W → ℕ) → R → R → W → W → Error → Type 0
-RefusesRewriting form reads left failures took faults old new before after e =
-    Unread reads left failures old new before after e ⊎ Unwritten form reads left took faults old new before after e
+abbrev pub RefusesRewriting : {R W : Type 0} → (Tree → Tree) → (reads : Meaning) → Option (Asking reads) → (R → Option (List ℕ)) → (R → ℕ) → (W → W → List ℕ → Type 0) → (W → ℕ) → R → R → W → W → Error → Type 0
+RefusesRewriting form reads asks left failures took faults old new before after e =
+    Unread reads asks left failures old new before after e ⊎ Unwritten form reads left took faults old new before after e

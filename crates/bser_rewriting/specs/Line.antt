@@ -1,6 +1,6 @@
 -- A line for the user.
 use Rattle.std.specs.Prelude.{◌≡◌, ℕ, List, [], ◌∷◌, ◌++◌, ◌⊎◌, codes}
-use Rattle.bser_base.specs.Device.{Blamed}
+use Rattle.bser_source.specs.Device.{Blamed}
 
 -- a writer took a beginning of the line, and all of it unless it failed
 pub record PutsLine {S : Type 0} (took : S → S → List ℕ → Type 0) (failures : S → ℕ) (line : List ℕ) (old new : S) : Type 0 where

@@ -1,10 +1,10 @@
 //! One message in, and its canonical or its compact message out.
 ghost use Rattle.std.specs.Prelude.{OnOk, IfErr};
-ghost use Rattle.bser_base.specs.Compact.{fold_templates};
+ghost use Rattle.bser_format.specs.Compact.{fold_templates};
 ghost use Rattle.bser_rewriting.specs.Canon.{Rewrote, RefusesRewriting, canonical_form};
 
-use bser_base::device::{Sink, Source};
-use bser_base::errors::Result;
+use bser_format::errors::Result;
+use bser_source::device::{Sink, Source};
 use serde_bser::de::{Shape, from_reader};
 use serde_bser::ser::{serialize_compact, serialize_to};
 use serde_bser::value::Value;
@@ -23,7 +23,8 @@ pub fn canon<R: Source, W: Sink>(alloc: Global, reader: &mut R, writer: &mut W) 
         (Rewrote canonical_form ⟦<Value as Shape>⟧.reads R.remaining W.took
         reader.old reader.new writer.old writer.new) }
     ensures refused { IfErr result
-        (RefusesRewriting canonical_form ⟦<Value as Shape>⟧.reads R.remaining R.failures W.took
+        (RefusesRewriting canonical_form ⟦<Value as Shape>⟧.reads
+        ⟦<Value as Shape>⟧.asks R.remaining R.failures W.took
         W.failures reader.old reader.new writer.old writer.new) }
 {
     let value: Value = from_reader(alloc, reader)?;
@@ -42,7 +43,8 @@ pub fn canon_compact<R: Source, W: Sink>(
         (Rewrote fold_templates ⟦<Value as Shape>⟧.reads R.remaining W.took
         reader.old reader.new writer.old writer.new) }
     ensures refused { IfErr result
-        (RefusesRewriting fold_templates ⟦<Value as Shape>⟧.reads R.remaining R.failures W.took
+        (RefusesRewriting fold_templates ⟦<Value as Shape>⟧.reads
+        ⟦<Value as Shape>⟧.asks R.remaining R.failures W.took
         W.failures reader.old reader.new writer.old writer.new) }
 {
     let read: Value = from_reader(alloc, reader)?;

@@ -5,8 +5,8 @@ ghost use Rattle.bser_rewriting.specs.Arguments.{IsUnknown, asked, form_of, in_f
 ghost use Rattle.bser_rewriting.specs.Line.{IsReport, PutsLine, PutsReport};
 
 use crate::engine::{canon, canon_compact};
-use bser_base::device::{Sink, Source};
-use bser_base::errors::Error;
+use bser_format::errors::Error;
+use bser_source::device::{Sink, Source};
 use serde_bser::de::Shape;
 use serde_bser::value::Value;
 use std::alloc::{AllocError, Global};
@@ -53,7 +53,8 @@ pub fn run<R: Source, W: Sink, E: Sink>(
     ensures told { result ≡ REFUSED → PutsReport E.took E.failures errors.old errors.new }
     ensures refused { result ≡ REFUSED →
         (e : Error)
-        × RefusesRewriting (asked args.now) ⟦<Value as Shape>⟧.reads R.remaining R.failures W.took
+        × RefusesRewriting (asked args.now) ⟦<Value as Shape>⟧.reads
+        ⟦<Value as Shape>⟧.asks R.remaining R.failures W.took
         W.failures reader.old reader.new writer.old writer.new e }
 {
     let Some(form) = form_asked(args) else {
@@ -102,7 +103,8 @@ fn rewrite<R: Source, W: Sink>(
         (Rewrote (in_form form) ⟦<Value as Shape>⟧.reads R.remaining W.took
         reader.old reader.new writer.old writer.new) }
     ensures refused { IfErr result
-        (RefusesRewriting (in_form form) ⟦<Value as Shape>⟧.reads R.remaining R.failures W.took
+        (RefusesRewriting (in_form form) ⟦<Value as Shape>⟧.reads
+        ⟦<Value as Shape>⟧.asks R.remaining R.failures W.took
         W.failures reader.old reader.new writer.old writer.new) }
 {
     match form {

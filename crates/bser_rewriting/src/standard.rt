@@ -1,7 +1,7 @@
 //! The program over the standard streams.
 use crate::program;
-use bser_base::device::Watched;
-use bser_base::errors::Error;
+use bser_format::errors::Error;
+use bser_source::device::Watched;
 use std::alloc::{AllocError, Global};
 use std::env::{Env, FillError};
 use std::io::Write;

@@ -3,8 +3,8 @@ mod compact;
 
 use crate::engine::canon;
 use crate::program::{DONE, REFUSED, UNKNOWN_ARGUMENT, run};
-use bser_base::device::Watched;
-use bser_base::errors::{Error, Kind, ReadCause};
+use bser_format::errors::{Error, Kind, ReadCause};
+use bser_source::device::Watched;
 use std::alloc::{AllocError, Global};
 use std::io;
 use std::io::{ErrorKind, Read, Write};

@@ -1,14 +1,15 @@
 -- That reading and writing do what a line of the list says.
-use Rattle.std.specs.Prelude.{◌≡◌, ◌==◌, ℕ, List, ◌∷◌, ◌++◌, length, codes, decimal, IsTrue, ◌⊎◌, ◌↔◌, Ok}
+use Rattle.std.specs.Prelude.{◌≡◌, ◌==◌, ℕ, List, ◌∷◌, ◌++◌, length, codes, decimal, IsTrue, ◌⊎◌, ◌↔◌, Option, Ok}
 use Rattle.std.specs.List.{slice_split}
 use Rattle.std.specs.Str.Parse.{ParsesUnsigned}
 use Rattle.std.specs.declared.num.ParseIntError.{ParseIntError}
 use Rattle.hex.specs.Hex.{encode_lower, decode_of}
 use Rattle.sha2.specs.Sha256.{sha256}
-use Rattle.bser_base.specs.Tree.{Tree}
-use Rattle.bser_base.specs.Canonical.{canonical_message}
-use Rattle.bser_base.specs.Compact.{compact_message}
-use Rattle.bser_base.specs.Content.{Meaning, Needs}
+use Rattle.bser_format.specs.Tree.{Tree}
+use Rattle.bser_format.specs.Canonical.{canonical_message}
+use Rattle.bser_format.specs.Compact.{compact_message}
+use Rattle.bser_format.specs.Content.{Meaning, Needs}
+use Rattle.serde_bser.specs.Reading.{Asking}
 use Rattle.serde_bser.specs.ValueView.{tree_of}
 use Rattle.bser_value.specs.declared.value.Value.{Value}
 use Rattle.bser_vectors.specs.Notation.{notation}
@@ -42,7 +43,7 @@ pub record IsWritten (message : Tree → List ℕ) (answer column : List ℕ) : 
   pub shown : IsShown (message (tree_of value)) column
 
 -- reading answers as the line says, and what is accepted is written as the line says
-pub record Holds (reads : Meaning) (needs : Needs) (sample : Sample) : Type 0 where
-  pub read : Agrees reads needs sample.message.items sample.answer.now sample.taken
+pub record Holds (reads : Meaning) (asks : Option (Asking reads)) (needs : Needs) (sample : Sample) : Type 0 where
+  pub read : Agrees reads asks needs sample.message.items sample.answer.now sample.taken
   pub written : IsTrue sample.accepted → IsWritten canonical_message sample.answer.now sample.canonical.now
   pub compact : IsTrue sample.accepted → IsWritten compact_message sample.answer.now sample.compact.now

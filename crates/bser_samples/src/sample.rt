@@ -1,7 +1,7 @@
 //! One line of the list of messages.
 ghost use Rattle.std.specs.Prelude.{◌≡◌, ◌∷◌, IfOk, IfNone, IsTrue};
-ghost use Rattle.bser_base.specs.Canonical.{canonical_message};
-ghost use Rattle.bser_base.specs.Compact.{compact_message};
+ghost use Rattle.bser_format.specs.Canonical.{canonical_message};
+ghost use Rattle.bser_format.specs.Compact.{compact_message};
 ghost use Rattle.bser_vectors.specs.Ways.{Agrees};
 ghost use Rattle.bser_samples.specs.Sample.{columns_of, HasColumns, Holds, IsShown, IsWritten};
 
@@ -58,7 +58,8 @@ impl<'a> Sample<'a> {
 
     /// The first thing in which reading or writing differs from what the list says.
     pub fn first_mismatch(&self, alloc: Global) -> Result<Option<&'static str>>
-        ensures { IfOk result (λ what. IfNone what (Holds ⟦<Value as Shape>⟧.reads ⟦<Value as Shape>⟧.needs self.now)) }
+        ensures { IfOk result (λ what. IfNone what (Holds ⟦<Value as Shape>⟧.reads
+            ⟦<Value as Shape>⟧.asks ⟦<Value as Shape>⟧.needs self.now)) }
     {
         if let Some(way) = self.read_mismatch(alloc)? {
             return Ok(Some(way));
@@ -74,7 +75,9 @@ impl<'a> Sample<'a> {
 
     /// The first way of reading that answers otherwise than the list says.
     fn read_mismatch(&self, alloc: Global) -> Result<Option<&'static str>>
-        ensures { IfOk result (λ way. IfNone way (Agrees ⟦<Value as Shape>⟧.reads ⟦<Value as Shape>⟧.needs self.now.message.items self.now.answer.now self.now.taken)) }
+        ensures { IfOk result (λ way. IfNone way (Agrees ⟦<Value as Shape>⟧.reads
+            ⟦<Value as Shape>⟧.asks ⟦<Value as Shape>⟧.needs
+            self.now.message.items self.now.answer.now self.now.taken)) }
     {
         Ok(ways::first_mismatch(alloc, self.message.as_slice(), self.answer, self.taken)?)
     }

@@ -118,7 +118,3 @@ module _ {S : Type 0} (took : S → S → List ℕ → Type 0) (failures : S →
   pub Tried-ended : (m : Option (List ℕ)) (a b : Serializer S) → Ends took failures m a b → Tried took failures a b
   Tried-ended None a b s = absurd s
   Tried-ended (Some bs) a b s = record { front = bs; sent = s }
-
-  pub Tried-stopped : (m : Option (List ℕ)) (a b : Serializer S) (e : Error) → Stops took failures m a b e → Tried took failures a b
-  Tried-stopped None a b e s = s
-  Tried-stopped (Some bs) a b e s = record { front = s.front; sent = s.sent }

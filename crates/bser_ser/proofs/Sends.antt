@@ -1,17 +1,8 @@
 -- What a serializer sent, put by put.
-use Rattle.std.proofs.Common.{◌≡◌, ℕ, List, [], ◌++◌, append_assoc, arith, sym, ◌∙◌, ap}
+use Rattle.std.proofs.Common.{ℕ, List, [], ◌++◌, append_assoc, arith, sym, ◌∙◌, ap}
 use Rattle.std.proofs.lemmas.List.{append-nil}
 use Rattle.bser_ser.specs.Sent.{Sent}
 use Rattle.bser_ser.specs.declared.serializer.Serializer.{Serializer}
-
-pub Sent-onto : {S : Type 0} {took : S → S → List ℕ → Type 0} {failures : S → ℕ} (a b c : Serializer S) (bs : List ℕ)
-    → Sent took failures a b [] → c.writer ≡ b.writer → c.pending.items ≡ b.pending.items ++ bs → Sent took failures a c bs
-Sent-onto {took = took} {failures = failures} a b c bs s w p = record {
-  taken = s.taken;
-  took_it = rw w s.took_it;
-  grew = rw p (ap (λ xs. xs ++ bs) (sym (append-nil a.pending.items) ∙ s.grew) ∙ append_assoc s.taken b.pending.items bs);
-  rose = rw w s.rose;
-}
 
 -- one after the other
 pub Sent-both : {S : Type 0} {took : S → S → List ℕ → Type 0} {failures : S → ℕ}

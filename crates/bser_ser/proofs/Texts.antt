@@ -1,15 +1,14 @@
 -- The text of a value with parts, by the texts of its parts.
-use Rattle.std.proofs.Common.{◌≡◌, ℕ, suc, ◌<◌, ◌≤◌, ◌^◌, List, [], ◌∷◌, ◌++◌, length, Option, Some, None, option_map, ◌⊎◌, inl, inr, arith, sym, ap, refl, subst}
+use Rattle.std.proofs.Common.{◌≡◌, ℕ, suc, ◌<◌, ◌^◌, List, [], ◌∷◌, ◌++◌, length, Option, Some, None, option_map, arith, sym, ap, refl, subst}
 use Rattle.bser_format.specs.Tree.{Tree, Items, Entries, array, object, items, entries}
 use Rattle.bser_format.specs.Canonical.{canonical_body, canonical_items, canonical_entries, canonical_key}
 use Rattle.bser_format.specs.Pieces.{array_head, object_head}
 use Rattle.bser_format.specs.Written.{item_before, entry_before, written_items, written_entries, array_tree, object_tree, slice_tree, part_tree, tuple_tree}
 use Rattle.bser_format.specs.declared.errors.Error.{Error}
-use Rattle.bser_format.specs.declared.errors.Collection.TheVariants.{Sequence}
-use Rattle.bser_ser.specs.Sent.{Sent, Excuses, IsMiscounted}
+use Rattle.bser_ser.specs.Sent.{Sent}
 use Rattle.bser_ser.specs.Ends.{Ends, Stops, text_of, then}
 use Rattle.bser_ser.specs.declared.serializer.Serializer.{Serializer}
-use Rattle.bser_ser.proofs.Ends.{joined, Stops-none, UpTo, UpTo-start, UpTo-more, UpTo-all, UpTo-stops}
+use Rattle.bser_ser.proofs.Ends.{joined, UpTo, UpTo-start, UpTo-more, UpTo-all, UpTo-stops}
 
 -- a count, and what is written after it
 abbrev pub items_pair : Items → ℕ × List ℕ
@@ -87,12 +86,6 @@ module _ {S K V : Type 0} (took : S → S → List ℕ → Type 0) (failures : S
   Stops-object both rest left x a b c e u step t =
       subst (λ (m : Option (List ℕ)). Stops took failures m a c e) (sym (object_text k f es)) (UpTo-stops took failures both (object_head (length es)) (entry_text k f) es rest left x a b c e u step t)
 
-module _ {S : Type 0} (took : S → S → List ℕ → Type 0) (failures : S → ℕ) where
-  -- the head was refused, though the count was not too great
-  pub Stops-head : (n : ℕ) (m : Option (List ℕ)) (a b : Serializer S) (e : Error) → n < 2 ^ 63 → Sent took failures a b [] → Excuses failures a b e ⊎ IsMiscounted Sequence (Some n) e → Stops took failures m a b e
-  Stops-head n m a b e h s (inl x) = Stops-none took failures m a b e s x
-  Stops-head n m a b e h s (inr x) = absurd (omega (arith, x.1))
-
 -- a tuple, part by part
 module _ {S : Type 0} (took : S → S → List ℕ → Type 0) (failures : S → ℕ) (both : (a b c : S) (xs ys : List ℕ) → took a b xs → took b c ys → took a c (xs ++ ys)) (parts : List (Option Tree)) where
   -- the parts before rest are written, after the head
@@ -114,18 +107,9 @@ module _ {S : Type 0} (took : S → S → List ℕ → Type 0) (failures : S →
 slice_within : {A : Type 0} (f : A → Option Tree) (xs : List A) → length xs < 2 ^ 63 → slice_tree f xs ≡ array_tree f xs
 slice_within f xs h = grind (arith, h)
 
-slice_past : {A : Type 0} (f : A → Option Tree) (xs : List A) → 2 ^ 63 ≤ length xs → slice_tree f xs ≡ None
-slice_past f xs h = grind (arith, h)
-
 module _ {S A : Type 0} (took : S → S → List ℕ → Type 0) (failures : S → ℕ) (f : A → Option Tree) (xs : List A) where
   pub Ends-slice : (a b : Serializer S) → length xs < 2 ^ 63 → Ends took failures (text_of (array_tree f xs)) a b → Ends took failures (text_of (slice_tree f xs)) a b
   Ends-slice a b h s = subst (λ (m : Option Tree). Ends took failures (text_of m) a b) (sym (slice_within f xs h)) s
 
   pub Stops-slice : (a b : Serializer S) (e : Error) → length xs < 2 ^ 63 → Stops took failures (text_of (array_tree f xs)) a b e → Stops took failures (text_of (slice_tree f xs)) a b e
   Stops-slice a b e h s = subst (λ (m : Option Tree). Stops took failures (text_of m) a b e) (sym (slice_within f xs h)) s
-
-  pub Stops-slice-head : (n : ℕ) (a b : Serializer S) (e : Error) → n ≡ length xs → Sent took failures a b [] → Excuses failures a b e ⊎ IsMiscounted Sequence (Some n) e → Stops took failures (text_of (slice_tree f xs)) a b e
-  Stops-slice-head n a b e len s (inl x) = Stops-none took failures _ a b e s x
-  Stops-slice-head n a b e len s (inr x) =
-      let past : 2 ^ 63 ≤ length xs = omega (arith, x.1) in
-      subst (λ (m : Option Tree). Stops took failures (text_of m) a b e) (sym (slice_past f xs past)) (record { front = []; sent = s })

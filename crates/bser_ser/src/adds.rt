@@ -139,7 +139,8 @@ impl<W: Sink> Serializer<W> {
 
     // Puts a variant's head, and its payload's tag and count.
     pub(crate) fn add_variant_of(&mut self, name: &str, tag: u8, count: i64) -> Result<(), Refused>
-        ensures { Adds W.took W.failures self.old self.new (newtype_variant_head name.now ++ tag ∷ least_integer count) result }
+        ensures { Adds W.took W.failures self.old self.new
+            (newtype_variant_head name.now ++ tag ∷ least_integer count) result }
     {
         self.make_room()?;
         match append_variant_of(&mut self.pending, name, tag, count) {
@@ -150,7 +151,8 @@ impl<W: Sink> Serializer<W> {
 
     // Puts the front of a message whose body has this many bytes.
     pub(crate) fn add_front(&mut self, body: i64) -> Result<(), Refused>
-        ensures { Adds W.took W.failures self.old self.new (0 ∷ 2 ∷ (to_le_bytes w32 0 ++ least_integer body)) result }
+        ensures { Adds W.took W.failures self.old self.new
+            (0 ∷ 2 ∷ (to_le_bytes w32 0 ++ least_integer body)) result }
     {
         let mut integer = [0; LONGEST];
         let len = spell(&mut integer, body);
@@ -172,7 +174,8 @@ impl<W: Sink> Serializer<W> {
     // Puts a string under this tag.
     #[inline(always)]
     fn add_string(&mut self, tag: u8, bytes: &[u8]) -> Result<(), Refused>
-        ensures { Adds W.took W.failures self.old self.new (tag ∷ (least_count (length bytes.now) ++ bytes.now)) result }
+        ensures { Adds W.took W.failures self.old self.new
+            (tag ∷ (least_count (length bytes.now) ++ bytes.now)) result }
     {
         if bytes.len() < 0x80 {
             return self.add_short(tag, bytes.len() as u8, bytes);
@@ -194,7 +197,8 @@ impl<W: Sink> Serializer<W> {
     // Puts a tag and a count, and then these bytes, whatever size the count takes.
     #[inline(never)]
     fn add_great_counted(&mut self, tag: u8, count: i64, bytes: &[u8]) -> Result<(), Refused>
-        ensures { Adds W.took W.failures self.old self.new (tag ∷ (least_integer count ++ bytes.now)) result }
+        ensures { Adds W.took W.failures self.old self.new
+            (tag ∷ (least_integer count ++ bytes.now)) result }
     {
         let mut head = [tag; LONGEST + 1];
         let len = spell(&mut head[1..], count);

@@ -61,5 +61,6 @@ impl Sink for CountWrite {
 
     ghost took_nothing = { λ c. counts_to-none (count_of c) };
 
-    ghost took_both = { λ a b c xs ys. counts_to-both (count_of a) (count_of b) (count_of c) xs ys };
+    ghost took_both = { λ a b c xs ys. counts_to-both (count_of a) (count_of b)
+        (count_of c) xs ys };
 }

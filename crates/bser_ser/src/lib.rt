@@ -41,6 +41,8 @@ pub trait Serialize {
     /// are handed on: `Io` for the writer's, and `OutOfMemory`. After a refusal the parts before it
     /// have been put.
     fn serialize<W: Sink>(&self, alloc: Global, out: &mut Serializer<W>) -> Result<()>
-        ensures ok { OnOk result (Ends W.took W.failures (text_of (meaning self.now)) out.old out.new) }
-        ensures err { IfErr result (Stops W.took W.failures (text_of (meaning self.now)) out.old out.new) };
+        ensures ok { OnOk result (Ends W.took W.failures
+            (text_of (meaning self.now)) out.old out.new) }
+        ensures err { IfErr result (Stops W.took W.failures
+            (text_of (meaning self.now)) out.old out.new) };
 }

@@ -20,7 +20,8 @@ use std::alloc::Global;
 /// fault (`Io`) or for memory; the writer has then taken a beginning of the message.
 pub fn serialize_to<W: Sink, T: Serialize>(alloc: Global, writer: &mut W, value: &T) -> Result<()>
     ensures ok { OnOk result (Wrote W.took (T.meaning value.now) writer.old writer.new) }
-    ensures err { IfErr result (Missed W.took W.failures (T.meaning value.now) writer.old writer.new) }
+    ensures err { IfErr result (Missed W.took W.failures
+        (T.meaning value.now) writer.old writer.new) }
 {
     let len = measure(alloc, value)?;
     let mut out = Serializer::new(alloc, writer);
@@ -39,7 +40,8 @@ pub fn serialize<W: Sink, T: Serialize>(
     value: &T,
 ) -> std::result::Result<W, (W, Error)>
     ensures ok { IfOk result (λ w. Wrote W.took (T.meaning value.now) writer w) }
-    ensures err { IfErr result (λ r. Missed W.took W.failures (T.meaning value.now) writer r.0 r.1) }
+    ensures err { IfErr result (λ r. Missed W.took W.failures
+        (T.meaning value.now) writer r.0 r.1) }
 {
     let len = match measure(alloc, value) {
         Ok(len) => len,
@@ -76,9 +78,11 @@ fn send_message<W: Sink, T: Serialize>(
     value: &T,
 ) -> Result<()>
     requires { IsBodyLength (T.meaning value.now) len }
-    ensures ok { OnOk result (Ends W.took W.failures (message_of (T.meaning value.now)) out.old out.new) }
+    ensures ok { OnOk result (Ends W.took W.failures
+        (message_of (T.meaning value.now)) out.old out.new) }
     ensures all { OnOk result (IsFlushed out.new) }
-    ensures err { IfErr result (Stops W.took W.failures (message_of (T.meaning value.now)) out.old out.new) }
+    ensures err { IfErr result (Stops W.took W.failures
+        (message_of (T.meaning value.now)) out.old out.new) }
     ensures tied { Tried W.took W.failures out.old out.new }
 {
     put_message(alloc, out, len, value)?;
@@ -94,8 +98,10 @@ fn put_message<W: Sink, T: Serialize>(
     value: &T,
 ) -> Result<()>
     requires { IsBodyLength (T.meaning value.now) len }
-    ensures ok { OnOk result (Ends W.took W.failures (message_of (T.meaning value.now)) out.old out.new) }
-    ensures err { IfErr result (Stops W.took W.failures (message_of (T.meaning value.now)) out.old out.new) }
+    ensures ok { OnOk result (Ends W.took W.failures
+        (message_of (T.meaning value.now)) out.old out.new) }
+    ensures err { IfErr result (Stops W.took W.failures
+        (message_of (T.meaning value.now)) out.old out.new) }
 {
     out.put_front(len)?;
     value.serialize(alloc, out)

@@ -55,7 +55,8 @@ pub fn append_head(pending: &mut Vec<u8>, tag: u8, count: i64) -> Result<(), All
 
 /// Appends an object's head for one entry, and the entry's key, or nothing.
 pub fn append_variant(pending: &mut Vec<u8>, name: &str) -> Result<(), AllocError>
-    ensures ok { OnOk result (pending.new.items ≡ pending.old.items ++ newtype_variant_head name.now) }
+    ensures ok { OnOk result (pending.new.items
+        ≡ pending.old.items ++ newtype_variant_head name.now) }
     ensures err { OnErr result (pending.new.items ≡ pending.old.items) }
 {
     let before = pending.len();
@@ -76,7 +77,8 @@ pub fn append_variant_of(
     tag: u8,
     count: i64,
 ) -> Result<(), AllocError>
-    ensures ok { OnOk result (pending.new.items ≡ pending.old.items ++ (newtype_variant_head name.now ++ tag ∷ least_integer count)) }
+    ensures ok { OnOk result (pending.new.items ≡ pending.old.items ++
+        (newtype_variant_head name.now ++ tag ∷ least_integer count)) }
     ensures err { OnErr result (pending.new.items ≡ pending.old.items) }
 {
     let before = pending.len();
@@ -90,7 +92,8 @@ pub fn append_variant_of(
 
 /// Sends all that is pending. After a fault the bytes that the writer has not taken are pending.
 pub fn send<W: Sink>(writer: &mut W, pending: &mut Vec<u8>) -> io::Result<()>
-    ensures sent { (taken : List ℕ) × W.took writer.old writer.new taken × (pending.old.items ≡ taken ++ pending.new.items) }
+    ensures sent { (taken : List ℕ) × W.took writer.old writer.new taken ×
+        (pending.old.items ≡ taken ++ pending.new.items) }
     ensures rose { W.failures writer.old ≤ W.failures writer.new }
     ensures ok { OnOk result (pending.new.items ≡ []) }
     ensures err { OnErr result (Blamed (W.failures writer.old) (W.failures writer.new)) }

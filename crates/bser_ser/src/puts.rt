@@ -50,7 +50,8 @@ impl<W: Sink> Serializer<W> {
 
     /// Puts an integer in its least size. One above `i64::MAX` is refused with `SerU64TooBig`.
     pub fn put_u64(&mut self, v: u64) -> Result<()>
-        ensures put { PutsOr (IsTooBig v) W.took W.failures self.old self.new (integer_piece (pos v)) result }
+        ensures put { PutsOr (IsTooBig v) W.took W.failures self.old self.new
+            (integer_piece (pos v)) result }
         ensures fits { OnOk result (v < 2 ^ 63) }
     {
         match i64::try_from(v) {
@@ -119,7 +120,8 @@ impl<W: Sink> Serializer<W> {
     /// A missing count is refused with `SerNeedSize`, and one above `i64::MAX` with `SerCustom`
     /// `CountTooGreat`.
     pub fn put_seq(&mut self, count: Option<usize>) -> Result<()>
-        ensures put { PutsOr (IsMiscounted Sequence count) W.took W.failures self.old self.new (array_head (count_or_zero count)) result }
+        ensures put { PutsOr (IsMiscounted Sequence count) W.took W.failures self.old self.new
+            (array_head (count_or_zero count)) result }
         ensures counted { OnOk result (IsCounted count) }
     {
         let Some(n) = count else {
@@ -139,7 +141,8 @@ impl<W: Sink> Serializer<W> {
     /// A missing count is refused with `SerNeedSize`, and one above `i64::MAX` with `SerCustom`
     /// `CountTooGreat`.
     pub fn put_map(&mut self, count: Option<usize>) -> Result<()>
-        ensures put { PutsOr (IsMiscounted Map count) W.took W.failures self.old self.new (object_head (count_or_zero count)) result }
+        ensures put { PutsOr (IsMiscounted Map count) W.took W.failures self.old self.new
+            (object_head (count_or_zero count)) result }
         ensures counted { OnOk result (IsCounted count) }
     {
         let Some(n) = count else {
@@ -183,7 +186,8 @@ impl<W: Sink> Serializer<W> {
     ///
     /// A count above `i64::MAX` is refused with `SerCustom` `CountTooGreat`.
     pub fn put_tuple_variant(&mut self, name: &str, count: usize) -> Result<()>
-        ensures put { PutsOr (IsTooMany count) W.took W.failures self.old self.new (tuple_variant_head name.now count) result }
+        ensures put { PutsOr (IsTooMany count) W.took W.failures self.old self.new
+            (tuple_variant_head name.now count) result }
         ensures fits { OnOk result (count < 2 ^ 63) }
     {
         self.put_variant_of(name, BSER_ARRAY, count)
@@ -194,7 +198,8 @@ impl<W: Sink> Serializer<W> {
     ///
     /// A count above `i64::MAX` is refused with `SerCustom` `CountTooGreat`.
     pub fn put_struct_variant(&mut self, name: &str, count: usize) -> Result<()>
-        ensures put { PutsOr (IsTooMany count) W.took W.failures self.old self.new (struct_variant_head name.now count) result }
+        ensures put { PutsOr (IsTooMany count) W.took W.failures self.old self.new
+            (struct_variant_head name.now count) result }
         ensures fits { OnOk result (count < 2 ^ 63) }
     {
         self.put_variant_of(name, BSER_OBJECT, count)
@@ -202,7 +207,8 @@ impl<W: Sink> Serializer<W> {
 
     // Puts the front of a message whose body has this many bytes.
     pub(crate) fn put_front(&mut self, body: i64) -> Result<()>
-        ensures { Puts W.took W.failures self.old self.new (0 ∷ 2 ∷ (to_le_bytes w32 0 ++ least_integer body)) result }
+        ensures { Puts W.took W.failures self.old self.new
+            (0 ∷ 2 ∷ (to_le_bytes w32 0 ++ least_integer body)) result }
     {
         match self.add_front(body) {
             Ok(()) => Ok(()),
@@ -212,7 +218,8 @@ impl<W: Sink> Serializer<W> {
 
     // Puts a variant's head, and its payload's tag and count.
     fn put_variant_of(&mut self, name: &str, tag: u8, count: usize) -> Result<()>
-        ensures put { PutsOr (IsTooMany count) W.took W.failures self.old self.new (newtype_variant_head name.now ++ tag ∷ least_count count) result }
+        ensures put { PutsOr (IsTooMany count) W.took W.failures self.old self.new
+            (newtype_variant_head name.now ++ tag ∷ least_count count) result }
         ensures fits { OnOk result (count < 2 ^ 63) }
     {
         let count = checked(count)? as i64;

@@ -90,7 +90,8 @@ impl<W: Sink> Serializer<W> {
     /// can go on.
     pub fn try_finish(self) -> Result<W, (Self, io::Error)>
         ensures ok { IfOk result (λ w. Finishes W.took W.failures self w) }
-        ensures err { IfErr result (λ e. Sent W.took W.failures self e.0 [] × WriterFailed W.failures self e.0) }
+        ensures err { IfErr result (λ e. Sent W.took W.failures self e.0 []
+            × WriterFailed W.failures self e.0) }
     {
         let mut whole = self;
         match whole.flush() {
@@ -142,7 +143,8 @@ impl<W: Sink> Serializer<W> {
     // Gives the writer both parts of a piece, if nothing is pending and it takes them at once.
     #[inline(always)]
     pub(crate) fn is_taken_at_once(&mut self, front: &[u8], back: &[u8]) -> bool
-        ensures sent { Sent W.took W.failures self.old self.new (if result then front.now ++ back.now else []) }
+        ensures sent { Sent W.took W.failures self.old self.new
+            (if result then front.now ++ back.now else []) }
         ensures all { IsTrue result → IsFlushed self.new }
     {
         self.pending.is_empty() && self.writer.take_at_once(front, back)

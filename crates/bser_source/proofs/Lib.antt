@@ -1,6 +1,1 @@
-pub mod Taken
-pub mod Whole
 pub mod Lists
-pub mod Blocks
-pub mod NumberBytes
-pub mod Advance

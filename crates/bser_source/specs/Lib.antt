@@ -1,10 +1,5 @@
 pub mod Device
 pub mod Watched
 pub mod Sinks
-pub mod Source
 pub mod Refusal
 pub mod Refs
-pub mod Blocks
-pub mod Slice
-pub mod Reader
-pub mod Held

@@ -52,8 +52,10 @@ pub trait Sink {
     /// failures by one, below `u64::MAX`; every other answer keeps it.
     fn push(&mut self, bytes: &[u8]) -> io::Result<usize>
         ensures bound { IfOk result (λ n. n ≤ length bytes.now) }
-        ensures taken { MatchResult result (λ n. took self.old self.new (take n bytes.now)) (λ _. took self.old self.new []) }
-        ensures failures { failures self.new ≡ counted (has_failed result bytes.now) (failures self.old) };
+        ensures taken { MatchResult result (λ n. took self.old self.new (take n bytes.now))
+            (λ _. took self.old self.new []) }
+        ensures failures { failures self.new ≡ counted (has_failed result bytes.now)
+            (failures self.old) };
 
     /// Takes all of `front` and then of `back`, or answers false and takes nothing.
     ///
@@ -70,7 +72,8 @@ pub trait Sink {
 
     ghost took_nothing: { (s : Self) → took s s [] };
 
-    ghost took_both: { (a b c : Self) (xs ys : List ℕ) → took a b xs → took b c ys → took a c (xs ++ ys) };
+    ghost took_both: { (a b c : Self) (xs ys : List ℕ) → took a b xs → took b c ys → took a c
+        (xs ++ ys) };
 }
 
 /// Any reader or writer, with a count of its failures.
@@ -153,7 +156,8 @@ impl<T: Write> Sink for Watched<T> {
 
     ghost took_nothing = { λ w. Appends-none (T.contents w.inner) };
 
-    ghost took_both = { λ a b c xs ys. Appends-both (T.contents a.inner) (T.contents b.inner) (T.contents c.inner) xs ys };
+    ghost took_both = { λ a b c xs ys. Appends-both (T.contents a.inner) (T.contents b.inner)
+        (T.contents c.inner) xs ys };
 }
 
 impl<S: Source> Source for &mut S {
@@ -185,5 +189,6 @@ impl<S: Sink> Sink for &mut S {
 
     ghost took_nothing = { λ s. (refl, S.took_nothing s.now) };
 
-    ghost took_both = { λ a b c xs ys p q. (q.0 ∙ p.0, S.took_both a.now b.now c.now xs ys p.1 q.1) };
+    ghost took_both = { λ a b c xs ys p q.
+        (q.0 ∙ p.0, S.took_both a.now b.now c.now xs ys p.1 q.1) };
 }

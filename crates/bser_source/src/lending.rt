@@ -39,10 +39,6 @@ pub trait Lending: Copy {
     fn kept_text<'k>(key: &'k Self::Kept) -> &'k str
         ensures { result.now ≡ kept key.now };
 
-    /// The bytes that were kept.
-    fn kept_bytes<'k>(key: &'k Self::Kept) -> &'k [u8]
-        ensures { result.now ≡ kept key.now };
-
     /// Keeps bytes that a source gave, which have to be UTF-8. Others are [`ReadCause::Utf8`]. Where
     /// they were copied it takes memory, and a refused growth is [`Error::OutOfMemory`].
     fn keep(alloc: Global, given: Reference<'_, Self>) -> Result<Self::Kept>
@@ -66,7 +62,8 @@ pub trait LendsText: Lending {
 
     /// The bytes as a text. Bytes that are not UTF-8 are [`ReadCause::Utf8`].
     fn to_text(self) -> std::result::Result<Self::Text, ReadCause>
-        ensures ok { IfOk result (λ t. (Self.Text.text t ≡ Self.bytes self) × IsUtf8 (Self.bytes self)) }
+        ensures ok { IfOk result (λ t. (Self.Text.text t ≡ Self.bytes self) × IsUtf8
+            (Self.bytes self)) }
         ensures err { OnErr result (¬ (IsUtf8 (Self.bytes self))) }
         ensures cause { IfErr result (λ e. e ≡ Utf8) };
 }
@@ -78,12 +75,14 @@ pub trait LendsFrom<'de>: LendsText {
     /// The lent bytes, for as long as the input stands. None where the source lends nothing.
     fn lent_bytes(given: Reference<'_, Self>) -> Option<&'de [u8]>
         requires { is_lent given ≡ Self.lends }
-        ensures { MatchOption result (Self.lends ≡ false) (λ s. s.now ≡ bytes_of Self.bytes given.entry) };
+        ensures { MatchOption result (Self.lends ≡ false)
+            (λ s. s.now ≡ bytes_of Self.bytes given.entry) };
 
     /// The lent text, for as long as the input stands. None where the source lends nothing.
     fn lent_text(given: TextReference<'_, Self::Text>) -> Option<&'de str>
         requires { is_lent_text given ≡ Self.lends }
-        ensures { MatchOption result (Self.lends ≡ false) (λ s. s.now ≡ text_bytes Self.Text.text given.entry) };
+        ensures { MatchOption result (Self.lends ≡ false)
+            (λ s. s.now ≡ text_bytes Self.Text.text given.entry) };
 }
 
 impl<'a> LendingText for &'a str {
@@ -113,13 +112,6 @@ impl<'a> Lending for &'a [u8] {
         ensures { result.now ≡ key.now.now }
     {
         *key
-    }
-
-    #[inline(always)]
-    fn kept_bytes<'k>(key: &'k &'a str) -> &'k [u8]
-        ensures { result.now ≡ key.now.now }
-    {
-        key.as_bytes()
     }
 
     fn keep(_alloc: Global, given: Reference<'_, &'a [u8]>) -> Result<&'a str>
@@ -193,13 +185,6 @@ impl Lending for NoLoan {
         key.as_str()
     }
 
-    #[inline(always)]
-    fn kept_bytes<'k>(key: &'k String) -> &'k [u8]
-        ensures { result.now ≡ string_bytes key.now }
-    {
-        key.as_bytes()
-    }
-
     fn keep(alloc: Global, given: Reference<'_, NoLoan>) -> Result<String>
         requires { is_lent given ≡ false }
         ensures ok { IfOk result (λ k. string_bytes k ≡ bytes_of (λ _. []) given.entry) }
@@ -237,7 +222,8 @@ impl LendsText for NoLoan {
 impl<'de> LendsFrom<'de> for &'de [u8] {
     fn lent_bytes(given: Reference<'_, &'de [u8]>) -> Option<&'de [u8]>
         requires { is_lent given ≡ true }
-        ensures { MatchOption result (true ≡ false) (λ s. s.now ≡ bytes_of (λ b. b.now) given.entry) }
+        ensures { MatchOption result (true ≡ false)
+            (λ s. s.now ≡ bytes_of (λ b. b.now) given.entry) }
     {
         match given {
             Reference::Borrowed(bytes) => Some(bytes),
@@ -247,7 +233,8 @@ impl<'de> LendsFrom<'de> for &'de [u8] {
 
     fn lent_text(given: TextReference<'_, &'de str>) -> Option<&'de str>
         requires { is_lent_text given ≡ true }
-        ensures { MatchOption result (true ≡ false) (λ s. s.now ≡ text_bytes (λ t. t.now) given.entry) }
+        ensures { MatchOption result (true ≡ false)
+            (λ s. s.now ≡ text_bytes (λ t. t.now) given.entry) }
     {
         match given {
             TextReference::Borrowed(text) => Some(text),
@@ -259,14 +246,16 @@ impl<'de> LendsFrom<'de> for &'de [u8] {
 impl<'de> LendsFrom<'de> for NoLoan {
     fn lent_bytes(_given: Reference<'_, NoLoan>) -> Option<&'de [u8]>
         requires { is_lent _given ≡ false }
-        ensures { MatchOption result (false ≡ false) (λ s. s.now ≡ bytes_of (λ _. []) _given.entry) }
+        ensures { MatchOption result (false ≡ false)
+            (λ s. s.now ≡ bytes_of (λ _. []) _given.entry) }
     {
         None
     }
 
     fn lent_text(_given: TextReference<'_, NoLoan>) -> Option<&'de str>
         requires { is_lent_text _given ≡ false }
-        ensures { MatchOption result (false ≡ false) (λ s. s.now ≡ text_bytes (λ _. []) _given.entry) }
+        ensures { MatchOption result (false ≡ false)
+            (λ s. s.now ≡ text_bytes (λ _. []) _given.entry) }
     {
         None
     }

@@ -1,11 +1,7 @@
-//! Readers and writers that count their failures, and the sources that give the bytes of messages.
+//! Readers and writers that count their failures, what a byte source lends, and bytes as a text.
 #![tactic(auto)]
 
-mod block;
 pub mod device;
-mod fill;
-mod held;
-mod io_read;
 mod lending;
 pub mod read;
 pub mod text;

@@ -7,7 +7,8 @@ ghost use Rattle.std.specs.Str.{IsNotAscii};
 /// A few bytes of ASCII are a text without the search that [`str::from_utf8`] begins with.
 #[inline(always)]
 pub fn as_text(bytes: &[u8]) -> Option<&str>
-    ensures { MatchOption result (¬ (IsUtf8 bytes.now)) (λ t. (t.now ≡ bytes.now) × IsUtf8 bytes.now) }
+    ensures { MatchOption result (¬ (IsUtf8 bytes.now))
+        (λ t. (t.now ≡ bytes.now) × IsUtf8 bytes.now) }
 {
     if is_short_ascii(bytes) {
         return Some(unsafe { str::from_utf8_unchecked(bytes) });
@@ -21,7 +22,8 @@ pub fn as_text(bytes: &[u8]) -> Option<&str>
 /// Whether these are at most eight bytes, all of them ASCII.
 #[inline(always)]
 fn is_short_ascii(bytes: &[u8]) -> bool
-    ensures { MatchBool result ((length bytes.now ≤ 8) × IsAscii bytes.now) (length bytes.now ≤ 8 → IsNotAscii bytes.now) }
+    ensures { MatchBool result ((length bytes.now ≤ 8) × IsAscii bytes.now)
+        (length bytes.now ≤ 8 → IsNotAscii bytes.now) }
 {
     if bytes.len() > 8 {
         return false;

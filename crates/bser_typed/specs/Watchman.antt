@@ -1,7 +1,7 @@
 -- What the files of a Watchman answer are read from, by their names, and what they hold.
 use Rattle.std.specs.Prelude.{[], ◌∷◌, codes}
-use Rattle.bser_base.specs.Content.{Content, Meaning}
-use Rattle.bser_base.specs.ReadsHolders.{reads_vec}
+use Rattle.bser_format.specs.Content.{Content, Meaning}
+use Rattle.bser_format.specs.ReadsHolders.{reads_vec}
 use Rattle.serde_bser.specs.HoldsLists.{HoldsList, HoldsTuple}
 use Rattle.serde_bser.specs.Slots.{required, reads_struct}
 use Rattle.bser_typed.specs.declared.watchman.FileName.{FileName}

@@ -23,5 +23,6 @@ pub trait Shown {
 
     /// Puts the notation of the value behind `text`. Refused only for want of memory.
     fn put(&self, alloc: Global, text: &mut String) -> Result<(), AllocError>
-        ensures { OnOk result (string_bytes text.new ≡ string_bytes text.old ++ Self.notation self.now) };
+        ensures { OnOk result (string_bytes text.new
+            ≡ string_bytes text.old ++ Self.notation self.now) };
 }

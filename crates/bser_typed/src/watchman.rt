@@ -4,7 +4,7 @@ ghost use Rattle.serde_bser.specs.Slots.{struct_needs};
 ghost use Rattle.bser_typed.specs.Watchman.{reads_name, HoldsName, reads_names, HoldsNames};
 
 use anyhow::{Context, Result};
-use serde_bser::de::{Deserializer, Required};
+use serde_bser::de::{Answer, Deserializer, Required};
 use serde_bser::from_slice;
 use serde_bser::prelude::*;
 use serde_json::Value;
@@ -23,6 +23,8 @@ impl<S: Shape> Shape for FileName<S> {
 
     ghost needs = { struct_needs (S.needs ∷ []) };
 
+    ghost asks = { None };
+
     ghost plain = { None };
 }
 
@@ -30,7 +32,7 @@ impl<L: LendsText, S: Deserialize<L>> Deserialize<L> for FileName<S> {
     fn deserialize<R: DeRead<Lent = L>>(
         alloc: Global,
         from: &mut Deserializer<R>,
-    ) -> serde_bser::errors::Result<FileName<S>> {
+    ) -> Answer<FileName<S>> {
         let (name, ()) = from.read_fields::<(Required<S>, ())>(alloc, &["name"])?;
         Ok(FileName { name })
     }
@@ -49,6 +51,8 @@ impl<S: Shape> Shape for FileNames<S> {
 
     ghost needs = { struct_needs (struct_needs (S.needs ∷ []) ∷ []) };
 
+    ghost asks = { None };
+
     ghost plain = { None };
 }
 
@@ -56,7 +60,7 @@ impl<L: LendsText, S: Deserialize<L>> Deserialize<L> for FileNames<S> {
     fn deserialize<R: DeRead<Lent = L>>(
         alloc: Global,
         from: &mut Deserializer<R>,
-    ) -> serde_bser::errors::Result<FileNames<S>> {
+    ) -> Answer<FileNames<S>> {
         let (files, ()) = from.read_fields::<(Required<Vec<FileName<S>>>, ())>(alloc, &["files"])?;
         Ok(FileNames { files })
     }

@@ -61,7 +61,9 @@ pub struct Sample<'a> {
 impl<'a> Sample<'a> {
     /// Reads from the slice.
     pub fn lent_mismatch<T: Shown + Deserialize<&'a [u8]>>(&self, alloc: Global) -> Compared
-        ensures { IfOk result (λ other. IfNone other (AnswersSlice (min self.now.levels 1024) T.reads T.holds T.needs T.notation self.now.message.now self.now.answer.now)) }
+        ensures { IfOk result (λ other. IfNone other
+            (AnswersSlice (min self.now.levels 1024) T.reads T.asks T.holds T.needs T.notation
+            self.now.message.now self.now.answer.now)) }
     {
         let answer = from_slice_within::<T>(alloc, self.levels.min(1024), self.message);
         let text = notation_of(alloc, &answer)?;
@@ -81,7 +83,9 @@ impl<'a> Sample<'a> {
         &self,
         alloc: Global,
     ) -> Compared
-        ensures { IfOk result (λ other. IfNone other (Agrees (min self.now.levels 1024) T.reads T.holds T.needs T.notation self.now.message.now self.now.answer.now self.now.taken)) }
+        ensures { IfOk result (λ other. IfNone other
+            (Agrees (min self.now.levels 1024) T.reads T.asks T.holds T.needs T.notation
+            self.now.message.now self.now.answer.now self.now.taken)) }
     {
         if let Some(other) = self.lent_mismatch::<T>(alloc)? {
             return Ok(Some(other));
@@ -108,7 +112,9 @@ impl<'a> Sample<'a> {
         plan: Plan,
     ) -> Result<Option<String>, AllocError>
         requires { IsTrue (is_steady plan) }
-        ensures { IfOk result (λ other. IfNone other (AnswersReader (min self.now.levels 1024) T.reads T.holds T.notation self.now.message.now self.now.answer.now self.now.taken)) }
+        ensures { IfOk result (λ other. IfNone other
+            (AnswersReader (min self.now.levels 1024) T.reads T.asks T.holds T.notation
+            self.now.message.now self.now.answer.now self.now.taken)) }
     {
         let (same, answer) = self.reader_answer::<T>(alloc, plan)?;
         if same { Ok(None) } else { Ok(Some(answer)) }
@@ -121,7 +127,9 @@ impl<'a> Sample<'a> {
         plan: Plan,
     ) -> Result<(bool, String), AllocError>
         requires { IsTrue (is_steady plan) }
-        ensures { IfOk result (λ found. IsTrue found.0 → AnswersReader (min self.now.levels 1024) T.reads T.holds T.notation self.now.message.now self.now.answer.now self.now.taken) }
+        ensures { IfOk result (λ found. IsTrue found.0 → AnswersReader
+            (min self.now.levels 1024) T.reads T.asks T.holds T.notation self.now.message.now
+            self.now.answer.now self.now.taken) }
     {
         let (answer, count) = read_by_plan_within::<T>(
             alloc,

@@ -1,64 +1,28 @@
 -- An array or a template that is read item by item.
-use Rattle.std.proofs.Common.{◌≡◌, ℕ, zero, suc, ◌-◌, ◌<◌, Bool, true, false, ◌||◌, List, [], ◌∷◌, ◌++◌, length, append_assoc, Option, Some, None, refl, sym, ap, subst, ◌∙◌, arith}
+use Rattle.std.proofs.Common.{◌≡◌, ℕ, zero, suc, ◌-◌, ◌<◌, true, ◌||◌, List, [], ◌∷◌, ◌++◌, length, append_assoc, Option, Some, None, refl, sym, ap, subst, ◌∙◌, arith}
 use Rattle.std.proofs.lemmas.List.{append-nil}
 use Rattle.bser_format.specs.Tree.{Tree, array, Items, no_items, item, items}
 use Rattle.bser_format.specs.Grammar.{Format}
 use Rattle.bser_format.specs.Content.{Content, Meaning, Needs}
 use Rattle.bser_format.specs.Expected.{Fills, FillsItems, WantedItems, nodes, rows_over}
 use Rattle.bser_format.specs.declared.errors.Error.{Error}
-use Rattle.bser_format.specs.declared.errors.Error.TheVariants.{OutOfMemory}
 use Rattle.bser_format.specs.declared.errors.Complaint.TheVariants as complaints
 use Rattle.bser_source.specs.Device.{one_more}
 use Rattle.bser_named.specs.Named.{Reader, complain}
 use Rattle.bser_named.specs.DueReaders.{asked, items_at, less_one}
 use Rattle.bser_named.specs.Clauses.{left_over}
-use Rattle.bser_read.specs.Window.{Window, Took, closed}
+use Rattle.bser_read.specs.Window.{Window, Took}
 use Rattle.bser_read.proofs.Windows.{took_then, left_took}
 use Rattle.bser_due.specs.State.{State, past, refused, awaiting}
 use Rattle.bser_due.specs.Reading.{Answers, Asking, NamesAsked, NamesBy, NamesDue, Refuses, RefusesFront, FillsReadably, IsRefusal, owned}
 use Rattle.bser_due.specs.Required.{LacksItem}
-use Rattle.bser_due.specs.Parts.{items_left, item_due, items_after, wanted_items}
-use Rattle.bser_due.specs.Access.{OpenItems, OpensItems, IsItemsHead, RefusesItems, inside_items, items_in, IsNextItem, RefusesItem, ClosesItems, KeysOutside, LeavesItems, after_closing}
+use Rattle.bser_due.specs.Parts.{items_left, item_due, items_after}
+use Rattle.bser_due.specs.Access.{OpenItems, OpensItems, IsItemsHead, RefusesItems, inside_items, IsNextItem, RefusesItem, ClosesItems, KeysOutside, LeavesItems, after_closing}
 use Rattle.bser_due.proofs.Refusals.{first_part, sequel, unfit}
-use Rattle.bser_types.proofs.Taken.{wider_needs, wider_type, no_room}
+use Rattle.bser_types.proofs.Taken.{wider_needs, wider_type}
 use Rattle.bser_types.proofs.Naming.{Asked, StepAsked, HeadAsked, FirstAsked, NoneAsked, asked_then, names_by_wider, head_named, part_named, none_named}
 use Rattle.bser_types.proofs.Within.{Within, within_then, DueAs, due_as, one_due}
 use Rattle.bser_types.proofs.Items.{items_whole, items_only, items_begin}
-
--- ---- the access's own calls
-
-pub left_items : (ks : List (List ℕ)) (rows : Bool) (k : ℕ) → items_left (wanted_items ks rows k) ≡ k
-left_items ks false k = refl
-left_items ks true k = refl
-
--- one item fewer is left after the next
-pub fewer_left : {A : Type 0} (reads : Meaning) (holds : A → Content → Type 0) (u t : OpenItems) (v : A) → IsNextItem reads holds u t v → items_left t.wanted < items_left u.wanted
-fewer_left reads holds u t v next = at u.wanted t.wanted next.counted (ap (λ a. a.wanted) next.after)
-  where
-    at : (w x : WantedItems) → 0 < items_left w → x ≡ items_after w → items_left x < items_left w
-    at (nodes k) x some e = omega (arith, some, ap items_left e)
-    at (rows_over ks k) x some e = omega (arith, some, ap items_left e)
-
--- an item is made due in a, read from there on to y, and passed
-pub item_read : {A : Type 0} (reads : Meaning) (holds : A → Content → Type 0) (u a t : OpenItems) (rows : Bool) (k : ℕ) (y : State) (v : A) → 0 < items_left u.wanted → a ≡ items_in u (awaiting (item_due u.wanted) u.state) u.wanted
-    → a.wanted ≡ wanted_items a.state.keys rows k → Answers reads holds a.state y v → t ≡ items_in a y (items_after (wanted_items y.keys rows k)) → IsNextItem reads holds u t v
-item_read reads holds u a t rows k y v some due wanted answers passed =
-    let same : y.keys ≡ a.state.keys = ap (λ z. z.keys) answers.state in
-    let left : wanted_items y.keys rows k ≡ u.wanted = ap (λ ks. wanted_items ks rows k) same ∙ sym wanted ∙ ap (λ z. z.wanted) due in
-    let state : t.state ≡ y = ap (λ z. z.state) passed in
-    record {
-      counted = some;
-      answers = subst (λ x. Answers reads holds x t.state v) (ap (λ z. z.state) due) (subst (λ x. Answers reads holds a.state x v) (sym state) answers);
-      after = passed ∙ ap (λ x. items_in x y (items_after (wanted_items y.keys rows k))) due ∙ ap (λ x. items_in u x (items_after (wanted_items y.keys rows k))) (sym state) ∙ ap (λ w. items_in u t.state (items_after w)) left;
-    }
-
--- an item is made due in a, and refused in y
-pub item_unread : (reads : Meaning) (asks : Option (Asking reads)) (needs : Needs) (e : Error) (u a : OpenItems) (y : State) → (u.state.source.failed ≡ false → 0 < items_left u.wanted) → a ≡ items_in u (awaiting (item_due u.wanted) u.state) u.wanted
-    → Refuses reads asks needs e a.state y → RefusesItem reads asks needs e u y
-item_unread reads asks needs e u a y some due refuses = record {
-  counted = some;
-  refuses = subst (λ (x : State). Refuses reads asks needs e x y) (ap (λ (w : OpenItems). w.state) due) refuses;
-}
 
 -- ---- the items that are left
 
@@ -330,8 +294,3 @@ over_refused reads asks k now needs e o z u none h named lacks =
     let read : None ≡ Some c = sym none ∙ ap k (sym empty) ∙ v.read in
     absurd cc)
     (subst (NoneAsked asks now) (sym lacks.name) (named lacks.counted)) (subst IsRefusal (sym lacks.name) tt) lacks.state
-
--- memory was refused after some items
-pub room_refused : (reads : Meaning) (asks : Option (Asking reads)) (k : List Tree → Option Content) (now : Reader Unit) (needs : Needs) (e : Error) (o z : State) (u : OpenItems) → needs.memory ≡ true → Inside reads asks o k now u → e ≡ OutOfMemory
-    → z.source ≡ closed u.state.source → Refuses reads asks needs e o z
-room_refused reads asks k now needs e o z u memory h same closes = no_room reads asks needs o u.state z h.taken e memory h.took same closes

@@ -43,7 +43,7 @@ text_first (refuses f) e h = h
 -- what refuses a text refuses a character
 pub char_refused : (e : Error) (a b : State) → Refuses reads_string (Some asking_string) bare e a b → Refuses reads_char (Some asking_char) bare e a b
 char_refused e a b u =
-    asking_refused bare reads_char asking_char (asks_string a.opened a.levels a.due) e a b (λ x p. text_first (asked text_at a.opened a.due x) e p)
+    asking_refused bare reads_char asking_char (asks_string a.opened a.levels a.due) e a b (λ f x p. text_first (asked text_at a.opened a.due x) f p)
     (clean_chars a.opened a.levels a.due) u.fails u.names
 
 -- ---- a text that is not one character

@@ -7,23 +7,21 @@ use Rattle.bser_format.specs.Content.{Content, Meaning, Needs, each_some}
 use Rattle.bser_format.specs.Expected.{Fills, node_due, row_due, WantedItems, nodes, rows_over}
 use Rattle.bser_format.specs.ReadsHolders.{list_of, reads_vec}
 use Rattle.bser_format.specs.declared.errors.Error.{Error}
-use Rattle.bser_format.specs.declared.errors.Error.TheVariants.{OutOfMemory}
 use Rattle.bser_named.specs.Named.{Reader, refuses, and_then, give}
 use Rattle.bser_named.specs.DueReaders.{asked, items_at, less_one}
 use Rattle.bser_named.specs.Asks.{Asks, all, items_asked}
 use Rattle.bser_named.proofs.Steps as steps
 use Rattle.bser_named.proofs.Steps.{Continues, first_read, part_read}
-use Rattle.bser_read.specs.Window.{closed}
 use Rattle.bser_due.specs.State.{State, awaiting}
 use Rattle.bser_due.specs.Reading.{Answers, Asking, Refuses}
 use Rattle.bser_due.specs.Required.{RefusesRequired}
 use Rattle.bser_due.specs.Parts.{BeginsItems, items_left, item_due, items_after}
-use Rattle.bser_due.specs.Access.{OpenItems, OpensItems, RefusesItems, IsNextItem, ClosesItems, LeavesItems, inside_items}
+use Rattle.bser_due.specs.Access.{OpenItems, OpensItems, RefusesItems, IsNextItem, ClosesItems, inside_items}
 use Rattle.bser_due.specs.HoldsLists.{HoldsAll, HoldsList}
 use Rattle.bser_deserializer.proofs.Containers.{items_pass}
 use Rattle.bser_types.specs.Askings.{counted, asking_vec}
 use Rattle.bser_types.proofs.Naming.{Asked, StepAsked, HeadAsked, FirstAsked, asked_inside, part_passes}
-use Rattle.bser_types.proofs.Arrays.{ReadsArrays, ReadsNext, Inside, inside_start, inside_next, inside_end, inner_levels, inner_opened, array_refused, item_refused, room_refused}
+use Rattle.bser_types.proofs.Arrays.{ReadsArrays, ReadsNext, Inside, inside_start, inside_next, inside_end, inner_levels, inner_opened, array_refused, item_refused}
 
 -- ---- what is made of the items that are left
 
@@ -174,14 +172,3 @@ item_lacks T tells needs holds e o z vs u h some (inl unread) =
     item_refused T tells needs (reads_vec T) (option_map asking_vec tells) (rest_of_list T h.contents) (λ c. rest_of_list T (h.contents ++ c ∷ [])) (list_now tells o u.wanted) (with_memory needs) e o z u
     (list_next T h.contents) (λ lent. lent) (λ m. refl) (λ t. refl) h.inside (list_first T tells o u.state u.wanted h.inside.state some) unread
 item_lacks T tells needs holds e o z vs u h some (inr lacks) = absurd (omega (arith, some, lacks.counted))
-
--- memory was refused for an item
-pub list_no_room : {A : Type 0} (T : Meaning) (tells : Option (Asking T)) (needs : Needs) (holds : A → Content → Type 0) (e : Error) (o z : State) (vs : List A) (u : OpenItems) → ReadsItems T tells holds o vs u → e ≡ OutOfMemory
-    → z.source ≡ closed u.state.source → RefusesList T tells needs e o z
-list_no_room T tells needs holds e o z vs u h same closes =
-    room_refused (reads_vec T) (option_map asking_vec tells) (rest_of_list T h.contents) (list_now tells o u.wanted) (with_memory needs) e o z u refl h.inside same closes
-
--- items are left at the end, though none was
-pub list_leaves : {A : Type 0} (T : Meaning) (tells : Option (Asking T)) (needs : Needs) (holds : A → Content → Type 0) (e : Error) (o z : State) (vs : List A) (u : OpenItems) → ReadsItems T tells holds o vs u → items_left u.wanted ≡ 0
-    → LeavesItems e u z → RefusesList T tells needs e o z
-list_leaves T tells needs holds e o z vs u h none leaves = absurd (omega (arith, none, leaves.counted h.inside.took.failed))

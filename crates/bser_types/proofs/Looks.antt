@@ -12,14 +12,12 @@ use Rattle.bser_named.specs.Asks.{is_null, is_sequence}
 use Rattle.bser_named.proofs.Sights.{sight, null_tree, array_tree}
 use Rattle.bser_read.specs.Window.{Window, Grown, Took, left}
 use Rattle.bser_read.proofs.Windows.{grown_none, grown_later, took_grown, left_grown, hand_first}
-use Rattle.bser_bunser.specs.Names.{MayBeLeft}
-use Rattle.bser_bunser.proofs.Names.{left_before}
 use Rattle.bser_due.specs.Dues.{IsTagged}
 use Rattle.bser_due.specs.State.{State, past}
 use Rattle.bser_due.specs.Nodes.{node_at, BeginsNode, Stands, SeesNode}
 use Rattle.bser_due.specs.Reading.{Answers, Asking, NamesAsked, RefusesFront, FillsReadably, Refuses, MayRefuse, NamesBy, bare, refusing}
 use Rattle.bser_due.specs.declared.node.Node.{Node}
-use Rattle.bser_due.proofs.Refusals.{fails_before, outside_by_before, outside_bare, names_bare, named_excuse}
+use Rattle.bser_due.proofs.Refusals.{fails_before, excused_bare, excused_before, names_bare, names_by_grown, named_excuse}
 use Rattle.bser_deserializer.proofs.Nodes.{node_passes}
 use Rattle.bser_types.proofs.Naming.{HeadAsked, head_named}
 
@@ -93,16 +91,16 @@ begins_tag field_due t k is e = (t, k, refl, e)
 begins_tag (name_due n) t k is e = absurd is
 begins_tag (row_due ks) t k is e = absurd is
 
--- what stands there is seen off all bytes that may be left
-stands_sees : (s : State) (now : Window) (v : Seen) (k : Node) (x : List ℕ) → Stands s now v → node_at s.due v ≡ Some k → MayBeLeft now x → (y : List ℕ) × (seen s.opened s.due x ≡ reads v y)
-stands_sees s now (tag t) k x stands kind m =
-    let y = drop 1 now.buffered ++ m.more in
-    let whole : x ≡ t ∷ y = m.whole ∙ ap (λ l. l ++ m.more) stands.1.next in
+-- what stands there is seen off all bytes that begin with those buffered
+stands_sees : (s : State) (now : Window) (v : Seen) (k : Node) (x more : List ℕ) → Stands s now v → node_at s.due v ≡ Some k → x ≡ now.buffered ++ more → (y : List ℕ) × (seen s.opened s.due x ≡ reads v y)
+stands_sees s now (tag t) k x more stands kind here =
+    let y = drop 1 now.buffered ++ more in
+    let whole : x ≡ t ∷ y = here ∙ ap (λ l. l ++ more) stands.1.next in
     let p = node_passes s.opened s.due (t ∷ []) (begins_tag s.due t k stands.0 kind) in
     let there : seen s.opened s.due (t ∷ y) ≡ reads p.0 y = p.1 y in
     (y, ap (seen s.opened s.due) whole ∙ there ∙ ap (λ v. reads v y) (tag_seen s.opened s.due t y p.0 y stands.0 there))
-stands_sees s now (name n) k x stands kind m = (x, ap (λ d. seen s.opened d x) stands.0)
-stands_sees s now (row ks) k x stands kind m = (x, ap (λ d. seen s.opened d x) stands.0)
+stands_sees s now (name n) k x more stands kind here = (x, ap (λ d. seen s.opened d x) stands.0)
+stands_sees s now (row ks) k x more stands kind here = (x, ap (λ d. seen s.opened d x) stands.0)
 
 -- ---- what is read after a look
 
@@ -142,10 +140,9 @@ look_named needs inner outer (Some b) (Some a) s mid k e sees asked said = at (s
     grown = stands_grown s mid.source sees.seen sees.stands
 
     at : NamesBy needs (b.asks s.opened s.levels s.due) e mid.source → NamesBy needs (a.asks s.opened s.levels s.due) e s.source
-    at (inl (x, m, h)) =
-        let there = stands_sees s mid.source sees.seen k x sees.stands sees.kind m in
-        inl (x, left_before 1 s.source mid.source x grown m, asked x there.0 e there.1 h)
-    at (inr h) = inr (outside_by_before (refusing needs) 1 s.source mid.source e grown h)
+    at h =
+        names_by_grown needs (a.asks s.opened s.levels s.due) (b.asks s.opened s.levels s.due) e 1 s.source mid.source grown
+        (λ f x more whole p. let there = stands_sees s mid.source sees.seen k x more sees.stands sees.kind whole in asked x there.0 f there.1 p) h
 
 -- what the call refused is refused
 pub look_refused : (needs : Needs) (inner outer : Meaning) (tells : Option (Asking inner)) (asks : Option (Asking outer)) (s mid z : State) (k : Node) (e : Error) → (sees : SeesNode s mid k)
@@ -156,7 +153,7 @@ look_refused needs inner outer tells asks s mid z k e sees means asked u = recor
   may = at u.may;
   names = look_named needs inner outer tells asks s mid k e sees asked u.names;
   excuse = λ taken rest f known.
-      outside_by_before needs 1 s.source mid.source e grown (u.excuse taken rest (within taken rest f known) (left_grown 1 s.source mid.source (taken ++ rest) grown known));
+      excused_before needs 1 (length taken) s.source mid.source e grown (u.excuse taken rest (within taken rest f known) (left_grown 1 s.source mid.source (taken ++ rest) grown known));
 }
   where
     grown : Grown 1 s.source mid.source
@@ -164,7 +161,7 @@ look_refused needs inner outer tells asks s mid z k e sees means asked u = recor
 
     at : MayRefuse needs e mid.source → MayRefuse needs e s.source
     at (inl h) = inl h
-    at (inr h) = inr (outside_by_before (refusing needs) 1 s.source mid.source e grown h)
+    at (inr h) = inr (excused_before (refusing needs) 1 0 s.source mid.source e grown h)
 
     within : (taken rest : List ℕ) → FillsReadably outer s taken → left s.source ≡ Some (taken ++ rest) → FillsReadably inner mid taken
     within taken rest f known =
@@ -182,9 +179,9 @@ no_value needs means asks s z e head u = record {
   names = head_named means asks needs e s (seen s.opened s.due) head (names_bare needs (seen s.opened s.due) e s.source u.names);
   excuse = λ taken rest f known.
       let k = sight s.opened s.levels s.due f.tree taken f.filled in
-      outside_bare needs e s.source (named_excuse bare (seen s.opened s.due) e s.source (taken ++ rest) (k.left rest) k.shown known (k.sees rest) u.names);
+      excused_bare needs (length taken) e s.source (named_excuse bare (seen s.opened s.due) e s.source taken rest k.shown k.left known k.sees u.names);
 }
   where
     at : MayRefuse bare e s.source → MayRefuse needs e s.source
     at (inl h) = inl h
-    at (inr h) = inr (outside_bare (refusing needs) e s.source h)
+    at (inr h) = inr (excused_bare (refusing needs) 0 e s.source h)

@@ -10,6 +10,7 @@ use Rattle.bser_named.specs.Asks.{Asks}
 use Rattle.bser_named.proofs.Steps as steps
 use Rattle.bser_named.proofs.Steps.{Continues, goes_on}
 use Rattle.bser_read.specs.Window.{Window, Took}
+use Rattle.bser_bunser.specs.Names.{RefusedAs}
 use Rattle.bser_bunser.proofs.Names.{left_now, left_untaken, known_rest}
 use Rattle.bser_due.specs.State.{State}
 use Rattle.bser_due.specs.Reading.{Asking, NamesAsked, NamesBy, refusing}
@@ -68,12 +69,12 @@ part_passes T a o i n d t c text opened levels filled read x = sym (asked_inside
 pub names_by_wider : {X : Type 0} (some all : Needs) (r : Reader X) (e : Error) (s : Window) → (some.lent ≡ true → all.lent ≡ true) → (some.memory || some.keys ≡ true → all.memory || all.keys ≡ true)
     → NamesBy some r e s → NamesBy all r e s
 names_by_wider some all r e s lent takes (inl h) = inl h
-names_by_wider some all r e s lent takes (inr h) = inr (wider_outside (refusing some) (refusing all) e s lent takes h)
+names_by_wider some all r e s lent takes (inr h) = inr (wider_outside (refusing some) (refusing all) (RefusedAs r) e s lent takes h)
 
 -- the head is refused
 pub head_named : {X : Type 0} (R : Meaning) (asks : Option (Asking R)) (needs : Needs) (e : Error) (o : State) (head : Reader X) → HeadAsked asks o head → NamesBy needs head e o.source → NamesAsked needs asks e o
 head_named R None needs e o head is name = tt
-head_named R (Some a) needs e o head is name = names_by_more needs (a.asks o.opened o.levels o.due) head e o.source (λ x h. is x e h) name
+head_named R (Some a) needs e o head is name = names_by_more needs (a.asks o.opened o.levels o.due) head e o.source (λ f x h. is x f h) name
 
 -- the part that is asked for first is refused
 pub part_named : (R T : Meaning) (asks : Option (Asking R)) (tells : Option (Asking T)) (needs : Needs) (e : Error) (o p : State) (now : Reader Unit) (taken : List ℕ) → Asked asks o now taken → Took o.source p.source taken
@@ -81,7 +82,7 @@ pub part_named : (R T : Meaning) (asks : Option (Asking R)) (tells : Option (Ask
 part_named R T None tells needs e o p now taken asked took first name = tt
 part_named R T (Some a) None needs e o p now taken asked took first name = absurd first
 part_named R T (Some a) (Some b) needs e o p now taken asked took first name =
-    names_by_untaken needs (a.asks o.opened o.levels o.due) (b.asks p.opened p.levels p.due) e o.source p.source taken (λ x h. asked x ∙ first x e h) took name
+    names_by_untaken needs (a.asks o.opened o.levels o.due) (b.asks p.opened p.levels p.due) e o.source p.source taken (λ f x h. asked x ∙ first x f h) took name
 
 -- whatever is left is refused
 pub none_named : (R : Meaning) (asks : Option (Asking R)) (needs : Needs) (e : Error) (o : State) (m : Window) (now : Reader Unit) (taken : List ℕ) → Asked asks o now taken → Took o.source m taken → NoneAsked asks now e

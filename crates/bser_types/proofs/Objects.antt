@@ -133,13 +133,6 @@ fills_none n (entries_of_object k) e = (sym e, refl)
 fills_none n (fields_of_row []) e = (refl, refl)
 fills_none n (fields_of_row (k ∷ ks)) e = absurd (omega (arith, e))
 
-none_left : (n : ℕ) (w : WantedPairs) (us : Entries) (text : List ℕ) → pairs_left w ≡ 0 → FillsPairs n w us text → entries us ≡ []
-none_left n (entries_of_object k) no_entries text e h = refl
-none_left n (entries_of_object k) (entry name t us) text e h = absurd (omega (arith, e, h.0))
-none_left n (fields_of_row []) no_entries text e h = refl
-none_left n (fields_of_row []) (entry name t us) text e (names, h) = absurd cc
-none_left n (fields_of_row (k ∷ ks)) us text e h = absurd (omega (arith, e))
-
 -- one key was taken
 key_step : (k : Outlook) (n : ℕ) (w : WantedPairs) (u : Tree) (text : List ℕ) (some : 0 < pairs_left w) (f : Fills n (pair_key w) u text) → Within (PairsLeft k n w) (ValueLeft k (named_by n w u text some f).name n (pairs_after w)) text
 key_step k n w u text some f =

@@ -1,5 +1,5 @@
 -- What the calls on an open object make of a key's and a value's answers.
-use Rattle.std.proofs.Common.{◌≡◌, ℕ, zero, suc, ◌+◌, ◌-◌, ◌<◌, Bool, true, false, List, [], ◌∷◌, drop, Option, refl, ap, ◌∙◌, arith}
+use Rattle.std.proofs.Common.{subst, ◌≡◌, ℕ, zero, suc, ◌+◌, ◌-◌, ◌<◌, Bool, true, false, List, [], ◌∷◌, drop, Option, refl, ap, ◌∙◌, arith}
 use Rattle.bser_format.specs.Content.{Meaning, Needs}
 use Rattle.bser_format.specs.Expected.{WantedPairs, entries_of_object, fields_of_row, node_due, key_due, field_due}
 use Rattle.bser_format.specs.Expected as expected
@@ -9,8 +9,8 @@ use Rattle.bser_named.specs.Named.{complain}
 use Rattle.bser_due.specs.State.{State, awaiting}
 use Rattle.bser_due.specs.Parts.{wanted_pairs, pairs_left, pair_key, pair_value, pairs_after}
 use Rattle.bser_due.specs.Dues.{name_at}
-use Rattle.bser_due.specs.Access.{OpenPairs, pairs_in, AwaitsKey, AwaitsValue, OutOfTurn, RefusesKey, RefusesValue}
-use Rattle.bser_due.specs.Reading.{Asking}
+use Rattle.bser_due.specs.Access.{OpenPairs, pairs_in, AwaitsKey, OutOfTurn, RefusesKey, RefusesValue}
+use Rattle.bser_due.specs.Reading.{Asking, Refuses}
 use Rattle.bser_types.proofs.Taken.{failed_before}
 
 -- ---- what is due
@@ -50,13 +50,6 @@ awaits_key old d working read counted due = record {
   same = ap {A = expected.Due} {B = OpenPairs} (λ d. pairs_in old (awaiting d old.state) old.wanted old.pending) due;
 }
 
-pub awaits_value : (old : OpenPairs) (d : expected.Due) → old.pending ≡ true → d ≡ pair_value old.wanted
-    → AwaitsValue old (pairs_in old (awaiting d old.state) old.wanted old.pending)
-awaits_value old d key due = record {
-  key = key;
-  same = ap {A = expected.Due} {B = OpenPairs} (λ d. pairs_in old (awaiting d old.state) old.wanted old.pending) due;
-}
-
 -- ---- what is left
 
 after_fields : (at : ℕ) (ks : List (List ℕ)) → fields_of_row (drop (suc at) ks) ≡ pairs_after (fields_of_row (drop at ks))
@@ -81,16 +74,6 @@ failed_else : (failed : Bool) → (failed ≡ false → ⊥) → failed ≡ true
 failed_else true h = refl
 failed_else false h = absurd (h refl)
 
--- a key where a value is due, or after a refusal
-pub key_out_of_turn : (reads : Meaning) (asks : Option (Asking reads)) (needs : Needs) (e : Error) (old new : OpenPairs) → OutOfTurn e old.state new.state
-    → (old.state.source.failed ≡ false → old.pending ≡ true) → RefusesKey reads asks needs e old new.state
-key_out_of_turn reads asks needs e old new out turn = record {
-  counted = λ working read. absurd (let p = turn working in cc);
-  refuses = λ read. failed_before reads asks needs e (complain ValueOpen) (awaiting (pair_key old.wanted) old.state) new.state
-      (failed_else old.state.source.failed (λ working. let p = turn working in cc)) out.name (ap (λ (s : State). s.source) out.state);
-  turn = λ pending. out;
-}
-
 -- a value where a key is due, or after a refusal
 pub value_out_of_turn : (reads : Meaning) (asks : Option (Asking reads)) (needs : Needs) (e : Error) (old new : OpenPairs) → OutOfTurn e old.state new.state
     → (old.state.source.failed ≡ false → old.pending ≡ false) → RefusesValue reads asks needs e old new.state
@@ -98,4 +81,13 @@ value_out_of_turn reads asks needs e old new out turn = record {
   refuses = λ key. failed_before reads asks needs e (complain ValueOpen) (awaiting (pair_value old.wanted) old.state) new.state
       (failed_else old.state.source.failed (λ working. let p = turn working in cc)) out.name (ap (λ (s : State). s.source) out.state);
   turn = λ pending. out;
+}
+
+-- a key that is due is refused
+pub key_refused : (reads : Meaning) (asks : Option (Asking reads)) (needs : Needs) (e : Error) (old mid : OpenPairs) (new : State) → AwaitsKey old mid
+    → Refuses reads asks needs e mid.state new → RefusesKey reads asks needs e old new
+key_refused reads asks needs e old mid new awaits u = record {
+  counted = λ works read. awaits.counted;
+  refuses = λ read. subst (λ (m : OpenPairs). Refuses reads asks needs e m.state new) awaits.same u;
+  turn = λ pending. absurd (let read = awaits.read in cc);
 }

@@ -1,5 +1,5 @@
 -- A container that is read in steps: what was taken, and what is left to take.
-use Rattle.std.proofs.Common.{◌≡◌, ℕ, zero, suc, List, [], ◌∷◌, ◌++◌, length, append_assoc, Option, Some, None, refl, sym, ap, subst, ◌∙◌, inl, inr}
+use Rattle.std.proofs.Common.{◌≡◌, ℕ, zero, suc, List, ◌∷◌, ◌++◌, length, append_assoc, Option, Some, None, refl, sym, ap, subst, ◌∙◌, inl, inr}
 use Rattle.std.proofs.lemmas.List.{append_cancel_left, append_cancel_right}
 use Rattle.std.proofs.lemmas.Option.{some_pair_parts}
 use Rattle.bser_format.specs.Tree.{Tree, null, object, Fields, fields, fields_of}
@@ -18,12 +18,6 @@ use Rattle.bser_due.specs.State.{State}
 pub record Within {C : Type 0} (W V : C → Format) (taken : List ℕ) : Type 0 where
   pub whole : (c : C) (text : List ℕ) → V c text → W c (taken ++ text)
   pub only : (c : C) (text rest ys : List ℕ) → W c text → text ++ rest ≡ taken ++ ys → (more : List ℕ) × (text ≡ taken ++ more) × V c more
-
-pub within_start : {C : Type 0} (W : C → Format) → Within W W []
-within_start W = record {
-  whole = λ c text h. h;
-  only = λ c text rest ys h e. (text, refl, h);
-}
 
 pub within_then : {C : Type 0} (W V U : C → Format) (xs ys : List ℕ) → Within W V xs → Within V U ys → Within W U (xs ++ ys)
 within_then W V U xs ys first second = record {

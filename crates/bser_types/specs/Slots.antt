@@ -6,12 +6,11 @@ use Rattle.bser_format.specs.ReadsHolders.{reads_option, list_of}
 use Rattle.bser_format.specs.ReadsAny.{reads_ignored}
 use Rattle.bser_format.specs.Expected.{Fills}
 use Rattle.bser_named.specs.Clauses.{left_over, out_of_turn}
-use Rattle.bser_read.specs.Window.{Took, closed}
+use Rattle.bser_read.specs.Window.{closed}
 use Rattle.bser_format.specs.declared.errors.Error.{Error}
-use Rattle.bser_due.specs.State.{State, awaiting, past}
-use Rattle.bser_due.specs.Reading.{Asking, RefusesFront}
-use Rattle.bser_due.specs.Parts.{pair_value}
-use Rattle.bser_due.specs.Access.{OpenPairs, pairs_in, IsValue, RefusesValue}
+use Rattle.bser_due.specs.State.{State}
+use Rattle.bser_due.specs.Reading.{Asking}
+use Rattle.bser_due.specs.Access.{OpenPairs, IsValue, RefusesValue}
 use Rattle.bser_types.specs.Fold.{struct_of, read_once}
 use Rattle.bser_due.specs.HoldsLists.{HoldsEach}
 use Rattle.bser_due.specs.declared.field.Field.{Field}
@@ -106,38 +105,12 @@ FinishesEach holds ss (Some v) = (cs : List Content) × (each_some field_at_end 
 
 -- ---- the value of a field
 
--- the value of the key that was read was taken, and is this tree
-pub record TookValue (tree : Tree) (old new : OpenPairs) : Type 0 where
-  pub key : old.pending ≡ true
-  pub text : List ℕ
-  pub filled : Fills old.state.levels (pair_value old.wanted) tree text
-  pub took : Took old.state.source new.state.source text
-  pub state : new.state ≡ past (awaiting (pair_value old.wanted) old.state) new.state.source
-  pub after : new ≡ pairs_in old new.state old.wanted false
-
--- by the value of the key that was read, a step leads from a to what is kept
-pub record Steps {A : Type 0} (step : A → Tree → Option A) (keeps : A → Type 0) (a : A) (old new : OpenPairs) : Type 0 where
-  pub tree : Tree
-  pub next : A
-  pub made : step a tree ≡ Some next
-  pub kept : keeps next
-  pub taken : TookValue tree old new
-
 -- what is due, as a tree by which a step leads on from a
 pub record FillsStep {A : Type 0} (step : A → Tree → Option A) (a : A) (s : State) (text : List ℕ) : Type 0 where
   pub tree : Tree
   pub next : A
   pub made : step a tree ≡ Some next
   pub filled : Fills s.levels s.due tree text
-
--- the value of the key that was read is refused: by no front of the bytes left the step leads on from a, or they are not to blame; of the name N tells
-abbrev pub RefusesStep : {A : Type 0} → (A → Tree → Option A) → Needs → Type 0 → Error → A → OpenPairs → State → Type 0
-RefusesStep step needs N e a old new =
-    old.pending ≡ true → RefusesFront needs (FillsStep step a (awaiting (pair_value old.wanted) old.state)) N e old.state.source new.source
-
--- the value of the key that was read was taken, whatever it is
-abbrev pub Passes : OpenPairs → OpenPairs → Type 0
-Passes old new = (tree : Tree) × (c : Content) × (reads_ignored tree ≡ Some c) × TookValue tree old new
 
 -- ---- a value that is read once
 

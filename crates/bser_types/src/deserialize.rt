@@ -46,7 +46,8 @@ pub trait Deserialize<L: LendsText>: Shape + Drop {
     fn deserialize<R: DeRead<Lent = L>>(alloc: Global, from: &mut Deserializer<R>) -> Answer<Self>
         ensures found { IfOk result (Answers Self.reads Self.holds
             (state R.window L.kept from.old) (state R.window L.kept from.new)) }
-        ensures refused { OnErr result (Refuses Self.reads Self.asks Self.needs (refusal_in from.new)
+        ensures refused { OnErr result (Refuses Self.reads Self.asks Self.needs
+            (refusal_in from.new)
             (state R.window L.kept from.old) (state R.window L.kept from.new)) };
 }
 

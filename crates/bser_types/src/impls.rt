@@ -10,6 +10,6 @@ pub mod scalars;
 pub mod strings;
 pub mod tuples;
 
-pub use crate::impls::ignored::Ignored;
+pub use crate::impls::ignored::{Ignored, SkipsValues};
 pub use crate::impls::keys::MapKey;
 pub use crate::impls::scalars::RealBits;

@@ -60,7 +60,8 @@ impl<'a, R: DeRead> MapAccess<'a, R> {
         ensures refused { OnErr result (OutOfTurn (pairs_refusal self.new)
             (open_pairs R.window R.Lent.kept self.old).state
             (open_pairs R.window R.Lent.kept self.new).state) }
-        ensures turn { OnErr result ((open_pairs R.window R.Lent.kept self.old).state.source.failed ≡ false
+        ensures turn { OnErr result ((open_pairs R.window R.Lent.kept self.old).state.source.failed
+            ≡ false
             → (open_pairs R.window R.Lent.kept self.old).pending ≡ true) }
     {
         if self.pending || self.from.is_failed() {
@@ -86,7 +87,8 @@ impl<'a, R: DeRead> MapAccess<'a, R> {
         ensures refused { OnErr result (OutOfTurn (pairs_refusal self.new)
             (open_pairs R.window R.Lent.kept self.old).state
             (open_pairs R.window R.Lent.kept self.new).state) }
-        ensures turn { OnErr result ((open_pairs R.window R.Lent.kept self.old).state.source.failed ≡ false
+        ensures turn { OnErr result ((open_pairs R.window R.Lent.kept self.old).state.source.failed
+            ≡ false
             → (open_pairs R.window R.Lent.kept self.old).pending ≡ false) }
     {
         if !self.pending {
@@ -141,7 +143,8 @@ impl<'a, R: DeRead> MapAccess<'a, R> {
         ensures ok { OnOk result (ClosesPairs (open_pairs R.window R.Lent.kept self.entry)
             (state R.window R.Lent.kept self.exit.0.now)) }
         ensures err { OnErr result (LeavesPairs (refusal_in self.exit.0.now)
-            (open_pairs R.window R.Lent.kept self.entry) (state R.window R.Lent.kept self.exit.0.now)) }
+            (open_pairs R.window R.Lent.kept self.entry)
+            (state R.window R.Lent.kept self.exit.0.now)) }
     {
         if self.pending || self.remaining() != 0 || self.from.is_failed() {
             return Err(self.from.complain(Complaint::ItemsLeft));
@@ -166,7 +169,8 @@ impl<'a, R: DeRead> MapAccess<'a, R> {
             (open_pairs R.window R.Lent.kept self.old) (open_pairs R.window R.Lent.kept self.new)) }
         ensures refused { OnErr result (RefusesKey reads_string (Some asking_string) bare
             (pairs_refusal self.new)
-            (open_pairs R.window R.Lent.kept self.old) (open_pairs R.window R.Lent.kept self.new).state) }
+            (open_pairs R.window R.Lent.kept self.old)
+            (open_pairs R.window R.Lent.kept self.new).state) }
     {
         if !self.await_key()? {
             return Ok(None);
@@ -189,11 +193,13 @@ where
     R::Lent: LendsText,
     requires due { head.row ≡ true → (state R.window R.Lent.kept from.old).due
         ≡ name_at head.at (state R.window R.Lent.kept from.old).keys }
-    requires inside { head.row ≡ true → head.at < length (state R.window R.Lent.kept from.old).keys }
+    requires inside { head.row ≡ true → head.at < length
+        (state R.window R.Lent.kept from.old).keys }
     requires working { (state R.window R.Lent.kept from.old).source.failed ≡ false }
     ensures found { IfOk result (Answers reads_string (HoldsField (map (λ r. r.now) names.now))
         (state R.window R.Lent.kept from.old) (state R.window R.Lent.kept from.new)) }
-    ensures refused { OnErr result (Refuses reads_string (Some asking_string) bare (refusal_in from.new)
+    ensures refused { OnErr result (Refuses reads_string (Some asking_string) bare
+        (refusal_in from.new)
         (state R.window R.Lent.kept from.old) (state R.window R.Lent.kept from.new)) }
 {
     if head.row {
@@ -221,7 +227,8 @@ where
         ensures found { IfOk result (NextKey K.reads K.holds
             (open_pairs R.window R.Lent.kept self.old) (open_pairs R.window R.Lent.kept self.new)) }
         ensures refused { OnErr result (RefusesKey K.reads K.asks K.needs (pairs_refusal self.new)
-            (open_pairs R.window R.Lent.kept self.old) (open_pairs R.window R.Lent.kept self.new).state) }
+            (open_pairs R.window R.Lent.kept self.old)
+            (open_pairs R.window R.Lent.kept self.new).state) }
     {
         if !self.await_key()? {
             return Ok(None);
@@ -241,7 +248,8 @@ where
         ensures found { IfOk result (IsValue V.reads V.holds
             (open_pairs R.window R.Lent.kept self.old) (open_pairs R.window R.Lent.kept self.new)) }
         ensures refused { OnErr result (RefusesValue V.reads V.asks V.needs (pairs_refusal self.new)
-            (open_pairs R.window R.Lent.kept self.old) (open_pairs R.window R.Lent.kept self.new).state) }
+            (open_pairs R.window R.Lent.kept self.old)
+            (open_pairs R.window R.Lent.kept self.new).state) }
     {
         self.await_value()?;
         let value = V::deserialize(alloc, self.from)?;
@@ -290,9 +298,11 @@ where
         ensures same_reference { pairs_reference self.new ≡ pairs_reference self.old }
         ensures found { IfOk result (NextEntry K.reads V.reads K.holds V.holds
             (open_pairs R.window R.Lent.kept self.old) (open_pairs R.window R.Lent.kept self.new)) }
-        ensures refused { OnErr result (RefusesEntry K.reads V.reads K.asks V.asks K.holds K.needs V.needs
+        ensures refused { OnErr result (RefusesEntry K.reads V.reads K.asks V.asks K.holds K.needs
+            V.needs
             (pairs_refusal self.new)
-            (open_pairs R.window R.Lent.kept self.old) (open_pairs R.window R.Lent.kept self.new).state) }
+            (open_pairs R.window R.Lent.kept self.old)
+            (open_pairs R.window R.Lent.kept self.new).state) }
     {
         match self.next_key::<K>(alloc)? {
             Some(key) => {

@@ -88,7 +88,8 @@ impl<'a, R: DeRead> SeqAccess<'a, R> {
         ensures ok { OnOk result (ClosesItems (open_items R.window R.Lent.kept self.entry)
             (state R.window R.Lent.kept self.exit.0.now)) }
         ensures err { OnErr result (LeavesItems (refusal_in self.exit.0.now)
-            (open_items R.window R.Lent.kept self.entry) (state R.window R.Lent.kept self.exit.0.now)) }
+            (open_items R.window R.Lent.kept self.entry)
+            (state R.window R.Lent.kept self.exit.0.now)) }
     {
         if self.head.remaining != 0 || self.from.is_failed() {
             return Err(self.from.complain(Complaint::ItemsLeft));
@@ -112,7 +113,8 @@ where
         ensures found { IfOk result (NextItem T.reads T.holds
             (open_items R.window R.Lent.kept self.old) (open_items R.window R.Lent.kept self.new)) }
         ensures refused { OnErr result (RefusesItem T.reads T.asks T.needs (items_refusal self.new)
-            (open_items R.window R.Lent.kept self.old) (open_items R.window R.Lent.kept self.new).state) }
+            (open_items R.window R.Lent.kept self.old)
+            (open_items R.window R.Lent.kept self.new).state) }
     {
         if self.head.remaining == 0 && !self.from.is_failed() {
             return Ok(None);
@@ -132,8 +134,10 @@ where
         ensures same_reference { items_reference self.new ≡ items_reference self.old }
         ensures found { IfOk result (IsNextItem T.reads T.holds
             (open_items R.window R.Lent.kept self.old) (open_items R.window R.Lent.kept self.new)) }
-        ensures refused { OnErr result (RefusesRequired T.reads T.asks T.needs (items_refusal self.new)
-            (open_items R.window R.Lent.kept self.old) (open_items R.window R.Lent.kept self.new).state) }
+        ensures refused { OnErr result (RefusesRequired T.reads T.asks T.needs
+            (items_refusal self.new)
+            (open_items R.window R.Lent.kept self.old)
+            (open_items R.window R.Lent.kept self.new).state) }
     {
         match self.next_element(alloc)? {
             Some(item) => Ok(item),

@@ -1,5 +1,5 @@
 -- Lemmas on what is written of a value's parts, one after another.
-use Rattle.std.proofs.Common.{◌≡◌, ℕ, List, [], ◌∷◌, map, Option, Some, None, String, Vec, BTreeMap, Result, IsOk, IfSome, codes, refl, sym, ap, ◌∙◌, append-nil, rules}
+use Rattle.std.proofs.Common.{◌≡◌, ℕ, List, [], ◌∷◌, map, Option, Some, None, String, Vec, BTreeMap, Result, IsOk, IfSome, codes, refl, ap, ◌∙◌, rules}
 use Rattle.std.proofs.Output.{then_text_assoc, has_written_append}
 use Rattle.std.specs.Fmt.{IsPlainFormatter, HasWritten, DisplaysOnOk, ◌++?◌, comma_space, debug_items}
 use Rattle.std.specs.declared.alloc.Global.{Global}
@@ -24,21 +24,12 @@ module _ {W : Type 0} (took : W → List ℕ → W → Type 0) where
   shows_from f g r None x plain ok = tt
   shows_from f g r (Some a) x plain ok = x plain ok
 
-  pub displays_from : (f g : Formatter W) (r : Result (Unit {0}) Error) (o : Option (List ℕ)) → (IsPlainFormatter f → IsOk r → Shows f o g) → DisplaysOnOk took f r o g
-  displays_from f g r None k = tt
-  displays_from f g r (Some a) k = k
-
 module _ {X : Type 0} (text : X → Option (List ℕ)) where
   -- one more part is written, after what stands before it
   pub part_more : (done whole : Option (List ℕ)) (before : List ℕ) (x : X) (rest : List X) → done ++? debug_items text before (x ∷ rest) ≡ whole
       → (done ++? (Some before ++? text x)) ++? debug_items text comma_space rest ≡ whole
   part_more done whole before x rest e =
       then_text_assoc done (Some before ++? text x) _ ∙ ap (λ o. done ++? o) (then_text_assoc (Some before) (text x) _) ∙ e
-
-  -- no part is left
-  pub part_none : (done whole : Option (List ℕ)) (before : List ℕ) → done ++? debug_items text before [] ≡ whole → done ≡ whole
-  part_none None whole before e = e
-  part_none (Some a) whole before e = ap Some (sym (append-nil a)) ∙ e
 
 -- the texts of parts that are already texts
 texts-items : (lead : List ℕ) (vs : List Value) → debug_items (λ text. text) lead (map displayed vs) ≡ debug_items displayed lead vs

@@ -1,5 +1,5 @@
 -- Lemmas on the trees of the parts of a value.
-use Rattle.std.proofs.Common.{◌≡◌, ℕ, suc, ◌+◌, ◌<◌, drop, get_or, add-one, List, [], ◌∷◌, ◌++◌, map, length, String, Vec, BTreeMap, Ordering, Less, Equal, Greater, nat_cmp, string_bytes, refl, sym, ap, ◌∙◌, rules}
+use Rattle.std.proofs.Common.{◌≡◌, Bool, ℕ, suc, ◌+◌, ◌<◌, drop, get_or, add-one, List, [], ◌∷◌, ◌++◌, map, length, String, Vec, BTreeMap, Ordering, Less, Equal, Greater, nat_cmp, string_bytes, refl, sym, ap, ◌∙◌, rules}
 use Rattle.std.proofs.Math.Seq.{drop-cons}
 use Rattle.std.proofs.lemmas.Cmp.{nat_list_cmp_total}
 use Rattle.std.specs.declared.alloc.Global.{Global}
@@ -10,11 +10,11 @@ use Rattle.std.specs.Ordering.{match_ordering, ordering_reverse}
 use Rattle.std.specs.BTreeMap.{insert_entry}
 use Rattle.std.specs.Map.{keys_of}
 use Rattle.std.specs.String.{string_cmp}
-use Rattle.bser_base.specs.Tree.{Tree, null, bytes, integer, text, array, object, items, entry, entries, entries_of, items_of}
-use Rattle.bser_base.specs.Compact.{keys}
-use Rattle.bser_base.specs.declared.bytestring.ByteString.{ByteString}
+use Rattle.bser_format.specs.Tree.{Tree, null, boolean, real, bytes, integer, text, array, object, items, entry, entries, entries_of, items_of}
+use Rattle.bser_format.specs.Compact.{keys}
+use Rattle.bser_format.specs.declared.bytestring.ByteString.{ByteString}
 use Rattle.std.specs.Prelude.{ℤ, Some, option_map}
-use Rattle.bser_base.specs.Written.{item_before, entry_before, written_items, written_entries, array_tree, object_tree}
+use Rattle.bser_format.specs.Written.{item_before, entry_before, written_items, written_entries, array_tree, object_tree}
 use Rattle.bser_value.specs.declared.value.Value as value
 use Rattle.bser_value.specs.declared.value.Value.{Value, Array, Object, Integer, Null, Utf8String, the_lemmas}
 use Rattle.bser_value.specs.ValueView.{tree_of, items_view, entries_view}
@@ -43,6 +43,12 @@ tree_of-ByteString b = search (rules, the_lemmas)
 pub tree_of-Integer : (v : ℤ) → tree_of (Integer v) ≡ integer v
 tree_of-Integer v = search (rules, the_lemmas)
 
+pub tree_of-Bool : (v : Bool) → tree_of (value.Bool v) ≡ boolean v
+tree_of-Bool v = search (rules, the_lemmas)
+
+pub tree_of-Real : (r : ℕ) → tree_of (value.Real r) ≡ real r
+tree_of-Real r = search (rules, the_lemmas)
+
 pub tree_of-Utf8String : (t : String Global) → tree_of (Utf8String t) ≡ text (string_bytes t)
 tree_of-Utf8String t = search (rules, the_lemmas)
 
@@ -53,6 +59,10 @@ length-items (v ∷ vs) = ap suc (length-items vs)
 pub length-entries : (es : List Entry) → length (entries (entries_view es)) ≡ length es
 length-entries [] = refl
 length-entries (e ∷ es) = ap suc (length-entries es)
+
+pub map_one : (vs : List Value) (v : Value) → map tree_of (vs ++ v ∷ []) ≡ map tree_of vs ++ tree_of v ∷ []
+map_one [] v = refl
+map_one (w ∷ vs) v = ap (λ ts. tree_of w ∷ ts) (map_one vs v)
 
 -- a map's keys rise as byte lists
 above : (k : String Global) (es : List Entry) → AllByRecursion (λ y. string_cmp k y ≡ Less) (keys_of es) → AllByRecursion (λ y. slice_cmp nat_cmp (string_bytes k) y ≡ Less) (keys (entries_view es))

@@ -2,7 +2,7 @@
 use Rattle.std.specs.Prelude.{ℕ, List, [], Option, Some, String, codes, string_bytes, if◌then◌else◌}
 use Rattle.std.specs.Fmt.{◌++?◌, debug_items, signed_decimal}
 use Rattle.std.specs.declared.alloc.Global.{Global}
-use Rattle.bser_base.specs.Escaped.{display_text}
+use Rattle.bser_format.specs.Escaped.{display_text}
 use Rattle.bser_text.specs.QuotedText.{quoted_text}
 use Rattle.bser_text.specs.RealText.{real_text}
 use Rattle.bser_value.specs.declared.value.Value.{Value, fold-Value}

@@ -1,11 +1,7 @@
 pub mod ValueView
 pub mod Contents
 pub mod Displayed
+pub mod Made
 pub mod Gathered
-pub mod ScalarAnswer
-pub mod Building
-pub mod BuildingSteps
-pub mod StepsAtHand
 pub mod Places
-pub mod Rows
-pub mod RowSteps
+pub mod Shows

@@ -1,5 +1,10 @@
-//! The value of any message, and how it is read and written.
+//! `Value`, which is any value: how it is made of what is read, looked into, printed and written.
 #![tactic(auto)]
 
-pub mod de;
+mod builder;
+mod building;
+mod gathered;
+mod places;
+pub mod reading;
+mod table;
 pub mod value;

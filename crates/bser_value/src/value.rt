@@ -1,11 +1,11 @@
 //! Values of BSER of which the type is known only when they are read.
 ghost use Rattle.std.specs.Prelude.{◌≡◌, ◌↔◌, ◌<◌, ◌^◌, pos, codes, string_bytes, IsOk, IfOk, IfErr, IsTrue};
 ghost use Rattle.std.specs.Cmp.{on_per, on_equiv};
-ghost use Rattle.bser_base.specs.Tree.{boolean, integer, array, object, text};
-ghost use Rattle.bser_base.specs.Canonical.{IsWritable};
-ghost use Rattle.bser_base.specs.SameTree.{same_tree, same_items, same_entries};
-ghost use Rattle.bser_base.specs.ValueTree.{IsValueTree};
-ghost use Rattle.bser_base.proofs.Same.{same_tree_equiv, same_tree_partial_equiv};
+ghost use Rattle.bser_format.specs.Tree.{boolean, integer, array, object, text};
+ghost use Rattle.bser_format.specs.Canonical.{IsWritable};
+ghost use Rattle.bser_format.specs.SameTree.{same_tree, same_items, same_entries};
+ghost use Rattle.bser_format.specs.ValueTree.{IsValueTree};
+ghost use Rattle.bser_format.proofs.Same.{same_tree_equiv, same_tree_partial_equiv};
 ghost use Rattle.bser_value.specs.ValueView.{tree_of, items_view, entries_view};
 
 mod access;
@@ -13,7 +13,7 @@ mod clone;
 mod display;
 mod writing;
 
-use bser_base::bytestring::ByteString;
+use bser_format::bytestring::ByteString;
 use std::alloc::{AllocError, Global};
 use std::collections::BTreeMap;
 
@@ -43,7 +43,8 @@ impl Value {
     /// The integer, or the error `value is too large to represent as i64` exactly where it is above `i64::MAX`.
     pub fn from_usize(number: usize) -> Result<Self, &'static str>
         ensures ok { IfOk result (λ value. tree_of value ≡ integer (pos number)) }
-        ensures err { IfErr result (λ message. message.now ≡ codes "value is too large to represent as i64") }
+        ensures err { IfErr result (λ message. message.now
+            ≡ codes "value is too large to represent as i64") }
         ensures fits { IsOk result ↔ (number < 2 ^ 63) }
     {
         match i64::try_from(number) {
@@ -179,7 +180,8 @@ fn are_same_items(items: &Vec<Value>, others: &Vec<Value>) -> bool
 
 #[cycle(same)]
 fn are_same_entries(entries: &BTreeMap<String, Value>, others: &BTreeMap<String, Value>) -> bool
-    ensures { result ≡ same_entries (entries_view entries.now.entries) (entries_view others.now.entries) }
+    ensures { result ≡ same_entries (entries_view entries.now.entries)
+        (entries_view others.now.entries) }
 {
     let mut rest = others.iter();
     for (key, member) in entries.iter() {

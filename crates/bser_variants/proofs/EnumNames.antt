@@ -42,7 +42,7 @@ name_refused enum vs o n (row_due ks) x e h = ap (and_then (λ i. payload_asked 
 
 pub variant_named : (enum : EnumName) (vs : Payloads) (needs : Needs) (e : Error) (s : State) → NamesBy needs (variant_due enum s.opened s.levels (labels vs) s.due) e s.source → NamesEnum needs enum vs e s
 variant_named enum vs needs e s h =
-    names_by_more needs (asks_enum enum vs s.opened s.levels s.due) (variant_due enum s.opened s.levels (labels vs) s.due) e s.source (λ x p. name_refused enum vs s.opened s.levels s.due x e p) h
+    names_by_more needs (asks_enum enum vs s.opened s.levels s.due) (variant_due enum s.opened s.levels (labels vs) s.due) e s.source (λ f x p. name_refused enum vs s.opened s.levels s.due x f p) h
 
 -- ---- a name alone
 
@@ -94,7 +94,7 @@ pub lacking_named : (enum : EnumName) (vs : Payloads) (A : Asks) (needs : Needs)
     → NamesEnum needs enum vs e old
 lacking_named enum vs A needs e old new last place some a lacks =
     names_by_untaken needs (asks_enum enum vs old.opened old.levels old.due) (refuse {X = Unit} wrong_type) e old.source new.source a.text
-    (λ x h. alone_asked enum vs old.opened old.levels old.due a.tree a.content place a.text x a.filled a.read a.held ∙ ap (λ q. alone q x) some ∙ h) a.took
+    (λ f x h. alone_asked enum vs old.opened old.levels old.due a.tree a.content place a.text x a.filled a.read a.held ∙ ap (λ q. alone q x) some ∙ h) a.took
     (complained_names needs (refuse {X = Unit} wrong_type) wrong_type e new.source lacks.name (λ x. refl))
 
 -- ---- a payload
@@ -160,7 +160,7 @@ payload_named enum vs needs e old new place h named =
     ap (λ (s : State). s.levels) a.state ∙ ap (λ (s : State). s.levels) h.opens.state ∙ levels_there u.wanted old u.state.source in
     let r = payload_asked (payload place vs) (suc old.opened) new.state.levels new.payload in
     names_by_untaken needs (asks_enum enum vs old.opened old.levels old.due) r e old.source new.state.source (h.opens.text ++ a.text)
-    (λ x p. ap (asks_enum enum vs old.opened old.levels old.due) (append_assoc h.opens.text a.text x)
+    (λ f x p. ap (asks_enum enum vs old.opened old.levels old.due) (append_assoc h.opens.text a.text x)
     ∙ entry_asked enum vs old.opened u.state.levels old.levels old.due u.wanted a.tree a.content place h.opens.text a.text x h.opens.head h.single a.filled a.read a.held
     ∙ ap (λ m. payload_asked (payload place vs) (suc old.opened) m (pair_value u.wanted) x) (sym depth)
     ∙ ap (λ q. payload_asked (payload place vs) (suc old.opened) new.state.levels q x) (sym h.payload) ∙ p)

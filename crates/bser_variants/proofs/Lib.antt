@@ -3,3 +3,4 @@ pub mod Refused
 pub mod Opened
 pub mod VariantNames
 pub mod EnumNames
+pub mod Variants

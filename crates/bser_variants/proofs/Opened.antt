@@ -33,7 +33,7 @@ pub unknown_names : (vs : List (List ℕ)) (e : Error) (s m : State) (f : Field)
 unknown_names vs e s m f a is reason =
     let text = text_told (utf8_of a.tree) a.content a.held.0 a.read a.held.1 in
     names_by_untaken bare (place_due s.opened vs s.due) (refuse {X = ℕ} (complain UnknownVariant)) e s.source m.source a.text
-    (λ x h. place_reads vs s.opened s.levels s.due a.tree a.held.0 a.text x a.filled text ∙ unknown_from 0 vs a.held.0 (sym a.held.2 ∙ is) x ∙ h) a.took
+    (λ f x h. place_reads vs s.opened s.levels s.due a.tree a.held.0 a.text x a.filled text ∙ unknown_from 0 vs a.held.0 (sym a.held.2 ∙ is) x ∙ h) a.took
     (complained_names bare (refuse {X = ℕ} (complain UnknownVariant)) (complain UnknownVariant) e m.source reason (λ x. refl))
 
 -- ---- after a look at a tag

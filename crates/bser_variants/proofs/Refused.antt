@@ -28,7 +28,7 @@ use Rattle.bser_due.specs.State.{State, with_source}
 use Rattle.bser_due.specs.declared.due.Due as code
 use Rattle.bser_due.specs.declared.due.Due.TheVariants as due
 use Rattle.bser_due.proofs.Clean.{Clean, clean_give, clean_refuse, clean_then, clean_if, clean_utf8, clean_pairs, clean_bytes, clean_texts}
-use Rattle.bser_due.proofs.Refusals.{by_name, names_by_more, names_by_untaken, narrower}
+use Rattle.bser_due.proofs.Refusals.{names_by_grown, by_name, names_by_more, names_by_untaken, narrower}
 use Rattle.bser_deserializer.specs.View.{SeesTag, IsBefore, NoNameDue, value_here}
 use Rattle.bser_deserializer.proofs.Containers.{unequal}
 use Rattle.bser_deserializer.proofs.Tags.{same_name, failed_names, grown_left, peeked_names, nothing_kind}
@@ -132,29 +132,29 @@ pub looked_names : (name : List ℕ) (vs : List (List ℕ)) (e : Error) (s m : S
 looked_names name vs e s m t sees named =
     let u : NamesVariant name vs e (with_source s m.source) = subst (λ (z : State). NamesVariant name vs e z) sees.state named in
     let r = variant_due u.0 s.opened s.levels vs s.due in
-    (u.0, u.1, peeked_names bare r r e s.source m.source t (λ y h. h) sees.peeks u.2)
+    (u.0, u.1, peeked_names bare r r e s.source m.source t (λ f y h. h) sees.peeks u.2)
 
 -- no tag came
 pub no_tag_names : (name : List ℕ) (vs : List (List ℕ)) (e : Error) (s : State) → IsUtf8 name → IsValueDue s.due → NamesBy bare (value_here s.opened s.due) e s.source → NamesVariant name vs e s
 no_tag_names name vs e s text value named =
-    named_so name vs e s text (λ enum. names_by_more bare (variant_due enum s.opened s.levels vs s.due) (value_here s.opened s.due) e s.source (λ x p. at enum s.due x value p) named)
+    named_so name vs e s text (λ enum. names_by_more bare (variant_due enum s.opened s.levels vs s.due) (value_here s.opened s.due) e s.source (λ f x p. at f enum s.due x value p) named)
   where
-    at : (enum : EnumName) (d : Due) (x : List ℕ) → IsValueDue d → value_here s.opened d x ≡ refuses e → variant_due enum s.opened s.levels vs d x ≡ refuses e
-    at enum nothing_due x v h = absurd v
-    at enum node_due [] v h = same_name eof e h
-    at enum node_due (t ∷ x) v h = absurd cc
-    at enum key_due x v h = absurd v
-    at enum field_due [] v h = same_name eof e h
-    at enum field_due (t ∷ x) v h = absurd cc
-    at enum (name_due k) x v h = absurd v
-    at enum (row_due ks) x v h = absurd v
+    at : (e : Error) (enum : EnumName) (d : Due) (x : List ℕ) → IsValueDue d → value_here s.opened d x ≡ refuses e → variant_due enum s.opened s.levels vs d x ≡ refuses e
+    at e enum nothing_due x v h = absurd v
+    at e enum node_due [] v h = same_name eof e h
+    at e enum node_due (t ∷ x) v h = absurd cc
+    at e enum key_due x v h = absurd v
+    at e enum field_due [] v h = same_name eof e h
+    at e enum field_due (t ∷ x) v h = absurd cc
+    at e enum (name_due k) x v h = absurd v
+    at e enum (row_due ks) x v h = absurd v
 
 -- a name alone is refused
 pub alone_names : (name : List ℕ) (vs : List (List ℕ)) (e : Error) (s m : State) (t : ℕ) → IsUtf8 name → SeesTag s m t → (t ≡ 0x02) ⊎ (t ≡ 0x0d) → NamesBy bare (place_due m.opened vs m.due) e m.source → NamesVariant name vs e s
 alone_names name vs e s m t text sees told named =
     let u = subst (λ (z : State). NamesBy bare (place_due z.opened vs z.due) e z.source) sees.state named in
     named_so name vs e s text (λ enum. peeked_names bare (variant_due enum s.opened s.levels vs s.due) (place_due s.opened vs s.due) e s.source m.source t
-    (λ y h. alone_same enum s.opened s.levels vs s.due t y sees.due (key_tag t told) ∙ h) sees.peeks u)
+    (λ f y h. alone_same enum s.opened s.levels vs s.due t y sees.due (key_tag t told) ∙ h) sees.peeks u)
   where
     key_tag : (t : ℕ) → (t ≡ 0x02) ⊎ (t ≡ 0x0d) → is_key_tag t ≡ true
     key_tag t (inl e) = subst (λ z. is_key_tag z ≡ true) (sym e) refl
@@ -198,12 +198,14 @@ deep_names name vs e s before none reason = (
 )
 
 -- what is named where this byte is next
-begun_names : {X Y : Type 0} (needs : Needs) (r : Reader X) (s : Reader Y) (e : Error) (a : Window) (t : ℕ) → ((y : List ℕ) → s (t ∷ y) ≡ refuses e → r (t ∷ y) ≡ refuses e) → a.buffered ≡ t ∷ drop 1 a.buffered
+begun_names : {X Y : Type 0} (needs : Needs) (r : Reader X) (s : Reader Y) (e : Error) (a : Window) (t : ℕ) → ((f : Error) (y : List ℕ) → s (t ∷ y) ≡ refuses f → r (t ∷ y) ≡ refuses f) → a.buffered ≡ t ∷ drop 1 a.buffered
     → NamesBy needs s e a → NamesBy needs r e a
-begun_names needs r s e a t same first (inl (x, m, p)) =
-    let whole : x ≡ t ∷ (drop 1 a.buffered ++ m.more) = m.whole ∙ ap (λ l. l ++ m.more) first in
-    inl (x, m, ap r whole ∙ same (drop 1 a.buffered ++ m.more) (ap s (sym whole) ∙ p))
-begun_names needs r s e a t same first (inr h) = inr h
+begun_names needs r s e a t same first h = names_by_grown needs r s e 0 a a (grown_none a) begun h
+  where
+    begun : (f : Error) (x more : List ℕ) → x ≡ a.buffered ++ more → s x ≡ refuses f → r x ≡ refuses f
+    begun f x more whole p =
+        let here : x ≡ t ∷ (drop 1 a.buffered ++ more) = whole ∙ ap (λ l. l ++ more) first in
+        ap r here ∙ same f (drop 1 a.buffered ++ more) (ap s (sym here) ∙ p)
 
 counted : (vs : List (List ℕ)) (e : Error) (a : Answer ℕ) → and_then (λ n. give (entries_of_object n)) a ≡ refuses e → and_then (λ n. only_place vs (entries_of_object n)) a ≡ refuses e
 counted vs e (reads n y) h = absurd cc
@@ -222,20 +224,20 @@ head_named enum o (suc n) vs (row_due ks) e y v some h = absurd v
 pub head_names : (name : List ℕ) (vs : List (List ℕ)) (e : Error) (s z : State) → IsUtf8 name → IsBefore 0x01 s → (s.levels ≡ 0 → ⊥) → RefusesPairs e s z → NamesVariant name vs e s
 head_names name vs e s z text before some u =
     named_so name vs e s text (λ enum. begun_names bare (variant_due enum s.opened s.levels vs s.due) (asked (pairs_at s.levels) s.opened s.due) e s.source 0x01
-    (λ y h. head_named enum s.opened s.levels vs s.due e y before.due some h) before.next u.names)
+    (λ f y h. head_named enum s.opened s.levels vs s.due f y before.due some h) before.next u.names)
 
 -- its key is refused
 pub key_names : (name : List ℕ) (vs : List (List ℕ)) (e : Error) (s : State) (u : OpenPairs) → IsUtf8 name → OpensPairs s u → NamesBy bare (only_place vs u.wanted) e u.state.source → NamesVariant name vs e s
 key_names name vs e s u text opens named =
     named_so name vs e s text (λ enum. names_by_untaken bare (variant_due enum s.opened s.levels vs s.due) (only_place vs u.wanted) e s.source u.state.source opens.text
-    (λ x h. head_passes enum s.opened s.levels vs s.due u.wanted opens.text x opens.head ∙ h) opens.took named)
+    (λ f x h. head_passes enum s.opened s.levels vs s.due u.wanted opens.text x opens.head ∙ h) opens.took named)
 
 -- ---- a row
 
 pub row_key_names : (vs ks : List (List ℕ)) (e : Error) (s : State) (u : OpenPairs) → s.due ≡ row_due ks → OpensPairs s u → NamesBy bare (only_place vs u.wanted) e u.state.source → NamesBy bare (variant_of_row vs ks) e s.source
 row_key_names vs ks e s u due opens named =
     names_by_untaken bare (variant_of_row vs ks) (only_place vs u.wanted) e s.source u.state.source opens.text
-    (λ x h. row_passes s.levels vs ks u.wanted opens.text x (subst (λ d. BeginsPairs s.levels d u.wanted opens.text) due opens.head) ∙ h) opens.took named
+    (λ f x h. row_passes s.levels vs ks u.wanted opens.text x (subst (λ d. BeginsPairs s.levels d u.wanted opens.text) due opens.head) ∙ h) opens.took named
 
 -- ---- what is due elsewhere
 
@@ -262,7 +264,7 @@ pub due_names : (name : List ℕ) (vs ks : List (List ℕ)) (place : ℕ) (d : c
     → NamesBy bare (place_due s.opened vs s.due) e s.source → NamesVariant name vs e s
 due_names name vs ks place d e s text is node field row named =
     named_so name vs e s text (λ enum. names_by_more bare (variant_due enum s.opened s.levels vs s.due) (place_due s.opened vs s.due) e s.source
-    (λ x h. subst (λ q. variant_due enum s.opened s.levels vs q x ≡ place_due s.opened vs q x) (sym is) (other_same enum s.opened s.levels vs ks place d x node field row) ∙ h) named)
+    (λ f x h. subst (λ q. variant_due enum s.opened s.levels vs q x ≡ place_due s.opened vs q x) (sym is) (other_same enum s.opened s.levels vs ks place d x node field row) ∙ h) named)
 
 -- ---- a name
 
@@ -274,14 +276,14 @@ then_place vs e (refuses f) h = same_name f e h
 pub text_names : (vs : List (List ℕ)) (e : Error) (s z : State) → NoNameDue s → Fails e s.source z.source → NamesBy bare (asks_string s.opened s.levels s.due) e s.source → NamesBy bare (place_due s.opened vs s.due) e s.source
 text_names vs e s z none fails named = go s.source.failed refl
   where
-    at : (d : Due) (x : List ℕ) → ((k : List ℕ) → d ≡ name_due k → ⊥) → asks_string s.opened s.levels d x ≡ refuses e → place_due s.opened vs d x ≡ refuses e
-    at nothing_due x other h = then_place vs e (asked text_at s.opened nothing_due x) h
-    at node_due x other h = then_place vs e (asked text_at s.opened node_due x) h
-    at key_due x other h = then_place vs e (asked text_at s.opened key_due x) h
-    at field_due x other h = then_place vs e (asked text_at s.opened field_due x) h
-    at (name_due k) x other h = absurd (other k refl)
-    at (row_due ks) x other h = then_place vs e (asked text_at s.opened (row_due ks) x) h
+    at : (e : Error) (d : Due) (x : List ℕ) → ((k : List ℕ) → d ≡ name_due k → ⊥) → asks_string s.opened s.levels d x ≡ refuses e → place_due s.opened vs d x ≡ refuses e
+    at e nothing_due x other h = then_place vs e (asked text_at s.opened nothing_due x) h
+    at e node_due x other h = then_place vs e (asked text_at s.opened node_due x) h
+    at e key_due x other h = then_place vs e (asked text_at s.opened key_due x) h
+    at e field_due x other h = then_place vs e (asked text_at s.opened field_due x) h
+    at e (name_due k) x other h = absurd (other k refl)
+    at e (row_due ks) x other h = then_place vs e (asked text_at s.opened (row_due ks) x) h
 
     go : (b : Bool) → s.source.failed ≡ b → NamesBy bare (place_due s.opened vs s.due) e s.source
     go true failed = failed_names bare (place_due s.opened vs s.due) e s.source z.source failed fails
-    go false works = names_by_more bare (place_due s.opened vs s.due) (asks_string s.opened s.levels s.due) e s.source (λ x h. at s.due x (none works) h) named
+    go false works = names_by_more bare (place_due s.opened vs s.due) (asks_string s.opened s.levels s.due) e s.source (λ f x h. at f s.due x (none works) h) named

@@ -1,26 +1,31 @@
 -- What is read back from the message of a tree.
-use Rattle.std.proofs.Common.{◌≡◌, ℕ, suc, ◌<◌, ◌≤◌, ◌^◌, ℤ, List, [], ◌∷◌, ◌++◌, length, Some, Result, Ok, Err, map, refl, sym, ap, subst, ◌∙◌, append-nil, arith}
-use Rattle.std.specs.Prelude.{FitsSigned, IfOk}
+use Rattle.std.proofs.Common.{◌≡◌, ℕ, suc, ◌<◌, ◌≤◌, ◌^◌, ℤ, List, [], ◌∷◌, ◌++◌, length, Some, Result, Ok, Err, map, refl, sym, ap, subst, ◌∙◌, append-nil, true, arith}
+use Rattle.std.specs.Prelude.{pos, negsuc, FitsSigned, IfOk}
 use Rattle.std.specs.Str.{IsUtf8}
 use Rattle.std.specs.Int.{w64}
 use Rattle.std.specs.List.{AllByRecursion}
+use Rattle.std.proofs.lemmas.Bool.{lt-ltb}
+use Rattle.std.proofs.lemmas.Int.{ints}
 use Rattle.std.proofs.lemmas.Option.{same_Some}
-use Rattle.bser_base.specs.Tree.{Tree, integer, text, array, Items, no_items, item, items}
-use Rattle.bser_base.specs.Content.{Content, Contents, number, byte_list, list, content, no_contents, Meaning, contents_of, each_some}
-use Rattle.bser_base.specs.ReadsHolders.{list_of, reads_vec}
-use Rattle.bser_base.specs.ReadsScalars.{reads_signed, reads_string}
-use Rattle.bser_base.specs.Expand.{ItemsAreTemplateFree}
-use Rattle.bser_base.specs.Canonical.{canonical_message, ItemsAreWritable}
-use Rattle.bser_base.specs.Measures.{items_depth}
-use Rattle.bser_base.specs.Written.{written_items}
-use Rattle.bser_base.specs.declared.errors.Error.{Error}
-use Rattle.bser_base.proofs.RoundTrip.{meaning_stays}
+use Rattle.bser_format.specs.Tree.{Tree, integer, text, array, Items, no_items, item, items}
+use Rattle.bser_format.specs.Content.{Content, Contents, number, byte_list, list, content, no_contents, Meaning, contents_of, each_some}
+use Rattle.bser_format.specs.ReadsHolders.{list_of, reads_vec}
+use Rattle.bser_format.specs.ReadsScalars.{reads_signed, reads_string, is_signed}
+use Rattle.bser_format.specs.Expand.{ItemsAreTemplateFree}
+use Rattle.bser_format.specs.Canonical.{canonical_message, ItemsAreWritable}
+use Rattle.bser_format.specs.Measures.{items_depth}
+use Rattle.bser_format.specs.Written.{written_items}
+use Rattle.bser_format.specs.declared.errors.Error.{Error}
+use Rattle.bser_format.proofs.RoundTrip.{meaning_stays}
 use Rattle.serde_bser.specs.Holds.{HoldsNumber}
 use Rattle.serde_bser.specs.HoldsTexts.{HoldsBytes}
 use Rattle.serde_bser.specs.HoldsLists.{HoldsAll, HoldsList}
 use Rattle.serde_bser.specs.Laws.{IsReturned}
 use Rattle.serde_bser.specs.Messages.{BeginsWith}
-use Rattle.serde_bser.proofs.Pulls.{signed_64}
+
+signed_64 : (v : ℤ) → FitsSigned w64 v → is_signed 64 v ≡ true
+signed_64 (pos n) h = lt-ltb n (2 ^ 63) (omega (arith, ints, h))
+signed_64 (negsuc n) h = lt-ltb n (2 ^ 63) (omega (arith, ints, h))
 
 -- what is read from the message of a tree holds what the tree reads as
 pub returned : {A : Type 0} (reads : Meaning) (holds : A → Content → Type 0) (t : Tree) (c : Content) (bytes : List ℕ) (back : A) → IsReturned 128 t → reads t ≡ Some c → bytes ≡ canonical_message t → BeginsWith 128 reads holds bytes back → holds back c

@@ -1,10 +1,12 @@
 -- What the enum of the worked messages, and a row that holds it, are read from, and what they hold.
-use Rattle.std.specs.Prelude.{◌≡◌, ℕ, List, [], ◌∷◌, codes}
-use Rattle.bser_base.specs.Content.{Content, one, variant, Meaning}
-use Rattle.bser_base.specs.Enums.{Payload, unit, holds, reads_enum}
-use Rattle.bser_base.specs.ReadsHolders.{reads_tuple}
+use Rattle.std.specs.Prelude.{◌≡◌, ℕ, List, [], ◌∷◌, codes, Option}
+use Rattle.bser_format.specs.Content.{Content, one, variant, Meaning}
+use Rattle.bser_format.specs.Enums.{Payload, unit, holds, reads_enum}
+use Rattle.bser_format.specs.ReadsHolders.{reads_tuple}
 use Rattle.serde_bser.specs.HoldsLists.{HoldsTuple}
+use Rattle.serde_bser.specs.Reading.{Asking}
 use Rattle.serde_bser.specs.Slots.{required, reads_struct}
+use Rattle.bser_fields.specs.Askings.{asking_struct}
 use Rattle.serde_bser.specs.Variants.{HoldsVariant}
 use Rattle.bser_vectors.specs.declared.enums.EnumRow.{EnumRow}
 use Rattle.bser_vectors.specs.declared.enums.TestEnum.{TestEnum}
@@ -13,6 +15,10 @@ use Rattle.bser_vectors.specs.declared.enums.TestEnum.TheVariants.{TestUnit, Tes
 -- an object with two fields
 abbrev pub reads_parts : Meaning → Meaning
 reads_parts S = reads_struct (codes "abc" ∷ codes "def" ∷ []) (required S ∷ required S ∷ [])
+
+abbrev pub asking_parts : {S : Meaning} → Option (Asking S) → Option (Asking (reads_parts S))
+asking_parts {S = S} a =
+    asking_struct (codes "abc" ∷ codes "def" ∷ []) (required S ∷ required S ∷ []) (a, (a, tt))
 
 -- the names of the variants, each with its payload: none, one value, two values, and an object with two fields
 abbrev pub test_variants : Meaning → List (List ℕ × Payload)

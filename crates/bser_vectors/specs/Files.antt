@@ -1,7 +1,7 @@
 -- What a file's name and size are read from: an object with each once, in any order.
 use Rattle.std.specs.Prelude.{◌≡◌, ℕ, zero, suc, List, [], ◌∷◌, Option, Some, None, option_map, codes}
-use Rattle.bser_base.specs.Tree.{Tree}
-use Rattle.bser_base.specs.Content.{Content, list, content, no_contents, Meaning}
+use Rattle.bser_format.specs.Tree.{Tree}
+use Rattle.bser_format.specs.Content.{Content, list, content, no_contents, Meaning}
 use Rattle.serde_bser.specs.Fold.{struct_of, read_once}
 use Rattle.serde_bser.specs.declared.de.field.Field.{Field}
 use Rattle.serde_bser.specs.declared.de.field.Field.TheVariants.{Known, Unknown}

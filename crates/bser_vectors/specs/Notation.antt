@@ -3,17 +3,17 @@ use Rattle.std.specs.Prelude.{ℕ, List, [], ◌++◌, Result, Ok, Err, codes, d
 use Rattle.std.specs.Fmt.{signed_decimal}
 use Rattle.std.specs.Int.{w64, to_be_bytes}
 use Rattle.hex.specs.Hex.{encode_lower}
-use Rattle.bser_base.specs.Tree.{Tree, null, boolean, integer, real, bytes, text, array, object, template, Items, no_items, item, Entries, no_entries, entry}
-use Rattle.bser_base.specs.EnumName.{kept}
-use Rattle.bser_base.specs.declared.errors.Complaint.{Complaint}
-use Rattle.bser_base.specs.declared.errors.Complaint.TheVariants.{NegativeLength, NegativeCount, ItemsLeft, TooFewItems, WrongType, IntegerOutOfRange, RowsWithoutKeys, BorrowedFromCopying, UnknownVariant, EnumObjectEntries, ValueOpen, CountTooGreat}
-use Rattle.bser_base.specs.declared.errors.Kind.{Kind}
-use Rattle.bser_base.specs.declared.errors.Kind.TheVariants.{NextItem, Integer, MapKey, TemplateKeys, TemplateKey, Array, Object, Template, Enum, ObjectLikeEnum}
-use Rattle.bser_base.specs.declared.errors.ReadCause.{ReadCause}
-use Rattle.bser_base.specs.declared.errors.ReadCause.TheVariants.{Eof, Utf8, Reader, Memory, Failed}
-use Rattle.bser_base.specs.declared.errors.Message.TheVariants.{Fixed}
-use Rattle.bser_base.specs.declared.errors.Error.{Error}
-use Rattle.bser_base.specs.declared.errors.Error.TheVariants.{DeInvalidStartByte, DeCustom, DeRecursionLimitExceeded, DeEof, DeInvalidMagic, DeReaderError, OutOfMemory}
+use Rattle.bser_format.specs.Tree.{Tree, null, boolean, integer, real, bytes, text, array, object, template, Items, no_items, item, Entries, no_entries, entry}
+use Rattle.bser_format.specs.EnumName.{kept}
+use Rattle.bser_format.specs.declared.errors.Complaint.{Complaint}
+use Rattle.bser_format.specs.declared.errors.Complaint.TheVariants.{NegativeLength, NegativeCount, ItemsLeft, TooFewItems, WrongType, IntegerOutOfRange, RowsWithoutKeys, BorrowedFromCopying, UnknownVariant, EnumObjectEntries, ValueOpen, CountTooGreat}
+use Rattle.bser_format.specs.declared.errors.Kind.{Kind}
+use Rattle.bser_format.specs.declared.errors.Kind.TheVariants.{NextItem, Integer, MapKey, TemplateKeys, TemplateKey, Array, Object, Template, Enum, ObjectLikeEnum}
+use Rattle.bser_format.specs.declared.errors.ReadCause.{ReadCause}
+use Rattle.bser_format.specs.declared.errors.ReadCause.TheVariants.{Eof, Utf8, Reader, Memory, Failed}
+use Rattle.bser_format.specs.declared.errors.Message.TheVariants.{Fixed}
+use Rattle.bser_format.specs.declared.errors.Error.{Error}
+use Rattle.bser_format.specs.declared.errors.Error.TheVariants.{DeInvalidStartByte, DeCustom, DeRecursionLimitExceeded, DeEof, DeInvalidMagic, DeReaderError, OutOfMemory}
 use Rattle.serde_bser.specs.ValueView.{tree_of}
 use Rattle.bser_value.specs.declared.value.Value.{Value}
 

@@ -60,7 +60,8 @@ impl Plan {
         ensures asked { IfOk result (λ n. n ≤ asked) }
         ensures there { IfOk result (λ n. n ≤ there) }
         ensures plan { OnOk result (is_steady self.new ≡ is_steady self.old) }
-        ensures some { IsTrue (is_steady self.old) → IsOkAnd result (λ n. n ≡ 0 → (asked ≡ 0) ⊎ (there ≡ 0)) }
+        ensures some { IsTrue (is_steady self.old) → IsOkAnd result
+            (λ n. n ≡ 0 → (asked ≡ 0) ⊎ (there ≡ 0)) }
     {
         let count = asked.min(there).min(self.most);
         if asked == 0 || self.then == Then::GoesOn {

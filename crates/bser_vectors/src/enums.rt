@@ -4,10 +4,9 @@ ghost use Rattle.std.specs.Prelude.{false, ◌||◌, [], ◌∷◌, None};
 ghost use Rattle.std.proofs.Common.{ap};
 ghost use Rattle.serde_bser.specs.HoldsLists.{HoldsTuple};
 ghost use Rattle.serde_bser.specs.Slots.{struct_needs};
-ghost use Rattle.bser_vectors.specs.Enums.{reads_parts, reads_test_enum, HoldsTestEnum, reads_enum_row, HoldsEnumRow};
+ghost use Rattle.bser_vectors.specs.Enums.{reads_parts, asking_parts, reads_test_enum, HoldsTestEnum, reads_enum_row, HoldsEnumRow};
 
-use serde_bser::de::{Deserializer, Required};
-use serde_bser::errors::Result;
+use serde_bser::de::{Answer, Deserializer, Required};
 use serde_bser::prelude::*;
 use std::alloc::Global;
 
@@ -27,6 +26,8 @@ impl<S: Shape> Shape for TestEnum<S> {
 
     ghost needs = { struct_needs (S.needs ∷ []) };
 
+    ghost asks = { None };
+
     ghost plain = { None };
 }
 
@@ -34,7 +35,7 @@ impl<L: LendsText, S: Deserialize<L>> Deserialize<L> for TestEnum<S> {
     fn deserialize<R: DeRead<Lent = L>>(
         alloc: Global,
         from: &mut Deserializer<R>,
-    ) -> Result<TestEnum<S>> {
+    ) -> Answer<TestEnum<S>> {
         let variant = from.read_enum(
             alloc,
             "TestEnum",
@@ -79,6 +80,8 @@ impl<S: Shape> Shape for Parts<S> {
 
     ghost needs = { struct_needs (S.needs ∷ S.needs ∷ []) };
 
+    ghost asks = { asking_parts S.asks };
+
     ghost plain = { None };
 }
 
@@ -86,7 +89,7 @@ impl<L: LendsText, S: Deserialize<L>> Deserialize<L> for Parts<S> {
     fn deserialize<R: DeRead<Lent = L>>(
         alloc: Global,
         from: &mut Deserializer<R>,
-    ) -> Result<Parts<S>> {
+    ) -> Answer<Parts<S>> {
         let (abc, (def, ())) = from.read_fields::<(Required<S>, (Required<S>, ()))>(
             alloc,
             &["abc", "def"],
@@ -108,6 +111,8 @@ impl<S: Shape> Shape for EnumRow<S> {
 
     ghost needs = { struct_needs (struct_needs (S.needs ∷ []) ∷ []) };
 
+    ghost asks = { None };
+
     ghost plain = { None };
 }
 
@@ -115,7 +120,7 @@ impl<L: LendsText, S: Deserialize<L>> Deserialize<L> for EnumRow<S> {
     fn deserialize<R: DeRead<Lent = L>>(
         alloc: Global,
         from: &mut Deserializer<R>,
-    ) -> Result<EnumRow<S>> {
+    ) -> Answer<EnumRow<S>> {
         let (abc, ()) = from.read_fields::<(Required<TestEnum<S>>, ())>(alloc, &["abc"])?;
         Ok(EnumRow { abc })
     }

@@ -3,8 +3,8 @@ ghost use Rattle.std.specs.Prelude.{None};
 ghost use Rattle.bser_vectors.specs.Files.{exact_file_of, HoldsExactFile};
 ghost use Rattle.serde_bser.specs.Fold.{either};
 
-use serde_bser::de::{Deserializer, Field};
-use serde_bser::errors::{Complaint, Error, Result};
+use serde_bser::de::{Answer, Deserializer, Field};
+use serde_bser::errors::{Complaint, Error};
 use serde_bser::prelude::*;
 use std::alloc::Global;
 
@@ -22,6 +22,8 @@ impl<S: Shape, N: Shape> Shape for ExactFile<S, N> {
 
     ghost needs = { either S.needs N.needs };
 
+    ghost asks = { None };
+
     ghost plain = { None };
 }
 
@@ -29,7 +31,7 @@ impl<L: LendsText, S: Deserialize<L>, N: Deserialize<L>> Deserialize<L> for Exac
     fn deserialize<R: DeRead<Lent = L>>(
         alloc: Global,
         from: &mut Deserializer<R>,
-    ) -> Result<ExactFile<S, N>> {
+    ) -> Answer<ExactFile<S, N>> {
         let mut name = None;
         let mut size = None;
         let mut map = from.read_map()?;
@@ -37,23 +39,23 @@ impl<L: LendsText, S: Deserialize<L>, N: Deserialize<L>> Deserialize<L> for Exac
             match field {
                 Field::Known(0) => {
                     if name.is_some() {
-                        return Err(Error::de_custom(Complaint::WrongType));
+                        return Err(map.refuse(Error::de_custom(Complaint::WrongType)));
                     }
                     name = Some(map.next_value::<S>(alloc)?);
                 }
                 Field::Known(_) => {
                     if size.is_some() {
-                        return Err(Error::de_custom(Complaint::WrongType));
+                        return Err(map.refuse(Error::de_custom(Complaint::WrongType)));
                     }
                     size = Some(map.next_value::<N>(alloc)?);
                 }
-                Field::Unknown => return Err(Error::de_custom(Complaint::WrongType)),
+                Field::Unknown => return Err(map.refuse(Error::de_custom(Complaint::WrongType))),
             }
         }
         map.end()?;
         match (name, size) {
             (Some(name), Some(size)) => Ok(ExactFile { name, size }),
-            _ => Err(Error::de_custom(Complaint::WrongType)),
+            _ => Err(from.complain(Complaint::WrongType)),
         }
     }
 }

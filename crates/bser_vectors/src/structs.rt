@@ -4,10 +4,9 @@ ghost use Rattle.std.specs.Prelude.{false, ◌||◌, [], ◌∷◌, None};
 ghost use Rattle.std.proofs.Common.{ap};
 ghost use Rattle.serde_bser.specs.Reading.{bare};
 ghost use Rattle.serde_bser.specs.Slots.{struct_needs};
-ghost use Rattle.bser_vectors.specs.Structs.{reads_file, HoldsFile, reads_files, HoldsFiles, reads_row, HoldsRow};
+ghost use Rattle.bser_vectors.specs.Structs.{reads_file, HoldsFile, asking_file, reads_files, HoldsFiles, asking_files, reads_row, HoldsRow, asking_row};
 
-use serde_bser::de::{Deserializer, Optional, Required};
-use serde_bser::errors::Result;
+use serde_bser::de::{Answer, Deserializer, Optional, Required};
 use serde_bser::prelude::*;
 use std::alloc::Global;
 
@@ -25,6 +24,8 @@ impl<S: Shape> Shape for FileInfo<S> {
 
     ghost needs = { struct_needs (S.needs ∷ bare ∷ []) };
 
+    ghost asks = { asking_file S.asks };
+
     ghost plain = { None };
 }
 
@@ -32,7 +33,7 @@ impl<L: LendsText, S: Deserialize<L>> Deserialize<L> for FileInfo<S> {
     fn deserialize<R: DeRead<Lent = L>>(
         alloc: Global,
         from: &mut Deserializer<R>,
-    ) -> Result<FileInfo<S>> {
+    ) -> Answer<FileInfo<S>> {
         let (name, (size, ())) = from.read_fields::<(Required<S>, (Required<u32>, ()))>(
             alloc,
             &["name", "size"],
@@ -58,6 +59,8 @@ impl<S: Shape> Shape for Files<S> {
 
     ghost needs = { struct_needs (struct_needs (S.needs ∷ bare ∷ []) ∷ []) };
 
+    ghost asks = { asking_files S.asks };
+
     ghost plain = { None };
 }
 
@@ -65,7 +68,7 @@ impl<L: LendsText, S: Deserialize<L>> Deserialize<L> for Files<S> {
     fn deserialize<R: DeRead<Lent = L>>(
         alloc: Global,
         from: &mut Deserializer<R>,
-    ) -> Result<Files<S>> {
+    ) -> Answer<Files<S>> {
         let (files, ()) = from.read_fields::<(Required<Vec<FileInfo<S>>>, ())>(alloc, &["files"])?;
         Ok(Files { files })
     }
@@ -90,6 +93,8 @@ impl<S: Shape> Shape for TemplateRow<S> {
 
     ghost needs = { struct_needs (bare ∷ S.needs ∷ bare ∷ []) };
 
+    ghost asks = { asking_row S.asks };
+
     ghost plain = { None };
 }
 
@@ -97,7 +102,7 @@ impl<L: LendsText, S: Deserialize<L>> Deserialize<L> for TemplateRow<S> {
     fn deserialize<R: DeRead<Lent = L>>(
         alloc: Global,
         from: &mut Deserializer<R>,
-    ) -> Result<TemplateRow<S>> {
+    ) -> Answer<TemplateRow<S>> {
         let (abc, (def, (ghi, ()))) = from.read_fields::<
             (Required<i32>, (Optional<S>, (Optional<i64>, ()))),
         >(alloc, &["abc", "def", "ghi"])?;

@@ -18,7 +18,8 @@ pub fn read_by_plan<T: DeserializeOwned>(
     bytes: &[u8],
     plan: Plan,
 ) -> (Result<T>, usize)
-    ensures { IsTrue (is_steady plan) → GivenOfReader 128 T.reads T.holds bytes.now result.0 result.1 }
+    ensures { IsTrue (is_steady plan) → GivenOfReader 128 T.reads T.asks T.holds
+        bytes.now result.0 result.1 }
 {
     let mut reader = Watched::new(PlannedReader::new(bytes, plan));
     let answer = from_reader(alloc, &mut reader);
@@ -34,7 +35,8 @@ pub fn read_by_plan_within<T: DeserializeOwned>(
     plan: Plan,
 ) -> (Result<T>, usize)
     requires { levels ≤ 1024 }
-    ensures { IsTrue (is_steady plan) → GivenOfReader levels T.reads T.holds bytes.now result.0 result.1 }
+    ensures { IsTrue (is_steady plan) → GivenOfReader levels T.reads T.asks T.holds
+        bytes.now result.0 result.1 }
 {
     let mut reader = Watched::new(PlannedReader::new(bytes, plan));
     let answer = from_reader_within(alloc, levels, &mut reader);
@@ -48,7 +50,8 @@ fn is_slice_answered(
     bytes: &[u8],
     expected: &str,
 ) -> std::result::Result<bool, AllocError>
-    ensures { IfOk result (λ same. IsTrue same → AnswersSlice ⟦<Value as Shape>⟧.reads ⟦<Value as Shape>⟧.needs bytes.now expected.now) }
+    ensures { IfOk result (λ same. IsTrue same → AnswersSlice ⟦<Value as Shape>⟧.reads
+        ⟦<Value as Shape>⟧.asks ⟦<Value as Shape>⟧.needs bytes.now expected.now) }
 {
     is_answer(alloc, &from_slice(alloc, bytes), expected)
 }
@@ -62,7 +65,8 @@ fn is_reader_answered(
     taken: usize,
 ) -> std::result::Result<bool, AllocError>
     requires { IsTrue (is_steady plan) }
-    ensures { IfOk result (λ same. IsTrue same → AnswersReader ⟦<Value as Shape>⟧.reads bytes.now expected.now taken) }
+    ensures { IfOk result (λ same. IsTrue same → AnswersReader ⟦<Value as Shape>⟧.reads
+        ⟦<Value as Shape>⟧.asks bytes.now expected.now taken) }
 {
     let (answer, count) = read_by_plan(alloc, bytes, plan);
     let same = is_answer(alloc, &answer, expected)?;
@@ -78,7 +82,8 @@ pub fn first_mismatch(
     expected: &str,
     taken: usize,
 ) -> std::result::Result<Option<&'static str>, AllocError>
-    ensures { IfOk result (λ way. IfNone way (Agrees ⟦<Value as Shape>⟧.reads ⟦<Value as Shape>⟧.needs bytes.now expected.now taken)) }
+    ensures { IfOk result (λ way. IfNone way (Agrees ⟦<Value as Shape>⟧.reads
+        ⟦<Value as Shape>⟧.asks ⟦<Value as Shape>⟧.needs bytes.now expected.now taken)) }
 {
     if !is_slice_answered(alloc, bytes, expected)? {
         return Ok(Some("from a slice"));

@@ -27,7 +27,8 @@ pub fn one_front()
     ensures followed { message 128 (watch_list ++ watch_list) ≡ Some ((0, watched), watch_list) }
     ensures cut { IsRefused 128 (take 39 watch_list) }
     ensures template { IsRead 128 people_message people }
-    ensures template_followed { message 128 (people_message ++ watch_list) ≡ Some ((0, people), watch_list) }
+    ensures template_followed { message 128 (people_message ++ watch_list) ≡ Some
+        ((0, people), watch_list) }
 {}
 
 /// Messages that are read back: of 69 and 128 bytes within 128 levels, and of 1282 bytes within 255.
@@ -53,7 +54,8 @@ pub fn twice_is_once()
     ensures recorded { IsRead 128 file_query file_answer }
     ensures value { IsValueOf file_answer file_value }
     ensures again { IsReadBack 128 file_value 128 }
-    ensures followed { message 128 (canonical_message file_value ++ watch_list) ≡ Some ((0, file_value), watch_list) }
+    ensures followed { message 128 (canonical_message file_value ++ watch_list) ≡ Some
+        ((0, file_value), watch_list) }
     ensures template { IsRead 128 people_message people }
     ensures template_value { IsValueOf people people_value }
     ensures template_again { IsReadBack 128 people_value 69 }
@@ -103,12 +105,14 @@ pub fn nodes_and_depth()
 /// A template of 40 bytes is 61 bytes written out, with one level more, and one without keys is the
 /// empty array. Both trees expand to one.
 pub fn written_out()
-    ensures people { (h : Spells 2 people people_body) × (bytes_written_out 2 people_keys people_rows people_body h ≡ people_out) }
+    ensures people { (h : Spells 2 people people_body) ×
+        (bytes_written_out 2 people_keys people_rows people_body h ≡ people_out) }
     ensures people_len { length people_out ≡ 61 }
     ensures people_out { IsBody 3 people_out (row_objects people_keys people_rows) }
     ensures people_alike { expand (row_objects people_keys people_rows) ≡ expand people }
     ensures people_value { IsValueOf people people_value }
-    ensures no_keys { (h : Spells 2 (template [] no_rows) no_keys) × (bytes_written_out 2 [] no_rows no_keys h ≡ empty_array) }
+    ensures no_keys { (h : Spells 2 (template [] no_rows) no_keys) ×
+        (bytes_written_out 2 [] no_rows no_keys h ≡ empty_array) }
     ensures no_keys_out { IsBody 3 (empty_array) (row_objects [] no_rows) }
 {}
 
@@ -128,11 +132,15 @@ pub fn round_trip()
     ensures numbers_deep { depth numbers ≡ 1 }
     ensures numbers_len { length (canonical_message numbers) ≡ 17 }
     ensures numbers_read { IsRead 128 (canonical_message numbers) numbers }
-    ensures numbers_tuple { reads_tuple (replicate 3 (reads_signed 64)) (expand numbers) ≡ Some (list (content (number (pos 1)) (content (number (pos 2)) (content (number (pos 3)) no_contents)))) }
+    ensures numbers_tuple { reads_tuple (replicate 3 (reads_signed 64)) (expand numbers) ≡ Some
+        (list (content (number (pos 1)) (content (number (pos 2))
+        (content (number (pos 3)) no_contents)))) }
     ensures key_free { IsTemplateFree (single (0xff ∷ []) null) }
     ensures key_writable { IsWritable (single (0xff ∷ []) null) }
     ensures key_deep { depth (single (0xff ∷ []) null) ≡ 1 }
     ensures key_len { length (canonical_message (single (0xff ∷ []) null)) ≡ 16 }
-    ensures key_read { IsRead 128 (canonical_message (single (0xff ∷ []) null)) (single (0xff ∷ []) null) }
-    ensures key_map { reads_map reads_byte_string reads_unit (expand (single (0xff ∷ []) null)) ≡ Some (list (content (pair (byte_list (0xff ∷ [])) contents.one) no_contents)) }
+    ensures key_read { IsRead 128 (canonical_message (single (0xff ∷ []) null))
+        (single (0xff ∷ []) null) }
+    ensures key_map { reads_map reads_byte_string reads_unit (expand (single (0xff ∷ []) null))
+        ≡ Some (list (content (pair (byte_list (0xff ∷ [])) contents.one) no_contents)) }
 {}

@@ -1,13 +1,13 @@
 -- The laws of the compact form.
 use Rattle.std.specs.Prelude.{◌≡◌, ◌↔◌, ◌≤◌, ◌<◌, ◌^◌, ℕ, List, ◌++◌, length, Some}
-use Rattle.bser_base.specs.Tree.{Tree}
-use Rattle.bser_base.specs.Message.{IsMessage}
-use Rattle.bser_base.specs.Expand.{expand}
-use Rattle.bser_base.specs.Content.{Content, Meaning}
-use Rattle.bser_base.specs.Measures.{depth}
-use Rattle.bser_base.specs.Canonical.{canonical_message, IsWritable}
-use Rattle.bser_base.specs.Compact.{fold_templates, compact_body, compact_message}
-use Rattle.bser_base.specs.ValueTree.{IsValueTree}
+use Rattle.bser_format.specs.Tree.{Tree}
+use Rattle.bser_format.specs.Message.{IsMessage}
+use Rattle.bser_format.specs.Expand.{expand}
+use Rattle.bser_format.specs.Content.{Content, Meaning}
+use Rattle.bser_format.specs.Measures.{depth}
+use Rattle.bser_format.specs.Canonical.{canonical_message, IsWritable}
+use Rattle.bser_format.specs.Compact.{fold_templates, compact_body, compact_message}
+use Rattle.bser_format.specs.ValueTree.{IsValueTree}
 use Rattle.serde_bser.specs.Laws.{ReadsAs}
 
 -- the compact body is at most i64::MAX bytes

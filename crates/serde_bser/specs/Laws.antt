@@ -1,15 +1,15 @@
 -- The laws of the format, over the trees of values.
 use Rattle.std.specs.Prelude.{◌≡◌, ◌↔◌, ◌≤◌, ◌<◌, ◌^◌, ◌*◌, ◌-◌, ℕ, suc, List, ◌++◌, length, Some}
-use Rattle.bser_base.specs.Tree.{Tree, Rows, template}
-use Rattle.bser_base.specs.Grammar.{Spells}
-use Rattle.bser_base.specs.Message.{IsMessage}
-use Rattle.bser_base.specs.Expand.{expand, IsTemplateFree}
-use Rattle.bser_base.specs.Content.{Content, Meaning}
-use Rattle.bser_base.specs.Normal.{normal}
-use Rattle.bser_base.specs.Measures.{depth, nodes}
-use Rattle.bser_base.specs.Canonical.{canonical_body, canonical_message, IsWritable}
-use Rattle.bser_base.specs.ValueTree.{IsValueTree}
-use Rattle.bser_base.specs.WrittenOut.{written_out, row_objects}
+use Rattle.bser_format.specs.Tree.{Tree, Rows, template}
+use Rattle.bser_format.specs.Grammar.{Spells}
+use Rattle.bser_format.specs.Message.{IsMessage}
+use Rattle.bser_format.specs.Expand.{expand, IsTemplateFree}
+use Rattle.bser_format.specs.Content.{Content, Meaning}
+use Rattle.bser_format.specs.Normal.{normal}
+use Rattle.bser_format.specs.Measures.{depth, nodes}
+use Rattle.bser_format.specs.Canonical.{canonical_body, canonical_message, IsWritable}
+use Rattle.bser_format.specs.ValueTree.{IsValueTree}
+use Rattle.bser_format.specs.WrittenOut.{written_out, row_objects}
 
 -- the body is at most i64::MAX bytes
 abbrev pub BodyFits : Tree → Type 0

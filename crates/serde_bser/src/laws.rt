@@ -1,7 +1,7 @@
 //! Laws of the format, over the trees of values. Each is a function that does nothing, and its
 //! contract is the law.
 
-ghost use Rattle.bser_base.specs.GrammarLaws.{OneFront};
+ghost use Rattle.bser_format.specs.GrammarLaws.{OneFront};
 ghost use Rattle.serde_bser.specs.CompactLaws.{CompactIsMessage, CompactIsNoDeeper, CompactIsNoLonger, CompactIsTheFront, CompactIsWritable, CompactMeaningStays, CompactReadsAsItself, EqualCompactMessages, FoldedStandsForTheSame, LeastCompact, ShortCompactIsWritable};
 ghost use Rattle.serde_bser.specs.Laws.{BodyBound, CanonicalIsMessage, CanonicalIsTheFront, DepthBound, EqualMessages, LeastLength, MeaningStays, NodesBound, ReadIsValueTree, ShortBodiesFit, StandsForItself, TwiceIsOnce, ValueIsReturned, ValueReadsAsItself, WrittenIsMessage, WrittenIsTheFront, WrittenOutIsOneTree, WrittenOutIsSpelled, WrittenOutReadsAlike};
 

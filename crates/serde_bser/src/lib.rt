@@ -10,7 +10,8 @@ pub mod laws;
 pub mod prelude;
 pub mod ser;
 
-pub use crate::de::{from_reader, from_slice};
-pub use bser_base::{bytestring, device, errors, header};
+pub use bser_format::{bytestring, errors, header};
+pub use bser_messages::message::{from_reader, from_slice};
+pub use bser_source::device;
 pub use bser_text::escaped;
 pub use bser_value::value;

@@ -2,11 +2,11 @@
 ghost use Rattle.std.specs.Prelude.{◌≡◌, Some, IfOk, IfErr};
 ghost use Rattle.bser_ser.specs.Message.{message_of, IsUnmeasured};
 
-use bser_base::device::Watched;
-use bser_base::errors::{Error, Result};
 pub use bser_compact::message::serialize_compact;
+use bser_format::errors::{Error, Result};
 pub use bser_ser::message::{serialize, serialize_to};
 pub use bser_ser::{CountWrite, Serialize, Serializer};
+use bser_source::device::Watched;
 use std::alloc::Global;
 
 /// The value's message in a new vector.

@@ -1,5 +1,5 @@
 //! Lengths, and as many bytes.
-ghost use Rattle.std.specs.Prelude.{◌≡◌, ◌≢◌, ◌≤◌, ◌<◌, ◌^◌, pos, length, IfOk, IfErr, OnOk, OnErr};
+ghost use Rattle.std.specs.Prelude.{◌≡◌, ◌≢◌, ◌≤◌, ◌<◌, ◌^◌, pos, length, IfOk, IfErr, IfSome, IfNone, OnOk, OnErr};
 ghost use Rattle.bser_source.specs.Refs.{bytes_of, is_lent};
 ghost use Rattle.bser_named.specs.Clauses.{after_a_refusal};
 ghost use Rattle.bser_named.specs.Named.{complain, front, size, count, string};
@@ -15,6 +15,7 @@ ghost use Rattle.bser_bunser.specs.Tagged.{
 };
 
 use crate::bunser::Bunser;
+use crate::prefix::short_length;
 use crate::refusal::{Answer, Refused};
 use bser_format::errors::{Complaint, Error, ReadCause, Result};
 use bser_read::read::{DeRead, WINDOW, count_octets};
@@ -75,7 +76,6 @@ impl<R: DeRead> Bunser<R> {
     ///
     /// Refusals are those of [`Self::fill`] for `len` bytes, and [`Error::OutOfMemory`] where the
     /// scratch did not grow. Its length grows at most 65,536 bytes ahead of the bytes that arrived.
-    /// No name is promised for a length above 2^63, which no message has.
     ///
     /// The crate has no such call.
     #[inline(always)]
@@ -90,7 +90,7 @@ impl<R: DeRead> Bunser<R> {
             (bunser_window R.window self.new) (bytes_of R.Lent.bytes r)) }
         ensures err { OnErr result (ShortOf len (refusal_of self.new)
             (bunser_window R.window self.old) (bunser_window R.window self.new)) }
-        ensures names { len ≤ 2 ^ 63 → OnErr result
+        ensures names { OnErr result
             (Names (front len) (refusal_of self.new) (bunser_window R.window self.old)) }
     {
         if len == 0 || len > count_octets(self.read.buffered()) {
@@ -118,8 +118,8 @@ impl<R: DeRead> Bunser<R> {
     /// Takes `len` bytes as a copy.
     ///
     /// Refusals are those of [`Self::fill`] for `len` bytes, and [`Error::OutOfMemory`] where the
-    /// copy did not grow. It grows at most 65,536 bytes ahead of the bytes that arrived. No name is
-    /// promised for a length above 2^63, which no message has. The crate has no such call.
+    /// copy did not grow. It grows at most 65,536 bytes ahead of the bytes that arrived.
+    /// The crate has no such call.
     #[inline(always)]
     pub fn copy(&mut self, alloc: Global, len: usize) -> Answer<Vec<u8>>
         ensures length { IfOk result (λ c. length c.items ≡ len) }
@@ -127,19 +127,23 @@ impl<R: DeRead> Bunser<R> {
             (bunser_window R.window self.new) c.items) }
         ensures err { OnErr result (CopyRefused len (refusal_of self.new)
             (bunser_window R.window self.old) (bunser_window R.window self.new)) }
-        ensures names { len ≤ 2 ^ 63 → OnErr result
+        ensures names { OnErr result
             (NamesOrMemory (front len) (refusal_of self.new) (bunser_window R.window self.old)) }
     {
         if len == 0 || len > count_octets(self.read.buffered()) {
             return self.copy_on(alloc, len);
         }
-        match Vec::from_slice(alloc, &self.read.buffered()[..len]) {
-            Ok(copy) => {
-                self.read.consume(len);
-                Ok(copy)
-            }
-            Err(_) => Err(self.refuse_growth()),
+        let Ok(mut copy) = Vec::with_capacity(alloc, len) else {
+            return Err(self.refuse_growth());
+        };
+        if copy
+            .extend_from_slice(&self.read.buffered()[..len])
+            .is_err()
+        {
+            return Err(self.refuse_growth());
         }
+        self.read.consume(len);
+        Ok(copy)
     }
 
     /// Takes `len` bytes, more than are buffered or none, as a copy.
@@ -152,7 +156,7 @@ impl<R: DeRead> Bunser<R> {
             (bunser_window R.window self.new) c.items) }
         ensures err { OnErr result (CopyRefused len (refusal_of self.new)
             (bunser_window R.window self.old) (bunser_window R.window self.new)) }
-        ensures names { len ≤ 2 ^ 63 → OnErr result
+        ensures names { OnErr result
             (NamesOrMemory (front len) (refusal_of self.new) (bunser_window R.window self.old)) }
     {
         let mut copy = Vec::new(alloc);
@@ -192,7 +196,7 @@ impl<R: DeRead> Bunser<R> {
             (bunser_window R.window self.new) (bytes_of R.Lent.bytes r)) }
         ensures err { OnErr result (ShortOf len (refusal_of self.new)
             (bunser_window R.window self.old) (bunser_window R.window self.new)) }
-        ensures names { len ≤ 2 ^ 63 → OnErr result
+        ensures names { OnErr result
             (Names (front len) (refusal_of self.new) (bunser_window R.window self.old)) }
     {
         match self.read.next_bytes(len, scratch) {
@@ -277,6 +281,38 @@ impl<R: DeRead> Bunser<R> {
     /// wanted. The crate has no such call.
     #[inline(always)]
     pub fn length(&mut self) -> Answer<usize>
+        ensures ok { IfOk result (λ n. TookInt (bunser_window R.window self.old)
+            (bunser_window R.window self.new) (pos n)) }
+        ensures fits { IfOk result (λ n. n < 2 ^ 63) }
+        ensures err { OnErr result (Fails (refusal_of self.new)
+            (bunser_window R.window self.old) (bunser_window R.window self.new)) }
+        ensures names { OnErr result
+            (Names size (refusal_of self.new) (bunser_window R.window self.old)) }
+        ensures memory { OnErr result (refusal_of self.new ≢ Error.OutOfMemory) }
+    {
+        match self.buffered_length() {
+            Some(len) => Ok(len),
+            None => self.length_on(),
+        }
+    }
+
+    /// Takes a length of one byte, where it is buffered. Else it is `None`, and nothing is taken.
+    #[inline(always)]
+    fn buffered_length(&mut self) -> Option<usize>
+        ensures some { IfSome result (λ n. TookInt (bunser_window R.window self.old)
+            (bunser_window R.window self.new) (pos n)) }
+        ensures fits { IfSome result (λ n. n < 2 ^ 63) }
+        ensures none { IfNone result
+            (bunser_window R.window self.new ≡ bunser_window R.window self.old) }
+    {
+        let len = short_length(self.read.buffered())?;
+        self.read.consume(2);
+        Some(len)
+    }
+
+    /// Takes a length of any width.
+    #[inline(never)]
+    fn length_on(&mut self) -> Answer<usize>
         ensures ok { IfOk result (λ n. TookInt (bunser_window R.window self.old)
             (bunser_window R.window self.new) (pos n)) }
         ensures fits { IfOk result (λ n. n < 2 ^ 63) }

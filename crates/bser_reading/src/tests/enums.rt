@@ -1,7 +1,8 @@
 //! Tests of the calls that read an enum.
+use super::{Tested, has_complained};
 use bser_vectors::enums::TestEnum;
 use serde_bser::de::{Deserializer, ReadsContainers, ReadsEnums, SliceRead};
-use serde_bser::errors::{Complaint, Error, Message, Result};
+use serde_bser::errors::Complaint;
 
 /// An object from "TestUnit" to null.
 const UNIT: &[u8] =
@@ -16,18 +17,19 @@ const STRUCT: &[u8] =
     b"\x00\x02\x00\x00\x00\x00\x05\x2b\x00\x00\x00\x01\x03\x01\x02\x03\x0aTestStruct\x01\x03\x02\x02\x03\x03abc\x02\x03\x03foo\x02\x03\x03def\x02\x03\x03bar";
 
 #[test]
-fn the_first_place_of_a_repeated_name_counts(rt: HostRuntime) -> Result<()> {
+fn the_first_place_of_a_repeated_name_counts(rt: HostRuntime) -> Tested {
     let alloc = rt.alloc();
     let message = b"\x00\x02\x00\x00\x00\x00\x03\x04\x0d\x03\x01a";
     let mut from = Deserializer::new(alloc, SliceRead::new(message))?;
     let variant = from.read_enum(alloc, "Letter", &["b", "a", "a"])?;
     assert_eq!(rt; variant.place(), 1);
     variant.unit_variant()?;
-    from.end()
+    from.end()?;
+    Ok(())
 }
 
 #[test]
-fn the_items_of_a_tuple_are_read(rt: HostRuntime) -> Result<()> {
+fn the_items_of_a_tuple_are_read(rt: HostRuntime) -> Tested {
     let alloc = rt.alloc();
     let mut from = Deserializer::with_limit(alloc, 2, SliceRead::new(TUPLE))?;
     let variant = from.read_enum(alloc, "TestEnum", &["TestTuple"])?;
@@ -35,11 +37,12 @@ fn the_items_of_a_tuple_are_read(rt: HostRuntime) -> Result<()> {
     assert!(rt; matches!(items.next_element::<&str>(alloc)?, Some("foo")));
     assert!(rt; matches!(items.next_element::<&str>(alloc)?, Some("bar")));
     items.end()?;
-    from.end()
+    from.end()?;
+    Ok(())
 }
 
 #[test]
-fn the_entries_of_a_struct_are_read(rt: HostRuntime) -> Result<()> {
+fn the_entries_of_a_struct_are_read(rt: HostRuntime) -> Tested {
     let alloc = rt.alloc();
     let mut from = Deserializer::with_limit(alloc, 2, SliceRead::new(STRUCT))?;
     let variant = from.read_enum(alloc, "TestEnum", &["TestStruct"])?;
@@ -57,27 +60,22 @@ fn the_entries_of_a_struct_are_read(rt: HostRuntime) -> Result<()> {
         )
     );
     entries.end()?;
-    from.end()
-}
-
-#[test]
-fn a_dropped_variant_leaves_its_object_open(rt: HostRuntime) -> Result<()> {
-    let alloc = rt.alloc();
-    let mut from = Deserializer::new(alloc, SliceRead::new(UNIT))?;
-    from.read_enum(alloc, "TestEnum", &["TestUnit"])?;
-    assert!(rt;
-        matches!(
-            from.read_unit(),
-            Err(Error::DeCustom {
-                msg: Message::Fixed(Complaint::ValueOpen)
-            })
-        )
-    );
+    from.end()?;
     Ok(())
 }
 
 #[test]
-fn a_key_is_a_unit_variant(rt: HostRuntime) -> Result<()> {
+fn a_dropped_variant_leaves_its_object_open(rt: HostRuntime) -> Tested {
+    let alloc = rt.alloc();
+    let mut from = Deserializer::new(alloc, SliceRead::new(UNIT))?;
+    drop(from.read_enum(alloc, "TestEnum", &["TestUnit"])?);
+    let refused = from.read_unit();
+    assert!(rt; has_complained(refused, &mut from, Complaint::ValueOpen));
+    Ok(())
+}
+
+#[test]
+fn a_key_is_a_unit_variant(rt: HostRuntime) -> Tested {
     let alloc = rt.alloc();
     let mut from = Deserializer::new(alloc, SliceRead::new(UNIT))?;
     let mut map = from.read_map()?;
@@ -85,5 +83,6 @@ fn a_key_is_a_unit_variant(rt: HostRuntime) -> Result<()> {
     assert!(rt; matches!(key, Some(TestEnum::TestUnit)));
     map.next_value::<()>(alloc)?;
     map.end()?;
-    from.end()
+    from.end()?;
+    Ok(())
 }

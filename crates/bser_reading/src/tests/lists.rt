@@ -1,8 +1,8 @@
 //! A tuple that takes no memory.
 ghost use Rattle.std.specs.Prelude.{◌≡◌, ℕ, List, [], ◌∷◌, ◌++◌, IsOk};
-ghost use Rattle.bser_base.specs.Content.{Content};
-ghost use Rattle.bser_base.specs.ReadsHolders.{reads_tuple};
-ghost use Rattle.bser_base.specs.ReadsScalars.{reads_signed, reads_string};
+ghost use Rattle.bser_format.specs.Content.{Content};
+ghost use Rattle.bser_format.specs.ReadsHolders.{reads_tuple};
+ghost use Rattle.bser_format.specs.ReadsScalars.{reads_signed, reads_string};
 ghost use Rattle.serde_bser.specs.Messages.{ReadsMessageAs};
 
 use serde_bser::de::from_slice;
@@ -11,7 +11,9 @@ use std::alloc::Global;
 
 /// Reads a number and a text: wherever they stand they are answered, whatever memory there is.
 fn number_and_text<'de>(alloc: Global, bytes: &'de [u8]) -> Result<(i64, &'de str)>
-    ensures { (text rest : List ℕ) (c : Content) → ReadsMessageAs 128 (reads_tuple (reads_signed 64 ∷ reads_string ∷ [])) text c → bytes.now ≡ text ++ rest → IsOk result }
+    ensures { (text rest : List ℕ) (c : Content) → ReadsMessageAs 128
+        (reads_tuple (reads_signed 64 ∷ reads_string ∷ [])) text c → bytes.now ≡ text ++ rest
+        → IsOk result }
 {
     from_slice(alloc, bytes)
 }

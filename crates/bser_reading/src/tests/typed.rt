@@ -1,8 +1,8 @@
 //! Messages read as typed values.
 use super::Tested;
 use super::checks::check_code;
-use bser_base::de::read::{DeRead, LendsText, NoLoan};
 use bser_vectors::devices::{Plan, PlannedReader};
+use serde_bser::de::read::{DeRead, LendsText, NoLoan};
 use serde_bser::de::{Deserialize, Deserializer, IoRead, ReadsContainers, SliceRead};
 use serde_bser::device::Watched;
 use serde_bser::from_reader;
@@ -30,7 +30,8 @@ fn names_cannot_be_lent_from_a_reader(rt: HostRuntime) -> Tested {
         let reader = Watched::new(PlannedReader::new(NAMES, plan));
         let mut from = Deserializer::new(alloc, IoRead::new(reader))?;
         let refused = <Vec<&str> as Deserialize<NoLoan>>::deserialize(alloc, &mut from);
-        check_code(&rt, alloc, &refused, "C8")?;
+        assert!(rt; refused.is_err());
+        check_code::<()>(&rt, alloc, &Err(from.take_refusal()), "C8")?;
     }
     Ok(())
 }
@@ -71,8 +72,10 @@ where
     let mut from = Deserializer::new(alloc, source)?;
     let mut items = from.read_seq(alloc)?;
     assert_eq!(rt; items.next_element::<i64>(alloc)?, Some(1));
-    check_code(rt, alloc, &items.end(), "C3")?;
-    check_code(rt, alloc, &from.read_i64(), "E6 Failed")
+    assert!(rt; items.end().is_err());
+    check_code::<()>(rt, alloc, &Err(from.take_refusal()), "C3")?;
+    assert!(rt; from.read_i64().is_err());
+    check_code::<()>(rt, alloc, &Err(from.take_refusal()), "E6 Failed")
 }
 
 #[test]

@@ -2,7 +2,7 @@
 use super::{NULL, ROWS, Tested, memory};
 use crate::engine::canon_compact;
 use crate::program::{DONE, UNKNOWN_ARGUMENT, run};
-use bser_base::device::Watched;
+use bser_source::device::Watched;
 use std::alloc::{AllocError, Global};
 use std::process::Abort;
 

@@ -22,7 +22,8 @@ impl<T: Shown> Shown for Vec<T> {
 }
 
 impl<A: Shown, B: Shown> Shown for (A, B) {
-    ghost notation = { λ v. codes "(" ++ (A.notation v.0 ++ (codes "," ++ (B.notation v.1 ++ codes ")"))) };
+    ghost notation = { λ v. codes "(" ++
+        (A.notation v.0 ++ (codes "," ++ (B.notation v.1 ++ codes ")"))) };
 
     fn put(&self, alloc: Global, text: &mut String) -> Result<(), AllocError> {
         text.push_str("(")?;
@@ -34,7 +35,9 @@ impl<A: Shown, B: Shown> Shown for (A, B) {
 }
 
 impl<A: Shown, B: Shown, C: Shown> Shown for (A, B, C) {
-    ghost notation = { λ v. codes "(" ++ (A.notation v.0 ++ (codes "," ++ (B.notation v.1 ++ (codes "," ++ (C.notation v.2 ++ codes ")"))))) };
+    ghost notation = { λ v. codes "(" ++
+        (A.notation v.0 ++ (codes "," ++
+        (B.notation v.1 ++ (codes "," ++ (C.notation v.2 ++ codes ")"))))) };
 
     fn put(&self, alloc: Global, text: &mut String) -> Result<(), AllocError> {
         text.push_str("(")?;
@@ -48,7 +51,9 @@ impl<A: Shown, B: Shown, C: Shown> Shown for (A, B, C) {
 }
 
 impl<A: Shown, B: Shown, C: Shown, D: Shown> Shown for (A, B, C, D) {
-    ghost notation = { λ v. codes "(" ++ (A.notation v.0 ++ ((codes "," ++ B.notation v.1) ++ ((codes "," ++ C.notation v.2) ++ ((codes "," ++ D.notation v.3) ++ codes ")")))) };
+    ghost notation = { λ v. codes "(" ++
+        (A.notation v.0 ++ ((codes "," ++ B.notation v.1) ++
+        ((codes "," ++ C.notation v.2) ++ ((codes "," ++ D.notation v.3) ++ codes ")")))) };
 
     fn put(&self, alloc: Global, text: &mut String) -> Result<(), AllocError> {
         text.push_str("(")?;
@@ -62,7 +67,8 @@ impl<A: Shown, B: Shown, C: Shown, D: Shown> Shown for (A, B, C, D) {
 
 /// Puts a comma and the value behind the text.
 fn put_next<T: Shown>(alloc: Global, text: &mut String, value: &T) -> Result<(), AllocError>
-    ensures { OnOk result (string_bytes text.new ≡ string_bytes text.old ++ (codes "," ++ T.notation value.now)) }
+    ensures { OnOk result (string_bytes text.new ≡ string_bytes text.old ++
+        (codes "," ++ T.notation value.now)) }
 {
     text.push_str(",")?;
     value.put(alloc, text)

@@ -51,7 +51,8 @@ impl<'a> Shown for &'a [u8] {
 
 /// `x`, and the bytes in hexadecimal digits.
 fn put_bytes(alloc: Global, text: &mut String, bytes: &[u8]) -> Result<(), AllocError>
-    ensures { OnOk result (string_bytes text.new ≡ string_bytes text.old ++ bytes_notation bytes.now) }
+    ensures { OnOk result (string_bytes text.new
+        ≡ string_bytes text.old ++ bytes_notation bytes.now) }
 {
     text.push_str("x")?;
     text.push_str(hex::encode(alloc, bytes)?.as_str())

@@ -10,7 +10,8 @@ use bser_vectors::structs::{FileInfo, Files, TemplateRow};
 use std::alloc::{AllocError, Global};
 
 impl<S: Shown> Shown for FileInfo<S> {
-    ghost notation = { λ v. codes "<name=" ++ (S.notation v.name ++ (codes ",size=i" ++ (decimal v.size ++ codes ">"))) };
+    ghost notation = { λ v. codes "<name=" ++
+        (S.notation v.name ++ (codes ",size=i" ++ (decimal v.size ++ codes ">"))) };
 
     fn put(&self, alloc: Global, text: &mut String) -> Result<(), AllocError> {
         text.push_str("<name=")?;
@@ -20,7 +21,8 @@ impl<S: Shown> Shown for FileInfo<S> {
 }
 
 impl<S: Shown, N: Shown> Shown for ExactFile<S, N> {
-    ghost notation = { λ v. codes "<name=" ++ (S.notation v.name ++ (codes ",size=" ++ (N.notation v.size ++ codes ">"))) };
+    ghost notation = { λ v. codes "<name=" ++
+        (S.notation v.name ++ (codes ",size=" ++ (N.notation v.size ++ codes ">"))) };
 
     fn put(&self, alloc: Global, text: &mut String) -> Result<(), AllocError> {
         text.push_str("<name=")?;
@@ -32,7 +34,10 @@ impl<S: Shown, N: Shown> Shown for ExactFile<S, N> {
 }
 
 impl<S: Shown> Shown for Files<S> {
-    ghost notation = { λ v. codes "<files=" ++ (list_notation (λ f. codes "<name=" ++ (S.notation f.name ++ (codes ",size=i" ++ (decimal f.size ++ codes ">")))) v.files.items ++ codes ">") };
+    ghost notation = { λ v. codes "<files=" ++
+        (list_notation (λ f. codes "<name=" ++
+        (S.notation f.name ++ (codes ",size=i" ++ (decimal f.size ++ codes ">")))) v.files.items ++
+        codes ">") };
 
     fn put(&self, alloc: Global, text: &mut String) -> Result<(), AllocError> {
         text.push_str("<files=")?;
@@ -42,7 +47,11 @@ impl<S: Shown> Shown for Files<S> {
 }
 
 impl<S: Shown> Shown for TemplateRow<S> {
-    ghost notation = { λ v. codes "<abc=i" ++ (signed_decimal v.abc ++ (codes ",def=" ++ (option_notation S.notation v.def ++ (codes ",ghi=" ++ (option_notation (λ n. codes "i" ++ signed_decimal n) v.ghi ++ codes ">"))))) };
+    ghost notation = { λ v. codes "<abc=i" ++
+        (signed_decimal v.abc ++ (codes ",def=" ++
+        (option_notation S.notation v.def ++
+        (codes ",ghi=" ++ (option_notation
+        (λ n. codes "i" ++ signed_decimal n) v.ghi ++ codes ">"))))) };
 
     fn put(&self, alloc: Global, text: &mut String) -> Result<(), AllocError> {
         text.push_str(format!(in alloc; "<abc=i{},def=", self.abc)?.as_str())?;

@@ -1,6 +1,6 @@
 //! Looking into a `Value`, by the names that `serde_json` has.
 ghost use Rattle.std.specs.Prelude.{◌≡◌, ◌↔◌, option_map, IsTrue};
-ghost use Rattle.bser_base.specs.Tree.{null};
+ghost use Rattle.bser_format.specs.Tree.{null};
 ghost use Rattle.bser_value.specs.Contents.{get, as_str, as_bytes, as_i64, as_f64, as_bool, as_array, as_object};
 ghost use Rattle.bser_value.specs.ValueView.{tree_of, items_view, entries_view};
 

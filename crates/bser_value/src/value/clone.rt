@@ -50,7 +50,8 @@ fn copy_items(items: &Vec<Value>) -> Result<Vec<Value>, AllocError>
 #[cycle(copy)]
 #[inline(never)]
 fn copy_entries(entries: &BTreeMap<String, Value>) -> Result<BTreeMap<String, Value>, AllocError>
-    ensures { IfOk result (λ copies. entries_view copies.entries ≡ entries_view entries.now.entries) }
+    ensures { IfOk result (λ copies. entries_view copies.entries
+        ≡ entries_view entries.now.entries) }
 {
     let mut copies = BTreeMap::emptied(entries)?;
     for (key, member) in entries.iter() {

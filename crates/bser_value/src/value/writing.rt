@@ -1,13 +1,13 @@
 //! Writing a `Value`.
 ghost use Rattle.std.specs.Prelude.{Some, OnOk, OnErr, IfErr, string_bytes};
-ghost use Rattle.bser_base.specs.Written.{array_tree, object_tree};
+ghost use Rattle.bser_format.specs.Written.{array_tree, object_tree};
 ghost use Rattle.bser_ser.specs.Ends.{Ends, Stops, text_of};
 ghost use Rattle.bser_ser.specs.Sent.{refusal_of};
 ghost use Rattle.bser_value.specs.ValueView.{tree_of};
 
 use crate::value::Value;
-use bser_base::device::Sink;
 use bser_ser::{Refused, Serialize, Serializer};
+use bser_source::device::Sink;
 use std::alloc::Global;
 use std::collections::BTreeMap;
 
@@ -20,7 +20,7 @@ impl Serialize for Value {
         &self,
         _alloc: Global,
         out: &mut Serializer<W>,
-    ) -> bser_base::errors::Result<()> {
+    ) -> bser_format::errors::Result<()> {
         match add_value(self, out) {
             Ok(()) => Ok(()),
             Err(_) => Err(out.refusal()),
@@ -32,8 +32,10 @@ impl Serialize for Value {
 #[cycle(add)]
 #[inline(always)]
 fn add_value<W: Sink>(value: &Value, out: &mut Serializer<W>) -> Result<(), Refused>
-    ensures ok { OnOk result (Ends W.took W.failures (text_of (Some (tree_of value.now))) out.old out.new) }
-    ensures err { OnErr result (Stops W.took W.failures (text_of (Some (tree_of value.now))) out.old out.new (refusal_of out.new)) }
+    ensures ok { OnOk result (Ends W.took W.failures
+        (text_of (Some (tree_of value.now))) out.old out.new) }
+    ensures err { OnErr result (Stops W.took W.failures
+        (text_of (Some (tree_of value.now))) out.old out.new (refusal_of out.new)) }
 {
     match value {
         Value::Array(items) => add_items(items, out),
@@ -50,8 +52,11 @@ fn add_value<W: Sink>(value: &Value, out: &mut Serializer<W>) -> Result<(), Refu
 #[cycle(add)]
 #[inline(never)]
 fn add_items<W: Sink>(items: &Vec<Value>, out: &mut Serializer<W>) -> Result<(), Refused>
-    ensures ok { OnOk result (Ends W.took W.failures (text_of (array_tree (λ v. Some (tree_of v)) items.now.items)) out.old out.new) }
-    ensures err { OnErr result (Stops W.took W.failures (text_of (array_tree (λ v. Some (tree_of v)) items.now.items)) out.old out.new (refusal_of out.new)) }
+    ensures ok { OnOk result (Ends W.took W.failures
+        (text_of (array_tree (λ v. Some (tree_of v)) items.now.items)) out.old out.new) }
+    ensures err { OnErr result (Stops W.took W.failures
+        (text_of (array_tree (λ v. Some (tree_of v)) items.now.items)) out.old out.new
+        (refusal_of out.new)) }
 {
     out.add_array(items.len())?;
     for item in items {
@@ -66,8 +71,12 @@ fn add_entries<W: Sink>(
     entries: &BTreeMap<String, Value>,
     out: &mut Serializer<W>,
 ) -> Result<(), Refused>
-    ensures ok { OnOk result (Ends W.took W.failures (text_of (object_tree string_bytes (λ v. Some (tree_of v)) entries.now.entries)) out.old out.new) }
-    ensures err { OnErr result (Stops W.took W.failures (text_of (object_tree string_bytes (λ v. Some (tree_of v)) entries.now.entries)) out.old out.new (refusal_of out.new)) }
+    ensures ok { OnOk result (Ends W.took W.failures
+        (text_of (object_tree string_bytes (λ v. Some (tree_of v)) entries.now.entries)) out.old
+        out.new) }
+    ensures err { OnErr result (Stops W.took W.failures
+        (text_of (object_tree string_bytes (λ v. Some (tree_of v)) entries.now.entries)) out.old
+        out.new (refusal_of out.new)) }
 {
     out.add_object(entries.len())?;
     for (key, value) in entries {

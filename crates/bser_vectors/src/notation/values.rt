@@ -20,7 +20,8 @@ pub fn shown(alloc: Global, value: &Value) -> Result<String, AllocError>
 
 #[cycle(put)]
 fn put_value(alloc: Global, text: &mut String, value: &Value) -> Result<(), AllocError>
-    ensures { OnOk result (string_bytes text.new ≡ string_bytes text.old ++ notation (tree_of value.now)) }
+    ensures { OnOk result (string_bytes text.new ≡ string_bytes text.old ++ notation
+        (tree_of value.now)) }
 {
     match value {
         Value::Null => text.push_str("n"),
@@ -37,7 +38,8 @@ fn put_value(alloc: Global, text: &mut String, value: &Value) -> Result<(), Allo
 
 #[cycle(put)]
 fn put_items(alloc: Global, text: &mut String, items: &Vec<Value>) -> Result<(), AllocError>
-    ensures { OnOk result (string_bytes text.new ≡ string_bytes text.old ++ (codes "[" ++ items_notation [] (items_view items.now.items) ++ codes "]")) }
+    ensures { OnOk result (string_bytes text.new ≡ string_bytes text.old ++
+        (codes "[" ++ items_notation [] (items_view items.now.items) ++ codes "]")) }
 {
     text.push_str("[")?;
     let mut separator = "";
@@ -55,7 +57,8 @@ fn put_entries(
     text: &mut String,
     entries: &BTreeMap<String, Value>,
 ) -> Result<(), AllocError>
-    ensures { OnOk result (string_bytes text.new ≡ string_bytes text.old ++ (codes "{" ++ entries_notation [] (entries_view entries.now.entries) ++ codes "}")) }
+    ensures { OnOk result (string_bytes text.new ≡ string_bytes text.old ++
+        (codes "{" ++ entries_notation [] (entries_view entries.now.entries) ++ codes "}")) }
 {
     text.push_str("{")?;
     let mut separator = "";
@@ -70,14 +73,16 @@ fn put_entries(
 
 /// `i` and the number in decimal.
 fn put_integer(alloc: Global, text: &mut String, number: i64) -> Result<(), AllocError>
-    ensures { OnOk result (string_bytes text.new ≡ string_bytes text.old ++ (codes "i" ++ signed_decimal number)) }
+    ensures { OnOk result (string_bytes text.new ≡ string_bytes text.old ++
+        (codes "i" ++ signed_decimal number)) }
 {
     text.push_str(format!(in alloc; "i{number}")?.as_str())
 }
 
 /// A mark, and the bytes in hexadecimal digits.
 fn put_digits(alloc: Global, text: &mut String, mark: &str, bytes: &[u8]) -> Result<(), AllocError>
-    ensures { OnOk result (string_bytes text.new ≡ string_bytes text.old ++ (mark.now ++ encode_lower bytes.now)) }
+    ensures { OnOk result (string_bytes text.new ≡ string_bytes text.old ++
+        (mark.now ++ encode_lower bytes.now)) }
 {
     text.push_str(mark)?;
     text.push_str(hex::encode(alloc, bytes)?.as_str())

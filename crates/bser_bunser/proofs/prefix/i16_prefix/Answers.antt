@@ -3,7 +3,7 @@ use Rattle.std.specs.Int.{w16}
 use mir.Val.{SFits}
 use Rattle.std.proofs.lemmas.Int.{to_z-of_z}
 use Rattle.byteorder.specs.Endian.{little_number}
-use Rattle.bser_source.proofs.NumberBytes.{bytes_of_16}
+use Rattle.bser_bunser.proofs.NumberBytes.{bytes_of_16}
 use Rattle.bser_bunser.proofs.Ints.{number_prefix, small_front}
 use Rattle.bser_bunser.proofs.prefix.i16_prefix.Goals as goal
 

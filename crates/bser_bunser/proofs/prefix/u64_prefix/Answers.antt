@@ -1,6 +1,6 @@
 use Rattle.std.proofs.Common.{rules, ℕ, ◌≡◌, ◌≤◌, ◌<◌, length, take, get_or, sym}
 use Rattle.std.specs.Int.{w64}
-use Rattle.bser_source.proofs.NumberBytes.{bytes_of_64, AreOf}
+use Rattle.bser_bunser.proofs.NumberBytes.{bytes_of_64, AreOf}
 use Rattle.bser_bunser.proofs.Ints.{small_front}
 use Rattle.bser_bunser.proofs.prefix.u64_prefix.Goals as goal
 

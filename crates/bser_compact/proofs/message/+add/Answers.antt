@@ -1,10 +1,10 @@
 -- A value is written in the compact form as its parts are.
 use Rattle.std.proofs.Common.{rules, arith, ◌≡◌, [], ◌++◌, sym, subst, refl, ap, ◌∙◌, Some, string_bytes, append-nil}
 use Rattle.std.proofs.lemmas.Result.{err_from_is_err_and, on_ok_weaker, on_err_weaker}
-use Rattle.bser_base.specs.Canonical.{canonical_key, canonical_items, canonical_entries, canonical_fields}
-use Rattle.bser_base.specs.Compact.{values, fold_items, fold_entries}
-use Rattle.bser_base.specs.Pieces.{array_head, object_head}
-use Rattle.bser_base.proofs.Lists.{item_here}
+use Rattle.bser_format.specs.Canonical.{canonical_key, canonical_items, canonical_entries, canonical_fields}
+use Rattle.bser_format.specs.Compact.{values, fold_items, fold_entries}
+use Rattle.bser_format.specs.Pieces.{array_head, object_head}
+use Rattle.bser_source.proofs.Lists.{item_here}
 use Rattle.bser_ser.specs.Sent.{refusal_of}
 use Rattle.bser_ser.proofs.Sends.{Sent-both, Sent-none}
 use Rattle.bser_ser.proofs.Ends.{Stops-none, Stops-second}

@@ -1,5 +1,5 @@
 use Rattle.std.proofs.Common.{◌++◌, flat_map}
-use Rattle.bser_base.specs.Canonical.{least_count, canonical_text}
+use Rattle.bser_format.specs.Canonical.{least_count, canonical_text}
 use Rattle.bser_ser.proofs.AllBut.{AllBut}
 use Rattle.bser_compact.specs.Texts.{names_of, head_text}
 use Rattle.bser_compact.proofs.template.add_template_head.Given as goal

@@ -1,8 +1,15 @@
-use Rattle.bser_events.proofs.Begins.{token_inside}
+use Rattle.bser_events.proofs.Outcomes.{each_err}
+use Rattle.bser_events.proofs.Begins.{within_took, within_level, within_names, within_fails}
 use Rattle.bser_events.proofs.heads.token_within.Goals as goal
 
-pub returns-then-levels-eq0-clause-names : goal.returns-then-levels-eq0-clause-names
-returns-then-levels-eq0-clause-names g c = rw c.if-levels-eq0.true c.leaf_token.ensures.names
+pub returns-clause-ok : goal.returns-clause-ok
+returns-clause-ok g c = within_took c.args.levels c.token.result _ _ _ c.in_ok-check_level.ensures.ok c.token.ensures.ok
+
+pub returns-clause-level : goal.returns-clause-level
+returns-clause-level g c = within_level c.args.levels c.token.result _ _ _ c.in_ok-check_level.ensures.ok c.token.ensures.ok
+
+pub returns-clause-err : goal.returns-clause-err
+returns-clause-err g c = each_err _ _ c.token.result c.token.ensures.err (within_fails c.args.levels _ _ _ _ c.in_ok-check_level.ensures.ok)
 
 pub returns-clause-names : goal.returns-clause-names
-returns-clause-names g c = rw (token_inside c.args.levels c.if-levels-eq0.false) c.token.ensures.names
+returns-clause-names g c = each_err _ _ c.token.result c.token.ensures.names (within_names c.args.levels _ _ _ c.in_ok-check_level.ensures.ok)

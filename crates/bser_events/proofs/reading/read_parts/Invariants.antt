@@ -1,11 +1,29 @@
-use Rattle.std.proofs.Common.{◌≤◌, ◌∷◌, vec_capacity}
+use Rattle.std.proofs.Common.{◌≡◌, ◌≤◌, ◌∷◌, length, vec_capacity}
 use Rattle.std.specs.Prelude.{reverse}
+use Rattle.bser_read.specs.Window.{Window, AreOctets, consumed}
 use Rattle.bser_bunser.specs.Tagged.{bunser_window}
-use Rattle.bser_events.specs.Frames.{parts_of, left_events}
+use Rattle.bser_events.specs.Frames.{parts_of, left_events, IsSmall}
+use Rattle.bser_events.specs.declared.frame.Parts.{Parts}
 use Rattle.bser_events.proofs.Leads.{Leads}
 use Rattle.bser_events.proofs.Midways.{Midway}
 use Rattle.bser_events.proofs.Measures.{work, Deep}
+use Rattle.bser_events.proofs.Runs.{AwaitsNext, Falls, pieces_left}
 use Rattle.bser_events.proofs.reading.read_parts.Given as goal
+
+abbrev pub invariant-pieces : goal.invariant-pieces
+invariant-pieces g l = record {
+  inside : l.at ≤ length l.bytes;
+  octets : AreOctets l.bytes;
+  levels : l.frame.levels ≡ l.initial.frame.levels;
+  run : (b : Window) → b.buffered ≡ l.bytes
+      → Midway g.B.Builder.takes (parts_of l.fn.whole.levels l.fn.whole.parts) (AwaitsNext (left_events l.fn.whole.parts) l.initial.due l.initial.frame.levels l.initial.frame.parts (reverse l.frames.items)) (bunser_window g.R.DeRead.window l.fn.bunser) b l.fn.builder l.initial.builder
+      → Midway g.B.Builder.takes (parts_of l.fn.whole.levels l.fn.whole.parts) (AwaitsNext (left_events l.fn.whole.parts) l.due l.frame.levels l.frame.parts (reverse l.frames.items)) (bunser_window g.R.DeRead.window l.fn.bunser) (consumed l.at b) l.fn.builder l.builder;
+  small : IsSmall l.initial.frame.parts → IsSmall l.frame.parts;
+  falls : (p : Parts) → Falls l.initial.due p l.initial.frame.parts → Falls l.due p l.frame.parts;
+}
+
+abbrev pub decreases-pieces : goal.decreases-pieces
+decreases-pieces g l = pieces_left l.due l.frame.parts
 
 abbrev pub invariant-parts : goal.invariant-parts
 invariant-parts g l = record {

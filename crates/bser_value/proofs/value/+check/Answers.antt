@@ -1,6 +1,6 @@
 use Rattle.std.proofs.Common.{◌<◌, ◌^◌, length, arith, sym, subst, ◌∙◌}
-use Rattle.bser_base.specs.ValueTree.{ItemsAreValueTrees, EntriesAreValueTrees}
-use Rattle.bser_base.specs.Canonical.{ItemsAreWritable, EntriesAreWritable, IsCount}
+use Rattle.bser_format.specs.ValueTree.{ItemsAreValueTrees, EntriesAreValueTrees}
+use Rattle.bser_format.specs.Canonical.{ItemsAreWritable, EntriesAreWritable, IsCount}
 use Rattle.bser_value.specs.ValueView.{entries_view, items_view}
 use Rattle.bser_value.proofs.Views.{keys_rise, length-entries, length-items}
 use Rattle.bser_value.proofs.value.+check.Goals as goal

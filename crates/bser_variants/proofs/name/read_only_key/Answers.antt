@@ -29,6 +29,6 @@ returns-clause-names g c =
     let w : WantedPairs = (pairs_head c.args.head s).wanted in
     let single : pairs_left w ≡ 1 = sym c.entries_in.ensures ∙ c.if-entries_in-ne1.false in
     if_err _ _ c.read_place.result
-    (λ n. names_by_more bare (only_place vs w) (place_due s.opened vs (pair_key w)) (refusal_in c.read_place.new.from) s.source (λ x h. only_same s.opened vs w x single ∙ h)
+    (λ n. names_by_more bare (only_place vs w) (place_due s.opened vs (pair_key w)) (refusal_in c.read_place.new.from) s.source (λ f x h. only_same s.opened vs w x single ∙ h)
     (subst (λ (z : State). NamesBy bare (place_due z.opened vs z.due) (refusal_in c.read_place.new.from) z.source) {y = awaiting (pair_key w) s} c.await_first_key.ensures n))
     c.read_place.ensures.names

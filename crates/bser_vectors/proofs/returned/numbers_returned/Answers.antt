@@ -1,6 +1,6 @@
 use Rattle.std.proofs.Common.{◌≡◌, ◌<◌, ◌^◌, ◌++◌, length, ap, ◌∙◌, arith}
-use Rattle.bser_base.specs.Tree.{array}
-use Rattle.bser_base.specs.Canonical.{canonical_message}
+use Rattle.bser_format.specs.Tree.{array}
+use Rattle.bser_format.specs.Canonical.{canonical_message}
 use Rattle.bser_vectors.proofs.ReadBack.{numbers_back, written_numbers, numbers_of}
 use Rattle.bser_vectors.proofs.returned.numbers_returned.Goals as goal
 

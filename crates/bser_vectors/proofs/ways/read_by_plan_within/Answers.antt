@@ -12,4 +12,4 @@ returns g c steady =
     let start = ap (λ r. known (is_steady (plan_of r)) (bytes_left r)) c.new-reader.ensures.inner ∙ plan in
     let after = c.from_reader_within-answer.new.reader.inner in
     let left : c.left-left.result.now ≡ bytes_left after = c.left-left.ensures ∙ ap bytes_left c.get_ref.ensures in
-    given _ _ _ _ _ (is_steady (plan_of after)) bytes (bytes_left after) _ _ _ start c.new-reader.ensures.failures c.from_reader_within-answer.ensures.found c.from_reader_within-answer.ensures.refused (c.saturating_sub.ensures ∙ ap (λ b. length bytes - length b) left)
+    given _ _ _ _ _ _ (is_steady (plan_of after)) bytes (bytes_left after) _ _ _ start c.new-reader.ensures.failures c.from_reader_within-answer.ensures.found c.from_reader_within-answer.ensures.refused (c.saturating_sub.ensures ∙ ap (λ b. length bytes - length b) left)

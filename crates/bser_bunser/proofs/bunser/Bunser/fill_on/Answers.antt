@@ -1,9 +1,7 @@
-use Rattle.std.proofs.Common.{◌≤◌, ◌^◌, arith}
 use Rattle.bser_bunser.proofs.Refusals.{short_of}
 use Rattle.bser_bunser.proofs.Names.{short_names}
 use Rattle.bser_bunser.proofs.bunser.Bunser.fill_on.Goals as goal
 
 pub returns-in-Err-clause-names : goal.returns-in-Err-clause-names
 returns-in-Err-clause-names g c =
-    let small : c.args.n ≤ 2 ^ 63 = omega (arith, c.requires.fits) in
-    rw c.refuse_cause.ensures.reason (short_names c.args.n _ _ _ small (short_of c.args.n c.in-Err.cause _ _ c.in-Err.ensures.err))
+    rw c.refuse_cause.ensures.reason (short_names c.args.n _ _ _ (short_of c.args.n c.in-Err.cause _ _ c.in-Err.ensures.err))

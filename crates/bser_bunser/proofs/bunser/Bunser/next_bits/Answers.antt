@@ -1,5 +1,5 @@
 use Rattle.std.proofs.Common.{rules, ℕ, ◌≡◌, ◌<◌, length, take, drop, get_or}
-use Rattle.bser_source.proofs.NumberBytes.{bytes_of_64}
+use Rattle.bser_bunser.proofs.NumberBytes.{bytes_of_64}
 use Rattle.bser_bunser.proofs.Fixed.{took_bits, small_rest, length-rest}
 use Rattle.bser_bunser.proofs.bunser.Bunser.next_bits.Goals as goal
 

@@ -3,7 +3,7 @@ use Rattle.std.specs.Int.{w64}
 use mir.Val.{SFits}
 use Rattle.std.proofs.lemmas.Int.{to_z-of_z}
 use Rattle.byteorder.specs.Endian.{little_number}
-use Rattle.bser_source.proofs.NumberBytes.{bytes_of_64}
+use Rattle.bser_bunser.proofs.NumberBytes.{bytes_of_64}
 use Rattle.bser_bunser.proofs.Fixed.{took_number, small_rest, length-rest}
 use Rattle.bser_bunser.proofs.bunser.Bunser.next_i64.Goals as goal
 

@@ -1,4 +1,4 @@
-use Rattle.std.proofs.Common.{◌≤◌, ◌^◌, length, arith, ap, sym, subst, ◌∙◌}
+use Rattle.std.proofs.Common.{◌≤◌, length, arith, ap, sym, subst, ◌∙◌}
 use Rattle.std.proofs.lemmas.Result.{err_from_is_err_and}
 use Rattle.bser_read.specs.Window.{AreOctets}
 use Rattle.bser_bunser.proofs.Counted.{passing, passing_on, passing_short, passing_names}
@@ -28,5 +28,4 @@ pub returns-in_err-fill-clause-names : goal.returns-in_err-fill-clause-names
 returns-in_err-fill-clause-names g c =
     let p = err_from_is_err_and c.from_residual.result c.from_residual.ensures.1 in
     let le : c.min-step.result ≤ c.loop-left.left = omega (arith, c.min-step.ensures) in
-    let small : c.min-step.result ≤ 2 ^ 63 = omega (arith, c.min-step.ensures) in
-    rw p.1 (passing_names c.args.len c.loop-left.left c.min-step.result _ _ _ _ c.loop-left.invariant le small c.in_err-fill.ensures.err)
+    rw p.1 (passing_names c.args.len c.loop-left.left c.min-step.result _ _ _ _ c.loop-left.invariant le c.in_err-fill.ensures.err)

@@ -1,4 +1,4 @@
-use Rattle.std.proofs.Common.{◌≡◌, ◌≤◌, ◌^◌, arith, rules}
+use Rattle.std.proofs.Common.{◌≡◌, arith, rules}
 use Rattle.std.specs.Prelude.{pos, nat_abs}
 use Rattle.std.specs.Int.{w64}
 use Rattle.std.proofs.lemmas.Int.{ints, to_z-of_z}
@@ -17,5 +17,4 @@ returns-in-Err-clause-names g c =
     let back : to_z w64 (of_z w64 c.args.len) ≡ c.args.len = to_z-of_z w64 c.args.len fits in
     let n = nat_abs (to_z w64 (of_z w64 c.args.len)) in
     let same : pos n ≡ c.args.len = omega (arith, ints, back, c.if-len-lt0.false) in
-    let small : n ≤ 2 ^ 63 = omega (arith, ints, same, fits) in
-    rw c.take_refusal.ensures.reason (bytes_names c.args.len n _ _ _ same small c.in-Err.ensures.err)
+    rw c.take_refusal.ensures.reason (bytes_names c.args.len n _ _ _ same c.in-Err.ensures.err)

@@ -12,9 +12,9 @@ pub returns-then-is_err-clause-refused : goal.returns-then-is_err-clause-refused
 returns-then-is_err-clause-refused g c =
     let s : State = state g.R.DeRead.window g.R.Lent.Lending.kept c.args.self.now in
     let m : State = state g.R.DeRead.window g.R.Lent.Lending.kept c.take_bytes.new.self in
-    let n : State = state g.R.DeRead.window g.R.Lent.Lending.kept c.refuse.new.self in
+    let n : State = state g.R.DeRead.window g.R.Lent.Lending.kept c.refuse_utf8.new.self in
     let bad = told_bad c.from_utf8.result _ _ _ _ c.get_ref.ensures c.from_utf8.ensures.cases (sym c.is_err.ensures.value ∙ c.if-is_err.true) in
-    rw (c.refuse.ensures.reason, c.de_reader_error.ensures) (bytes_not_utf8 s m n _ _ c.in_ok-bytes.ensures.found c.if-is_text.true bad c.refuse.ensures.state)
+    rw c.refuse_utf8.ensures.reason (bytes_not_utf8 s m n _ _ c.in_ok-bytes.ensures.found c.if-is_text.true bad c.refuse_utf8.ensures.state)
 
 pub returns-clause-found : goal.returns-clause-found
 returns-clause-found g c =

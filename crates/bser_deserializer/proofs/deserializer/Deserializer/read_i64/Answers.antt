@@ -1,17 +1,14 @@
-use Rattle.std.proofs.Common.{rules, ap, subst, refl, ◌∙◌}
+-- An integer is read where it is buffered, and else by more looks.
+use Rattle.std.proofs.Common.{rules, refl}
 use Rattle.std.specs.Int.{w64}
 use mir.Val.{SFits}
 use Rattle.std.proofs.lemmas.Int.{to_z-of_z}
-use Rattle.std.proofs.lemmas.Result.{err_from_is_err_and}
 use Rattle.bser_format.specs.ReadsScalars.{reads_integer}
 use Rattle.bser_named.specs.DueReaders.{integer_at}
-use Rattle.bser_read.specs.Window.{Window}
-use Rattle.bser_bunser.specs.Tagged.{LooksForInt, bunser_window}
-use Rattle.bser_bunser.specs.declared.prefix.Look.TheVariants.{Unexpected}
 use Rattle.bser_due.specs.Askings.{asking_integer}
 use Rattle.bser_due.specs.State.{State}
 use Rattle.bser_deserializer.specs.View.{state}
-use Rattle.bser_deserializer.proofs.Scalars.{no_value_refused, due_refused, asks_for_integer, wants_integer, cut_names, integer_read, no_int_refused}
+use Rattle.bser_deserializer.proofs.Scalars.{no_value_refused, asks_for_integer, wants_integer, integer_read}
 use Rattle.bser_deserializer.proofs.deserializer.Deserializer.read_i64.Goals as goal
 
 pub returns-then-not-is_value_due-clause-refused : goal.returns-then-not-is_value_due-clause-refused
@@ -20,26 +17,11 @@ returns-then-not-is_value_due-clause-refused g c =
     λ fits. no_value_refused integer_at (reads_integer fits) (asking_integer fits) _ s _ (asks_for_integer fits) (wants_integer s.due)
     (c.is_value_due.ensures.no c.if-not-is_value_due.true) c.refuse_no_value.ensures.err c.refuse_no_value.ensures.names
 
-pub returns-in_err-number-clause-refused : goal.returns-in_err-number-clause-refused
-returns-in_err-number-clause-refused g c =
+pub returns-in-Some-clause-found : goal.returns-in-Some-clause-found
+returns-in-Some-clause-found g c =
     let s : State = state g.R.DeRead.window g.R.Lent.Lending.kept c.args.self.now in
-    let p = err_from_is_err_and c.from_residual.result c.from_residual.ensures.1 in
-    let fails = c.in_err-number.ensures.err in
-    rw p.1 (λ fits. due_refused integer_at (reads_integer fits) (asking_integer fits) _ s _ (asks_for_integer fits) fails
-    (cut_names _ s (c.is_value_due.ensures.yes c.if-not-is_value_due.false) c.in_err-number.ensures.names))
+    let fits : SFits w64 c.in-Some.number = search rules in
+    integer_read s _ c.in-Some.number _ (to_z-of_z w64 c.in-Some.number fits) (c.is_value_due.ensures.yes c.if-not-is_value_due.false) c.in-Some.ensures.some refl
 
-pub returns-in-Taken-clause-found : goal.returns-in-Taken-clause-found
-returns-in-Taken-clause-found g c =
-    let s : State = state g.R.DeRead.window g.R.Lent.Lending.kept c.args.self.now in
-    let b : Window = bunser_window g.R.DeRead.window c.next_int.new.self in
-    let fits : SFits w64 c.in-Taken.number = search rules in
-    integer_read s _ c.in-Taken.number _ (to_z-of_z w64 c.in-Taken.number fits) (c.is_value_due.ensures.yes c.if-not-is_value_due.false)
-    (subst (LooksForInt s.source b) c.in-Taken.is c.in_ok-number.ensures.ok) refl
-
-pub returns-in-Unexpected-Tag-clause-refused : goal.returns-in-Unexpected-Tag-clause-refused
-returns-in-Unexpected-Tag-clause-refused g c =
-    let s : State = state g.R.DeRead.window g.R.Lent.Lending.kept c.args.self.now in
-    let b : Window = bunser_window g.R.DeRead.window c.next_int.new.self in
-    let looks = subst (LooksForInt s.source b) (c.in-Unexpected-Tag.is ∙ ap Unexpected c.in-Unexpected-Tag.field-0-is) c.in_ok-number.ensures.ok in
-    λ fits. no_int_refused fits _ c.in-Unexpected-Tag.tag s b _ (c.is_value_due.ensures.yes c.if-not-is_value_due.false) looks c.refuse_tag.ensures.reason
-    (ap (λ (z : State). z.source) c.refuse_tag.ensures.state)
+pub returns-in-None-clause-refused : goal.returns-in-None-clause-refused
+returns-in-None-clause-refused g c = rw c.in-None.ensures.none at c.read_i64_on.ensures.refused

@@ -1,12 +1,26 @@
-use Rattle.std.proofs.Common.{refl, subst}
+-- A null is taken by its tag, and another value left.
+use Rattle.std.proofs.Common.{refl, sym, ap, ◌∙◌}
 use Rattle.bser_due.specs.State.{State}
-use Rattle.bser_due.specs.Nodes.{SeesNode}
 use Rattle.bser_deserializer.specs.View.{state}
-use Rattle.bser_deserializer.proofs.Nodes.{null_read}
+use Rattle.bser_deserializer.proofs.Tags.{peeked}
+use Rattle.bser_deserializer.proofs.Nulls.{other_seen, stray_refused, null_tag_taken}
 use Rattle.bser_deserializer.proofs.deserializer.Deserializer.read_none.Goals as goal
 
-pub returns-in-Null-clause-found : goal.returns-in-Null-clause-found
-returns-in-Null-clause-found g c =
+pub returns-then-is_something-clause-found : goal.returns-then-is_something-clause-found
+returns-then-is_something-clause-found g c =
     let s : State = state g.R.DeRead.window g.R.Lent.Lending.kept c.args.self.now in
-    let m : State = state g.R.DeRead.window g.R.Lent.Lending.kept c.node.new.self in
-    null_read s m _ (subst (SeesNode s m) c.in-Null.is c.in_ok-node.ensures.found) c.consume.ensures refl
+    other_seen _ s _ (c.is_value_due.ensures.yes c.if-not-is_value_due.false) (peeked _ _ _ c.in_ok-fill.ensures.ok c.buffered.ensures)
+    (sym c.is_something.ensures ∙ c.if-is_something.true)
+
+pub returns-then-not-is_null_tag-clause-refused : goal.returns-then-not-is_null_tag-clause-refused
+returns-then-not-is_null_tag-clause-refused g c =
+    let s : State = state g.R.DeRead.window g.R.Lent.Lending.kept c.args.self.now in
+    stray_refused _ _ s _ _ (c.is_value_due.ensures.yes c.if-not-is_value_due.false) (peeked _ _ _ c.in_ok-fill.ensures.ok c.buffered.ensures)
+    (sym c.is_something.ensures ∙ c.if-is_something.false) (sym c.is_null_tag.ensures ∙ c.if-not-is_null_tag.true)
+    c.refuse_tag.ensures.reason (ap (λ (z : State). z.source) c.refuse_tag.ensures.state)
+
+pub returns-clause-found : goal.returns-clause-found
+returns-clause-found g c =
+    let s : State = state g.R.DeRead.window g.R.Lent.Lending.kept c.args.self.now in
+    null_tag_taken _ s _ _ (c.is_value_due.ensures.yes c.if-not-is_value_due.false) (peeked _ _ _ c.in_ok-fill.ensures.ok c.buffered.ensures)
+    (sym c.is_null_tag.ensures ∙ c.if-not-is_null_tag.false) c.consume.ensures refl

@@ -2,17 +2,17 @@
 use Rattle.std.proofs.Common.{rules, length, sym, subst, Option, Some, OnOk, OnErr, string_bytes}
 use Rattle.std.proofs.lemmas.List.{drop_all}
 use Rattle.std.proofs.lemmas.Result.{err_from_is_err_and}
-use Rattle.bser_base.specs.Tree.{Tree}
-use Rattle.bser_base.specs.Pieces.{array_head, object_head}
-use Rattle.bser_base.specs.Canonical.{canonical_key}
+use Rattle.bser_format.specs.Tree.{Tree}
+use Rattle.bser_format.specs.Pieces.{array_head, object_head}
+use Rattle.bser_format.specs.Canonical.{canonical_key}
 use Rattle.bser_ser.specs.Ends.{Ends, Stops, text_of}
 use Rattle.bser_ser.specs.Sent.{refusal_of}
-use Rattle.bser_base.proofs.Lists.{item_here}
+use Rattle.bser_source.proofs.Lists.{item_here}
 use Rattle.bser_ser.proofs.Ends.{UpTo-more, Ends-both, Stops-second, Stops-none}
 use Rattle.bser_ser.proofs.Texts.{item_text, entry_text, Ends-array, Stops-array, Ends-object, Stops-object}
 use Rattle.bser_value.specs.ValueView.{tree_of}
 use Rattle.bser_value.specs.declared.value.Value.{Value}
-use Rattle.bser_value.proofs.Views.{drop-item, written-Array, written-Object}
+use Rattle.bser_value.proofs.Views.{written-Array, written-Object}
 use Rattle.bser_value.proofs.value.writing.+add.Goals as goal
 
 abbrev told : Value → Option Tree

@@ -1,10 +1,10 @@
 -- Each variant by the payload at its place.
-use Rattle.std.proofs.Common.{◌≡◌, ◌∙◌, ℕ, zero, suc, Bool, true, false, List, [], ◌∷◌, Some, inl, refl, sym, ap}
+use Rattle.std.proofs.Common.{◌≡◌, ◌∙◌, ℕ, zero, suc, Bool, true, false, List, [], ◌∷◌, Some, refl, sym, ap, codes}
 use Rattle.std.specs.Prelude.{◌||◌}
 use Rattle.std.proofs.lemmas.Result.{err_from_is_err_and}
-use Rattle.bser_base.specs.Content.{Meaning, Needs, one, variant}
-use Rattle.bser_base.specs.Enums.{Payload}
-use Rattle.bser_base.specs.ReadsHolders.{reads_tuple}
+use Rattle.bser_format.specs.Content.{Meaning, Needs, one, variant}
+use Rattle.bser_format.specs.Enums.{Payload}
+use Rattle.bser_format.specs.ReadsHolders.{reads_tuple}
 use Rattle.serde_bser.specs.EnumAccess.{open_enum}
 use Rattle.serde_bser.specs.HoldsLists.{HoldsTuple}
 use Rattle.serde_bser.specs.Slots.{struct_needs}
@@ -38,26 +38,26 @@ pub returns-in_err-variant-clause-refused : goal.returns-in_err-variant-clause-r
 returns-in_err-variant-clause-refused g c =
     let p = err_from_is_err_and c.from_residual.result c.from_residual.ensures.1 in
     let needs : Needs = struct_needs (g.S.Shape.needs ∷ []) in
-    rw (p.1, p.2) (enum_refused (test_variants g.S.Shape.reads) needs c.in_err-variant.field-0.0 (state g.R.DeRead.state g.L.Lending.kept c.args.from.now)
-    (state g.R.DeRead.state g.L.Lending.kept c.read_enum.follows.lender-at-none) (rw c.in_err-variant.was at c.read_enum.follows.holds-at-none))
+    rw p.1 (enum_refused (codes "TestEnum") (test_variants g.S.Shape.reads) needs _ (state g.R.DeRead.window g.L.Lending.kept c.args.from.now)
+    (state g.R.DeRead.window g.L.Lending.kept c.read_enum.follows.lender-at-none) (rw c.in_err-variant.was at c.read_enum.follows.holds-at-none))
 
 pub returns-in_err-unit_variant-in-0-clause-refused : goal.returns-in_err-unit_variant-in-0-clause-refused
 returns-in_err-unit_variant-in-0-clause-refused g c =
     let vs : List (List ℕ × Payload) = test_variants g.S.Shape.reads in
     let needs : Needs = struct_needs (g.S.Shape.needs ∷ []) in
-    let o : State = state g.R.DeRead.state g.L.Lending.kept c.args.from.now in
-    let v : OpenEnum = open_enum g.R.DeRead.state g.L.Lending.kept c.in_ok-variant.variant in
-    let z : State = state g.R.DeRead.state g.L.Lending.kept c.unit_variant.new.self.0 in
+    let o : State = state g.R.DeRead.window g.L.Lending.kept c.args.from.now in
+    let v : OpenEnum = open_enum g.R.DeRead.window g.L.Lending.kept c.in_ok-variant.variant in
+    let z : State = state g.R.DeRead.window g.L.Lending.kept c.unit_variant.new.self.0 in
     let p = err_from_is_err_and c.from_residual-in_err-unit_variant-in-0.result c.from_residual-in_err-unit_variant-in-0.ensures.1 in
-    rw (p.1, p.2, c.from-in-0-1.given.1 (sym c.in_ok-variant.ensures.same_reference))
-    (unit_refused vs needs c.in_err-unit_variant-in-0.field-0.0 o z v c.in_ok-variant.variant.place (ap (λ n. payload_at n vs) (sym c.place.ensures ∙ c.in-0.is)) c.in_ok-variant.ensures.found c.in_err-unit_variant-in-0.ensures.refused)
+    rw (p.1, c.from-in-0-1.given.1 (sym c.in_ok-variant.ensures.same_reference))
+    (unit_refused vs needs _ o z v c.in_ok-variant.variant.place (ap (λ n. payload_at n vs) (sym c.place.ensures ∙ c.in-0.is)) c.in_ok-variant.ensures.found c.in_err-unit_variant-in-0.ensures.refused)
 
 pub returns-in_ok-unit_variant-in-0-clause-found : goal.returns-in_ok-unit_variant-in-0-clause-found
 returns-in_ok-unit_variant-in-0-clause-found g c =
     let vs : List (List ℕ × Payload) = test_variants g.S.Shape.reads in
-    let o : State = state g.R.DeRead.state g.L.Lending.kept c.args.from.now in
-    let v : OpenEnum = open_enum g.R.DeRead.state g.L.Lending.kept c.in_ok-variant.variant in
-    let z : State = state g.R.DeRead.state g.L.Lending.kept c.unit_variant.new.self.0 in
+    let o : State = state g.R.DeRead.window g.L.Lending.kept c.args.from.now in
+    let v : OpenEnum = open_enum g.R.DeRead.window g.L.Lending.kept c.in_ok-variant.variant in
+    let z : State = state g.R.DeRead.window g.L.Lending.kept c.unit_variant.new.self.0 in
     rw (c.from-in-0-1.given.1 (sym c.in_ok-variant.ensures.same_reference))
     (unit_found vs _ o z v c.in_ok-variant.variant.place _ (ap (λ n. payload_at n vs) (sym c.place.ensures ∙ c.in-0.is)) c.in_ok-variant.ensures.found c.in_ok-unit_variant-in-0.ensures.found (ap (λ n. variant n one) (sym c.place.ensures ∙ c.in-0.is)))
 
@@ -65,19 +65,19 @@ pub returns-in_err-value-in-1-clause-refused : goal.returns-in_err-value-in-1-cl
 returns-in_err-value-in-1-clause-refused g c =
     let vs : List (List ℕ × Payload) = test_variants g.S.Shape.reads in
     let needs : Needs = struct_needs (g.S.Shape.needs ∷ []) in
-    let o : State = state g.R.DeRead.state g.L.Lending.kept c.args.from.now in
-    let v : OpenEnum = open_enum g.R.DeRead.state g.L.Lending.kept c.in_ok-variant.variant in
-    let z : State = state g.R.DeRead.state g.L.Lending.kept c.newtype_variant.new.self.0 in
+    let o : State = state g.R.DeRead.window g.L.Lending.kept c.args.from.now in
+    let v : OpenEnum = open_enum g.R.DeRead.window g.L.Lending.kept c.in_ok-variant.variant in
+    let z : State = state g.R.DeRead.window g.L.Lending.kept c.newtype_variant.new.self.0 in
     let p = err_from_is_err_and c.from_residual-in_err-value-in-1.result c.from_residual-in_err-value-in-1.ensures.1 in
-    rw (p.1, p.2, c.from-in-1-1.given.1 (sym c.in_ok-variant.ensures.same_reference))
-    (payload_refused vs g.S.Shape.reads g.S.Shape.needs needs c.in_err-value-in-1.field-0.0 o z v c.in_ok-variant.variant.place (lends_one g.S.Shape.needs.lent) (λ b. refl) (λ t. inl refl) (ap (λ n. payload_at n vs) (sym c.place.ensures ∙ c.in-1.is)) c.in_ok-variant.ensures.found c.in_err-value-in-1.ensures.refused)
+    rw (p.1, c.from-in-1-1.given.1 (sym c.in_ok-variant.ensures.same_reference))
+    (payload_refused vs g.S.Shape.reads g.S.Shape.asks g.S.Shape.needs needs _ o z v c.in_ok-variant.variant.place (lends_one g.S.Shape.needs.lent) (λ b. refl) (λ b. refl) (ap (λ n. payload_at n vs) (sym c.place.ensures ∙ c.in-1.is)) c.in_ok-variant.ensures.found c.in_err-value-in-1.ensures.refused)
 
 pub returns-in_ok-value-in-1-clause-found : goal.returns-in_ok-value-in-1-clause-found
 returns-in_ok-value-in-1-clause-found g c =
     let vs : List (List ℕ × Payload) = test_variants g.S.Shape.reads in
-    let o : State = state g.R.DeRead.state g.L.Lending.kept c.args.from.now in
-    let v : OpenEnum = open_enum g.R.DeRead.state g.L.Lending.kept c.in_ok-variant.variant in
-    let z : State = state g.R.DeRead.state g.L.Lending.kept c.newtype_variant.new.self.0 in
+    let o : State = state g.R.DeRead.window g.L.Lending.kept c.args.from.now in
+    let v : OpenEnum = open_enum g.R.DeRead.window g.L.Lending.kept c.in_ok-variant.variant in
+    let z : State = state g.R.DeRead.window g.L.Lending.kept c.newtype_variant.new.self.0 in
     rw (c.from-in-1-1.given.1 (sym c.in_ok-variant.ensures.same_reference))
     (payload_found vs g.S.Shape.reads g.S.Shape.holds _ o z v c.in_ok-variant.variant.place c.in_ok-value-in-1.value _ (ap (λ n. payload_at n vs) (sym c.place.ensures ∙ c.in-1.is)) c.in_ok-variant.ensures.found c.in_ok-value-in-1.ensures.found
     (λ d h. record { payload = d; whole = ap (λ n. variant n d) (sym c.place.ensures ∙ c.in-1.is); held = h }))
@@ -86,20 +86,20 @@ pub returns-in_err-first-in-2-clause-refused : goal.returns-in_err-first-in-2-cl
 returns-in_err-first-in-2-clause-refused g c =
     let vs : List (List ℕ × Payload) = test_variants g.S.Shape.reads in
     let needs : Needs = struct_needs (g.S.Shape.needs ∷ []) in
-    let o : State = state g.R.DeRead.state g.L.Lending.kept c.args.from.now in
-    let v : OpenEnum = open_enum g.R.DeRead.state g.L.Lending.kept c.in_ok-variant.variant in
-    let z : State = state g.R.DeRead.state g.L.Lending.kept c.newtype_variant-in-2.new.self.0 in
+    let o : State = state g.R.DeRead.window g.L.Lending.kept c.args.from.now in
+    let v : OpenEnum = open_enum g.R.DeRead.window g.L.Lending.kept c.in_ok-variant.variant in
+    let z : State = state g.R.DeRead.window g.L.Lending.kept c.newtype_variant-in-2.new.self.0 in
     let p = err_from_is_err_and c.from_residual-in_err-first-in-2.result c.from_residual-in_err-first-in-2.ensures.1 in
-    rw (p.1, p.2, c.from-in-2-1.given.1 (sym c.in_ok-variant.ensures.same_reference))
-    (payload_refused vs (reads_tuple (g.S.Shape.reads ∷ g.S.Shape.reads ∷ [])) (tuple_needs (g.S.Shape.needs ∷ g.S.Shape.needs ∷ []) (g.S.Shape.reads ∷ g.S.Shape.reads ∷ []) (g.S.Shape.plain, (g.S.Shape.plain, tt))) needs c.in_err-first-in-2.field-0.0 o z v c.in_ok-variant.variant.place (lends_two g.S.Shape.needs.lent) (λ b. refl) (λ t. inl refl) (ap (λ n. payload_at n vs) (sym c.place.ensures ∙ c.in-2.is)) c.in_ok-variant.ensures.found
+    rw (p.1, c.from-in-2-1.given.1 (sym c.in_ok-variant.ensures.same_reference))
+    (payload_refused vs (reads_tuple (g.S.Shape.reads ∷ g.S.Shape.reads ∷ [])) _ (tuple_needs (g.S.Shape.needs ∷ g.S.Shape.needs ∷ []) (g.S.Shape.reads ∷ g.S.Shape.reads ∷ []) (g.S.Shape.plain, (g.S.Shape.plain, tt))) needs _ o z v c.in_ok-variant.variant.place (lends_two g.S.Shape.needs.lent) (λ b. refl) (λ b. refl) (ap (λ n. payload_at n vs) (sym c.place.ensures ∙ c.in-2.is)) c.in_ok-variant.ensures.found
     c.in_err-first-in-2.ensures.refused)
 
 pub returns-in_ok-first-in-2-clause-found : goal.returns-in_ok-first-in-2-clause-found
 returns-in_ok-first-in-2-clause-found g c =
     let vs : List (List ℕ × Payload) = test_variants g.S.Shape.reads in
-    let o : State = state g.R.DeRead.state g.L.Lending.kept c.args.from.now in
-    let v : OpenEnum = open_enum g.R.DeRead.state g.L.Lending.kept c.in_ok-variant.variant in
-    let z : State = state g.R.DeRead.state g.L.Lending.kept c.newtype_variant-in-2.new.self.0 in
+    let o : State = state g.R.DeRead.window g.L.Lending.kept c.args.from.now in
+    let v : OpenEnum = open_enum g.R.DeRead.window g.L.Lending.kept c.in_ok-variant.variant in
+    let z : State = state g.R.DeRead.window g.L.Lending.kept c.newtype_variant-in-2.new.self.0 in
     rw (c.from-in-2-1.given.1 (sym c.in_ok-variant.ensures.same_reference))
     (payload_found vs (reads_tuple (g.S.Shape.reads ∷ g.S.Shape.reads ∷ [])) (λ t d. HoldsTuple (g.S.Shape.holds t.0 ∷ g.S.Shape.holds t.1 ∷ []) d) _ o z v c.in_ok-variant.variant.place (c.in_ok-first-in-2.first, c.in_ok-first-in-2.second) _
     (ap (λ n. payload_at n vs) (sym c.place.ensures ∙ c.in-2.is)) c.in_ok-variant.ensures.found c.in_ok-first-in-2.ensures.found (λ d h. record { payload = d; whole = ap (λ n. variant n d) (sym c.place.ensures ∙ c.in-2.is); held = h }))
@@ -108,23 +108,23 @@ pub returns-in_err-abc-in_default-clause-refused : goal.returns-in_err-abc-in_de
 returns-in_err-abc-in_default-clause-refused g c =
     let vs : List (List ℕ × Payload) = test_variants g.S.Shape.reads in
     let needs : Needs = struct_needs (g.S.Shape.needs ∷ []) in
-    let o : State = state g.R.DeRead.state g.L.Lending.kept c.args.from.now in
-    let v : OpenEnum = open_enum g.R.DeRead.state g.L.Lending.kept c.in_ok-variant.variant in
-    let z : State = state g.R.DeRead.state g.L.Lending.kept c.newtype_variant-in_default.new.self.0 in
+    let o : State = state g.R.DeRead.window g.L.Lending.kept c.args.from.now in
+    let v : OpenEnum = open_enum g.R.DeRead.window g.L.Lending.kept c.in_ok-variant.variant in
+    let z : State = state g.R.DeRead.window g.L.Lending.kept c.newtype_variant-in_default.new.self.0 in
     let p = err_from_is_err_and c.from_residual-in_err-abc-in_default.result c.from_residual-in_err-abc-in_default.ensures.1 in
     let there = place_there vs o v c.in_ok-variant.variant.place c.in_ok-variant.ensures.found in
     let other = c.in_default.in_default-own.rest in
     let fourth : c.in_ok-variant.variant.place ≡ 3 = last_place g.S.Shape.reads c.in_ok-variant.variant.place there.0 (λ e. other.0.0.1 (c.place.ensures ∙ e)) (λ e. other.0.1 (c.place.ensures ∙ e)) (λ e. other.1 (c.place.ensures ∙ e)) there.1 in
-    rw (p.1, p.2, c.from-in_default-1.given.1 (sym c.in_ok-variant.ensures.same_reference))
-    (payload_refused vs (reads_parts g.S.Shape.reads) _ needs c.in_err-abc-in_default.field-0.0 o z v c.in_ok-variant.variant.place (lends_two g.S.Shape.needs.lent) (λ b. refl) (λ t. inl refl) (ap (λ n. payload_at n vs) fourth) c.in_ok-variant.ensures.found
+    rw (p.1, c.from-in_default-1.given.1 (sym c.in_ok-variant.ensures.same_reference))
+    (payload_refused vs (reads_parts g.S.Shape.reads) _ _ needs _ o z v c.in_ok-variant.variant.place (lends_two g.S.Shape.needs.lent) (λ b. refl) (λ b. refl) (ap (λ n. payload_at n vs) fourth) c.in_ok-variant.ensures.found
     c.in_err-abc-in_default.ensures.refused)
 
 pub returns-in_ok-abc-in_default-clause-found : goal.returns-in_ok-abc-in_default-clause-found
 returns-in_ok-abc-in_default-clause-found g c =
     let vs : List (List ℕ × Payload) = test_variants g.S.Shape.reads in
-    let o : State = state g.R.DeRead.state g.L.Lending.kept c.args.from.now in
-    let v : OpenEnum = open_enum g.R.DeRead.state g.L.Lending.kept c.in_ok-variant.variant in
-    let z : State = state g.R.DeRead.state g.L.Lending.kept c.newtype_variant-in_default.new.self.0 in
+    let o : State = state g.R.DeRead.window g.L.Lending.kept c.args.from.now in
+    let v : OpenEnum = open_enum g.R.DeRead.window g.L.Lending.kept c.in_ok-variant.variant in
+    let z : State = state g.R.DeRead.window g.L.Lending.kept c.newtype_variant-in_default.new.self.0 in
     let there = place_there vs o v c.in_ok-variant.variant.place c.in_ok-variant.ensures.found in
     let other = c.in_default.in_default-own.rest in
     let fourth : c.in_ok-variant.variant.place ≡ 3 = last_place g.S.Shape.reads c.in_ok-variant.variant.place there.0 (λ e. other.0.0.1 (c.place.ensures ∙ e)) (λ e. other.0.1 (c.place.ensures ∙ e)) (λ e. other.1 (c.place.ensures ∙ e)) there.1 in

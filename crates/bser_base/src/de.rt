@@ -1,5 +1,0 @@
-//! Reading.
-pub mod bunser;
-mod hand;
-
-pub use bser_source::{read, text};

@@ -1,5 +1,0 @@
-//! Tests of the byte sources, of byte strings and of writing, by the calls that a user has.
-#![tactic(auto)]
-
-#[cfg(test)]
-mod tests;

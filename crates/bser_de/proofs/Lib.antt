@@ -1,9 +1,0 @@
-pub mod Items
-pub mod Arrays
-pub mod ObjectFills
-pub mod Objects
-pub mod Structs
-pub mod Lists
-pub mod Maps
-pub mod HashMaps
-pub mod Tuples

@@ -1,8 +1,0 @@
-use Rattle.std.proofs.lemmas.Result.{err_from_is_err_and}
-use Rattle.bser_state.proofs.Pairs.{value_out_of_turn}
-use Rattle.bser_de.proofs.map.MapAccess.next_value.Goals as goal
-
-pub returns-in_err-await_value-clause-refused : goal.returns-in_err-await_value-clause-refused
-returns-in_err-await_value-clause-refused g c =
-    let p = err_from_is_err_and c.from_residual.result c.from_residual.ensures.1 in
-    rw (p.1, p.2) (value_out_of_turn g.V.Shape.reads g.V.Shape.needs _ _ _ c.in_err-await_value.ensures.refused)

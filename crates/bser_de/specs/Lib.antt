@@ -1,6 +1,0 @@
-pub mod Accesses
-pub mod Tuples
-pub mod Fold
-pub mod Slots
-pub mod RowsAtHand
-pub mod HoldsReals

@@ -1,0 +1,40 @@
+-- Pieces of a value that are in front of some bytes: keys, scalars, strings and skips.
+use Rattle.std.specs.Prelude.{◌≡◌, ℕ, ◌≤◌, List, [], ◌∷◌, ◌++◌, length, take}
+use Rattle.bser_format.specs.declared.errors.Kind.TheVariants.{MapKey}
+use Rattle.bser_named.specs.Named.{Reader, reads, text_of, field_of, with_text_keys}
+use Rattle.bser_bunser.specs.declared.prefix.Token.{Token}
+use Rattle.bser_bunser.specs.declared.prefix.Token.TheVariants as tokens
+use Rattle.bser_events.specs.Events as told
+use Rattle.bser_events.specs.Events.{Event, key, events, part_events}
+use Rattle.bser_events.specs.declared.frame.Due.{Due}
+use Rattle.bser_events.specs.declared.frame.Due.TheVariants.{Item, Entry, Field}
+
+-- the first n bytes are what r reads, and of that this event is told
+pub record InFront {X : Type 0} (r : Reader X) (told_of : X → List Event) (bytes : List ℕ) (n : ℕ) (e : Event) : Type 0 where
+  pub value : X
+  pub within : n ≤ length bytes
+  pub passes : (x : List ℕ) → r (take n bytes ++ x) ≡ reads value x
+  pub one : told_of value ≡ e ∷ []
+
+-- the first n bytes are what is due, but for an entry its key alone, whatever levels are left
+abbrev pub DueInFront : Due → List ℕ → ℕ → Event → Type 0
+DueInFront Entry bytes n e = InFront (text_of MapKey) (λ s. key s ∷ []) bytes n e
+DueInFront Item bytes n e = (levels : ℕ) → InFront (with_text_keys levels) events bytes n e
+DueInFront Field bytes n e = (levels : ℕ) → InFront (field_of (with_text_keys levels)) part_events bytes n e
+
+-- these are the first n bytes
+pub record IsFirst (n : ℕ) (bytes s : List ℕ) : Type 0 where
+  pub within : n ≤ length bytes
+  pub first : s ≡ take n bytes
+
+-- a scalar's event
+abbrev pub IsScalar : Token → Event → Type 0
+IsScalar tokens.Null e = e ≡ told.null
+IsScalar (tokens.Bool v) e = e ≡ told.boolean v
+IsScalar (tokens.Int v) e = e ≡ told.integer v
+IsScalar (tokens.Real r) e = e ≡ told.real r
+IsScalar _ e = ⊥
+
+-- the token is no scalar
+abbrev pub IsNoScalar : Token → Type 0
+IsNoScalar t = (e : Event) → IsScalar t e → ⊥

@@ -1,0 +1,6 @@
+pub mod Asked
+pub mod Passed
+pub mod Askings
+pub mod Fields
+pub mod Rows
+pub mod SlotValues

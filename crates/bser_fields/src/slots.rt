@@ -1,0 +1,270 @@
+//! The fields of a struct, one after another.
+ghost use Rattle.std.specs.Prelude.{◌≡◌, ◌<◌, ℕ, List, [], ◌∷◌, length, map, Some, true, false, IfOk, OnOk, OnErr, IfSome};
+ghost use Rattle.std.specs.Str.{bytes_eq};
+ghost use Rattle.bser_format.specs.Content.{Content, Needs};
+ghost use Rattle.bser_due.specs.Fields.{field_of};
+ghost use Rattle.bser_deserializer.specs.View.{state, refusal_in};
+ghost use Rattle.bser_types.specs.Slots.{StructField, fill_at, struct_needs, KeepsBoth, FinishesEach};
+ghost use Rattle.bser_fields.specs.Askings.{FieldAskings, all_asked};
+ghost use Rattle.bser_fields.specs.Fields.{MakesStep, RefusesStep, NamesFields};
+ghost use Rattle.bser_fields.specs.Rows.{IsInTurn, KeysInTurn, AllInTurn, IsKnown, Turns, RefusesTurns};
+
+use crate::slot::Slot;
+use bser_bunser::refusal::Answer;
+use bser_deserializer::cursor::{Cursor, keys_of};
+use bser_deserializer::deserializer::Deserializer;
+use bser_due::field::{Field, find_field};
+use bser_read::read::DeRead;
+use bser_source::read::{Lending, LendsText};
+use bser_types::deserialize::Deserialize;
+use bser_types::impls::ignored::Ignored;
+use std::alloc::Global;
+
+/// The fields of a struct, one after another: pairs of a field and the others, up to `()`.
+pub trait Slots<L: LendsText>: Drop {
+    /// What the fields are read as.
+    type Values: Drop;
+
+    // the fields before one is read
+    ghost fields: { List StructField };
+
+    // what was read of them
+    ghost keeps: { Self → List StructField → Type 0 };
+
+    // what their values hold
+    ghost holds: { Self.Values → List (Content → Type 0) };
+
+    // what reading them needs
+    ghost needs: { List Needs };
+
+    // what names their refusals, where their types tell of names
+    ghost asks: { FieldAskings Self.fields };
+
+    /// Fields that were not read yet.
+    fn empty() -> Self
+        ensures { Self.keeps result Self.fields };
+
+    /// Reads the value that is due as that of the field at this place. Where no field has the
+    /// place, the value is read as [`Ignored`].
+    ///
+    /// Refused as [`Slot::fill`] is.
+    fn fill_at<R: DeRead<Lent = L>>(
+        &mut self,
+        alloc: Global,
+        place: usize,
+        from: &mut Deserializer<R>,
+    ) -> Answer<()>
+        ensures found { OnOk result ((ss : List StructField) → Self.keeps self.old ss
+            → MakesStep (fill_at place) (Self.keeps self.new) ss
+            (state R.window L.kept from.old) (state R.window L.kept from.new)) }
+        ensures refused { OnErr result ((ss : List StructField) → Self.keeps self.old ss
+            → RefusesStep (fill_at place) (struct_needs Self.needs)
+            (NamesFields (struct_needs Self.needs) (all_asked Self.fields Self.asks) (Some place)
+            (refusal_in from.new) ss (state R.window L.kept from.old))
+            (refusal_in from.new) ss
+            (state R.window L.kept from.old) (state R.window L.kept from.new)) };
+
+    /// Whether the row's keys, from this place on, are these names one after another, each of them
+    /// once, and as many as there are fields.
+    fn are_in_turn<R: DeRead<Lent = L>>(
+        from: &Deserializer<R>,
+        place: usize,
+        names: &[&str],
+    ) -> bool
+        ensures { result ≡ true → AllInTurn (map (λ r. r.now) names.now) (length Self.fields) place
+            (state R.window L.kept from.now) };
+
+    /// Reads the row's values as those of the fields one after another.
+    ///
+    /// A value is refused as its type refuses it; the deserializer then refuses each later call.
+    fn read_in_turn<R: DeRead<Lent = L>>(
+        alloc: Global,
+        from: &mut Deserializer<R>,
+    ) -> Answer<Self::Values>
+        ensures found { IfOk result (λ v. (names : List (List ℕ)) → (place : ℕ)
+            → KeysInTurn names (length Self.fields) place (state R.window L.kept from.old)
+            → Turns IsKnown names (length Self.fields) (λ ss. FinishesEach Self.holds ss (Some v))
+            Self.fields place (state R.window L.kept from.old) (state R.window L.kept from.new)) }
+        ensures refused { OnErr result ((names : List (List ℕ)) → (place : ℕ)
+            → KeysInTurn names (length Self.fields) place (state R.window L.kept from.old)
+            → RefusesTurns IsKnown names (struct_needs Self.needs)
+            (all_asked Self.fields Self.asks) (refusal_in from.new) Self.fields place
+            (state R.window L.kept from.old) (state R.window L.kept from.new)) };
+
+    /// The fields' values, or None where one is required and absent.
+    fn finish(self) -> Option<Self::Values>
+        ensures { (ss : List StructField) → Self.keeps self ss
+            → FinishesEach Self.holds ss result };
+}
+
+impl<L: LendsText> Slots<L> for () {
+    type Values = ();
+
+    ghost fields = { [] };
+
+    ghost keeps = { λ _ ss. ss ≡ [] };
+
+    ghost holds = { λ _. [] };
+
+    ghost needs = { [] };
+
+    ghost asks = { tt };
+
+    #[inline(always)]
+    fn empty() -> Self {}
+
+    #[inline(always)]
+    fn fill_at<R: DeRead<Lent = L>>(
+        &mut self,
+        alloc: Global,
+        _place: usize,
+        from: &mut Deserializer<R>,
+    ) -> Answer<()> {
+        Ignored::deserialize(alloc, from)?;
+        Ok(())
+    }
+
+    #[inline(always)]
+    fn are_in_turn<R: DeRead<Lent = L>>(
+        from: &Deserializer<R>,
+        place: usize,
+        _names: &[&str],
+    ) -> bool {
+        keys_of(from).len() == place
+    }
+
+    #[inline(always)]
+    fn read_in_turn<R: DeRead<Lent = L>>(
+        _alloc: Global,
+        _from: &mut Deserializer<R>,
+    ) -> Answer<()> {
+        Ok(())
+    }
+
+    #[inline(always)]
+    fn finish(self) -> Option<()> {
+        Some(())
+    }
+}
+
+impl<L: LendsText, A: Slot<L>, F: Slots<L>> Slots<L> for (A, F) {
+    type Values = (A::Value, F::Values);
+
+    ghost fields = { A.field ∷ F.fields };
+
+    ghost keeps = { λ v. KeepsBoth (A.keeps v.0) (F.keeps v.1) };
+
+    ghost holds = { λ v. A.holds v.0 ∷ F.holds v.1 };
+
+    ghost needs = { A.needs ∷ F.needs };
+
+    ghost asks = { (A.asks, F.asks) };
+
+    #[inline(always)]
+    fn empty() -> Self {
+        (A::empty(), F::empty())
+    }
+
+    #[inline(always)]
+    fn fill_at<R: DeRead<Lent = L>>(
+        &mut self,
+        alloc: Global,
+        place: usize,
+        from: &mut Deserializer<R>,
+    ) -> Answer<()> {
+        if place == 0 {
+            self.0.fill(alloc, from)
+        } else {
+            self.1.fill_at(alloc, place - 1, from)
+        }
+    }
+
+    #[inline(always)]
+    fn are_in_turn<R: DeRead<Lent = L>>(
+        from: &Deserializer<R>,
+        place: usize,
+        names: &[&str],
+    ) -> bool {
+        match names_after(from, place, names) {
+            Some(others) => F::are_in_turn(from, place + 1, others),
+            None => false,
+        }
+    }
+
+    #[inline(always)]
+    fn read_in_turn<R: DeRead<Lent = L>>(
+        alloc: Global,
+        from: &mut Deserializer<R>,
+    ) -> Answer<(A::Value, F::Values)> {
+        from.await_field();
+        let first = A::read(alloc, from)?;
+        let others = F::read_in_turn(alloc, from)?;
+        Ok((first, others))
+    }
+
+    #[inline(always)]
+    fn finish(self) -> Option<(A::Value, F::Values)> {
+        let (first, others) = self;
+        match (first.finish(), others.finish()) {
+            (Some(first), Some(others)) => Some((first, others)),
+            _ => None,
+        }
+    }
+}
+
+/// The other names, where the row's key at this place is the first of the names, and none of the
+/// others.
+#[inline(always)]
+fn names_after<'n, 's, R: DeRead>(
+    from: &Deserializer<R>,
+    place: usize,
+    names: &'n [&'s str],
+) -> Option<&'n [&'s str]>
+where
+    R::Lent: LendsText,
+    ensures inside { IfSome result (λ others. place < length
+        (state R.window R.Lent.kept from.now).keys) }
+    ensures turn { IfSome result (λ others. IsInTurn (map (λ r. r.now) names.now)
+        (map (λ r. r.now) others.now) place (state R.window R.Lent.kept from.now)) }
+{
+    if place >= keys_of(from).len() || names.is_empty() {
+        return None;
+    }
+    let key = <R::Lent as Lending>::kept_text(&keys_of(from)[place]);
+    let others = &names[1..];
+    if is_same(names[0].as_bytes(), key.as_bytes()) && is_unknown(others, names[0]) {
+        return Some(others);
+    }
+    None
+}
+
+/// Whether the name is none of these.
+#[inline(always)]
+fn is_unknown(names: &[&str], name: &str) -> bool
+    ensures yes { result ≡ true → field_of (map (λ r. r.now) names.now) name.now ≡ Field.Unknown }
+    ensures no { result ≡ false → field_of (map (λ r. r.now) names.now) name.now ≡ Field.Unknown
+        → ⊥ }
+{
+    match find_field(names, name.as_bytes()) {
+        Field::Known(_) => false,
+        Field::Unknown => true,
+    }
+}
+
+/// Whether these are the same bytes. Each is compared, also after one that differs, so that a name
+/// that is constant is compared by whole words.
+#[inline(always)]
+fn is_same(known: &[u8], name: &[u8]) -> bool
+    ensures { result ≡ bytes_eq known.now name.now }
+{
+    if known.len() != name.len() {
+        return false;
+    }
+    let mut same = true;
+    for place in 0..known.len() {
+        if known[place] != name[place] {
+            same = false;
+        }
+    }
+    same
+}

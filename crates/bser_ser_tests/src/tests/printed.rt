@@ -1,0 +1,154 @@
+//! The printed texts of refusals and of tags.
+use bser_format::errors::{Collection, Complaint, EnumName, Error, Kind, Message, ReadCause};
+use bser_format::header::{HeaderByte, header_byte_desc};
+use std::alloc::Global;
+use std::fmt::Display;
+use std::io;
+use std::io::ErrorKind;
+use std::process::Abort;
+use std::test::Fail;
+
+type Tested = std::result::Result<(), Fail>;
+
+fn check_text<T: Display>(rt: &impl Abort, alloc: Global, printed: &T, text: &str) -> Tested {
+    let found = format!(in alloc; "{printed}")?;
+    assert_eq!(rt; found.as_str(), text);
+    Ok(())
+}
+
+#[test]
+fn kinds(rt: HostRuntime) -> Tested {
+    let kinds = [
+        (Kind::NextItem, "next item"),
+        (Kind::Integer, "integer"),
+        (Kind::MapKey, "map key"),
+        (Kind::TemplateKeys, "template keys"),
+        (Kind::TemplateKey, "template key"),
+        (Kind::Array, "array"),
+        (Kind::Object, "object"),
+        (Kind::Template, "template"),
+        (Kind::Enum(EnumName::new("TestEnum")), "enum 'TestEnum'"),
+        (
+            Kind::ObjectLikeEnum(EnumName::new("TestEnum")),
+            "object-like enum 'TestEnum'",
+        ),
+    ];
+    for (kind, text) in &kinds {
+        check_text(&rt, rt.alloc(), kind, text)?;
+    }
+    Ok(())
+}
+
+const COMPLAINTS: [(Complaint, &str); 12] = [
+    (Complaint::NegativeLength, "negative length"),
+    (Complaint::NegativeCount, "negative count"),
+    (Complaint::ItemsLeft, "items left"),
+    (Complaint::TooFewItems, "too few items"),
+    (Complaint::WrongType, "wrong type"),
+    (Complaint::IntegerOutOfRange, "integer out of range"),
+    (Complaint::RowsWithoutKeys, "rows without keys"),
+    (
+        Complaint::BorrowedFromCopying,
+        "borrowed value from a copying source",
+    ),
+    (Complaint::UnknownVariant, "unknown variant"),
+    (
+        Complaint::EnumObjectEntries,
+        "enum object must have one entry",
+    ),
+    (Complaint::ValueOpen, "value still open"),
+    (Complaint::CountTooGreat, "count too great"),
+];
+
+#[test]
+fn fixed_messages(rt: HostRuntime) -> Tested {
+    let alloc = rt.alloc();
+    for (complaint, text) in COMPLAINTS {
+        check_text(&rt, alloc, &complaint, text)?;
+        let reading = format!(in alloc; "error while deserializing BSER: {text}")?;
+        check_text(&rt, alloc, &Error::de_custom(complaint), reading.as_str())?;
+        let writing = format!(in alloc; "error while serializing BSER: {text}")?;
+        check_text(&rt, alloc, &Error::ser_custom(complaint), writing.as_str())?;
+    }
+    Ok(())
+}
+
+#[test]
+fn refusals_of_reading(rt: HostRuntime) -> Tested {
+    let alloc = rt.alloc();
+    let fault = ReadCause::Reader(io::Error::from(ErrorKind::Other));
+    check_text(&rt, alloc, &ReadCause::Eof, "end of input")?;
+    check_text(&rt, alloc, &ReadCause::Utf8, "invalid UTF-8")?;
+    check_text(&rt, alloc, &fault, "reader fault")?;
+    check_text(&rt, alloc, &ReadCause::Memory, "out of memory")?;
+    check_text(&rt, alloc, &ReadCause::Failed, "failed before")?;
+    let refused = Error::de_reader_error(fault);
+    check_text(&rt, alloc, &refused, "reader error while deserializing")?;
+    let refused = Error::de_reader_error(ReadCause::Memory);
+    check_text(&rt, alloc, &refused, "out of memory")?;
+    let made = Error::DeCustom {
+        msg: Message::Made(String::from_str(alloc, "no colour")?),
+    };
+    check_text(
+        &rt,
+        alloc,
+        &made,
+        "error while deserializing BSER: no colour",
+    )?;
+    let refused = Error::DeRecursionLimitExceeded {
+        kind: Kind::ObjectLikeEnum(EnumName::new("TestEnum")),
+    };
+    let text =
+        "while deserializing BSER: recursion limit exceeded with object-like enum 'TestEnum'";
+    check_text(&rt, alloc, &refused, text)
+}
+
+#[test]
+fn refusals_of_writing(rt: HostRuntime) -> Tested {
+    let alloc = rt.alloc();
+    let sizes = [
+        (
+            Collection::Sequence,
+            "while serializing BSER: need size of sequence",
+        ),
+        (Collection::Map, "while serializing BSER: need size of map"),
+    ];
+    for (kind, text) in sizes {
+        check_text(&rt, alloc, &Error::SerNeedSize { kind }, text)?;
+    }
+    let great = Error::SerU64TooBig {
+        v: 9223372036854775808,
+    };
+    let text = "while serializing BSER: integer too big: 9223372036854775808";
+    check_text(&rt, alloc, &great, text)?;
+    let fault = Error::from(io::Error::from(ErrorKind::Other));
+    check_text(&rt, alloc, &fault, "IO Error")?;
+    check_text(&rt, alloc, &Error::OutOfMemory, "out of memory")
+}
+
+const TAGS: [(u8, &str); 15] = [
+    (0x00, "BSER_ARRAY"),
+    (0x01, "BSER_OBJECT"),
+    (0x02, "BSER_BYTESTRING"),
+    (0x03, "BSER_INT8"),
+    (0x04, "BSER_INT16"),
+    (0x05, "BSER_INT32"),
+    (0x06, "BSER_INT64"),
+    (0x07, "BSER_REAL"),
+    (0x08, "BSER_TRUE"),
+    (0x09, "BSER_FALSE"),
+    (0x0a, "BSER_NULL"),
+    (0x0b, "BSER_TEMPLATE"),
+    (0x0c, "BSER_SKIP"),
+    (0x0d, "BSER_UTF8STRING"),
+    (0xff, "unknown byte '255'"),
+];
+
+#[test]
+fn tags(rt: HostRuntime) -> Tested {
+    for (byte, text) in TAGS {
+        check_text(&rt, rt.alloc(), &HeaderByte(byte), text)?;
+        assert_eq!(rt; header_byte_desc(rt.alloc(), byte)?.as_str(), text);
+    }
+    Ok(())
+}

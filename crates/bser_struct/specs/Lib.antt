@@ -1,4 +1,0 @@
-pub mod Skip
-pub mod Variants
-pub mod EnumAccess
-pub mod SlotValues

@@ -1,7 +1,0 @@
-use Rattle.std.proofs.Common.{refl, rules}
-use Rattle.bser_value.proofs.Places.{takes_fields}
-use Rattle.bser_value.specs.contracts.de.places.fn.take_fields.retain as closure
-use Rattle.bser_value.proofs.de.places.take_fields.Goals as goal
-
-pub returns : goal.returns
-returns c = takes_fields _ (λ f. Unit {0}) (λ f. (closure.captures f).row.now.items) (λ f k v b w g i t. (search rules, search rules, tt)) _ _ _ _ tt refl c.retain.ensures.filtered

@@ -1,0 +1,178 @@
+//! What is made of the events of a value.
+ghost use Rattle.std.specs.Prelude.{◌≡◌, true, [], ◌∷◌, ◌++◌, Some, OnOk, option_map};
+ghost use Rattle.bser_format.specs.Tree.{Tree, bytes, text};
+ghost use Rattle.bser_value.specs.Made.{
+  unread,
+  read_as,
+  give,
+  named,
+  inside,
+  opened,
+  closed,
+  in_array,
+  in_object,
+  in_keys,
+};
+ghost use Rattle.bser_value.specs.Shows.{Shows, Takes, Turns};
+ghost use Rattle.bser_value.specs.ValueView.{tree_of};
+
+use crate::building::Building;
+use crate::value::Value;
+use bser_events::builder::Builder;
+use bser_events::event::Event;
+use bser_format::bytestring::ByteString;
+use std::alloc::{AllocError, Global};
+use std::mem;
+
+/// Makes a value of its events.
+#[derive(Drop)]
+pub struct ValueBuilder {
+    alloc: Global,
+    /// What is being read.
+    inner: Building,
+    /// The containers around it, the outermost first.
+    around: Vec<Building>,
+}
+
+impl ValueBuilder {
+    /// Nothing was read.
+    pub fn new(alloc: Global) -> Self
+        ensures { Shows result unread }
+    {
+        ValueBuilder {
+            alloc,
+            inner: Building::Whole { value: None },
+            around: Vec::new(alloc),
+        }
+    }
+
+    /// The value, once all of it was told.
+    pub fn into_value(self) -> Option<Value>
+        ensures { (t : Tree) → Shows self (read_as t) → option_map tree_of result ≡ Some t }
+    {
+        let ValueBuilder {
+            alloc: _,
+            inner,
+            around: _,
+        } = self;
+        match inner {
+            Building::Whole { value } => value,
+            _ => None,
+        }
+    }
+
+    /// Opens a container inside the innermost.
+    fn begin(&mut self, container: Building) -> Result<(), AllocError>
+        ensures inner { OnOk result (self.new.inner ≡ container) }
+        ensures around { OnOk result
+            (self.new.around.items ≡ self.old.around.items ++ self.old.inner ∷ []) }
+    {
+        Ok(self.around.push(mem::replace(&mut self.inner, container))?)
+    }
+
+    /// Opens an array.
+    #[inline(never)]
+    fn open_array(&mut self) -> Result<(), AllocError>
+        ensures { OnOk result (Turns Shows (opened (in_array [])) self.old self.new) }
+    {
+        self.begin(Building::array(self.alloc))
+    }
+
+    /// Opens an object.
+    #[inline(never)]
+    fn open_object(&mut self) -> Result<(), AllocError>
+        ensures { OnOk result (Turns Shows (opened (in_object [] None)) self.old self.new) }
+    {
+        self.begin(Building::object(self.alloc))
+    }
+
+    /// Opens a template.
+    #[inline(never)]
+    fn open_template(&mut self) -> Result<(), AllocError>
+        ensures { OnOk result (Turns Shows (opened (in_keys [])) self.old self.new) }
+    {
+        self.begin(Building::template(self.alloc))
+    }
+
+    /// Closes the innermost container, and puts its value into the one around it.
+    #[inline(never)]
+    fn close(&mut self) -> Result<(), AllocError>
+        ensures { OnOk result
+            (Turns Shows (λ s. closed s.inner s.around) self.old self.new) }
+    {
+        let Some(outer) = self.around.pop() else {
+            return Ok(());
+        };
+        match mem::replace(&mut self.inner, outer).into_value()? {
+            Some(value) => self.inner.put(value),
+            None => Ok(()),
+        }
+    }
+
+    /// Puts in the value that comes next.
+    #[inline(always)]
+    fn put(&mut self, value: Value) -> Result<(), AllocError>
+        ensures { OnOk result (Turns Shows (give (tree_of value)) self.old self.new) }
+    {
+        self.inner.put(value)
+    }
+
+    /// Takes a key.
+    #[inline(always)]
+    fn put_key(&mut self, key: &str) -> Result<(), AllocError>
+        ensures { OnOk result
+            (Turns Shows (λ s. inside (named key.now s.inner) s.around) self.old self.new) }
+    {
+        self.inner.put_key(self.alloc, key)
+    }
+
+    /// Puts in a copy of a byte string.
+    #[inline(always)]
+    fn put_bytes(&mut self, string: &[u8]) -> Result<(), AllocError>
+        ensures { OnOk result (Turns Shows (give (bytes string.now)) self.old self.new) }
+    {
+        let copy = Vec::from_slice(self.alloc, string)?;
+        self.put(Value::ByteString(ByteString::from_vec(copy)))
+    }
+
+    /// Puts in a copy of a text.
+    #[inline(always)]
+    fn put_text(&mut self, string: &str) -> Result<(), AllocError>
+        ensures { OnOk result (Turns Shows (give (text string.now)) self.old self.new) }
+    {
+        let copy = String::from_str(self.alloc, string)?;
+        self.put(Value::Utf8String(copy))
+    }
+}
+
+impl Builder for ValueBuilder {
+    ghost takes = { Takes };
+
+    ghost memory = { true };
+
+    ghost BYTES = { true };
+
+    const BYTES: bool = true;
+
+    #[inline(always)]
+    fn take(&mut self, event: Event<'_>) -> Result<(), AllocError> {
+        match event {
+            Event::Null | Event::Skip => self.put(Value::Null),
+            Event::Bool(truth) => self.put(Value::Bool(truth)),
+            Event::Int(number) => self.put(Value::Integer(number)),
+            Event::Real(bits) => self.put(Value::Real(bits)),
+            Event::Bytes(string) => self.put_bytes(string),
+            Event::Text(string) => self.put_text(string),
+            Event::Array { len: _ } => self.open_array(),
+            Event::Object { len: _ } => self.open_object(),
+            Event::Key(key) => self.put_key(key),
+            Event::Template { len: _ } => self.open_template(),
+            Event::Rows { len: _ } => Ok(()),
+            Event::Close => self.close(),
+        }
+    }
+
+    fn bytes_passed(&mut self, _len: usize) -> Result<(), AllocError> {
+        Ok(())
+    }
+}
