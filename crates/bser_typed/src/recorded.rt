@@ -37,10 +37,10 @@ impl<'a> Recording<'a> {
     /// The first thing that is not as the list says.
     ///
     /// The compact message has to be at most as long as the recorded one, and to read back as its
-    /// value, from a slice and from a reader of one byte a call.
+    /// value, from a slice and from readers of 1, 2, 3, 7 and 4096 bytes a call and of all bytes.
     pub fn first_mismatch(&self, alloc: Global, message: &[u8]) -> Result<Option<&'static str>> {
         let value: Value = from_slice(alloc, message)?;
-        if !is_read_by_bytes(alloc, message, &value)? {
+        if !is_read_by_readers(alloc, message, &value)? {
             return Ok(Some("another value from a reader"));
         }
         let text = value.to_string(alloc)?;
@@ -60,16 +60,29 @@ impl<'a> Recording<'a> {
             return Ok(Some("longer than it was recorded"));
         }
         let back: Value = from_slice(alloc, &compact)?;
-        if back != value || !is_read_by_bytes(alloc, &compact, &value)? {
+        if back != value || !is_read_by_readers(alloc, &compact, &value)? {
             return Ok(Some("another value of the compact message"));
         }
         Ok(None)
     }
 }
 
-/// Whether a reader of one byte a call gives the value, and has nothing left.
-fn is_read_by_bytes(alloc: Global, message: &[u8], value: &Value) -> Result<bool> {
-    let (answer, count) = read_by_plan::<Value>(alloc, message, Plan::pieces(1));
+/// Whether readers of 1, 2, 3, 7 and 4096 bytes a call and of all bytes give the value, and have
+/// nothing left.
+fn is_read_by_readers(alloc: Global, message: &[u8], value: &Value) -> Result<bool> {
+    Ok(
+        is_read_by(alloc, message, value, Plan::pieces(1))?
+            && is_read_by(alloc, message, value, Plan::pieces(2))?
+            && is_read_by(alloc, message, value, Plan::pieces(3))?
+            && is_read_by(alloc, message, value, Plan::pieces(7))?
+            && is_read_by(alloc, message, value, Plan::pieces(4096))?
+            && is_read_by(alloc, message, value, Plan::whole())?,
+    )
+}
+
+/// Whether a reader of this plan gives the value, and has nothing left.
+fn is_read_by(alloc: Global, message: &[u8], value: &Value, plan: Plan) -> Result<bool> {
+    let (answer, count) = read_by_plan::<Value>(alloc, message, plan);
     Ok(answer? == *value && count == message.len())
 }
 

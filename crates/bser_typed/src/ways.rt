@@ -20,6 +20,14 @@ pub enum Way {
     ByteReader,
     /// From a reader that gives as many bytes as it is asked for.
     WholeReader,
+    /// From a reader that gives 2 bytes a call.
+    ReaderOf2,
+    /// From a reader that gives 3 bytes a call.
+    ReaderOf3,
+    /// From a reader that gives 7 bytes a call.
+    ReaderOf7,
+    /// From a reader that gives 4096 bytes a call.
+    ReaderOf4096,
 }
 
 impl Way {
@@ -29,6 +37,10 @@ impl Way {
             Way::Slice => "from a slice",
             Way::ByteReader => "from a reader of one byte a call",
             Way::WholeReader => "from a reader of all bytes at once",
+            Way::ReaderOf2 => "from a reader of 2 bytes a call",
+            Way::ReaderOf3 => "from a reader of 3 bytes a call",
+            Way::ReaderOf7 => "from a reader of 7 bytes a call",
+            Way::ReaderOf4096 => "from a reader of 4096 bytes a call",
         }
     }
 }
@@ -77,8 +89,8 @@ impl<'a> Sample<'a> {
         }
     }
 
-    /// Reads from the slice, and from readers of one byte a call and of all bytes at once, which
-    /// have to take as many bytes as are expected of a message that is accepted.
+    /// Reads from the slice, and from readers of 1, 2, 3, 7 and 4096 bytes a call and of all bytes at
+    /// once, which have to take as many bytes as are expected of a message that is accepted.
     pub fn owned_mismatch<T: Shown + Deserialize<&'a [u8]> + DeserializeOwned>(
         &self,
         alloc: Global,
@@ -90,34 +102,41 @@ impl<'a> Sample<'a> {
         if let Some(other) = self.lent_mismatch::<T>(alloc)? {
             return Ok(Some(other));
         }
-        if let Some(answer) = self.reader_mismatch::<T>(alloc, Plan::pieces(1))? {
-            return Ok(Some(Mismatch {
-                way: Way::ByteReader,
-                answer,
-            }));
+        if let Some(other) = self.reader_mismatch::<T>(alloc, Way::ByteReader, Plan::pieces(1))? {
+            return Ok(Some(other));
         }
-        if let Some(answer) = self.reader_mismatch::<T>(alloc, Plan::whole())? {
-            return Ok(Some(Mismatch {
-                way: Way::WholeReader,
-                answer,
-            }));
+        if let Some(other) = self.reader_mismatch::<T>(alloc, Way::WholeReader, Plan::whole())? {
+            return Ok(Some(other));
         }
-        Ok(None)
+        if let Some(other) = self.reader_mismatch::<T>(alloc, Way::ReaderOf2, Plan::pieces(2))? {
+            return Ok(Some(other));
+        }
+        if let Some(other) = self.reader_mismatch::<T>(alloc, Way::ReaderOf3, Plan::pieces(3))? {
+            return Ok(Some(other));
+        }
+        if let Some(other) = self.reader_mismatch::<T>(alloc, Way::ReaderOf7, Plan::pieces(7))? {
+            return Ok(Some(other));
+        }
+        self.reader_mismatch::<T>(alloc, Way::ReaderOf4096, Plan::pieces(4096))
     }
 
     /// The answer of a reader of this plan, where it is another than the one expected.
     fn reader_mismatch<T: Shown + DeserializeOwned>(
         &self,
         alloc: Global,
+        way: Way,
         plan: Plan,
-    ) -> Result<Option<String>, AllocError>
+    ) -> Compared
         requires { IsTrue (is_steady plan) }
         ensures { IfOk result (λ other. IfNone other
             (AnswersReader (min self.now.levels 1024) T.reads T.asks T.holds T.notation
             self.now.message.now self.now.answer.now self.now.taken)) }
     {
         let (same, answer) = self.reader_answer::<T>(alloc, plan)?;
-        if same { Ok(None) } else { Ok(Some(answer)) }
+        if same {
+            return Ok(None);
+        }
+        Ok(Some(Mismatch { way, answer }))
     }
 
     /// Whether a reader of this plan is answered as expected, and its answer with the bytes taken.

@@ -73,9 +73,9 @@ fn is_reader_answered(
     Ok(same && (answer.is_err() || count == taken))
 }
 
-/// Reads from the slice, and from readers of one byte a call and of all bytes at once. Gives the
-/// first way whose answer is another than the one expected, or which took another number of bytes
-/// than `taken` though it answered a value.
+/// Reads from the slice, and from readers of 1, 2, 3, 7 and 4096 bytes a call and of all bytes at
+/// once. Gives the first way whose answer is another than the one expected, or which took another
+/// number of bytes than `taken` though it answered a value.
 pub fn first_mismatch(
     alloc: Global,
     bytes: &[u8],
@@ -93,6 +93,18 @@ pub fn first_mismatch(
     }
     if !is_reader_answered(alloc, bytes, Plan::whole(), expected, taken)? {
         return Ok(Some("from a reader of all bytes at once"));
+    }
+    if !is_reader_answered(alloc, bytes, Plan::pieces(2), expected, taken)? {
+        return Ok(Some("from a reader of 2 bytes a call"));
+    }
+    if !is_reader_answered(alloc, bytes, Plan::pieces(3), expected, taken)? {
+        return Ok(Some("from a reader of 3 bytes a call"));
+    }
+    if !is_reader_answered(alloc, bytes, Plan::pieces(7), expected, taken)? {
+        return Ok(Some("from a reader of 7 bytes a call"));
+    }
+    if !is_reader_answered(alloc, bytes, Plan::pieces(4096), expected, taken)? {
+        return Ok(Some("from a reader of 4096 bytes a call"));
     }
     Ok(None)
 }
