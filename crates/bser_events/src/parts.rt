@@ -31,7 +31,7 @@ use bser_read::read::DeRead;
 
 /// Reads what follows a token where a value begins, and tells it. Answers the container that it
 /// opens, of which the parts are left.
-#[inline(always)]
+#[inline(never)]
 pub fn read_after<R: DeRead, B: Builder>(
     bunser: &mut Bunser<R>,
     token: Token,

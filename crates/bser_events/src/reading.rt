@@ -170,7 +170,7 @@ fn push_frame<R: DeRead>(
 }
 
 /// Reads the key of an entry, where one is due, and tells it.
-#[inline(always)]
+#[inline(never)]
 fn read_due_key<R: DeRead, B: Builder>(
     bunser: &mut Bunser<R>,
     due: Due,
