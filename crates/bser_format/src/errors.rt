@@ -181,6 +181,10 @@ pub enum Error {
     /// Reading: the message does not begin with 00 02.
     #[error("Invalid magic header: {magic:?}")]
     DeInvalidMagic { magic: [u8; 2] },
+    /// Reading: the head announces a longer body than the caller takes. Only the calls with a limit
+    /// of bytes answer it. The crate has no such limit.
+    #[error("while deserializing BSER: body of {announced} bytes, and at most {most} are taken")]
+    DeTooLong { announced: usize, most: usize },
     /// Reading: the byte source refused.
     #[error("reader error while deserializing")]
     DeReaderError { source: ReadCause },
