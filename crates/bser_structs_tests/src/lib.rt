@@ -1,0 +1,10 @@
+//! Structs that are read and written by one list of their fields, and tests of them.
+#![tactic(auto)]
+
+pub mod files;
+pub mod named;
+pub mod queries;
+pub mod rows;
+pub mod signed;
+#[cfg(test)]
+mod tests;
