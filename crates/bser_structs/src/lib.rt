@@ -6,8 +6,10 @@
 
 pub mod fields;
 pub mod reading;
+pub mod variants;
 pub mod writing;
 
 pub use crate::fields::{Codec, Fields, ReadOnly, WriteOnly};
+pub use crate::variants::{put_variant, put_variant_fields};
 pub use crate::writing::{Given, PutField, PutFields, put_fields};
 pub use bser_fields::slot::{Optional, Required};

@@ -1,4 +1,5 @@
 //! Structs from objects and rows, from a slice and from a reader, and the messages written for them.
+use crate::choices::Choice;
 use crate::files::File;
 use crate::named::NamedFile;
 use crate::queries::Query;
@@ -217,4 +218,30 @@ fn a_query_is_written(rt: HostRuntime) -> Result<()> {
         since: None,
     };
     check_written(&rt, alloc, &query, bytes)
+}
+
+#[test]
+fn a_variant_of_each_form_is_written(rt: HostRuntime) -> Result<()> {
+    let alloc = rt.alloc();
+    let bytes = b"\x00\x02\0\0\0\0\x03\x0a\x0d\x03\x07Nothing";
+    check_written(&rt, alloc, &Choice::<&str>::Nothing, bytes)?;
+    let bytes = b"\x00\x02\0\0\0\0\x03\x0d\x01\x03\x01\x0d\x03\x03One\x0d\x03\x01a";
+    check_written(&rt, alloc, &Choice::One("a"), bytes)?;
+    let bytes = b"\x00\x02\0\0\0\0\x03\x12\x01\x03\x01\x0d\x03\x03Two\x00\x03\x02\
+\x0d\x03\x01a\x03\x05";
+    check_written(&rt, alloc, &Choice::Two("a", 5), bytes)?;
+    let bytes = b"\x00\x02\0\0\0\0\x03\x18\x01\x03\x01\x0d\x03\x05Named\x01\x03\x01\
+\x0d\x03\x03abc\x0d\x03\x01a";
+    let named = Choice::Named {
+        abc: "a",
+        def: None,
+    };
+    check_written(&rt, alloc, &named, bytes)?;
+    let bytes = b"\x00\x02\0\0\0\0\x03\x20\x01\x03\x01\x0d\x03\x05Named\x01\x03\x02\
+\x0d\x03\x03abc\x0d\x03\x01a\x0d\x03\x03def\x03\xfe";
+    let named = Choice::Named {
+        abc: "a",
+        def: Some(-2),
+    };
+    check_written(&rt, alloc, &named, bytes)
 }
