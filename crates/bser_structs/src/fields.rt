@@ -20,7 +20,13 @@ pub trait Codec {
 }
 
 impl<T: Shape + Serialize> Codec for T {
-    ghost coding = { record { reads = T.reads; holds = T.holds; needs = T.needs; asks = T.asks; tree = T.meaning } };
+    ghost coding = { record {
+      reads = T.reads;
+      holds = T.holds;
+      needs = T.needs;
+      asks = T.asks;
+      tree = T.meaning;
+    } };
 }
 
 /// A type that is read, in a struct that is not written. Each type is one that is [`Shape`].

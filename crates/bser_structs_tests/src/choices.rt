@@ -1,5 +1,5 @@
 //! An enum, which is written alone.
-ghost use Rattle.std.specs.Prelude.{codes, [], ◌∷◌, Some};
+ghost use Rattle.std.specs.Prelude.{codes, ◌∷◌, Some};
 ghost use Rattle.bser_format.specs.Tree.{text};
 ghost use Rattle.bser_format.specs.Written.{variant_tree};
 ghost use Rattle.bser_structs.specs.Entries.{entries_tree, given_entry};
