@@ -17,7 +17,7 @@ use Rattle.bser_types.proofs.Lists.{with_memory}
 use Rattle.bser_types.proofs.Tuples.{TupleOf, ReadsParts, RefusesTuple, parts_start, parts_next, parts_end, tuple_refused, parts_refused, parts_many}
 
 -- it is not asked which parts read no object
-none_plain : (Ts : List Meaning) → Plain Ts
+abbrev pub none_plain : (Ts : List Meaning) → Plain Ts
 none_plain [] = tt
 none_plain (T ∷ Ts) = (None, none_plain Ts)
 
@@ -70,9 +70,10 @@ pub equal_refused : (n : ℕ) (T : Meaning) (tells : Option (Asking T)) (needs :
 equal_refused n T tells needs e o z u = with_room n T tells needs e o z (tuple_refused (equal n T tells needs) e o z u)
 
 -- the needs of the items before one, its own, and those of the items after it
-around : (i k : ℕ) (needs : Needs) → replicate (i + suc k) needs ≡ replicate i needs ++ needs ∷ replicate k needs
-around zero k needs = refl
-around (suc i) k needs = ap (λ ns. needs ∷ ns) (around i k needs)
+around : (i k n : ℕ) (needs : Needs) → i + suc k ≡ n → replicate n needs ≡ replicate i needs ++ needs ∷ replicate k needs
+around zero k n needs e = let same : n ≡ suc k = omega (arith, e) in ap (λ m. replicate m needs) same
+around (suc i) k zero needs e = absurd (omega (arith, e))
+around (suc i) k (suc n) needs e = ap (λ ns. needs ∷ ns) (around i k n needs (omega (arith, e)))
 
 -- an item is refused, or is not there
 pub equal_lacks : {A : Type 0} (n : ℕ) (T : Meaning) (tells : Option (Asking T)) (needs : Needs) (holds : A → Content → Type 0) (e : Error) (o z : State) (vs : List A) (u : OpenItems) → length vs < n → ReadsEqual n T tells needs holds o vs u
@@ -83,7 +84,7 @@ equal_lacks n T tells needs holds e o z vs u some h lacks = at h.left h.counted 
     at zero counted read = absurd (omega (arith, some, counted))
     at (suc k) counted read =
         let P = equal n T tells needs in
-        let place : replicate n needs ≡ replicate (length vs) needs ++ needs ∷ replicate k needs = ap (λ m. replicate m needs) (sym counted) ∙ around (length vs) k needs in
+        let place : replicate n needs ≡ replicate (length vs) needs ++ needs ∷ replicate k needs = around (length vs) k n needs counted in
         with_room n T tells needs e o z
         (parts_refused P T (replicate k T) tells (equal_parts k tells) needs (replicate (length vs) needs) (replicate k needs) (map holds vs) e o z u place read lacks)
 

@@ -1,6 +1,6 @@
 -- What sets hold.
 use Rattle.std.specs.Prelude.{◌≡◌, List, [], ◌∷◌}
-use Rattle.std.specs.Ordering.{Ordering}
+use Rattle.std.specs.declared.cmp.Ordering.{Ordering}
 use Rattle.std.specs.BTreeSet.{insert_key}
 use Rattle.bser_format.specs.Content.{Content}
 use Rattle.bser_due.specs.HoldsLists.{HoldsList}

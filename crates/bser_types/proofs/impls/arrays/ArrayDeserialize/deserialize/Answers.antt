@@ -12,12 +12,12 @@ returns-in_err-seq-clause-refused g c =
     let p = err_from_is_err_and c.from_residual.result c.from_residual.ensures.1 in
     let o : State = state g.R.DeRead.window g.L.Lending.kept c.args.from.now in
     let z : State = state g.R.DeRead.window g.L.Lending.kept c.read_seq.follows.lender-at-none in
-    rw p.1 (equal_refused g.N g.T.Shape.reads g.T.Shape.asks g.T.Shape.needs _ o z (rw c.in_err-seq.was at c.read_seq.follows.holds-at-none))
+    rw p.1 (equal_refused g.row.N g.T.Shape.reads g.T.Shape.asks g.T.Shape.needs _ o z (rw c.in_err-seq.was at c.read_seq.follows.holds-at-none))
 
 pub loop-alloc-init : goal.loop-alloc-init
 loop-alloc-init g c =
     let o : State = state g.R.DeRead.window g.L.Lending.kept c.args.from.now in
-    record { same_reference = refl; items = rw c.new-items.ensures.items (equal_start g.N g.T.Shape.reads g.T.Shape.asks g.T.Shape.needs g.T.Shape.holds o (open_items g.R.DeRead.window g.L.Lending.kept c.in_ok-seq.seq) c.in_ok-seq.ensures.found) }
+    record { same_reference = refl; items = rw c.new-items.ensures.items (equal_start g.row.N g.T.Shape.reads g.T.Shape.asks g.T.Shape.needs g.T.Shape.holds o (open_items g.R.DeRead.window g.L.Lending.kept c.in_ok-seq.seq) c.in_ok-seq.ensures.found) }
 
 pub returns-in_err-item-clause-refused : goal.returns-in_err-item-clause-refused
 returns-in_err-item-clause-refused g c =
@@ -25,10 +25,10 @@ returns-in_err-item-clause-refused g c =
     let o : State = state g.R.DeRead.window g.L.Lending.kept c.args.from.now in
     let u : OpenItems = open_items g.R.DeRead.window g.L.Lending.kept c.loop-alloc.seq in
     let t : OpenItems = open_items g.R.DeRead.window g.L.Lending.kept c.required_element.new.self in
-    let some : length c.loop-alloc.items.items < g.N = omega (arith, c.len.ensures, c.loop-alloc-test.true) in
+    let some : length c.loop-alloc.items.items < g.row.N = omega (arith, c.len.ensures, c.loop-alloc-test.true) in
     let p = err_from_is_err_and c.from_residual-in_err-item.result c.from_residual-in_err-item.ensures.1 in
     rw (p.1, c.in_err-item.from-in-Break-branch-2-1-own.given.1 (sym (c.required_element.ensures.same_reference ∙ i.same_reference ∙ c.in_ok-seq.ensures.same_reference)))
-    (equal_lacks g.N g.T.Shape.reads g.T.Shape.asks g.T.Shape.needs g.T.Shape.holds _ o t.state c.loop-alloc.items.items u some i.items c.in_err-item.ensures.refused)
+    (equal_lacks g.row.N g.T.Shape.reads g.T.Shape.asks g.T.Shape.needs g.T.Shape.holds _ o t.state c.loop-alloc.items.items u some i.items c.in_err-item.ensures.refused)
 
 pub loop-alloc-preserved : goal.loop-alloc-preserved
 loop-alloc-preserved g c =
@@ -36,8 +36,8 @@ loop-alloc-preserved g c =
     let o : State = state g.R.DeRead.window g.L.Lending.kept c.args.from.now in
     let u : OpenItems = open_items g.R.DeRead.window g.L.Lending.kept c.loop-alloc.seq in
     let t : OpenItems = open_items g.R.DeRead.window g.L.Lending.kept c.required_element.new.self in
-    let some : length c.loop-alloc.items.items < g.N = omega (arith, c.len.ensures, c.loop-alloc-test.true) in
+    let some : length c.loop-alloc.items.items < g.row.N = omega (arith, c.len.ensures, c.loop-alloc-test.true) in
     record {
       same_reference = c.required_element.ensures.same_reference ∙ i.same_reference;
-      items = rw c.in-Ok.ensures.items (equal_next g.N g.T.Shape.reads g.T.Shape.asks g.T.Shape.needs g.T.Shape.holds o c.loop-alloc.items.items u t c.in_ok-item.item some i.items c.in_ok-item.ensures.found);
+      items = rw c.in-Ok.ensures.items (equal_next g.row.N g.T.Shape.reads g.T.Shape.asks g.T.Shape.needs g.T.Shape.holds o c.loop-alloc.items.items u t c.in_ok-item.item some i.items c.in_ok-item.ensures.found);
     }

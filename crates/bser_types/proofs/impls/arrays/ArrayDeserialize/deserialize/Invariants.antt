@@ -10,8 +10,8 @@ invariant-loop-alloc g l =
     let o : State = state g.R.DeRead.window g.L.Lending.kept l.fn.from in
     record {
       same_reference : l.seq.from.ghost_name ≡ l.initial.seq.from.ghost_name;
-      items : ReadsEqual g.N g.T.Shape.reads g.T.Shape.asks g.T.Shape.needs g.T.Shape.holds o l.items.items (open_items g.R.DeRead.window g.L.Lending.kept l.seq);
+      items : ReadsEqual g.row.N g.T.Shape.reads g.T.Shape.asks g.T.Shape.needs g.T.Shape.holds o l.items.items (open_items g.R.DeRead.window g.L.Lending.kept l.seq);
     }
 
 abbrev pub decreases-loop-alloc : goal.decreases-loop-alloc
-decreases-loop-alloc g l = g.N - length l.items.items
+decreases-loop-alloc g l = g.row.N - length l.items.items

@@ -55,4 +55,4 @@ returns-clause-found g c =
     let p1 = parts_next (parts g) g.A.Shape.reads [] g.A.Shape.asks tt g.A.Shape.holds [] o u0 u1 c.in_ok-only.only p0 c.in_ok-only.ensures.found in
     let z : State = state g.R.DeRead.window g.L.Lending.kept c.end.new.self.0 in
     rw (c.from-2-1.given.1 (sym (c.in_ok-only.ensures.same_reference ∙ c.in_ok-seq.ensures.same_reference)))
-    (parts_end (parts g) (λ v. g.A.Shape.holds v.0 ∷ []) o z u1 (c.in_ok-only.only) p1 c.in_ok-end.ensures.ok)
+    (parts_end (parts g) (λ v. g.A.Shape.holds v.0 ∷ []) o z u1 (record { 0 = c.in_ok-only.only }) p1 c.in_ok-end.ensures.ok)
