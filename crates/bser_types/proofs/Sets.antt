@@ -50,7 +50,7 @@ set_end T tells cmp holds keys_of o z u v h closes =
       text = a.text;
       filled = a.filled;
       read = a.read;
-      held = record { values = h.values; held = a.held; keys = h.put };
+      held = record { values = h.values; held = a.held; ordered = h.put };
       took = a.took;
       state = a.state;
     }

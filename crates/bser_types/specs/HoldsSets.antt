@@ -14,4 +14,4 @@ insert_all cmp keys (v ∷ vs) = insert_all cmp (insert_key cmp keys v) vs
 pub record HoldsSet {A : Type 0} (cmp : A → A → Ordering) (holds : A → Content → Type 0) (keys : List A) (c : Content) : Type 0 where
   pub values : List A
   pub held : HoldsList holds values c
-  pub keys : keys ≡ insert_all cmp [] values
+  pub ordered : keys ≡ insert_all cmp [] values

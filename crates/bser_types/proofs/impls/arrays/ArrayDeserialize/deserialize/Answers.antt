@@ -41,3 +41,24 @@ loop-alloc-preserved g c =
       same_reference = c.required_element.ensures.same_reference ∙ i.same_reference;
       items = rw c.in-Ok.ensures.items (equal_next g.row.N g.T.Shape.reads g.T.Shape.asks g.T.Shape.needs g.T.Shape.holds o c.loop-alloc.items.items u t c.in_ok-item.item some i.items c.in_ok-item.ensures.found);
     }
+
+pub returns-in_err-end-clause-refused : goal.returns-in_err-end-clause-refused
+returns-in_err-end-clause-refused g c =
+    let i = c.loop-alloc.invariant in
+    let o : State = state g.R.DeRead.window g.L.Lending.kept c.args.from.now in
+    let z : State = state g.R.DeRead.window g.L.Lending.kept c.end.new.self.0 in
+    let u : OpenItems = open_items g.R.DeRead.window g.L.Lending.kept c.loop-alloc.seq in
+    let none : length c.loop-alloc.items.items < g.row.N → ⊥ = λ some. c.loop-alloc-test.false (omega (arith, c.len.ensures, some)) in
+    let p = err_from_is_err_and c.from_residual-in_err-end.result c.from_residual-in_err-end.ensures.1 in
+    rw (p.1, c.from-2-1.given.1 (sym (i.same_reference ∙ c.in_ok-seq.ensures.same_reference)))
+    (equal_many g.row.N g.T.Shape.reads g.T.Shape.asks g.T.Shape.needs g.T.Shape.holds _ o z c.loop-alloc.items.items u none i.items c.in_err-end.ensures.err)
+
+pub returns-clause-found : goal.returns-clause-found
+returns-clause-found g c =
+    let i = c.loop-alloc.invariant in
+    let o : State = state g.R.DeRead.window g.L.Lending.kept c.args.from.now in
+    let z : State = state g.R.DeRead.window g.L.Lending.kept c.end.new.self.0 in
+    let u : OpenItems = open_items g.R.DeRead.window g.L.Lending.kept c.loop-alloc.seq in
+    let none : length c.loop-alloc.items.items < g.row.N → ⊥ = λ some. c.loop-alloc-test.false (omega (arith, c.len.ensures, some)) in
+    rw (c.from-2-1.given.1 (sym (i.same_reference ∙ c.in_ok-seq.ensures.same_reference)), c.in-Ok-try_from.ensures.0)
+    (equal_end g.row.N g.T.Shape.reads g.T.Shape.asks g.T.Shape.needs g.T.Shape.holds o z c.loop-alloc.items.items u none i.items c.in_ok-end.ensures.ok)
