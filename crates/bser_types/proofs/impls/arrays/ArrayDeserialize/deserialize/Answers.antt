@@ -48,7 +48,7 @@ returns-in_err-end-clause-refused g c =
     let o : State = state g.R.DeRead.window g.L.Lending.kept c.args.from.now in
     let z : State = state g.R.DeRead.window g.L.Lending.kept c.end.new.self.0 in
     let u : OpenItems = open_items g.R.DeRead.window g.L.Lending.kept c.loop-alloc.seq in
-    let none : length c.loop-alloc.items.items < g.row.N → ⊥ = λ some. c.loop-alloc-test.false (omega (arith, c.len.ensures, some)) in
+    let none : length c.loop-alloc.items.items < g.row.N → ⊥ = λ some. omega (arith, c.len.ensures, c.loop-alloc-test.false, some) in
     let p = err_from_is_err_and c.from_residual-in_err-end.result c.from_residual-in_err-end.ensures.1 in
     rw (p.1, c.from-2-1.given.1 (sym (i.same_reference ∙ c.in_ok-seq.ensures.same_reference)))
     (equal_many g.row.N g.T.Shape.reads g.T.Shape.asks g.T.Shape.needs g.T.Shape.holds _ o z c.loop-alloc.items.items u none i.items c.in_err-end.ensures.err)
@@ -59,6 +59,6 @@ returns-clause-found g c =
     let o : State = state g.R.DeRead.window g.L.Lending.kept c.args.from.now in
     let z : State = state g.R.DeRead.window g.L.Lending.kept c.end.new.self.0 in
     let u : OpenItems = open_items g.R.DeRead.window g.L.Lending.kept c.loop-alloc.seq in
-    let none : length c.loop-alloc.items.items < g.row.N → ⊥ = λ some. c.loop-alloc-test.false (omega (arith, c.len.ensures, some)) in
+    let none : length c.loop-alloc.items.items < g.row.N → ⊥ = λ some. omega (arith, c.len.ensures, c.loop-alloc-test.false, some) in
     rw (c.from-2-1.given.1 (sym (i.same_reference ∙ c.in_ok-seq.ensures.same_reference)), c.in-Ok-try_from.ensures.0)
     (equal_end g.row.N g.T.Shape.reads g.T.Shape.asks g.T.Shape.needs g.T.Shape.holds o z c.loop-alloc.items.items u none i.items c.in_ok-end.ensures.ok)
