@@ -1,8 +1,9 @@
 //! The types by their names in the lists: `vec_T` is a `Vec` of T, `opt_T` an `Option`, `map_K_V` a
-//! `BTreeMap`, `tup_A_B` a tuple, `tup1`, `tup2`, `tup3` and `tup4` one of so many `i64`, `arr3_T` an
-//! array of three, `set_T` a `BTreeSet`, `deque_T` a `VecDeque`, and `unit` is `()`; `str` is `&str`,
-//! `cow` a `CowStr`, and `bytes` is `&[u8]`, but `ByteString` as the key of a map, where `raw` is
-//! `&[u8]`. A struct or enum has texts of its own, but with `_str` or `_raw` behind its name.
+//! `BTreeMap`, `tup_A_B` a tuple, `tup1`, `tup2`, `tup3` and `tup4` one of so many `i64`, `arr3_T`
+//! an array of three, `set_T` a `BTreeSet`, `deque_T` a `VecDeque`, and `unit` is `()`; `str` is
+//! `&str`, `cow` a `CowStr`, and `bytes` is `&[u8]`, but `ByteString` as the key of a map, where
+//! `raw` is `&[u8]`. A struct or enum has texts of its own, but with `_str` or `_raw` behind its
+//! name.
 use crate::ways::{Compared, Sample};
 use bser_vectors::enums::{EnumRow, TestEnum};
 use bser_vectors::files::ExactFile;
