@@ -36,10 +36,7 @@ impl<A: Shape> Shape for (A,) {
 }
 
 impl<L: LendsText, A: Deserialize<L>> Deserialize<L> for (A,) {
-    fn deserialize<R: DeRead<Lent = L>>(
-        alloc: Global,
-        from: &mut Deserializer<R>,
-    ) -> Answer<(A,)> {
+    fn deserialize<R: DeRead<Lent = L>>(alloc: Global, from: &mut Deserializer<R>) -> Answer<(A,)> {
         let mut seq = from.read_seq(alloc)?;
         let only = seq.required_element::<A>(alloc)?;
         seq.end()?;
