@@ -1,0 +1,4 @@
+pub mod Agreement
+pub mod Returned
+pub mod Least
+pub mod Templates
