@@ -1,4 +1,4 @@
-pub mod Agreement
-pub mod Returned
-pub mod Least
-pub mod Templates
+pub mod Alike
+pub mod Back
+pub mod Shorter
+pub mod WrittenOut

@@ -13,7 +13,7 @@ use Rattle.std.proofs.lemmas.Option.{same_Some}
 use Rattle.serde_bser.specs.Messages.{ReadsMessageAs, BeginsWith, TookMessage, RefusesSlice, RefusesReader, IsMemory, IsReaderFault}
 use Rattle.serde_bser.specs.Reading.{Asking}
 use Rattle.bser_promises.specs.Templates.{HoldOne, IsWrittenOut, template_of}
-use Rattle.bser_promises.proofs.Agreement.{known_rest}
+use Rattle.bser_promises.proofs.Alike.{known_rest}
 
 -- the message in front of bytes of which a front is a message of this tree reads as the tree does
 front_reads : (n c : ℕ) (reads : Meaning) (t : Tree) (a b x y : List ℕ) (d : Content) → IsMessage n c t a → ReadsMessageAs n reads b d → a ++ x ≡ b ++ y → reads (expand t) ≡ Some d

@@ -16,10 +16,10 @@ use Rattle.bser_format.specs.Canonical.{canonical_message, IsWritable}
 use Rattle.bser_format.specs.declared.errors.Error.{Error}
 use Rattle.bser_format.proofs.Back.{canon_message}
 use Rattle.bser_format.proofs.Laws.{one_message, more_levels}
+use Rattle.bser_ser.specs.Message.{IsUnmeasured}
 use Rattle.serde_bser.specs.Messages.{ReadsMessageAs, BeginsWith, TookMessage, RefusesSlice, RefusesReader, IsReaderFault}
 use Rattle.serde_bser.specs.Reading.{Asking}
-use Rattle.bser_promises.specs.Returned.{IsNotReturned, IsNotReturnedByReader}
-use Rattle.bser_promises.proofs.Agreement.{KnownRest, known_rest}
+use Rattle.bser_promises.specs.Returned.{IsNotReturned, IsNotReturnedByReader, IsUnread, IsWrittenFor}
 
 -- the value that a `Value` holds
 same_value : (t u : Tree) → value t ≡ value u → t ≡ u
@@ -28,12 +28,6 @@ same_value t u e = ap (λ c. said c) e
     said : Content → Tree
     said (value x) = x
     said _ = t
-
--- a tree that can be written, whose message is at most i64::MAX bytes and reads as the value
-pub record IsWrittenFor (w v : Tree) : Type 0 where
-  pub writable : IsWritable w
-  pub short : length (canonical_message w) < 2 ^ 63
-  pub read : normal (expand w) ≡ Some v
 
 message_read : (n : ℕ) (w v : Tree) → IsWrittenFor w v → depth w ≤ n → ReadsMessageAs n reads_value (canonical_message w) (value v)
 message_read n w v h levels = record {
@@ -70,23 +64,33 @@ slice_refused n asks needs w v bytes x (Ok back) h is refused = tt
 slice_refused n asks needs w v bytes x (Err e) h is refused = go (leb (depth w) n) refl
   where
     go : (b : Bool) → leb (depth w) n ≡ b → IsNotReturned n w e
-    go false deep = inr (inr (leb-false (depth w) n deep))
-    go true shallow = inl ((refused.excuse (canonical_message w) x (value v) (message_read n w v h (leb-true (depth w) n shallow)) is).memory)
+    go false deep = inr (leb-false (depth w) n deep)
+    go true shallow = inl (inl ((refused.excuse (canonical_message w) x (value v) (message_read n w v h (leb-true (depth w) n shallow)) is).memory))
 
 -- ---- from a reader
 
-pub reader_back : {A : Type 0} (tree : A → Tree) (holds : A → Content → Type 0) (n : ℕ) (w v : Tree) (x : List ℕ) (old left : Option (List ℕ)) (a : A) → ((a : A) (c : Content) → holds a c → c ≡ value (tree a)) → IsWrittenFor w v → old ≡ Some (canonical_message w ++ x)
-    → TookMessage n reads_value holds old left a → (tree a ≡ v) × (left ≡ Some x)
-reader_back tree holds n w v x old left a told h is took =
-    let known = known_rest (canonical_message w ++ x) took.text old left is took.bytes in
-    let same = front_is n w v took.text x known.rest took.content h took.message known.front in
-    let rests : canonical_message w ++ x ≡ canonical_message w ++ known.rest = known.front ∙ ap (λ l. l ++ known.rest) (sym same.0) in
-    (sym (same_value v (tree a) (same.1 ∙ told a took.content took.held)), known.is ∙ ap Some (sym (append_cancel_left (canonical_message w) x known.rest rests)))
+pub reader_back : {A : Type 0} (tree : A → Tree) (holds : A → Content → Type 0) (n : ℕ) (w v : Tree) (bytes x rest : List ℕ) (a : A) → ((c : Content) → holds a c → c ≡ value (tree a)) → IsWrittenFor w v → bytes ≡ canonical_message w ++ x
+    → TookMessage n reads_value holds (Some bytes) (Some rest) a → (tree a ≡ v) × (rest ≡ x)
+reader_back tree holds n w v bytes x rest a told h is took =
+    let whole : canonical_message w ++ x ≡ took.text ++ rest = sym is ∙ took.bytes in
+    let same = front_is n w v took.text x rest took.content h took.message whole in
+    let rests : canonical_message w ++ x ≡ canonical_message w ++ rest = whole ∙ ap (λ l. l ++ rest) (sym same.0) in
+    (sym (same_value v (tree a) (same.1 ∙ told took.content took.held)), sym (append_cancel_left (canonical_message w) x rest rests))
 
-pub reader_refused : (n : ℕ) (asks : Option (Asking reads_value)) (w v : Tree) (x : List ℕ) (old : Option (List ℕ)) (before after : ℕ) (e : Error) → IsWrittenFor w v → old ≡ Some (canonical_message w ++ x) → before ≡ 0
-    → RefusesReader n reads_value asks e old before after → IsNotReturnedByReader n w e
-reader_refused n asks w v x old before after e h is none refused = go (leb (depth w) n) refl
+pub reader_refused : {A : Type 0} (n : ℕ) (asks : Option (Asking reads_value)) (w v : Tree) (bytes x : List ℕ) (r : Result A Error) → IsWrittenFor w v → bytes ≡ canonical_message w ++ x → IfErr r (IsUnread n asks bytes) → IfErr r (IsNotReturnedByReader n w)
+reader_refused n asks w v bytes x (Ok a) h is refused = tt
+reader_refused n asks w v bytes x (Err e) h is (inl memory) = inl (inl (inl memory))
+reader_refused n asks w v bytes x (Err e) h is (inr (after, refused)) = go (leb (depth w) n) refl
   where
     go : (b : Bool) → leb (depth w) n ≡ b → IsNotReturnedByReader n w e
-    go false deep = inl (inr (inr (leb-false (depth w) n deep)))
-    go true shallow = inr (after, subst (λ k. IsReaderFault k after e) none (refused.excuse (canonical_message w) x (value v) (message_read n w v h (leb-true (depth w) n shallow)) is))
+    go false deep = inl (inr (leb-false (depth w) n deep))
+    go true shallow = inr (after, refused.excuse (canonical_message w) x (value v) (message_read n w v h (leb-true (depth w) n shallow)) (ap Some is))
+
+-- a refusal to write is one of the whole
+pub unwritten : {A : Type 0} (n : ℕ) (w : Tree) (r : Result A Error) → IfErr r (IsUnmeasured (Some w)) → IfErr r (IsNotReturned n w)
+unwritten n w (Ok a) h = tt
+unwritten n w (Err e) h = inl h
+
+pub unwritten_on : {A : Type 0} (n : ℕ) (w : Tree) (r : Result A Error) → IfErr r (IsUnmeasured (Some w)) → IfErr r (IsNotReturnedByReader n w)
+unwritten_on n w (Ok a) h = tt
+unwritten_on n w (Err e) h = inl (inl h)
