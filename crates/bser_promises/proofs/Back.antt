@@ -1,6 +1,6 @@
 -- What is read back from the message of a tree that reads as a value.
 use Rattle.std.proofs.Common.{◌≡◌, ◌⊎◌, inl, inr, ℕ, ◌<◌, ◌≤◌, ◌^◌, Bool, true, false, List, ◌++◌, length, Option, Some, None, Result, Ok, Err, refl, sym, ap, subst, ◌∙◌, max, arith}
-use Rattle.std.specs.Prelude.{IfOk, IfErr, option_map}
+use Rattle.std.specs.Prelude.{IfOk, IfErr, IsTrue, option_map, ◌↔◌}
 use Rattle.std.proofs.Math.Dec.{leb}
 use Rattle.std.proofs.lemmas.Bool.{leb-true, leb-false}
 use Rattle.std.proofs.lemmas.List.{append_cancel_left}
@@ -14,12 +14,20 @@ use Rattle.bser_format.specs.Measures.{depth}
 use Rattle.bser_format.specs.Message.{IsMessage}
 use Rattle.bser_format.specs.Canonical.{canonical_message, IsWritable}
 use Rattle.bser_format.specs.declared.errors.Error.{Error}
+use Rattle.bser_format.specs.Compact.{compact_message, fold_templates}
+use Rattle.bser_format.specs.ValueTree.{IsValueTree}
 use Rattle.bser_format.proofs.Back.{canon_message}
+use Rattle.bser_format.proofs.CompactMessages.{equal_compact}
+use Rattle.bser_format.proofs.Fits.{body_fits, equal_values, value_reads_as_itself}
+use Rattle.bser_format.proofs.Folded.{folded_reads}
+use Rattle.bser_format.proofs.FoldedFits.{short_writable}
 use Rattle.bser_format.proofs.Laws.{one_message, more_levels}
-use Rattle.bser_ser.specs.Message.{IsUnmeasured}
+use Rattle.bser_ser.specs.Message.{IsUnmeasured, message_of}
+use Rattle.bser_value.specs.declared.value.Value.{Value}
+use Rattle.serde_bser.specs.ValueView.{tree_of}
 use Rattle.serde_bser.specs.Messages.{ReadsMessageAs, BeginsWith, TookMessage, RefusesSlice, RefusesReader, IsReaderFault}
 use Rattle.serde_bser.specs.Reading.{Asking}
-use Rattle.bser_promises.specs.Returned.{IsNotReturned, IsNotReturnedByReader, IsUnread, IsWrittenFor}
+use Rattle.bser_promises.specs.Returned.{IsNotReturned, IsNotReturnedByReader, IsUnread, IsWrittenFor, TookOne}
 
 -- the value that a `Value` holds
 same_value : (t u : Tree) → value t ≡ value u → t ≡ u
@@ -69,13 +77,21 @@ slice_refused n asks needs w v bytes x (Err e) h is refused = go (leb (depth w) 
 
 -- ---- from a reader
 
-pub reader_back : {A : Type 0} (tree : A → Tree) (holds : A → Content → Type 0) (n : ℕ) (w v : Tree) (bytes x rest : List ℕ) (a : A) → ((c : Content) → holds a c → c ≡ value (tree a)) → IsWrittenFor w v → bytes ≡ canonical_message w ++ x
-    → TookMessage n reads_value holds (Some bytes) (Some rest) a → (tree a ≡ v) × (rest ≡ x)
-reader_back tree holds n w v bytes x rest a told h is took =
+both_back : (n : ℕ) (w v : Tree) (bytes x rest : List ℕ) (a : Value) → IsWrittenFor w v → bytes ≡ canonical_message w ++ x → TookOne n bytes rest a → (tree_of a ≡ v) × (rest ≡ x)
+both_back n w v bytes x rest a h is took =
     let whole : canonical_message w ++ x ≡ took.text ++ rest = sym is ∙ took.bytes in
     let same = front_is n w v took.text x rest took.content h took.message whole in
     let rests : canonical_message w ++ x ≡ canonical_message w ++ rest = whole ∙ ap (λ l. l ++ rest) (sym same.0) in
-    (sym (same_value v (tree a) (same.1 ∙ told took.content took.held)), sym (append_cancel_left (canonical_message w) x rest rests))
+    (sym (same_value v (tree_of a) (same.1 ∙ took.held.same)), sym (append_cancel_left (canonical_message w) x rest rests))
+
+module _ {A : Type 0} (value_of : A → Value) (left_of : A → List ℕ) (n : ℕ) (w v : Tree) (bytes x : List ℕ) where
+  pub reader_back : (r : Result A Error) → IsWrittenFor w v → bytes ≡ canonical_message w ++ x → IfOk r (λ a. TookOne n bytes (left_of a) (value_of a)) → IfOk r (λ a. tree_of (value_of a) ≡ v)
+  reader_back (Err e) h is found = tt
+  reader_back (Ok a) h is found = (both_back n w v bytes x (left_of a) (value_of a) h is found).0
+
+  pub left_back : (r : Result A Error) → IsWrittenFor w v → bytes ≡ canonical_message w ++ x → IfOk r (λ a. TookOne n bytes (left_of a) (value_of a)) → IfOk r (λ a. left_of a ≡ x)
+  left_back (Err e) h is found = tt
+  left_back (Ok a) h is found = (both_back n w v bytes x (left_of a) (value_of a) h is found).1
 
 pub reader_refused : {A : Type 0} (n : ℕ) (asks : Option (Asking reads_value)) (w v : Tree) (bytes x : List ℕ) (r : Result A Error) → IsWrittenFor w v → bytes ≡ canonical_message w ++ x → IfErr r (IsUnread n asks bytes) → IfErr r (IsNotReturnedByReader n w)
 reader_refused n asks w v bytes x (Ok a) h is refused = tt
@@ -94,3 +110,42 @@ unwritten n w (Err e) h = inl h
 pub unwritten_on : {A : Type 0} (n : ℕ) (w : Tree) (r : Result A Error) → IfErr r (IsUnmeasured (Some w)) → IfErr r (IsNotReturnedByReader n w)
 unwritten_on n w (Ok a) h = tt
 unwritten_on n w (Err e) h = inl (inl h)
+
+-- ---- what is written
+
+pub written_canonical : (t : Tree) (m : List ℕ) → IsWritable t → IsValueTree t → message_of (Some t) ≡ Some m → length m < 2 ^ 63 → IsWrittenFor t t
+written_canonical t m writable_tree h is short =
+    record {
+      writable = writable_tree;
+      short = subst (λ l. length l < 2 ^ 63) (sym (same_Some (canonical_message t) m is)) short;
+      read = value_reads_as_itself t h;
+    }
+
+pub written_compact : (t : Tree) (m : List ℕ) → IsValueTree t → m ≡ compact_message t → length m < 2 ^ 63 → IsWrittenFor (fold_templates t) t
+written_compact t m h is short =
+    let fits : length (compact_message t) < 2 ^ 63 = subst (λ l. length l < 2 ^ 63) is short in
+    record { writable = short_writable t h (body_fits (fold_templates t) fits); short = fits; read = folded_reads t h }
+
+-- ---- messages of two values
+
+-- a test that tells whether two lists are equal tells whether two others are, where both pairs are equal together
+same_test : {A B : Type 0} (same : Bool) (a b : A) (t u : B) → (IsTrue same ↔ (a ≡ b)) → ((a ≡ b) ↔ (t ≡ u)) → IsTrue same ↔ (t ≡ u)
+same_test same a b t u tells together = (λ yes. together.0 (tells.0 yes), λ e. tells.1 (together.1 e))
+
+pub one_canonical : (t u : Tree) (a b : List ℕ) (same : Bool) → IsValueTree t → IsValueTree u → message_of (Some t) ≡ Some a → message_of (Some u) ≡ Some b → length a < 2 ^ 63 → length b < 2 ^ 63 → (IsTrue same ↔ (a ≡ b))
+    → (IsTrue same ↔ (canonical_message t ≡ canonical_message u)) × (IsTrue same ↔ (t ≡ u))
+one_canonical t u a b same h k is other short low tells =
+    let p = same_Some (canonical_message t) a is in
+    let q = same_Some (canonical_message u) b other in
+    let fits : length (canonical_message t) < 2 ^ 63 = subst (λ l. length l < 2 ^ 63) (sym p) short in
+    let low_fits : length (canonical_message u) < 2 ^ 63 = subst (λ l. length l < 2 ^ 63) (sym q) low in
+    (same_test same a b _ _ tells (λ e. p ∙ e ∙ sym q, λ e. sym p ∙ e ∙ q),
+     same_test same a b t u tells (λ e. equal_values t u h k (body_fits t fits) (body_fits u low_fits) (p ∙ e ∙ sym q), λ e. sym p ∙ ap canonical_message e ∙ q))
+
+pub one_compact : (t u : Tree) (a b : List ℕ) (same : Bool) → IsValueTree t → IsValueTree u → a ≡ compact_message t → b ≡ compact_message u → length a < 2 ^ 63 → length b < 2 ^ 63 → (IsTrue same ↔ (a ≡ b))
+    → (IsTrue same ↔ (compact_message t ≡ compact_message u)) × (IsTrue same ↔ (t ≡ u))
+one_compact t u a b same h k is other short low tells =
+    let fits : length (compact_message t) < 2 ^ 63 = subst (λ l. length l < 2 ^ 63) is short in
+    let low_fits : length (compact_message u) < 2 ^ 63 = subst (λ l. length l < 2 ^ 63) other low in
+    (same_test same a b _ _ tells (λ e. sym is ∙ e ∙ other, λ e. is ∙ e ∙ sym other),
+     same_test same a b t u tells (λ e. equal_compact t u h k (body_fits (fold_templates t) fits) (body_fits (fold_templates u) low_fits) (sym is ∙ e ∙ other), λ e. is ∙ ap compact_message e ∙ sym other))
