@@ -138,14 +138,16 @@ one_canonical t u a b same h k is other short low tells =
     let p = same_Some (canonical_message t) a is in
     let q = same_Some (canonical_message u) b other in
     let fits : length (canonical_message t) < 2 ^ 63 = subst (λ l. length l < 2 ^ 63) (sym p) short in
-    let low_fits : length (canonical_message u) < 2 ^ 63 = subst (λ l. length l < 2 ^ 63) (sym q) low in
-    (same_test same a b _ _ tells (λ e. p ∙ e ∙ sym q, λ e. sym p ∙ e ∙ q),
-     same_test same a b t u tells (λ e. equal_values t u h k (body_fits t fits) (body_fits u low_fits) (p ∙ e ∙ sym q), λ e. sym p ∙ ap canonical_message e ∙ q))
+    let low_fits : length (canonical_message u) < 2 ^ 63 = subst (λ l. length l < 2 ^ 63) (sym q) low in (
+      same_test same a b _ _ tells (λ e. p ∙ e ∙ sym q, λ e. sym p ∙ e ∙ q),
+      same_test same a b t u tells (λ e. equal_values t u h k (body_fits t fits) (body_fits u low_fits) (p ∙ e ∙ sym q), λ e. sym p ∙ ap canonical_message e ∙ q),
+    )
 
 pub one_compact : (t u : Tree) (a b : List ℕ) (same : Bool) → IsValueTree t → IsValueTree u → a ≡ compact_message t → b ≡ compact_message u → length a < 2 ^ 63 → length b < 2 ^ 63 → (IsTrue same ↔ (a ≡ b))
     → (IsTrue same ↔ (compact_message t ≡ compact_message u)) × (IsTrue same ↔ (t ≡ u))
 one_compact t u a b same h k is other short low tells =
     let fits : length (compact_message t) < 2 ^ 63 = subst (λ l. length l < 2 ^ 63) is short in
-    let low_fits : length (compact_message u) < 2 ^ 63 = subst (λ l. length l < 2 ^ 63) other low in
-    (same_test same a b _ _ tells (λ e. sym is ∙ e ∙ other, λ e. is ∙ e ∙ sym other),
-     same_test same a b t u tells (λ e. equal_compact t u h k (body_fits (fold_templates t) fits) (body_fits (fold_templates u) low_fits) (sym is ∙ e ∙ other), λ e. is ∙ ap compact_message e ∙ sym other))
+    let low_fits : length (compact_message u) < 2 ^ 63 = subst (λ l. length l < 2 ^ 63) other low in (
+      same_test same a b _ _ tells (λ e. sym is ∙ e ∙ other, λ e. is ∙ e ∙ sym other),
+      same_test same a b t u tells (λ e. equal_compact t u h k (body_fits (fold_templates t) fits) (body_fits (fold_templates u) low_fits) (sym is ∙ e ∙ other), λ e. is ∙ ap compact_message e ∙ sym other),
+    )

@@ -16,14 +16,16 @@ use std::alloc::Global;
 use std::process::Abort;
 
 /// Two rows over the keys "abc", "def" and "ghi", the last field of the first row skipped.
-const ROWS: &[u8] = b"\x00\x02\x00\x00\x00\x00\x05\x28\x00\x00\x00\x0b\x00\x03\x03\x02\x03\x03abc\x02\x03\x03def\x02\x03\x03ghi\x03\x02\x03\x7b\x02\x03\x03bar\x0a\x04\xc8\x01\x0c\x04\x15\x03";
+const ROWS: &[u8] =
+    b"\x00\x02\x00\x00\x00\x00\x05\x28\x00\x00\x00\x0b\x00\x03\x03\x02\x03\x03abc\x02\x03\x03def\x02\x03\x03ghi\x03\x02\x03\x7b\x02\x03\x03bar\x0a\x04\xc8\x01\x0c\x04\x15\x03";
 
 /// The rows of one key "a" with 1 and 2.
 const TEMPLATE: &[u8] =
     b"\x00\x02\x00\x00\x00\x00\x03\x0e\x0b\x00\x03\x01\x0d\x03\x01a\x03\x02\x03\x01\x03\x02";
 
 /// The same rows as objects.
-const OBJECTS: &[u8] = b"\x00\x02\x00\x00\x00\x00\x03\x15\x00\x03\x02\x01\x03\x01\x0d\x03\x01a\x03\x01\x01\x03\x01\x0d\x03\x01a\x03\x02";
+const OBJECTS: &[u8] =
+    b"\x00\x02\x00\x00\x00\x00\x03\x15\x00\x03\x02\x01\x03\x01\x0d\x03\x01a\x03\x01\x01\x03\x01\x0d\x03\x01a\x03\x02";
 
 /// The array of 1 and 2.
 const NUMBERS: &[u8] = b"\x00\x02\x00\x00\x00\x00\x03\x07\x00\x03\x02\x03\x01\x03\x02";
@@ -115,8 +117,14 @@ fn the_least_messages_are_written(rt: HostRuntime) -> Result<()> {
     let value: Value = from_slice(alloc, TEMPLATE)?;
     assert_eq!(rt; least_message(alloc, &value)?.as_slice(), OBJECTS);
     assert_eq!(rt; least_compact_message(alloc, &value)?.as_slice(), TEMPLATE);
-    assert_eq!(rt; rewritten(alloc, &with_stray(alloc, TEMPLATE)?)?.as_slice(), OBJECTS);
-    assert_eq!(rt; compactly_rewritten(alloc, &with_stray(alloc, OBJECTS)?)?.as_slice(), TEMPLATE);
+    assert_eq!(rt;
+        rewritten(alloc, &with_stray(alloc, TEMPLATE)?)?.as_slice(),
+        OBJECTS
+    );
+    assert_eq!(rt;
+        compactly_rewritten(alloc, &with_stray(alloc, OBJECTS)?)?.as_slice(),
+        TEMPLATE
+    );
     Ok(())
 }
 
