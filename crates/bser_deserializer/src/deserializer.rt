@@ -205,6 +205,16 @@ impl<R: DeRead> Deserializer<R> {
         self.info.bser_capabilities
     }
 
+    /// The length of the message's body in bytes, as its head announces it, or 0 before the head is
+    /// read.
+    ///
+    /// The crate has no such call.
+    pub fn body_length(&self) -> i64
+        ensures { result ≡ (state R.window R.Lent.kept self.now).len }
+    {
+        self.info.len
+    }
+
     /// Gives the byte source back, as far as it was read.
     #[inline(always)]
     pub fn into_inner(self) -> R
