@@ -67,9 +67,10 @@ took_message a s t head body first kept announced second = record {
 due_node : (n : ℕ) (a : Window) (s : State) (u : Tree) (b : List ℕ) → Begins n a s → Fills s.levels s.due u b → FillsNode n u b
 due_node n a s u b begins h = subst (λ m. FillsNode m u b) begins.levels (subst (λ d. Fills s.levels d u b) begins.due h)
 
-pub read_whole : {A : Type 0} (n : ℕ) (reads : Meaning) (holds : A → Content → Type 0) (a : Window) (t : State) (v : A)
-    → ReadsBody n reads holds a t v → IsAtEnd t → ReadsMessage n reads holds a t.source v
-read_whole n reads holds a t v body over =
+-- a message that was read, by the head that was taken and the text of its value
+pub read_text : {A : Type 0} (n : ℕ) (reads : Meaning) (holds : A → Content → Type 0) (a : Window) (t : State) (v : A)
+    → (body : ReadsBody n reads holds a t v) → IsAtEnd t → (m : ReadsMessage n reads holds a t.source v) × (m.text ≡ body.begins.took.text ++ body.answers.text)
+read_text n reads holds a t v body over =
     let s = body.begun in
     let head = body.begins.took in
     let answers = body.answers in
@@ -82,7 +83,7 @@ read_whole n reads holds a t v body over =
     let same : length answers.text ≡ head.size = omega (arith, ints, size) in
     let announced : s.source.limit ≤ max a.limit (s.source.count + length answers.text) = omega (arith, same, head.limit) in
     let short : length (head.text ++ answers.text) < 2 ^ 63 = omega (arith, length-append head.text answers.text, head.took.count, answers.took.count, over.ends.small) in
-    record {
+    (record {
       text = head.text ++ answers.text;
       content = answers.content;
       message = record {
@@ -94,7 +95,11 @@ read_whole n reads holds a t v body over =
       held = answers.held;
       took = took_message a s.source t.source head.text answers.text head.took head.kept announced answers.took;
       limit = omega (arith, announced, answers.took.count, answers.took.limit);
-    }
+    }, refl)
+
+pub read_whole : {A : Type 0} (n : ℕ) (reads : Meaning) (holds : A → Content → Type 0) (a : Window) (t : State) (v : A)
+    → ReadsBody n reads holds a t v → IsAtEnd t → ReadsMessage n reads holds a t.source v
+read_whole n reads holds a t v body over = (read_text n reads holds a t v body over).0
 
 -- ---- what was refused
 

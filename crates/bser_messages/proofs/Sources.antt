@@ -24,7 +24,7 @@ use Rattle.bser_messages.specs.Messages.{NamesMessage, RefusesMessage, IsMemory,
 -- ---- slices
 
 -- what may be left of a slice is the slice
-slice_left : (bytes b : List ℕ) → MayBeLeft (slice_fresh bytes) b → b ≡ bytes
+pub slice_left : (bytes b : List ℕ) → MayBeLeft (slice_fresh bytes) b → b ≡ bytes
 slice_left bytes b m = m.whole ∙ ap (λ l. bytes ++ l) (m.known [] refl) ∙ append-nil bytes
 
 -- nothing but want of memory is to blame beside the slice
@@ -37,7 +37,7 @@ slice_outside needs P (DeReaderError Failed) bytes (inl h) = absurd cc
 slice_outside needs P (DeReaderError Failed) bytes (inr h) = absurd (let f = h.0 in cc)
 slice_outside needs P _ bytes h = absurd h
 
-slice_excused : (needs : Needs) (n : ℕ) (e : Error) (bytes : List ℕ) → ExcusedBy needs n e (slice_fresh bytes) → IsMemory needs e
+pub slice_excused : (needs : Needs) (n : ℕ) (e : Error) (bytes : List ℕ) → ExcusedBy needs n e (slice_fresh bytes) → IsMemory needs e
 slice_excused needs n OutOfMemory bytes (inl h) = absurd cc
 slice_excused needs n OutOfMemory bytes (inr h) = record { memory = refl; needed = h }
 slice_excused needs n (DeCustom (Fixed complaints.BorrowedFromCopying)) bytes h = absurd (let f = h.0 in cc)
@@ -82,7 +82,7 @@ reader_fresh remaining failures through =
 pub fresh_itself : (remaining : Option (List ℕ)) (failures : ℕ) (through : Option GName) (a : Window) → a ≡ reader_fresh remaining failures through → a ≡ reader_fresh a.beyond a.failures a.through
 fresh_itself remaining failures through a e = subst (λ w. w ≡ reader_fresh w.beyond w.failures w.through) (sym e) refl
 
-blamed_more : (n : ℕ) → Blamed n (one_more n)
+pub blamed_more : (n : ℕ) → Blamed n (one_more n)
 blamed_more n = go (nat_lt n (2 ^ 64 - 1)) refl
   where
     go : (small : Bool) → nat_lt n (2 ^ 64 - 1) ≡ small → Blamed n (cond small (n + 1) n)
@@ -98,7 +98,7 @@ reader_left : (remaining : Option (List ℕ)) (failures : ℕ) (through : Option
 reader_left remaining failures through b m x known = m.whole ∙ m.known x known
 
 -- what is left of a reader before the first byte is read
-fresh_left : (remaining : Option (List ℕ)) (failures : ℕ) (through : Option GName) (b : List ℕ) → remaining ≡ Some b → left (reader_fresh remaining failures through) ≡ Some b
+pub fresh_left : (remaining : Option (List ℕ)) (failures : ℕ) (through : Option GName) (b : List ℕ) → remaining ≡ Some b → left (reader_fresh remaining failures through) ≡ Some b
 fresh_left None failures through b e = absurd cc
 fresh_left (Some xs) failures through b e = e
 
@@ -117,7 +117,7 @@ reader_outside needs r (DeReaderError Failed) remaining before after through own
 reader_outside needs r _ remaining before after through owned same h = absurd h
 
 -- no message is so long that its bytes are not counted
-reader_excused : (needs : Needs) (n : ℕ) (e : Error) (remaining : Option (List ℕ)) (before after : ℕ) (through : Option GName) → needs.lent ≡ false → after ≡ failures_by e before → n < 2 ^ 63
+pub reader_excused : (needs : Needs) (n : ℕ) (e : Error) (remaining : Option (List ℕ)) (before after : ℕ) (through : Option GName) → needs.lent ≡ false → after ≡ failures_by e before → n < 2 ^ 63
     → ExcusedBy needs n e (reader_fresh remaining before through) → IsReaderFault before after e
 reader_excused needs n OutOfMemory remaining before after through owned same short h = tt
 reader_excused needs n (DeCustom (Fixed complaints.BorrowedFromCopying)) remaining before after through owned same short h = absurd (let l = h.1 in cc)

@@ -1,0 +1,57 @@
+-- A message of a slice.
+use Rattle.std.proofs.Common.{◌≡◌, ℕ, ◌+◌, ◌≤◌, Bool, true, false, List, [], ◌++◌, ◌⊎◌, Option, None, Some, length, drop, length-append, append-nil, refl, sym, ap, subst, ◌∙◌, arith, inl, inr}
+use Rattle.std.proofs.Math.Seq.{drop-append_seam}
+use Rattle.bser_format.specs.Content.{Content, Meaning, Needs}
+use Rattle.bser_format.specs.declared.errors.Error.{Error}
+use Rattle.bser_read.specs.Window.{Window, with_limit}
+use Rattle.bser_read.specs.Slice.{slice_fresh}
+use Rattle.bser_read.proofs.Windows.{left_took}
+use Rattle.bser_due.specs.Reading.{Asking, ExcusedBy, bare}
+use Rattle.bser_messages.proofs.Sources.{slice_excused, slice_refused}
+use Rattle.bser_streams.specs.Limited.{BeginsWithin, TookWithin, ReadsWithin, RefusesWithin, RefusesSliceWithin}
+
+-- so many bytes of a slice were taken
+pub slice_took : {A : Type 0} (n m : ℕ) (reads : Meaning) (holds : A → Content → Type 0) (bytes : List ℕ) (t : Window) (v : A) (k : ℕ) → k ≡ t.count
+    → ReadsWithin n m reads holds (slice_fresh bytes) t v → (k ≤ length bytes) × TookWithin n m reads holds (Some bytes) (Some (drop k bytes)) v
+slice_took n m reads holds bytes t v k same r =
+    let w = r.whole in
+    let p = left_took (slice_fresh bytes) (with_limit 0 t) w.text (bytes ++ []) w.took refl in
+    let front : bytes ≡ w.text ++ p.0 = sym (append-nil bytes) ∙ p.2 in
+    let count : k ≡ length w.text = same ∙ w.took.count in
+    let rest : drop k bytes ≡ p.0 = ap (λ j. drop j bytes) count ∙ ap (drop (length w.text)) front ∙ drop-append_seam w.text p.0 in (
+      omega (arith, ap length front, length-append w.text p.0, count),
+      record {
+        whole = record { text = w.text; bytes = front ∙ ap (λ l. w.text ++ l) (sym rest); content = w.content; message = w.message; held = w.held };
+        short = r.short;
+      },
+    )
+
+pub slice_begins : {A : Type 0} (n m : ℕ) (reads : Meaning) (holds : A → Content → Type 0) (bytes rest : List ℕ) (v : A)
+    → TookWithin n m reads holds (Some bytes) (Some rest) v → BeginsWithin n m reads holds bytes v
+slice_begins n m reads holds bytes rest v r =
+    let w = r.whole in
+    record {
+      whole = record { text = w.text; rest = rest; front = w.bytes; content = w.content; message = w.message; held = w.held };
+      short = r.short;
+    }
+
+-- a slice gives no reason outside its bytes
+at_most : (m k n : ℕ) (e : Error) (bytes : List ℕ) → (k ≤ m) ⊎ ExcusedBy bare n e (slice_fresh bytes) → k ≤ m
+at_most m k n e bytes (inl le) = le
+at_most m k n e bytes (inr h) = absurd (let f = (slice_excused bare n e bytes h).needed in cc)
+
+refused_slice : (n m : ℕ) (reads : Meaning) (asks : Option (Asking reads)) (needs : Needs) (e : Error) (bytes : List ℕ) (t : Window)
+    → RefusesWithin n m reads asks needs e (slice_fresh bytes) t → RefusesSliceWithin n m reads asks needs e bytes
+refused_slice n m reads asks needs e bytes t (inl h) =
+    let p = left_took (slice_fresh bytes) (with_limit 0 h.at) h.text (bytes ++ []) h.took refl in
+    inl (p.0, record { capabilities = h.capabilities; announced = h.announced; text = h.text; head = h.head; bytes = sym (append-nil bytes) ∙ p.2; more = h.more; name = h.name })
+refused_slice n m reads asks needs e bytes t (inr h) =
+    inr (record {
+      announced = λ c k text rest start front. at_most m k (length text) e bytes (h.announced c k text rest start (ap Some (append-nil bytes ∙ front)));
+      refused = slice_refused n reads asks needs e bytes (slice_fresh bytes) t refl h.refused;
+    })
+
+pub slice_refused_within : (n m : ℕ) (reads : Meaning) (asks : Option (Asking reads)) (needs : Needs) (e : Error) (bytes : List ℕ) (a t : Window) → a ≡ slice_fresh bytes
+    → RefusesWithin n m reads asks needs e a t → RefusesSliceWithin n m reads asks needs e bytes
+slice_refused_within n m reads asks needs e bytes a t fresh u =
+    refused_slice n m reads asks needs e bytes t (subst (λ w. RefusesWithin n m reads asks needs e w t) fresh u)
