@@ -1,9 +1,11 @@
 -- The length of a message, by a head that was taken of a slice.
-use Rattle.std.proofs.Common.{◌≡◌, ℕ, ◌+◌, ◌-◌, ◌<◌, ◌^◌, min, List, [], ◌++◌, Some, length, append_assoc, append-nil, refl, sym, ap, ◌∙◌, arith, inl, inr}
-use Rattle.std.specs.Prelude.{ℤ, pos, ◌+ℤ◌}
+use Rattle.std.proofs.Common.{◌≡◌, ℕ, ◌+◌, ◌-◌, ◌<◌, ◌^◌, min, List, [], ◌++◌, Some, length, append_assoc, append-nil, refl, sym, ap, subst, ◌∙◌, arith, inl, inr}
+use Rattle.std.specs.Prelude.{ℤ, pos, ◌+ℤ◌, ◌≤◌, FitsSigned}
+use Rattle.std.specs.Int.{w64}
 use Rattle.std.proofs.lemmas.Int.{ints}
 use Rattle.bser_format.specs.declared.errors.Error.{Error}
 use Rattle.bser_format.specs.declared.errors.Error.TheVariants.{DeReaderError, OutOfMemory}
+use Rattle.bser_format.specs.declared.errors.Complaint.TheVariants.{CountTooGreat}
 use Rattle.bser_format.specs.declared.errors.ReadCause.TheVariants.{Reader, Failed}
 use Rattle.bser_named.specs.Named as named
 use Rattle.bser_read.specs.Window.{Window, with_limit}
@@ -13,7 +15,7 @@ use Rattle.bser_bunser.specs.Names.{Names, Outside, RefusedAs}
 use Rattle.bser_bunser.specs.Tagged.{TookHead}
 use Rattle.bser_messages.proofs.Ends.{head_length}
 use Rattle.bser_messages.proofs.Sources.{slice_left}
-use Rattle.bser_streams.specs.Lengths.{HasLength, IsLengthOfEach}
+use Rattle.bser_streams.specs.Lengths.{HasLength, IsLengthOfEach, TooGreat}
 use Rattle.bser_streams.proofs.Heads.{body_size}
 
 pub each_length : (bytes : List ℕ) (n : ℕ) → HasLength bytes n → IsLengthOfEach bytes n
@@ -27,7 +29,7 @@ pub taken_length : (bytes : List ℕ) (b : Window) (c : ℕ) (len start : ℤ) �
     → (n : ℕ) × HasLength bytes n × (start +ℤ len ≡ pos n)
 taken_length bytes b c len start h at =
     let r = left_took (slice_fresh bytes) (with_limit 0 b) h.text (bytes ++ []) h.took refl in
-    let count : b.count ≡ length h.text = h.took.count in
+    let count : b.count ≡ length h.text = omega (arith, h.took.count) in
     let small = head_length c h.size h.text h.head in
     let place : min b.count (2 ^ 63 - 1) ≡ length h.text = omega (arith, count, small) in
     let start' : start ≡ pos (length h.text) = at ∙ ap pos place in
@@ -36,6 +38,24 @@ taken_length bytes b c len start h at =
       record { capabilities = c; announced = h.size; text = h.text; rest = r.0; front = sym (append-nil bytes) ∙ r.2; head = h.head; total = refl },
       omega (arith, ints, start', len'),
     )
+
+-- the same by the window that a slice is read through, and the sum
+pub told_length : (bytes : List ℕ) (a b : Window) (c : ℕ) (len start : ℤ) (n : ℕ) → a ≡ slice_fresh bytes → TookHead a b c len → start ≡ pos (min b.count (2 ^ 63 - 1))
+    → start +ℤ len ≡ pos n → HasLength bytes n
+told_length bytes a b c len start n fresh h at sum =
+    let p = taken_length bytes b c len start (subst (λ w. TookHead w b c len) fresh h) at in
+    let same : p.0 ≡ n = omega (arith, ints, p.2, sum) in
+    subst (HasLength bytes) same p.1
+
+-- a sum that is no i64
+pub told_great : (bytes : List ℕ) (a b : Window) (c : ℕ) (len start : ℤ) (e : Error) → a ≡ slice_fresh bytes → TookHead a b c len → start ≡ pos (min b.count (2 ^ 63 - 1))
+    → (FitsSigned w64 (start +ℤ len) → ⊥) → e ≡ named.complain CountTooGreat → TooGreat bytes e
+told_great bytes a b c len start e fresh h at none name =
+    let p = taken_length bytes b c len start (subst (λ w. TookHead w b c len) fresh h) at in
+    record { size = p.0; length = p.1; more = great p.0 (start +ℤ len) p.2 none; name = name }
+  where
+    great : (n : ℕ) (z : ℤ) → z ≡ pos n → (FitsSigned w64 z → ⊥) → 2 ^ 63 ≤ n
+    great n z same none = omega (arith, ints, same, none)
 
 -- nothing but its bytes is to blame for the refusal of a slice
 slice_inside : {X : Type 0} (r : named.Reader X) (e : Error) (bytes : List ℕ) → Outside (RefusedAs r) e (slice_fresh bytes) → ⊥

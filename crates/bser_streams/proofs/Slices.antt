@@ -17,7 +17,7 @@ slice_took n m reads holds bytes t v k same r =
     let w = r.whole in
     let p = left_took (slice_fresh bytes) (with_limit 0 t) w.text (bytes ++ []) w.took refl in
     let front : bytes ≡ w.text ++ p.0 = sym (append-nil bytes) ∙ p.2 in
-    let count : k ≡ length w.text = same ∙ w.took.count in
+    let count : k ≡ length w.text = omega (arith, same, w.took.count) in
     let rest : drop k bytes ≡ p.0 = ap (λ j. drop j bytes) count ∙ ap (drop (length w.text)) front ∙ drop-append_seam w.text p.0 in (
       omega (arith, ap length front, length-append w.text p.0, count),
       record {

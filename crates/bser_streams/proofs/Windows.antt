@@ -1,7 +1,10 @@
 -- A message that was read within limits, and one that was refused: over any source.
-use Rattle.std.proofs.Common.{◌≡◌, ℕ, ◌+◌, ◌≤◌, ◌<◌, List, [], ◌++◌, ◌⊎◌, Option, None, Some, length, append-nil, refl, ap, ◌∙◌, arith, inl, inr}
+use Rattle.std.proofs.Common.{◌≡◌, ℕ, ◌+◌, ◌≤◌, ◌<◌, List, [], ◌++◌, ◌⊎◌, Option, None, Some, length, append-nil, refl, sym, ap, ◌∙◌, arith, inl, inr}
+use Rattle.std.specs.Prelude.{pos, IsTrue}
+use Rattle.std.proofs.lemmas.Int.{ints}
 use Rattle.bser_format.specs.Content.{Content, Meaning, Needs}
 use Rattle.bser_format.specs.declared.errors.Error.{Error}
+use Rattle.bser_format.specs.declared.errors.Error.TheVariants.{DeTooLong}
 use Rattle.bser_format.specs.Message.{Head}
 use Rattle.bser_format.proofs.OneHead.{one_head}
 use Rattle.bser_named.specs.Named as named
@@ -11,12 +14,13 @@ use Rattle.bser_bunser.specs.Names.{Names}
 use Rattle.bser_bunser.specs.Refusal.{Fails, failures_by}
 use Rattle.bser_bunser.specs.Tagged.{IsHead, TookHead}
 use Rattle.bser_bunser.proofs.Readers.{head_there}
-use Rattle.bser_due.specs.State.{State, IsAtEnd}
-use Rattle.bser_due.specs.Reading.{Asking, ExcusedBy, MayRefuse, bare, refusing}
+use Rattle.bser_due.specs.State.{State, Begins, IsAtEnd, refused}
+use Rattle.bser_due.specs.Reading.{Answers, Asking, ExcusedBy, MayRefuse, Refuses, bare, refusing}
 use Rattle.bser_due.proofs.Clean.{clean_head}
 use Rattle.bser_due.proofs.Refusals.{by_name, excused_before, names_any, names_by_grown}
+use Rattle.bser_deserializer.specs.View.{not_at_end}
 use Rattle.bser_messages.specs.Messages.{NamesMessage, ReadsMessage, RefusesBody, RefusesMessage}
-use Rattle.bser_messages.proofs.Messages.{head_refused, read_text}
+use Rattle.bser_messages.proofs.Messages.{head_refused, value_refused, end_refused, read_text}
 use Rattle.bser_streams.specs.Limited.{ReadsWithin, ReadsBodyWithin, StopsAt, AnnouncesShort, RefusesShort, RefusesShortBody, RefusesBodyWithin, RefusesWithin}
 use Rattle.bser_streams.proofs.Heads.{body_size, some_head, some_message}
 
@@ -40,6 +44,41 @@ pub head_refused_within : (n m : ℕ) (reads : Meaning) (asks : Option (Asking r
 head_refused_within n m reads asks needs e a b fails name =
     inr (record { announced = no_head m e a b fails name; refused = head_refused n reads asks needs e a b fails name })
 
+-- ---- after a head
+
+-- a body that is too long is not begun
+pub body_too_long : (n m k : ℕ) (reads : Meaning) (asks : Option (Asking reads)) (needs : Needs) (e : Error) (a : Window) (s t : State) → Begins n a s → s.len ≡ pos k → m < k → e ≡ DeTooLong k m → t ≡ refused s
+    → RefusesBodyWithin n m reads asks needs e a t.source
+body_too_long n m k reads asks needs e a s t begins len more name same =
+    let head = begins.took in
+    let size : head.size ≡ k = omega (arith, ints, head.value, len) in
+    inl (record {
+      capabilities = s.capabilities;
+      announced = head.size;
+      text = head.text;
+      head = head.head;
+      at = s.source;
+      took = head.took;
+      end = ap (λ z. z.source) same;
+      more = omega (arith, size, more);
+      name = name ∙ ap (λ j. DeTooLong j m) (sym size);
+    })
+
+pub value_refused_within : (n m k : ℕ) (reads : Meaning) (asks : Option (Asking reads)) (needs : Needs) (e : Error) (a : Window) (s t : State) → Begins n a s → s.len ≡ pos k → k ≤ m → Refuses reads asks needs e s t
+    → RefusesBodyWithin n m reads asks needs e a t.source
+value_refused_within n m k reads asks needs e a s t begins len le u =
+    let head = begins.took in
+    let size : head.size ≤ m = omega (arith, ints, head.value, len, le) in
+    inr (record {
+      announced = announces_short m e a (with_limit a.limit s.source) s.capabilities head.size head.text head.head head.took size;
+      refused = value_refused n reads asks needs e a s t begins u;
+    })
+
+pub body_read : {A : Type 0} (n m k : ℕ) (reads : Meaning) (holds : A → Content → Type 0) (a : Window) (s t : State) (v : A) → Begins n a s → s.len ≡ pos k → k ≤ m → Answers reads holds s t v
+    → ReadsBodyWithin n m reads holds a t v
+body_read n m k reads holds a s t v begins len le answers =
+    record { whole = record { begun = s; begins = begins; answers = answers }; short = omega (arith, ints, begins.took.value, len, le) }
+
 -- ---- whole messages
 
 pub read_short : {A : Type 0} (n m : ℕ) (reads : Meaning) (holds : A → Content → Type 0) (a : Window) (t : State) (v : A)
@@ -50,6 +89,17 @@ read_short n m reads holds a t v body over =
     let head = body.whole.begins.took in
     let size = body_size n message.capabilities message.tree p.0.text message.message body.whole.begun.capabilities head.size head.text [] body.whole.answers.text head.head (append-nil p.0.text ∙ p.1) in
     record { whole = p.0; short = omega (arith, size.0, body.short) }
+
+-- a body that does not end where its head says
+pub end_refused_within : {A : Type 0} (n m : ℕ) (reads : Meaning) (asks : Option (Asking reads)) (holds : A → Content → Type 0) (needs : Needs) (e : Error) (a : Window) (t : State) (v : A)
+    → a.count ≡ 0 → ReadsBodyWithin n m reads holds a t v → (IsAtEnd t → IsTrue t.source.failed) → e ≡ not_at_end t → RefusesWithin n m reads asks needs e a t.source
+end_refused_within n m reads asks holds needs e a t v fresh body failed name =
+    let s = body.whole.begun in
+    let head = body.whole.begins.took in
+    inr (record {
+      announced = announces_short m e a (with_limit a.limit s.source) s.capabilities head.size head.text head.head head.took body.short;
+      refused = end_refused n reads asks holds needs e a t v fresh body.whole failed name;
+    })
 
 -- a head or a value that is refused is a message that is
 body_refused : (n : ℕ) (reads : Meaning) (asks : Option (Asking reads)) (needs : Needs) (e : Error) (a b : Window) → RefusesBody n reads asks needs e a b → RefusesMessage n reads asks needs e a b
