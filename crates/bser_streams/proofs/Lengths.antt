@@ -52,10 +52,10 @@ pub told_great : (bytes : List ℕ) (a b : Window) (c : ℕ) (len start : ℤ) (
     → (FitsSigned w64 (start +ℤ len) → ⊥) → e ≡ named.complain CountTooGreat → TooGreat bytes e
 told_great bytes a b c len start e fresh h at none name =
     let p = taken_length bytes b c len start (subst (λ w. TookHead w b c len) fresh h) at in
-    record { size = p.0; length = p.1; more = great p.0 (start +ℤ len) p.2 none; name = name }
+    record { size = p.0; length = p.1; more = great p.0 (subst (λ z. FitsSigned w64 z → ⊥) p.2 none); name = name }
   where
-    great : (n : ℕ) (z : ℤ) → z ≡ pos n → (FitsSigned w64 z → ⊥) → 2 ^ 63 ≤ n
-    great n z same none = omega (arith, ints, same, none)
+    great : (n : ℕ) → (FitsSigned w64 (pos n) → ⊥) → 2 ^ 63 ≤ n
+    great n none = grind (arith, ints, none)
 
 -- nothing but its bytes is to blame for the refusal of a slice
 slice_inside : {X : Type 0} (r : named.Reader X) (e : Error) (bytes : List ℕ) → Outside (RefusedAs r) e (slice_fresh bytes) → ⊥

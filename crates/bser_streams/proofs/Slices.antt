@@ -1,6 +1,7 @@
 -- A message of a slice.
 use Rattle.std.proofs.Common.{◌≡◌, ℕ, ◌+◌, ◌≤◌, Bool, true, false, List, [], ◌++◌, ◌⊎◌, Option, None, Some, length, drop, length-append, append-nil, refl, sym, ap, subst, ◌∙◌, arith, inl, inr}
 use Rattle.std.proofs.Math.Seq.{drop-append_seam}
+use Rattle.std.proofs.lemmas.List.{drop-drop}
 use Rattle.bser_format.specs.Content.{Content, Meaning, Needs}
 use Rattle.bser_format.specs.declared.errors.Error.{Error}
 use Rattle.bser_read.specs.Window.{Window, with_limit}
@@ -11,7 +12,7 @@ use Rattle.bser_messages.proofs.Sources.{slice_excused, slice_refused}
 use Rattle.bser_streams.specs.Limited.{BeginsWithin, TookWithin, ReadsWithin, RefusesWithin, RefusesSliceWithin}
 
 -- so many bytes of a slice were taken
-pub slice_took : {A : Type 0} (n m : ℕ) (reads : Meaning) (holds : A → Content → Type 0) (bytes : List ℕ) (t : Window) (v : A) (k : ℕ) → k ≡ t.count
+slice_took : {A : Type 0} (n m : ℕ) (reads : Meaning) (holds : A → Content → Type 0) (bytes : List ℕ) (t : Window) (v : A) (k : ℕ) → k ≡ t.count
     → ReadsWithin n m reads holds (slice_fresh bytes) t v → (k ≤ length bytes) × TookWithin n m reads holds (Some bytes) (Some (drop k bytes)) v
 slice_took n m reads holds bytes t v k same r =
     let w = r.whole in
@@ -26,6 +27,17 @@ slice_took n m reads holds bytes t v k same r =
       },
     )
 
+-- the same by the window that a slice is read through
+pub slice_length : {A : Type 0} (n m : ℕ) (reads : Meaning) (holds : A → Content → Type 0) (bytes : List ℕ) (a t : Window) (v : A) (k : ℕ) → a ≡ slice_fresh bytes → k ≡ t.count
+    → ReadsWithin n m reads holds a t v → k ≤ length bytes
+slice_length n m reads holds bytes a t v k fresh same r =
+    (slice_took n m reads holds bytes t v k same (subst (λ w. ReadsWithin n m reads holds w t v) fresh r)).0
+
+pub slice_front : {A : Type 0} (n m : ℕ) (reads : Meaning) (holds : A → Content → Type 0) (bytes : List ℕ) (a t : Window) (v : A) (k : ℕ) → a ≡ slice_fresh bytes → k ≡ t.count
+    → ReadsWithin n m reads holds a t v → TookWithin n m reads holds (Some bytes) (Some (drop k bytes)) v
+slice_front n m reads holds bytes a t v k fresh same r =
+    (slice_took n m reads holds bytes t v k same (subst (λ w. ReadsWithin n m reads holds w t v) fresh r)).1
+
 pub slice_begins : {A : Type 0} (n m : ℕ) (reads : Meaning) (holds : A → Content → Type 0) (bytes rest : List ℕ) (v : A)
     → TookWithin n m reads holds (Some bytes) (Some rest) v → BeginsWithin n m reads holds bytes v
 slice_begins n m reads holds bytes rest v r =
@@ -34,6 +46,12 @@ slice_begins n m reads holds bytes rest v r =
       whole = record { text = w.text; rest = rest; front = w.bytes; content = w.content; message = w.message; held = w.held };
       short = r.short;
     }
+
+-- the rest of a slice, after its next message
+pub rest_took : {A : Type 0} (n m : ℕ) (reads : Meaning) (holds : A → Content → Type 0) (bytes : List ℕ) (taken k : ℕ) (v : A)
+    → TookWithin n m reads holds (Some (drop taken bytes)) (Some (drop k (drop taken bytes))) v → TookWithin n m reads holds (Some (drop taken bytes)) (Some (drop (taken + k) bytes)) v
+rest_took n m reads holds bytes taken k v r =
+    subst (λ l. TookWithin n m reads holds (Some (drop taken bytes)) (Some l) v) (drop-drop k taken bytes) r
 
 -- a slice gives no reason outside its bytes
 at_most : (m k n : ℕ) (e : Error) (bytes : List ℕ) → (k ≤ m) ⊎ ExcusedBy bare n e (slice_fresh bytes) → k ≤ m

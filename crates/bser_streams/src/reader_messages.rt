@@ -1,7 +1,6 @@
 //! The messages of a reader, one after the other.
 ghost use Rattle.std.specs.Prelude.{◌≡◌, ◌≤◌, ◌^◌, ◌-◌, true, false, IfOk, IfErr, OnOk, OnErr};
 ghost use Rattle.bser_streams.specs.Streams.{IsNext, RefusesNext, counts_message};
-ghost use Rattle.bser_streams.specs.Views.{reader_limits, reader_of, reader_taken, reader_failed, RefusesAgain};
 
 use crate::limits::Limits;
 use crate::next::next_message_limited;
@@ -25,6 +24,8 @@ pub struct ReaderMessages<S> {
 }
 
 impl<S: Source> ReaderMessages<S> {
+    ghost use Rattle.bser_streams.specs.Views.{reader_limits, reader_of, reader_taken, reader_failed, RefusesAgain};
+
     /// Reads from the reader's next byte on, messages of at most 128 levels. Nothing is read yet.
     pub fn new(alloc: Global, reader: S) -> Self
         ensures levels { (reader_limits result).levels ≡ 128 }

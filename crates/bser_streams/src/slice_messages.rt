@@ -2,7 +2,6 @@
 ghost use Rattle.std.specs.Prelude.{◌≡◌, ◌≢◌, ◌≤◌, ◌+◌, ◌^◌, ◌-◌, [], length, Some, IfOk, IfErr, OnErr};
 ghost use Rattle.bser_streams.specs.Limited.{RefusesSliceWithin};
 ghost use Rattle.bser_streams.specs.Streams.{IsNext};
-ghost use Rattle.bser_streams.specs.Views.{slice_limits, slice_whole, slice_taken, slice_rest};
 
 use crate::limited::front_message;
 use crate::limits::Limits;
@@ -24,6 +23,8 @@ pub struct SliceMessages<'de> {
 }
 
 impl<'de> SliceMessages<'de> {
+    ghost use Rattle.bser_streams.specs.Views.{slice_limits, slice_whole, slice_taken, slice_rest};
+
     /// Reads from the front of `bytes`, messages of at most 128 levels.
     pub fn new(alloc: Global, bytes: &'de [u8]) -> Self
         ensures levels { (slice_limits result).levels ≡ 128 }

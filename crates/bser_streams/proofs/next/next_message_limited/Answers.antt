@@ -1,0 +1,22 @@
+-- The next message of a reader.
+use Rattle.std.proofs.Common.{rules, ap, subst, sym, ◌∙◌}
+use Rattle.bser_messages.proofs.Sources.{fresh_itself}
+use Rattle.bser_streams.proofs.Windows.{read_before, refused_before}
+use Rattle.bser_streams.proofs.Readers.{reader_took, took_known, reader_known, reader_refused_within}
+use Rattle.bser_streams.proofs.Nexts.{some_left}
+use Rattle.bser_streams.specs.Limited.{ReadsWithin, RefusesWithin}
+use Rattle.bser_streams.proofs.next.next_message_limited.Goals as goal
+
+pub returns-in-Ok-answer-clause-found : goal.returns-in-Ok-answer-clause-found
+returns-in-Ok-answer-clause-found g c =
+    let fresh = c.new-read.ensures in
+    let read = subst (λ w. ReadsWithin c.args.limits.levels c.args.limits.bytes g.T.Shape.reads g.T.Shape.holds w _ c.in-Ok-answer.value) c.unread-from.ensures.source c.in-Ok-answer.ensures.found in
+    took_known c.args.limits.levels c.args.limits.bytes g.T.Shape.reads g.T.Shape.holds _ _ _ _ c.in-Ok-answer.value (ap (λ w. w.beyond) fresh) (search rules)
+    (reader_took c.args.limits.levels c.args.limits.bytes g.T.Shape.reads g.T.Shape.holds _ _ c.in-Ok-answer.value (ap (λ w. w.buffered) fresh) (ap (λ w. w.limit) fresh)
+    (read_before c.args.limits.levels c.args.limits.bytes g.T.Shape.reads g.T.Shape.holds _ _ _ c.in-Ok-answer.value c.in-Ok.ensures.ok.filled.grown read))
+
+pub returns-in-Err-answer-clause-refused : goal.returns-in-Err-answer-clause-refused
+returns-in-Err-answer-clause-refused g c = ?
+
+pub returns-in_default : goal.returns-in_default
+returns-in_default g c = ?
