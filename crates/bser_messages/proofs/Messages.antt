@@ -82,20 +82,22 @@ read_text n reads holds a t v body over =
     let size : pos head.size ≡ pos (length answers.text) = sym head.value ∙ sym len ∙ long in
     let same : length answers.text ≡ head.size = omega (arith, ints, size) in
     let announced : s.source.limit ≤ max a.limit (s.source.count + length answers.text) = omega (arith, same, head.limit) in
-    let short : length (head.text ++ answers.text) < 2 ^ 63 = omega (arith, length-append head.text answers.text, head.took.count, answers.took.count, over.ends.small) in
-    (record {
-      text = head.text ++ answers.text;
-      content = answers.content;
-      message = record {
-        capabilities = s.capabilities;
-        tree = node.tree;
-        message = framed n s.capabilities head.size node.tree head.text answers.text head.head same node.spelled short;
-        read = rw (sym node.stands) answers.read;
-      };
-      held = answers.held;
-      took = took_message a s.source t.source head.text answers.text head.took head.kept announced answers.took;
-      limit = omega (arith, announced, answers.took.count, answers.took.limit);
-    }, refl)
+    let short : length (head.text ++ answers.text) < 2 ^ 63 = omega (arith, length-append head.text answers.text, head.took.count, answers.took.count, over.ends.small) in (
+      record {
+        text = head.text ++ answers.text;
+        content = answers.content;
+        message = record {
+          capabilities = s.capabilities;
+          tree = node.tree;
+          message = framed n s.capabilities head.size node.tree head.text answers.text head.head same node.spelled short;
+          read = rw (sym node.stands) answers.read;
+        };
+        held = answers.held;
+        took = took_message a s.source t.source head.text answers.text head.took head.kept announced answers.took;
+        limit = omega (arith, announced, answers.took.count, answers.took.limit);
+      },
+      refl,
+    )
 
 pub read_whole : {A : Type 0} (n : ℕ) (reads : Meaning) (holds : A → Content → Type 0) (a : Window) (t : State) (v : A)
     → ReadsBody n reads holds a t v → IsAtEnd t → ReadsMessage n reads holds a t.source v

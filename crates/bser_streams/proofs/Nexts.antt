@@ -3,7 +3,7 @@ use Rattle.std.proofs.Common.{◌≡◌, ℕ, ◌+◌, ◌≤◌, ◌<◌, ◌^�
 use Rattle.std.proofs.lemmas.List.{nil_from_length}
 use Rattle.std.specs.Borrow.{GName}
 use Rattle.std.specs.Io.KnownBytes.{IsAtEnd}
-use Rattle.bser_format.specs.Content.{Content, Meaning}
+use Rattle.bser_format.specs.Content.{Content, Meaning, Needs}
 use Rattle.bser_format.specs.Errors.{error_of}
 use Rattle.bser_format.specs.Message.{Head}
 use Rattle.bser_format.specs.declared.errors.Error.{Error}
@@ -16,9 +16,11 @@ use Rattle.bser_read.specs.Window.{Window, Grown, Filled, left}
 use Rattle.bser_read.proofs.Windows.{left_grown, hand_first}
 use Rattle.bser_due.specs.Reading.{Asking}
 use Rattle.bser_messages.specs.Messages.{NamesReader, IsReaderFault}
-use Rattle.bser_messages.proofs.Sources.{reader_fresh, blamed_more, fresh_left}
-use Rattle.bser_streams.specs.Limited.{RefusesReaderWithin}
+use Rattle.bser_messages.proofs.Sources.{reader_fresh, blamed_more, fresh_itself, fresh_left}
+use Rattle.bser_streams.specs.Limited.{RefusesReaderWithin, RefusesWithin}
 use Rattle.bser_streams.specs.Streams.{RefusesNext}
+use Rattle.bser_streams.proofs.Readers.{reader_refused_within}
+use Rattle.bser_streams.proofs.Windows.{refused_before}
 
 -- ---- no byte is left
 
@@ -70,3 +72,16 @@ some_left remaining failures through a b fresh filled none =
     let known : left a ≡ Some [] = subst (λ w. left w ≡ Some []) (sym fresh) (fresh_left remaining failures through [] none) in
     let held = hand_first b [] (left_grown 1 a b [] filled.grown known) in
     omega (arith, filled.enough, ap length held.1, length-append b.buffered held.0)
+
+-- a message that is refused after its first byte came
+pub next_refused : (n m : ℕ) (reads : Meaning) (asks : Option (Asking reads)) (needs : Needs) (e : Error) (remaining : Option (List ℕ)) (failures : ℕ) (through : Option GName) (a b t : Window) → needs.lent ≡ false
+    → a ≡ reader_fresh remaining failures through → Filled 1 a b → RefusesWithin n m reads asks needs e b t → RefusesNext n m reads asks e a.beyond t.beyond a.failures t.failures
+next_refused n m reads asks needs e remaining failures through a b t owned fresh filled u = record {
+  refused = reader_refused_within n m reads asks needs e a t owned (fresh_itself remaining failures through a fresh) (refused_before n m reads asks needs e a b t filled.grown u);
+  some = λ none. absurd (some_left remaining failures through a b fresh filled (sym (ap (λ w. w.beyond) fresh) ∙ none));
+}
+
+-- the same of a reader that is known to have as much left, and to have counted as much
+pub next_known : (n m : ℕ) (reads : Meaning) (asks : Option (Asking reads)) (e : Error) (old new x y : Option (List ℕ)) (before after i j : ℕ) → x ≡ old → y ≡ new → i ≡ before → j ≡ after
+    → RefusesNext n m reads asks e x y i j → RefusesNext n m reads asks e old new before after
+next_known n m reads asks e old new x y before after i j p q r s u = rw (sym p, sym q, sym r, sym s) u

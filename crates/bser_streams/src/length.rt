@@ -26,9 +26,11 @@ pub fn message_length(alloc: Global, bytes: &[u8]) -> Result<Option<usize>>
             Some(length) => Ok(Some(length as usize)),
             None => Err(Error::de_custom(Complaint::CountTooGreat)),
         },
-        Err(Error::DeReaderError {
-            source: ReadCause::Eof,
-        }) => Ok(None),
+        Err(
+            Error::DeReaderError {
+                source: ReadCause::Eof,
+            },
+        ) => Ok(None),
         Err(error) => Err(error),
     }
 }

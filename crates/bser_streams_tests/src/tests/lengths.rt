@@ -13,7 +13,11 @@ fn each_prefix_of_a_message_tells_its_length(rt: HostRuntime) -> Tested {
     }
     assert_eq!(rt; message_length(alloc, NUMBERS)?, Some(13));
     for count in 0..HUGE.len() + 1 {
-        let wanted = if count < 15 { None } else { Some(4_294_967_311) };
+        let wanted = if count < 15 {
+            None
+        } else {
+            Some(4_294_967_311)
+        };
         assert_eq!(rt; message_length(alloc, &HUGE[..count])?, wanted);
     }
     Ok(())
@@ -27,10 +31,12 @@ fn a_head_that_is_none_is_refused_by_its_name(rt: HostRuntime) -> Tested {
         _ => panic!(rt; "version 1 was not refused"),
     }
     match message_length(alloc, b"\x00\x02\x00\x00\x00\x00\x0a") {
-        Err(Error::DeInvalidStartByte {
-            kind: Kind::Integer,
-            byte,
-        }) => assert_eq!(rt; byte, 0x0a),
+        Err(
+            Error::DeInvalidStartByte {
+                kind: Kind::Integer,
+                byte,
+            },
+        ) => assert_eq!(rt; byte, 0x0a),
         _ => panic!(rt; "a length of null was not refused"),
     }
     let negative = message_length(alloc, b"\x00\x02\x00\x00\x00\x00\x03\xff");

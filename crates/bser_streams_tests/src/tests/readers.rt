@@ -70,7 +70,10 @@ fn nothing_of_a_body_above_the_limit_is_read(rt: HostRuntime) -> Tested {
         bytes: 4,
     };
     let mut reader = Watched::new(OneByOne { bytes: NUMBERS });
-    assert_eq!(rt; from_reader_limited::<_, i64>(alloc, five, &mut reader)?, 300);
+    assert_eq!(rt;
+        from_reader_limited::<_, i64>(alloc, five, &mut reader)?,
+        300
+    );
     assert_eq!(rt; reader.get_ref().bytes.len(), 11);
     let mut reader = Watched::new(OneByOne { bytes: NUMBERS });
     match next_message_limited::<_, i64>(alloc, four, &mut reader) {
@@ -78,8 +81,11 @@ fn nothing_of_a_body_above_the_limit_is_read(rt: HostRuntime) -> Tested {
         _ => panic!(rt; "a body above the limit was not refused"),
     }
     assert_eq!(rt; reader.get_ref().bytes.len(), 16);
-    let mut messages =
-        ReaderMessages::with_limits(alloc, five, Watched::new(OneByOne { bytes: HUGE }));
+    let mut messages = ReaderMessages::with_limits(
+        alloc,
+        five,
+        Watched::new(OneByOne { bytes: HUGE }),
+    );
     match messages.next_message::<i64>() {
         Err(Error::DeTooLong { announced, most }) => {
             assert_eq!(rt; (announced, most), (4_294_967_296, 5));

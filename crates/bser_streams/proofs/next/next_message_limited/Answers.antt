@@ -1,9 +1,8 @@
 -- The next message of a reader.
-use Rattle.std.proofs.Common.{rules, ap, subst, sym, ◌∙◌}
-use Rattle.bser_messages.proofs.Sources.{fresh_itself}
-use Rattle.bser_streams.proofs.Windows.{read_before, refused_before}
-use Rattle.bser_streams.proofs.Readers.{reader_took, took_known, reader_known, reader_refused_within}
-use Rattle.bser_streams.proofs.Nexts.{some_left}
+use Rattle.std.proofs.Common.{rules, ap, subst, ◌∙◌}
+use Rattle.bser_streams.proofs.Windows.{read_before}
+use Rattle.bser_streams.proofs.Readers.{reader_took, took_known}
+use Rattle.bser_streams.proofs.Nexts.{next_known, next_refused}
 use Rattle.bser_streams.specs.Limited.{ReadsWithin, RefusesWithin}
 use Rattle.bser_streams.proofs.next.next_message_limited.Goals as goal
 
@@ -16,7 +15,11 @@ returns-in-Ok-answer-clause-found g c =
     (read_before c.args.limits.levels c.args.limits.bytes g.T.Shape.reads g.T.Shape.holds _ _ _ c.in-Ok-answer.value c.in-Ok.ensures.ok.filled.grown read))
 
 pub returns-in-Err-answer-clause-refused : goal.returns-in-Err-answer-clause-refused
-returns-in-Err-answer-clause-refused g c = ?
+returns-in-Err-answer-clause-refused g c =
+    let fresh = c.new-read.ensures in
+    let refused = subst (λ w. RefusesWithin c.args.limits.levels c.args.limits.bytes g.T.Shape.reads g.T.Shape.asks g.T.Shape.needs _ w _) c.unread-from.ensures.source c.in-Err-answer.ensures.refused in
+    next_known c.args.limits.levels c.args.limits.bytes g.T.Shape.reads g.T.Shape.asks _ _ _ _ _ _ _ _ _ (ap (λ w. w.beyond) fresh) (search rules) (ap (λ w. w.failures) fresh) (search rules)
+    (next_refused c.args.limits.levels c.args.limits.bytes g.T.Shape.reads g.T.Shape.asks g.T.Shape.needs _ _ _ _ _ _ _ (search rules) fresh c.in-Ok.ensures.ok.filled refused)
 
 pub returns-in_default : goal.returns-in_default
 returns-in_default g c = ?
