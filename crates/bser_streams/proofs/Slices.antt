@@ -1,7 +1,7 @@
 -- A message of a slice.
-use Rattle.std.proofs.Common.{◌≡◌, ℕ, ◌+◌, ◌≤◌, Bool, true, false, List, [], ◌++◌, ◌⊎◌, Option, None, Some, length, drop, length-append, append-nil, refl, sym, ap, subst, ◌∙◌, arith, inl, inr}
-use Rattle.std.proofs.Math.Seq.{drop-append_seam}
-use Rattle.std.proofs.lemmas.List.{drop-drop}
+use Rattle.std.proofs.Common.{◌≡◌, ℕ, ◌+◌, ◌-◌, ◌≤◌, Bool, true, false, List, [], ◌++◌, ◌⊎◌, Option, None, Some, length, take, drop, length-append, append-nil, refl, sym, ap, subst, ◌∙◌, arith, inl, inr}
+use Rattle.std.proofs.Math.Seq.{drop-append_seam, take-length}
+use Rattle.std.proofs.lemmas.List.{drop-drop, length-drop}
 use Rattle.bser_format.specs.Content.{Content, Meaning, Needs}
 use Rattle.bser_format.specs.declared.errors.Error.{Error}
 use Rattle.bser_read.specs.Window.{Window, with_limit}
@@ -47,11 +47,17 @@ slice_begins n m reads holds bytes rest v r =
       short = r.short;
     }
 
+-- the range from a place to the end is what is left there
+whole_rest : (n : ℕ) (l : List ℕ) → take (length l - n) (drop n l) ≡ drop n l
+whole_rest n l = ap (λ k. take k (drop n l)) (sym (length-drop n l)) ∙ take-length (drop n l)
+
 -- the rest of a slice, after its next message
 pub rest_took : {A : Type 0} (n m : ℕ) (reads : Meaning) (holds : A → Content → Type 0) (bytes : List ℕ) (taken k : ℕ) (v : A)
-    → TookWithin n m reads holds (Some (drop taken bytes)) (Some (drop k (drop taken bytes))) v → TookWithin n m reads holds (Some (drop taken bytes)) (Some (drop (taken + k) bytes)) v
+    → TookWithin n m reads holds (Some (take (length bytes - taken) (drop taken bytes))) (Some (drop k (take (length bytes - taken) (drop taken bytes)))) v
+    → TookWithin n m reads holds (Some (drop taken bytes)) (Some (drop (taken + k) bytes)) v
 rest_took n m reads holds bytes taken k v r =
-    subst (λ l. TookWithin n m reads holds (Some (drop taken bytes)) (Some l) v) (drop-drop k taken bytes) r
+    let rest = subst (λ x. TookWithin n m reads holds (Some x) (Some (drop k x)) v) (whole_rest taken bytes) r in
+    subst (λ l. TookWithin n m reads holds (Some (drop taken bytes)) (Some l) v) (drop-drop k taken bytes) rest
 
 -- a slice gives no reason outside its bytes
 at_most : (m k n : ℕ) (e : Error) (bytes : List ℕ) → (k ≤ m) ⊎ ExcusedBy bare n e (slice_fresh bytes) → k ≤ m
