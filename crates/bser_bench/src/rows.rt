@@ -1,11 +1,9 @@
 //! The structs as which an answer of Watchman is read.
-ghost use Rattle.std.specs.Prelude.{false, ◌||◌, [], ◌∷◌, None};
-ghost use Rattle.std.proofs.Common.{ap, ◌∙◌};
-ghost use Rattle.serde_bser.specs.Slots.{struct_needs};
-ghost use Rattle.bser_bench.specs.Rows.{reads_file, HoldsFile, file_needs, reads_files, HoldsFiles};
+ghost use Rattle.std.specs.Prelude.{codes, refl, [], ◌∷◌, None};
+ghost use Rattle.bser_structs.specs.Fields.{required, optional, reads_fields, HoldsFields, fields_needs, asking_fields, none_lent};
 
 use serde_bser::bytestring::ByteString;
-use serde_bser::de::{Answer, Deserializer, Optional, Required};
+use serde_bser::de::{Answer, Deserializer};
 use serde_bser::prelude::*;
 use std::alloc::Global;
 
@@ -20,14 +18,24 @@ pub struct File<B, S> {
     pub kind: Option<S>,
 }
 
+impl<B: Shape, S: Shape> Fields for File<B, S> {
+    ghost fields = { required (codes "name") (λ v. v.name) ⟦<B as ReadOnly>⟧.coding
+        ∷ required (codes "size") (λ v. v.size) ⟦<u64 as ReadOnly>⟧.coding
+        ∷ optional (codes "mtime_ms") (λ v. v.mtime_ms) ⟦<u64 as ReadOnly>⟧.coding
+        ∷ optional (codes "exists") (λ v. v.exists) ⟦<bool as ReadOnly>⟧.coding
+        ∷ optional (codes "mode") (λ v. v.mode) ⟦<u32 as ReadOnly>⟧.coding
+        ∷ optional (codes "type") (λ v. v.kind) ⟦<S as ReadOnly>⟧.coding
+        ∷ [] };
+}
+
 impl<B: Shape, S: Shape> Shape for File<B, S> {
-    ghost reads = { reads_file B.reads S.reads };
+    ghost reads = { reads_fields ⟦<File<B, S> as Fields>⟧.fields };
 
-    ghost holds = { HoldsFile B.holds S.holds };
+    ghost holds = { HoldsFields ⟦<File<B, S> as Fields>⟧.fields };
 
-    ghost needs = { file_needs B.needs S.needs };
+    ghost needs = { fields_needs ⟦<File<B, S> as Fields>⟧.fields };
 
-    ghost asks = { None };
+    ghost asks = { asking_fields ⟦<File<B, S> as Fields>⟧.fields };
 
     ghost plain = { None };
 }
@@ -37,34 +45,23 @@ impl<L: LendsText, B: Deserialize<L>, S: Deserialize<L>> Deserialize<L> for File
         alloc: Global,
         from: &mut Deserializer<R>,
     ) -> Answer<File<B, S>> {
-        let (name, (size, (mtime_ms, (exists, (mode, (kind, ())))))) = from.read_fields::<
-            (
-                Required<B>,
-                (
-                    Required<u64>,
-                    (
-                        Optional<u64>,
-                        (Optional<bool>, (Optional<u32>, (Optional<S>, ()))),
-                    ),
-                ),
-            ),
-        >(
+        read_struct!(
             alloc,
-            &["name", "size", "mtime_ms", "exists", "mode", "type"],
-        )?;
-        Ok(File {
-            name,
-            size,
-            mtime_ms,
-            exists,
-            mode,
-            kind,
-        })
+            from,
+            File {
+                name: Required("name"),
+                size: Required("size"),
+                mtime_ms: Optional("mtime_ms"),
+                exists: Optional("exists"),
+                mode: Optional("mode"),
+                kind: Optional("type"),
+            }
+        )
     }
 }
 
 impl<B: OwnedShape, S: OwnedShape> OwnedShape for File<B, S> {
-    ghost owned = { ap (λ a. a || (S.needs.lent || false)) B.owned ∙ ap (λ a. a || false) S.owned };
+    ghost owned = { none_lent B.owned (none_lent S.owned refl) };
 }
 
 impl<B: Bytes, S: Bytes> File<B, S> {
@@ -88,14 +85,19 @@ pub struct Files<B, S> {
     pub files: Vec<File<B, S>>,
 }
 
+impl<B: Shape, S: Shape> Fields for Files<B, S> {
+    ghost fields = { required (codes "files") (λ v. v.files) ⟦<Vec<File<B, S>> as ReadOnly>⟧.coding
+        ∷ [] };
+}
+
 impl<B: Shape, S: Shape> Shape for Files<B, S> {
-    ghost reads = { reads_files B.reads S.reads };
+    ghost reads = { reads_fields ⟦<Files<B, S> as Fields>⟧.fields };
 
-    ghost holds = { HoldsFiles B.holds S.holds };
+    ghost holds = { HoldsFields ⟦<Files<B, S> as Fields>⟧.fields };
 
-    ghost needs = { struct_needs (file_needs B.needs S.needs ∷ []) };
+    ghost needs = { fields_needs ⟦<Files<B, S> as Fields>⟧.fields };
 
-    ghost asks = { None };
+    ghost asks = { asking_fields ⟦<Files<B, S> as Fields>⟧.fields };
 
     ghost plain = { None };
 }
@@ -105,14 +107,18 @@ impl<L: LendsText, B: Deserialize<L>, S: Deserialize<L>> Deserialize<L> for File
         alloc: Global,
         from: &mut Deserializer<R>,
     ) -> Answer<Files<B, S>> {
-        let (files, ()) = from.read_fields::<(Required<Vec<File<B, S>>>, ())>(alloc, &["files"])?;
-        Ok(Files { files })
+        read_struct!(
+            alloc,
+            from,
+            Files {
+                files: Required("files"),
+            }
+        )
     }
 }
 
 impl<B: OwnedShape, S: OwnedShape> OwnedShape for Files<B, S> {
-    ghost owned = { ap (λ a. (a || (S.needs.lent || false)) || false) B.owned ∙ ap
-        (λ a. (a || false) || false) S.owned };
+    ghost owned = { none_lent ⟦<File<B, S> as OwnedShape>⟧.owned refl };
 }
 
 impl<B: Bytes, S: Bytes> Files<B, S> {

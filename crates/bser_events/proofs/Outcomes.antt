@@ -1,6 +1,6 @@
 -- What follows where a call succeeds, and where it refuses.
 use Rattle.std.proofs.Common.{◌≡◌, true, false, is_ok, ℕ, ◌≤◌, List, [], ◌∷◌, length, drop, get_or, ap, arith}
-use Rattle.std.specs.Prelude.{Result, Ok, Err, OnOk, OnErr, Option, Some, None, MatchOption, ⊤}
+use Rattle.std.specs.Prelude.{Result, Ok, Err, OnOk, OnErr}
 
 pub both_ok : {X E : Type 0} (P Q S : Type 0) (r : Result X E) → OnOk r P → OnOk r Q → (P → Q → S) → OnOk r S
 both_ok P Q S (Ok x) p q f = f p q
@@ -25,10 +25,6 @@ is_well P (Err x) e p = absurd cc
 pub is_ill : {X E : Type 0} (P : Type 0) (r : Result X E) → is_ok r ≡ false → OnErr r P → P
 is_ill P (Ok x) e p = absurd cc
 is_ill P (Err x) e p = p
-
-pub each_some : {X : Type 0} (P Q : X → Type 0) (o : Option X) → MatchOption o ⊤ P → ((x : X) → P x → Q x) → MatchOption o ⊤ Q
-each_some P Q None p f = tt
-each_some P Q (Some x) p f = f x p
 
 -- the first of some bytes
 pub first_is : (c : ℕ) (held : List ℕ) → 1 ≤ length held → get_or held 0 0 ≡ c → held ≡ c ∷ drop 1 held

@@ -1,5 +1,5 @@
 -- Pieces of a value that are in front of some bytes: keys, scalars, strings and skips.
-use Rattle.std.specs.Prelude.{◌≡◌, ℕ, ◌≤◌, List, [], ◌∷◌, ◌++◌, length, take}
+use Rattle.std.specs.Prelude.{◌≡◌, ◌⊎◌, ℕ, ◌≤◌, Bool, true, false, List, [], ◌∷◌, ◌++◌, length, take, IsUtf8}
 use Rattle.bser_format.specs.declared.errors.Kind.TheVariants.{MapKey}
 use Rattle.bser_named.specs.Named.{Reader, reads, text_of, field_of, with_text_keys}
 use Rattle.bser_bunser.specs.declared.prefix.Token.{Token}
@@ -38,3 +38,15 @@ IsScalar _ e = ⊥
 -- the token is no scalar
 abbrev pub IsNoScalar : Token → Type 0
 IsNoScalar t = (e : Event) → IsScalar t e → ⊥
+
+-- the event of a scalar, or in a row of a skip, where this is due
+abbrev pub IsDueScalar : Due → Token → Event → Type 0
+IsDueScalar Entry t e = ⊥
+IsDueScalar Item t e = IsScalar t e
+IsDueScalar Field t e = IsScalar t e ⊎ ((t ≡ tokens.Skip) × (e ≡ told.skip))
+
+-- the event of a string, a text or not, where this is due: a key is a text in any case
+abbrev pub IsDueString : Due → Bool → List ℕ → Event → Type 0
+IsDueString Entry b s e = IsUtf8 s × (e ≡ key s)
+IsDueString _ true s e = IsUtf8 s × (e ≡ told.text s)
+IsDueString _ false s e = e ≡ told.bytes s

@@ -1,10 +1,14 @@
 //! Pieces of a value that are buffered whole.
-ghost use Rattle.std.specs.Prelude.{◌≡◌, ℕ, ◌∷◌, [], ⊤, MatchOption};
-ghost use Rattle.bser_format.specs.declared.errors.Kind.TheVariants as kinds;
-ghost use Rattle.bser_named.specs.Named.{text_of, with_text_keys};
-ghost use Rattle.bser_events.specs.Events as events;
+ghost use Rattle.std.specs.Prelude.{◌≡◌, ◌≢◌, ⊤, MatchBool, MatchOption};
 ghost use Rattle.bser_events.specs.Told.{told};
-ghost use Rattle.bser_events.specs.Pieces.{InFront, DueInFront, IsScalar, IsNoScalar, IsFirst};
+ghost use Rattle.bser_events.specs.Pieces.{
+  DueInFront,
+  IsDueString,
+  IsDueScalar,
+  IsScalar,
+  IsNoScalar,
+  IsFirst,
+};
 
 use crate::event::Event;
 use crate::frame::Due;
@@ -27,69 +31,65 @@ pub struct Piece<'s> {
 pub fn due_piece(due: Due, bytes: &[u8]) -> Option<Piece<'_>>
     ensures { MatchOption result ⊤ (λ p. DueInFront due bytes.now p.len (told p.event)) }
 {
-    match due {
-        Due::Entry => key_piece(bytes),
-        Due::Item => value_piece(bytes),
-        Due::Field => {
-            if let Prefix::Found {
-                value: Token::Skip,
-                len,
-            } = token_prefix(bytes)
-            {
-                return Some(Piece {
-                    event: Event::Skip,
-                    len,
-                });
-            }
-            value_piece(bytes)
-        }
-    }
-}
-
-/// The key in front of these bytes. None where there is none, or it is not there whole.
-#[inline(always)]
-fn key_piece(bytes: &[u8]) -> Option<Piece<'_>>
-    ensures { MatchOption result ⊤ (λ p.
-        InFront (text_of kinds.MapKey) (λ s. events.key s ∷ []) bytes.now p.len (told p.event)) }
-{
-    let Prefix::Found {
-        value: Token::Str { len: size, .. },
-        len,
-    } = token_prefix(bytes)
-    else {
-        return None;
-    };
-    let text = as_text(first(&bytes[len..], size)?)?;
-    Some(Piece {
-        event: Event::Key(text),
-        len: len + size,
-    })
-}
-
-/// The scalar or the string in front of these bytes. None where there is none, or it is not there
-/// whole.
-#[inline(always)]
-fn value_piece(bytes: &[u8]) -> Option<Piece<'_>>
-    ensures { MatchOption result ⊤ (λ p. (n : ℕ) →
-        InFront (with_text_keys n) events.events bytes.now p.len (told p.event)) }
-{
     let Prefix::Found { value, len } = token_prefix(bytes) else {
         return None;
     };
     let Token::Str { is_text, len: size } = value else {
-        let event = scalar(value)?;
+        let event = due_scalar(due, value)?;
         return Some(Piece { event, len });
     };
-    let string = first(&bytes[len..], size)?;
-    let event = if is_text {
-        Event::Text(as_text(string)?)
-    } else {
-        Event::Bytes(string)
-    };
+    let event = due_string(due, is_text, first(&bytes[len..], size)?)?;
     Some(Piece {
         event,
         len: len + size,
     })
+}
+
+/// What is told of a string where this is due. None where it is no text, and has to be one.
+#[inline(always)]
+fn due_string(due: Due, is_text: bool, string: &[u8]) -> Option<Event<'_>>
+    ensures { MatchOption result ⊤ (λ e. IsDueString due is_text string.now (told e)) }
+{
+    match due {
+        Due::Entry => Some(Event::Key(as_text(string)?)),
+        Due::Item | Due::Field => {
+            if is_text {
+                Some(Event::Text(as_text(string)?))
+            } else {
+                Some(Event::Bytes(string))
+            }
+        }
+    }
+}
+
+/// What is told of a scalar or of a skip where this is due. None for another token.
+#[inline(always)]
+fn due_scalar(due: Due, token: Token) -> Option<Event<'static>>
+    ensures { MatchOption result ⊤ (λ e. IsDueScalar due token (told e)) }
+{
+    match scalar(token) {
+        Some(event) => match due {
+            Due::Entry => None,
+            Due::Item | Due::Field => Some(event),
+        },
+        None if is_skipped(due, token) => Some(Event::Skip),
+        None => None,
+    }
+}
+
+/// Whether a field is due, and is missing.
+#[inline(always)]
+pub fn is_skipped(due: Due, token: Token) -> bool
+    ensures { MatchBool result ((due ≡ Due.Field) × (token ≡ Token.Skip))
+        (due ≡ Due.Field → token ≢ Token.Skip) }
+{
+    match due {
+        Due::Field => match token {
+            Token::Skip => true,
+            _ => false,
+        },
+        Due::Item | Due::Entry => false,
+    }
 }
 
 /// The first `n` of these bytes. None where there are fewer.

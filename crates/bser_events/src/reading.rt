@@ -1,6 +1,6 @@
 //! Reading what is due, whatever it is: pieces that are buffered by one loop, and one token where
 //! that ends.
-ghost use Rattle.std.specs.Prelude.{◌≡◌, ◌≢◌, ◌⊎◌, ◌≤◌, ◌<◌, ◌++◌, ◌∷◌, [], true, length, vec_capacity, MatchBool, OnOk, OnErr};
+ghost use Rattle.std.specs.Prelude.{◌≡◌, ◌⊎◌, ◌≤◌, ◌<◌, ◌++◌, ◌∷◌, [], true, length, vec_capacity, OnOk, OnErr};
 ghost use Rattle.bser_format.specs.declared.errors.Kind.TheVariants as kinds;
 ghost use Rattle.bser_named.specs.Named.{text_of, with_text_keys};
 ghost use Rattle.bser_read.specs.Window.{closed};
@@ -14,10 +14,9 @@ use crate::event::Event;
 use crate::frame::{Due, Frame, Parts};
 use crate::heads::{check_working, refuse_memory, tell, token_within};
 use crate::parts::read_after;
-use crate::pieces::due_piece;
+use crate::pieces::{due_piece, is_skipped};
 use crate::strings::read_key;
 use bser_bunser::bunser::Bunser;
-use bser_bunser::prefix::Token;
 use bser_bunser::refusal::Answer;
 use bser_format::errors::{Error, Kind};
 use bser_read::read::DeRead;
@@ -188,20 +187,5 @@ fn read_due_key<R: DeRead, B: Builder>(
     match due {
         Due::Entry => read_key(bunser, Kind::MapKey, scratch, builder),
         Due::Item | Due::Field => Ok(()),
-    }
-}
-
-/// Whether a field is due, and is missing.
-#[inline(always)]
-fn is_skipped(due: Due, token: Token) -> bool
-    ensures { MatchBool result ((due ≡ Due.Field) × (token ≡ Token.Skip))
-        (due ≡ Due.Field → token ≢ Token.Skip) }
-{
-    match due {
-        Due::Field => match token {
-            Token::Skip => true,
-            _ => false,
-        },
-        Due::Item | Due::Entry => false,
     }
 }

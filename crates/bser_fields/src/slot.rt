@@ -44,11 +44,12 @@ pub trait Slot<L: LendsText>: Drop {
     /// Reads the value that is due as the field's.
     ///
     /// A field that was read before is refused by [`Complaint::ItemsLeft`], and a value as its type
-    /// refuses it; the deserializer then refuses each later call.
+    /// refuses it; the field is then as it was, and the deserializer refuses each later call.
     fn fill<R: DeRead<Lent = L>>(&mut self, alloc: Global, from: &mut Deserializer<R>) -> Answer<()>
         ensures found { OnOk result ((s : StructField) → Self.keeps self.old s
             → MakesStep fill (Self.keeps self.new) s
             (state R.window L.kept from.old) (state R.window L.kept from.new)) }
+        ensures unchanged { OnErr result (self.new ≡ self.old) }
         ensures refused { OnErr result ((s : StructField) → Self.keeps self.old s
             → RefusesStep fill Self.needs
             (NamesField Self.needs Self.asks (refusal_in from.new) s
@@ -180,6 +181,7 @@ where
     R::Lent: LendsText,
     ensures found { OnOk result (ReadsOnce T.reads T.holds value.old value.new
         (state R.window R.Lent.kept from.old) (state R.window R.Lent.kept from.new)) }
+    ensures unchanged { OnErr result (value.new ≡ value.old) }
     ensures refused { OnErr result (RefusesOnce T.reads T.asks T.needs
         (refusal_in from.new) value.old
         (state R.window R.Lent.kept from.old) (state R.window R.Lent.kept from.new)) }

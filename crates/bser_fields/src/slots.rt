@@ -47,7 +47,7 @@ pub trait Slots<L: LendsText>: Drop {
     /// Reads the value that is due as that of the field at this place. Where no field has the
     /// place, the value is read as [`Ignored`].
     ///
-    /// Refused as [`Slot::fill`] is.
+    /// Refused as [`Slot::fill`] is, and the fields are then as they were.
     fn fill_at<R: DeRead<Lent = L>>(
         &mut self,
         alloc: Global,
@@ -57,6 +57,7 @@ pub trait Slots<L: LendsText>: Drop {
         ensures found { OnOk result ((ss : List StructField) → Self.keeps self.old ss
             → MakesStep (fill_at place) (Self.keeps self.new) ss
             (state R.window L.kept from.old) (state R.window L.kept from.new)) }
+        ensures unchanged { OnErr result (self.new ≡ self.old) }
         ensures refused { OnErr result ((ss : List StructField) → Self.keeps self.old ss
             → RefusesStep (fill_at place) (struct_needs Self.needs)
             (NamesFields (struct_needs Self.needs) (all_asked Self.fields Self.asks) (Some place)

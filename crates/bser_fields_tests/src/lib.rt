@@ -1,6 +1,7 @@
 //! Tests of structs that are read by their fields.
 #![tactic(auto)]
 
+mod listed;
 mod structs;
 #[cfg(test)]
 mod tests;

@@ -12,6 +12,7 @@ mod adds;
 mod count;
 mod holders;
 mod integer;
+mod lists;
 mod maps;
 pub mod message;
 mod pending;

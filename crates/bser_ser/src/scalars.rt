@@ -1,5 +1,6 @@
 //! Values without parts.
 ghost use Rattle.std.specs.Prelude.{Some, pos, string_bytes, encode_utf8};
+ghost use Rattle.std.specs.Cow.{cow_str_bytes};
 ghost use Rattle.bser_format.specs.Tree.{null, boolean, integer, bytes, text};
 ghost use Rattle.bser_format.specs.Written.{unsigned_tree};
 
@@ -9,6 +10,7 @@ use bser_format::bytestring::ByteString;
 use bser_format::errors::Result;
 use bser_source::device::Sink;
 use std::alloc::Global;
+use std::borrow::CowStr;
 
 impl Serialize for () {
     ghost meaning = { λ _. Some null };
@@ -98,6 +100,14 @@ impl Serialize for usize {
     }
 }
 
+impl Serialize for isize {
+    ghost meaning = { λ v. Some (integer v) };
+
+    fn serialize<W: Sink>(&self, _alloc: Global, out: &mut Serializer<W>) -> Result<()> {
+        out.put_i64(*self as i64)
+    }
+}
+
 impl Serialize for char {
     ghost meaning = { λ c. Some (text (encode_utf8 c)) };
 
@@ -116,6 +126,14 @@ impl Serialize for &str {
 
 impl Serialize for String {
     ghost meaning = { λ s. Some (text (string_bytes s)) };
+
+    fn serialize<W: Sink>(&self, _alloc: Global, out: &mut Serializer<W>) -> Result<()> {
+        out.put_text(self.as_str())
+    }
+}
+
+impl<'a> Serialize for CowStr<'a> {
+    ghost meaning = { λ s. Some (text (cow_str_bytes s)) };
 
     fn serialize<W: Sink>(&self, _alloc: Global, out: &mut Serializer<W>) -> Result<()> {
         out.put_text(self.as_str())

@@ -8,6 +8,15 @@ use bser_format::errors::Result;
 use bser_source::device::Sink;
 use std::alloc::Global;
 
+impl<A: Serialize> Serialize for (A,) {
+    ghost meaning = { λ t. tuple_tree (A.meaning t.0 ∷ []) };
+
+    fn serialize<W: Sink>(&self, alloc: Global, out: &mut Serializer<W>) -> Result<()> {
+        out.put_seq(Some(1))?;
+        self.0.serialize(alloc, out)
+    }
+}
+
 impl<A: Serialize, B: Serialize> Serialize for (A, B) {
     ghost meaning = { λ t. tuple_tree (A.meaning t.0 ∷ B.meaning t.1 ∷ []) };
 

@@ -12,6 +12,9 @@ pub mod Items
 pub mod Arrays
 pub mod Lists
 pub mod Tuples
+pub mod Sets
+pub mod EqualParts
+pub mod Choices
 pub mod ObjectFills
 pub mod Objects
 pub mod Maps

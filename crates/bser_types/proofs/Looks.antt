@@ -45,7 +45,7 @@ some_byte o (name_due k) s z is h = is
 some_byte o (row_due ks) s z is h = is
 
 -- what is seen of the bytes left is what stands there
-stands_seen : (s : State) (now : Window) (v w : Seen) (all z more : List ℕ) → Stands s now v → seen s.opened s.due all ≡ reads w z → now.buffered ++ more ≡ all → w ≡ v
+pub stands_seen : (s : State) (now : Window) (v w : Seen) (all z more : List ℕ) → Stands s now v → seen s.opened s.due all ≡ reads w z → now.buffered ++ more ≡ all → w ≡ v
 stands_seen s now (tag t) w all z more stands h same =
     let whole : t ∷ (drop 1 now.buffered ++ more) ≡ all = sym (ap (λ l. l ++ more) stands.1.next) ∙ same in
     tag_seen s.opened s.due t (drop 1 now.buffered ++ more) w z stands.0 (ap (seen s.opened s.due) whole ∙ h)
@@ -104,14 +104,21 @@ stands_sees s now (row ks) k x more stands kind here = (x, ap (λ d. seen s.open
 
 -- ---- what is read after a look
 
--- what the call read is what is due
-pub look_answers : {A B : Type 0} (inner outer : Meaning) (holds_in : A → Content → Type 0) (holds_out : B → Content → Type 0) (s mid t : State) (k : Node) (v : A) (w : B) → (sees : SeesNode s mid k)
-    → ((u : Tree) (c : Content) → is_null sees.seen ≡ null_tree u → is_sequence sees.seen ≡ array_tree u → inner u ≡ Some c → holds_in v c → (d : Content) × (outer u ≡ Some d) × holds_out w d)
+-- what is known of a tree, where this was seen before the bytes that it fills
+abbrev pub Tells : (s mid : State) → (k : Node) → SeesNode s mid k → (Tree → Type 0) → Type 0
+Tells s mid k sees Known = (u : Tree) (taken rest more : List ℕ) → Fills s.levels s.due u taken → mid.source.buffered ++ more ≡ taken ++ rest → Known u
+
+-- whether it is null, and whether an array
+abbrev pub KnownOf : Seen → Tree → Type 0
+KnownOf v u = (is_null v ≡ null_tree u) × (is_sequence v ≡ array_tree u)
+
+-- what the call read is what is due, by what is known of it
+pub known_answers : {A B : Type 0} (inner outer : Meaning) (holds_in : A → Content → Type 0) (holds_out : B → Content → Type 0) (s mid t : State) (k : Node) (v : A) (w : B) (Known : Tree → Type 0) → (sees : SeesNode s mid k) → Tells s mid k sees Known
+    → ((u : Tree) (c : Content) → Known u → inner u ≡ Some c → holds_in v c → (d : Content) × (outer u ≡ Some d) × holds_out w d)
     → Answers inner holds_in mid t v → Answers outer holds_out s t w
-look_answers inner outer holds_in holds_out s mid t k v w sees means a =
+known_answers inner outer holds_in holds_out s mid t k v w Known sees tells means a =
     let filled : Fills s.levels s.due a.tree a.text = subst (λ (x : State). Fills x.levels x.due a.tree a.text) sees.state a.filled in
-    let tells = seen_tells s mid k a.tree a.text t.source.buffered a.took.more sees filled a.took.bytes in
-    let r = means a.tree a.content tells.0 tells.1 a.read a.held in
+    let r = means a.tree a.content (tells a.tree a.text t.source.buffered a.took.more filled a.took.bytes) a.read a.held in
     record {
       tree = a.tree;
       content = r.0;
@@ -122,6 +129,13 @@ look_answers inner outer holds_in holds_out s mid t k v w sees means a =
       took = took_from s mid.source t.source sees.seen a.tree a.text sees.stands filled a.took;
       state = a.state ∙ ap (λ (x : State). past x t.source) sees.state;
     }
+
+-- what the call read is what is due
+pub look_answers : {A B : Type 0} (inner outer : Meaning) (holds_in : A → Content → Type 0) (holds_out : B → Content → Type 0) (s mid t : State) (k : Node) (v : A) (w : B) → (sees : SeesNode s mid k)
+    → ((u : Tree) (c : Content) → is_null sees.seen ≡ null_tree u → is_sequence sees.seen ≡ array_tree u → inner u ≡ Some c → holds_in v c → (d : Content) × (outer u ≡ Some d) × holds_out w d)
+    → Answers inner holds_in mid t v → Answers outer holds_out s t w
+look_answers inner outer holds_in holds_out s mid t k v w sees means a =
+    known_answers inner outer holds_in holds_out s mid t k v w (KnownOf sees.seen) sees (λ u taken rest more filled same. seen_tells s mid k u taken rest more sees filled same) (λ u c known read held. means u c known.0 known.1 read held) a
 
 -- what the call that reads what was seen refuses, the whole refuses
 abbrev pub SeenAsked : {R T : Meaning} → Option (Asking R) → Option (Asking T) → State → Seen → Type 0
@@ -144,11 +158,11 @@ look_named needs inner outer (Some b) (Some a) s mid k e sees asked said = at (s
         names_by_grown needs (a.asks s.opened s.levels s.due) (b.asks s.opened s.levels s.due) e 1 s.source mid.source grown
         (λ f x more whole p. let there = stands_sees s mid.source sees.seen k x more sees.stands sees.kind whole in asked x there.0 f there.1 p) h
 
--- what the call refused is refused
-pub look_refused : (needs : Needs) (inner outer : Meaning) (tells : Option (Asking inner)) (asks : Option (Asking outer)) (s mid z : State) (k : Node) (e : Error) → (sees : SeesNode s mid k)
-    → ((u : Tree) (c : Content) → is_null sees.seen ≡ null_tree u → is_sequence sees.seen ≡ array_tree u → outer u ≡ Some c → (d : Content) × (inner u ≡ Some d))
+-- what the call refused is refused, by what is known of what is due
+pub known_refused : (needs : Needs) (inner outer : Meaning) (tells : Option (Asking inner)) (asks : Option (Asking outer)) (s mid z : State) (k : Node) (e : Error) (Known : Tree → Type 0) → (sees : SeesNode s mid k) → Tells s mid k sees Known
+    → ((u : Tree) (c : Content) → Known u → outer u ≡ Some c → (d : Content) × (inner u ≡ Some d))
     → SeenAsked asks tells s sees.seen → Refuses inner tells needs e mid z → Refuses outer asks needs e s z
-look_refused needs inner outer tells asks s mid z k e sees means asked u = record {
+known_refused needs inner outer tells asks s mid z k e Known sees knows means asked u = record {
   fails = fails_before 1 e s.source mid.source z.source grown u.fails;
   may = at u.may;
   names = look_named needs inner outer tells asks s mid k e sees asked u.names;
@@ -166,9 +180,15 @@ look_refused needs inner outer tells asks s mid z k e sees means asked u = recor
     within : (taken rest : List ℕ) → FillsReadably outer s taken → left s.source ≡ Some (taken ++ rest) → FillsReadably inner mid taken
     within taken rest f known =
         let hand = hand_first mid.source (taken ++ rest) (left_grown 1 s.source mid.source (taken ++ rest) grown known) in
-        let tells = seen_tells s mid k f.tree taken rest hand.0 sees f.filled hand.1 in
-        let i = means f.tree f.content tells.0 tells.1 f.read in
+        let i = means f.tree f.content (knows f.tree taken rest hand.0 f.filled hand.1) f.read in
         record { tree = f.tree; content = i.0; filled = subst (λ (x : State). Fills x.levels x.due f.tree taken) (sym sees.state) f.filled; read = i.1 }
+
+-- what the call refused is refused
+pub look_refused : (needs : Needs) (inner outer : Meaning) (tells : Option (Asking inner)) (asks : Option (Asking outer)) (s mid z : State) (k : Node) (e : Error) → (sees : SeesNode s mid k)
+    → ((u : Tree) (c : Content) → is_null sees.seen ≡ null_tree u → is_sequence sees.seen ≡ array_tree u → outer u ≡ Some c → (d : Content) × (inner u ≡ Some d))
+    → SeenAsked asks tells s sees.seen → Refuses inner tells needs e mid z → Refuses outer asks needs e s z
+look_refused needs inner outer tells asks s mid z k e sees means asked u =
+    known_refused needs inner outer tells asks s mid z k e (KnownOf sees.seen) sees (λ t taken rest more filled same. seen_tells s mid k t taken rest more sees filled same) (λ t c known read. means t c known.0 known.1 read) asked u
 
 -- where nothing is seen, no value is read
 pub no_value : (needs : Needs) (means : Meaning) (asks : Option (Asking means)) (s z : State) (e : Error) → HeadAsked asks s (seen s.opened s.due)

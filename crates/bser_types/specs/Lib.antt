@@ -1,6 +1,9 @@
 pub mod Accesses
+pub mod Arrays
 pub mod Askings
+pub mod Choices
 pub mod Fold
 pub mod HoldsReals
+pub mod HoldsSets
 pub mod Slots
 pub mod Tuples

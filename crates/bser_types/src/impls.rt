@@ -1,4 +1,6 @@
 //! The types that are read.
+pub mod arrays;
+pub mod deques;
 pub mod hash_maps;
 pub mod holders;
 pub mod ignored;
@@ -7,6 +9,7 @@ pub mod keys;
 pub mod lists;
 pub mod maps;
 pub mod scalars;
+pub mod sets;
 pub mod strings;
 pub mod tuples;
 

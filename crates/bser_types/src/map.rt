@@ -260,7 +260,7 @@ where
     /// Reads the value of the key that was read into a variable that has none.
     ///
     /// A variable that has a value is refused by [`Complaint::ItemsLeft`]; refused else as
-    /// [`MapAccess::next_value`] is.
+    /// [`MapAccess::next_value`] is. After a refusal the variable is as it was.
     #[inline(always)]
     pub fn next_value_once<V: Deserialize<R::Lent>>(
         &mut self,
@@ -270,6 +270,7 @@ where
         ensures same_reference { pairs_reference self.new ≡ pairs_reference self.old }
         ensures found { OnOk result (ReadsOnce V.reads V.holds value.old value.new
             (open_pairs R.window R.Lent.kept self.old) (open_pairs R.window R.Lent.kept self.new)) }
+        ensures unchanged { OnErr result (value.new ≡ value.old) }
         ensures refused { OnErr result (RefusesOnce V.reads V.asks V.needs (pairs_refusal self.new)
             value.old (open_pairs R.window R.Lent.kept self.old)
             (open_pairs R.window R.Lent.kept self.new).state) }

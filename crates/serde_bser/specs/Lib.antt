@@ -10,7 +10,10 @@ pub use Rattle.bser_due.specs.Required
 pub use Rattle.bser_due.specs.Nodes
 pub use Rattle.bser_due.specs.Askings
 pub use Rattle.bser_types.specs.Accesses
+pub use Rattle.bser_types.specs.Arrays
+pub use Rattle.bser_types.specs.Choices
 pub use Rattle.bser_types.specs.Fold
+pub use Rattle.bser_types.specs.HoldsSets
 pub use Rattle.bser_types.specs.Slots
 pub use Rattle.bser_types.specs.Tuples
 pub use Rattle.bser_fields.specs.SlotValues

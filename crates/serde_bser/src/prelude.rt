@@ -6,6 +6,8 @@ pub use bser_fields::slot::Slot;
 pub use bser_fields::slots::Slots;
 pub use bser_read::read::DeRead;
 pub use bser_source::read::LendsText;
+pub use bser_structs::fields::{Codec, Fields, ReadOnly, WriteOnly};
+pub use bser_structs::{put_struct, read_struct};
 pub use bser_types::container::ReadsContainers;
 pub use bser_types::deserialize::{Deserialize, DeserializeOwned, OwnedShape, Shape};
 pub use bser_types::impls::SkipsValues;

@@ -7,6 +7,8 @@ use bser_format::errors::{Error, Result};
 pub use bser_ser::message::{serialize, serialize_to};
 pub use bser_ser::{CountWrite, Serialize, Serializer};
 use bser_source::device::Watched;
+pub use bser_structs::variants::{put_variant, put_variant_fields};
+pub use bser_structs::writing::{Given, PutField, PutFields, put_fields};
 use std::alloc::Global;
 
 /// The value's message in a new vector.

@@ -1,3 +1,4 @@
+mod lists;
 mod types;
 
 use self::types::{FileInfo, RealBits, TestEnum, TestStruct};

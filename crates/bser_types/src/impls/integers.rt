@@ -249,3 +249,30 @@ impl<L: LendsText> Deserialize<L> for usize {
 impl OwnedShape for usize {
     ghost owned = { refl };
 }
+
+/// As 64 bits.
+impl Shape for isize {
+    ghost reads = { reads_signed 64 };
+
+    ghost holds = { HoldsNumber };
+
+    ghost needs = { bare };
+
+    ghost asks = { Some (asking_integer (is_signed 64)) };
+
+    ghost plain = { Some (λ _. refl) };
+}
+
+impl<L: LendsText> Deserialize<L> for isize {
+    #[inline(always)]
+    fn deserialize<R: DeRead<Lent = L>>(
+        _alloc: Global,
+        from: &mut Deserializer<R>,
+    ) -> Answer<isize> {
+        Ok(from.read_i64()? as isize)
+    }
+}
+
+impl OwnedShape for isize {
+    ghost owned = { refl };
+}

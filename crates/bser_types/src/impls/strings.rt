@@ -1,5 +1,6 @@
 //! Strings and characters.
 ghost use Rattle.std.specs.Prelude.{◌≡◌, refl, Some, chars, string_bytes};
+ghost use Rattle.std.specs.Cow.{cow_str_bytes};
 ghost use Rattle.bser_format.specs.ReadsScalars.{reads_slice, reads_string, reads_byte_string, reads_char, one_char};
 ghost use Rattle.bser_due.specs.HoldsTexts.{HoldsBytes, HoldsChar, char_content};
 ghost use Rattle.bser_due.specs.Askings.{asking_bytes, asking_string, asking_char};
@@ -12,10 +13,11 @@ use bser_deserializer::cursor::Cursor;
 use bser_deserializer::deserializer::Deserializer;
 use bser_due::node::Node;
 use bser_format::bytestring::ByteString;
-use bser_format::errors::Complaint;
+use bser_format::errors::{Complaint, Error};
 use bser_read::read::DeRead;
-use bser_source::read::{LendsFrom, LendsText};
+use bser_source::read::{LendsFrom, LendsText, TextReference};
 use std::alloc::Global;
+use std::borrow::CowStr;
 
 /// A text, or a byte string or key that is UTF-8.
 impl Shape for String {
@@ -69,6 +71,46 @@ impl<'de, L: LendsFrom<'de>> Deserialize<L> for &'de str {
             None => Err(from.complain(Complaint::BorrowedFromCopying)),
         }
     }
+}
+
+/// A text, or a byte string or key that is UTF-8: lent from the input where it is a slice, and else
+/// a copy.
+///
+/// A copy takes memory, and want of it is refused by [`Error::OutOfMemory`].
+impl<'de> Shape for CowStr<'de> {
+    ghost reads = { reads_string };
+
+    ghost holds = { λ s. HoldsBytes (cow_str_bytes s) };
+
+    ghost needs = { owned };
+
+    ghost asks = { Some asking_string };
+
+    ghost plain = { Some (λ _. refl) };
+}
+
+impl<'de, L: LendsFrom<'de>> Deserialize<L> for CowStr<'de> {
+    #[inline(always)]
+    fn deserialize<R: DeRead<Lent = L>>(
+        alloc: Global,
+        from: &mut Deserializer<R>,
+    ) -> Answer<CowStr<'de>> {
+        let mut scratch = Vec::new(alloc);
+        match from.read_text(&mut scratch)? {
+            TextReference::Copied(text) => match String::from_str(alloc, text) {
+                Ok(text) => Ok(CowStr::Owned(text)),
+                Err(_) => Err(from.refuse(Error::OutOfMemory)),
+            },
+            TextReference::Borrowed(text) => match L::lent_text(TextReference::Borrowed(text)) {
+                Some(text) => Ok(CowStr::Borrowed(text)),
+                None => unreachable!(),
+            },
+        }
+    }
+}
+
+impl<'de> OwnedShape for CowStr<'de> {
+    ghost owned = { refl };
 }
 
 /// The bytes of a string or key, lent from the input.

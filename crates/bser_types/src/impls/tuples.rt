@@ -18,6 +18,36 @@ use bser_read::read::DeRead;
 use bser_source::read::LendsText;
 use std::alloc::Global;
 
+/// An array of one item. None is refused by [`Complaint::TooFewItems`], more by
+/// [`Complaint::ItemsLeft`].
+///
+/// [`Complaint::TooFewItems`]: bser_format::errors::Complaint::TooFewItems
+/// [`Complaint::ItemsLeft`]: bser_format::errors::Complaint::ItemsLeft
+impl<A: Shape> Shape for (A,) {
+    ghost reads = { reads_tuple (A.reads ∷ []) };
+
+    ghost holds = { λ v c. HoldsTuple (A.holds v.0 ∷ []) c };
+
+    ghost needs = { tuple_needs (A.needs ∷ []) (A.reads ∷ []) (A.plain, tt) };
+
+    ghost asks = { asking_tuple (A.reads ∷ []) (A.asks, tt) };
+
+    ghost plain = { Some (λ _. refl) };
+}
+
+impl<L: LendsText, A: Deserialize<L>> Deserialize<L> for (A,) {
+    fn deserialize<R: DeRead<Lent = L>>(alloc: Global, from: &mut Deserializer<R>) -> Answer<(A,)> {
+        let mut seq = from.read_seq(alloc)?;
+        let only = seq.required_element::<A>(alloc)?;
+        seq.end()?;
+        Ok((only,))
+    }
+}
+
+impl<A: OwnedShape> OwnedShape for (A,) {
+    ghost owned = { ap (λ a. a || any_lent []) A.owned };
+}
+
 /// An array of two items. Fewer are refused by [`Complaint::TooFewItems`], more by
 /// [`Complaint::ItemsLeft`].
 ///

@@ -1,6 +1,11 @@
-use Rattle.bser_events.proofs.InFront.{field_in_front}
-use Rattle.bser_events.proofs.Outcomes.{each_some}
+use Rattle.bser_events.proofs.InFront.{due_scalar_in_front, due_string_in_front, first_rest}
 use Rattle.bser_events.proofs.pieces.due_piece.Goals as goal
 
-pub returns-after-token_prefix : goal.returns-after-token_prefix
-returns-after-token_prefix c = rw c.in-Field.is (each_some _ _ c.value_piece-in-Field.result c.value_piece-in-Field.ensures (λ p is n. field_in_front n _ _ _ (is n)))
+pub returns-in_default-value : goal.returns-in_default-value
+returns-in_default-value c = due_scalar_in_front c.args.due c.in-Found.value _ c.args.bytes.now c.in-Found.len c.in-Found.ensures c.in_ok-event.ensures
+
+pub returns : goal.returns
+returns c =
+    let f = c.in-Found in
+    let string = first_rest f.len c.in-Str.size c.args.bytes.now _ c.in_ok-first.ensures in
+    due_string_in_front c.args.due c.in-Str.is_text c.in-Str.size f.len f.value _ c.args.bytes.now _ c.in-Str.is f.ensures string c.in_ok-event-2.ensures

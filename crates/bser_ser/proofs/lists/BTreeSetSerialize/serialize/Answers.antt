@@ -1,0 +1,27 @@
+use Rattle.std.proofs.Common.{length, subst, ◌∙◌}
+use Rattle.std.proofs.lemmas.Result.{err_from_is_err_and}
+use Rattle.bser_format.specs.Pieces.{array_head}
+use Rattle.bser_ser.specs.Sent.{Sent}
+use Rattle.bser_ser.proofs.Ends.{UpTo-start, UpTo-more}
+use Rattle.bser_ser.proofs.Texts.{item_text, Ends-array, Stops-array}
+use Rattle.bser_ser.proofs.lists.BTreeSetSerialize.serialize.Goals as goal
+
+pub loop-item-init : goal.loop-item-init
+loop-item-init g c =
+    UpTo-start g.W.Sink.took g.W.Sink.failures (array_head (length c.args.self.now.keys)) (item_text g.T.Serialize.meaning) c.args.self.now.keys _ c.args.out.now c.put_seq.new.self
+    (c.into_iter-item-iterator.ensures.into_iter_gives ∙ c.iter-item-items.ensures.rest)
+    (subst (λ n. Sent g.W.Sink.took g.W.Sink.failures c.args.out.now c.put_seq.new.self (array_head n)) c.len.ensures.len c.in_ok-put_seq.ensures.put.0)
+
+pub loop-item-preserved : goal.loop-item-preserved
+loop-item-preserved g c =
+    UpTo-more g.W.Sink.took g.W.Sink.failures g.met.W.Sink.took_both (array_head (length c.args.self.now.keys)) (item_text g.T.Serialize.meaning) c.args.self.now.keys _ _ c.in-Some.item.now
+    c.args.out.now c.loop-item.out c.serialize.new.out c.loop-item.invariant c.in-Some.ensures.steps c.in_ok-serialize.ensures.ok
+
+pub returns-in_err-serialize-clause-err : goal.returns-in_err-serialize-clause-err
+returns-in_err-serialize-clause-err g c =
+    let p = err_from_is_err_and c.from_residual-in_err-serialize.result c.from_residual-in_err-serialize.ensures.1 in
+    rw (p.1, p.2) (Stops-array g.W.Sink.took g.W.Sink.failures g.T.Serialize.meaning c.args.self.now.keys g.met.W.Sink.took_both _ _ c.in-Some.item.now
+    c.args.out.now c.loop-item.out c.serialize.new.out c.in_err-serialize.field-0.0 c.loop-item.invariant c.in-Some.ensures.steps c.in_err-serialize.ensures.err)
+
+pub returns-clause-ok : goal.returns-clause-ok
+returns-clause-ok g c = Ends-array g.W.Sink.took g.W.Sink.failures g.T.Serialize.meaning c.args.self.now.keys _ c.args.out.now c.loop-item.out c.loop-item.invariant c.in-None.ensures.steps.0

@@ -1,0 +1,11 @@
+use Rattle.std.proofs.lemmas.Result.{MatchResult-weaker}
+use Rattle.bser_ser.proofs.Structs.{payload_ends, payload_stops}
+use Rattle.bser_structs.proofs.variants.put_variant.Goals as goal
+
+pub returns-clause-ok : goal.returns-clause-ok
+returns-clause-ok g c =
+    MatchResult-weaker c.serialize.result c.serialize.ensures.ok (λ _ t. payload_ends g.W.Sink.took g.W.Sink.failures g.met.W.Sink.took_both c.args.name.now (g.T.Serialize.meaning c.args.payload.now) c.args.out.now c.put_newtype_variant.new.self c.serialize.new.out c.in_ok-put_newtype_variant.ensures.0 t) (λ _ t. t)
+
+pub returns-clause-err : goal.returns-clause-err
+returns-clause-err g c =
+    MatchResult-weaker c.serialize.result c.serialize.ensures.err (λ _ t. t) (λ e t. payload_stops g.W.Sink.took g.W.Sink.failures g.met.W.Sink.took_both c.args.name.now (g.T.Serialize.meaning c.args.payload.now) c.args.out.now c.put_newtype_variant.new.self c.serialize.new.out e c.in_ok-put_newtype_variant.ensures.0 t)

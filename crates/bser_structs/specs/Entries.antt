@@ -1,0 +1,23 @@
+-- The entries of an object, as which the fields of a struct are written.
+use Rattle.std.specs.Prelude.{◌≡◌, ℕ, ◌≤◌, ◌^◌, List, [], ◌∷◌, length, Option, Some, None, ◌⊎◌}
+use Rattle.bser_format.specs.Tree.{Tree}
+use Rattle.bser_format.specs.Written.{struct_tree, within_i64}
+use Rattle.bser_ser.specs.Ends.{field_text, then}
+
+-- the text of all entries, where each has one
+abbrev pub entries_text : List (List ℕ × Option Tree) → Option (List ℕ)
+entries_text [] = Some []
+entries_text (e ∷ es) = then (field_text e.0 e.1) (entries_text es)
+
+-- the object of these entries, of which there are no more than an i64 counts
+abbrev pub entries_tree : List (List ℕ × Option Tree) → Option Tree
+entries_tree es = within_i64 (length es) (struct_tree es)
+
+-- the entry of a value, or none where there is no value
+abbrev pub given_entry : {A : Type 0} → List ℕ → (A → Option Tree) → Option A → List (List ℕ × Option Tree)
+given_entry name tree None = []
+given_entry name tree (Some x) = (name, tree x) ∷ []
+
+-- a count of n, which may be any above the greatest i64 where n is
+abbrev pub IsCount : ℕ → ℕ → Type 0
+IsCount n count = (count ≡ n) ⊎ ((2 ^ 63 ≤ count) × (2 ^ 63 ≤ n))

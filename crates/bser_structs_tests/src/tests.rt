@@ -1,0 +1,247 @@
+//! Structs from objects and rows, from a slice and from a reader, and the messages written for them.
+use crate::choices::Choice;
+use crate::files::File;
+use crate::named::NamedFile;
+use crate::queries::Query;
+use crate::rows::Row;
+use crate::signed::Shift;
+use serde_bser::bytestring::ByteString;
+use serde_bser::device::Watched;
+use serde_bser::errors::{Complaint, Error, Message, Result};
+use serde_bser::prelude::*;
+use serde_bser::ser::{Serialize, to_vec};
+use serde_bser::{from_reader, from_slice};
+use std::alloc::Global;
+use std::io;
+use std::io::Read;
+use std::process::Abort;
+
+/// A reader that gives one byte a call.
+#[derive(Drop)]
+struct OneByOne<'a> {
+    bytes: &'a [u8],
+}
+
+impl<'a> Read for OneByOne<'a> {
+    fn read(&mut self, buf: &mut [u8]) -> io::Result<usize> {
+        let count = buf.len().min(1).min(self.bytes.len());
+        buf[..count].copy_from_slice(&self.bytes[..count]);
+        self.bytes = &self.bytes[count..];
+        Ok(count)
+    }
+}
+
+/// Checks that the message is read as this value, from a slice and byte by byte.
+fn check_read<'a, T: DeserializeOwned + Deserialize<&'a [u8]> + PartialEq>(
+    rt: &impl Abort,
+    alloc: Global,
+    bytes: &'a [u8],
+    wanted: &T,
+) -> Result<()> {
+    let read: T = from_slice(alloc, bytes)?;
+    assert!(rt; read == *wanted);
+    let mut reader = Watched::new(OneByOne { bytes });
+    let read: T = from_reader(alloc, &mut reader)?;
+    assert!(rt; read == *wanted);
+    Ok(())
+}
+
+/// Checks that this message is written for the value.
+fn check_written<T: Serialize>(
+    rt: &impl Abort,
+    alloc: Global,
+    value: &T,
+    bytes: &[u8],
+) -> Result<()> {
+    let message = to_vec(alloc, value)?;
+    assert_eq!(rt; message.as_slice(), bytes);
+    Ok(())
+}
+
+/// Checks that the message is refused with this complaint, from a slice and byte by byte.
+fn check_refused<'a, T: DeserializeOwned + Deserialize<&'a [u8]>>(
+    rt: &impl Abort,
+    alloc: Global,
+    bytes: &'a [u8],
+    complaint: Complaint,
+) {
+    match from_slice::<T>(alloc, bytes) {
+        Ok(_) => assert!(rt; false),
+        Err(error) => assert!(rt; is_complaint(&error, complaint)),
+    }
+    let mut reader = Watched::new(OneByOne { bytes });
+    match from_reader::<_, T>(alloc, &mut reader) {
+        Ok(_) => assert!(rt; false),
+        Err(error) => assert!(rt; is_complaint(&error, complaint)),
+    }
+}
+
+fn is_complaint(error: &Error, complaint: Complaint) -> bool {
+    matches!(error, Error::DeCustom { msg: Message::Fixed(found) } if *found == complaint)
+}
+
+fn first_file(alloc: Global) -> Result<File> {
+    Ok(File {
+        name: ByteString::from_vec(Vec::from_slice(alloc, b"a")?),
+        size: 5,
+        mtime_ms: Some(7),
+        exists: Some(true),
+        kind: None,
+    })
+}
+
+fn second_file(alloc: Global) -> Result<File> {
+    Ok(File {
+        name: ByteString::from_vec(Vec::from_slice(alloc, b"\xff")?),
+        size: 128,
+        mtime_ms: None,
+        exists: None,
+        kind: Some(String::from_str(alloc, "f")?),
+    })
+}
+
+#[test]
+fn a_struct_is_read_as_it_is_written(rt: HostRuntime) -> Result<()> {
+    let alloc = rt.alloc();
+    let bytes = b"\x00\x02\0\0\0\0\x03\x2e\x01\x03\x04\x0d\x03\x04name\x02\x03\x01a\
+\x0d\x03\x04size\x03\x05\x0d\x03\x08mtime_ms\x03\x07\x0d\x03\x06exists\x08";
+    let file = first_file(alloc)?;
+    check_read(&rt, alloc, bytes, &file)?;
+    check_written(&rt, alloc, &file, bytes)
+}
+
+#[test]
+fn what_is_none_is_null_or_left_out(rt: HostRuntime) -> Result<()> {
+    let alloc = rt.alloc();
+    let bytes = b"\x00\x02\0\0\0\0\x03\x2f\x01\x03\x04\x0d\x03\x04name\x02\x03\x01\xff\
+\x0d\x03\x04size\x04\x80\x00\x0d\x03\x08mtime_ms\x0a\x0d\x03\x04type\x0d\x03\x01f";
+    let file = second_file(alloc)?;
+    check_read(&rt, alloc, bytes, &file)?;
+    check_written(&rt, alloc, &file, bytes)
+}
+
+#[test]
+fn fields_come_in_any_order_and_other_names_are_passed_over(rt: HostRuntime) -> Result<()> {
+    let alloc = rt.alloc();
+    let bytes = b"\x00\x02\0\0\0\0\x03\x42\x01\x03\x06\x0d\x03\x06exists\x08\
+\x0d\x03\x05other\x00\x03\x01\x0a\x0d\x03\x08mtime_ms\x03\x07\x0d\x03\x04size\x03\x05\
+\x0d\x03\x04type\x0a\x0d\x03\x04name\x02\x03\x01a";
+    check_read(&rt, alloc, bytes, &first_file(alloc)?)
+}
+
+#[test]
+fn rows_of_a_template_are_structs(rt: HostRuntime) -> Result<()> {
+    let alloc = rt.alloc();
+    let bytes = b"\x00\x02\0\0\0\0\x03\x46\x0b\x00\x03\x05\x0d\x03\x04name\x0d\x03\x04size\
+\x0d\x03\x08mtime_ms\x0d\x03\x06exists\x0d\x03\x04type\x03\x02\
+\x02\x03\x01a\x03\x05\x03\x07\x08\x0c\x02\x03\x01\xff\x04\x80\x00\x0c\x0c\x0d\x03\x01f";
+    let files = vec![in alloc; first_file(alloc)?, second_file(alloc)?]?;
+    check_read(&rt, alloc, bytes, &files)
+}
+
+#[test]
+fn a_field_that_has_to_be_there_is_refused_where_it_is_absent(rt: HostRuntime) {
+    let bytes = b"\x00\x02\0\0\0\0\x03\x0e\x01\x03\x01\x0d\x03\x04name\x02\x03\x01a";
+    check_refused::<File>(&rt, rt.alloc(), bytes, Complaint::TooFewItems);
+}
+
+#[test]
+fn a_field_that_comes_twice_is_refused(rt: HostRuntime) {
+    let bytes = b"\x00\x02\0\0\0\0\x03\x15\x01\x03\x02\x0d\x03\x04size\x03\x05\
+\x0d\x03\x04size\x03\x05";
+    check_refused::<File>(&rt, rt.alloc(), bytes, Complaint::ItemsLeft);
+}
+
+#[test]
+fn a_name_is_lent_or_owned(rt: HostRuntime) -> Result<()> {
+    let alloc = rt.alloc();
+    let bytes = b"\x00\x02\0\0\0\0\x03\x21\x01\x03\x03\x0d\x03\x04name\x0d\x03\x01a\
+\x0d\x03\x04size\x03\x05\x0d\x03\x06exists\x09";
+    let lent: NamedFile<&str> = from_slice(alloc, bytes)?;
+    assert_eq!(rt; lent.name, "a");
+    check_written(&rt, alloc, &lent, bytes)?;
+    let owned = NamedFile {
+        name: String::from_str(alloc, "a")?,
+        size: 5,
+        exists: Some(false),
+    };
+    check_read(&rt, alloc, bytes, &owned)?;
+    check_written(&rt, alloc, &owned, bytes)
+}
+
+#[test]
+fn strings_are_lent(rt: HostRuntime) -> Result<()> {
+    let alloc = rt.alloc();
+    let bytes = b"\x00\x02\0\0\0\0\x03\x32\x0b\x00\x03\x03\x0d\x03\x04name\x0d\x03\x04type\
+\x0d\x03\x04tags\x03\x02\x02\x03\x01\xff\x0c\x00\x03\x00\x02\x03\x01b\x0d\x03\x01f\
+\x00\x03\x01\x0d\x03\x01t";
+    let rows: Vec<Row> = from_slice(alloc, bytes)?;
+    assert_eq!(rt; rows.len(), 2);
+    assert_eq!(rt; rows[0].name, b"\xff".as_slice());
+    assert_eq!(rt; rows[0].kind, None);
+    assert_eq!(rt; rows[0].tags.len(), 0);
+    assert_eq!(rt; rows[1].name, b"b".as_slice());
+    assert_eq!(rt; rows[1].kind, Some("f"));
+    assert_eq!(rt; rows[1].tags.as_slice(), ["t"].as_slice());
+    Ok(())
+}
+
+#[test]
+fn numbers_have_a_sign(rt: HostRuntime) -> Result<()> {
+    let alloc = rt.alloc();
+    let bytes = b"\x00\x02\0\0\0\0\x03\x2b\x01\x03\x04\x0d\x03\x07seconds\x04\x7f\xff\
+\x0d\x03\x04zone\x03\x80\x0d\x03\x05drift\x03\xff\x0d\x03\x04leap\x0a";
+    let shift = Shift {
+        seconds: -129,
+        zone: -128,
+        drift: Some(-1),
+        leap: None,
+    };
+    check_read(&rt, alloc, bytes, &shift)?;
+    check_written(&rt, alloc, &shift, bytes)
+}
+
+#[test]
+fn a_query_is_written(rt: HostRuntime) -> Result<()> {
+    let alloc = rt.alloc();
+    let bytes = b"\x00\x02\0\0\0\0\x03\x21\x01\x03\x02\x0d\x03\x06fields\x00\x03\x01\
+\x0d\x03\x04name\x0d\x03\x05since\x0d\x03\x00";
+    let query = Query {
+        fields: &["name"],
+        since: Some(""),
+    };
+    check_written(&rt, alloc, &query, bytes)?;
+    let bytes = b"\x00\x02\0\0\0\0\x03\x16\x01\x03\x01\x0d\x03\x06fields\x00\x03\x01\
+\x0d\x03\x04name";
+    let query = Query {
+        fields: &["name"],
+        since: None,
+    };
+    check_written(&rt, alloc, &query, bytes)
+}
+
+#[test]
+fn a_variant_of_each_form_is_written(rt: HostRuntime) -> Result<()> {
+    let alloc = rt.alloc();
+    let bytes = b"\x00\x02\0\0\0\0\x03\x0a\x0d\x03\x07Nothing";
+    check_written(&rt, alloc, &Choice::<&str>::Nothing, bytes)?;
+    let bytes = b"\x00\x02\0\0\0\0\x03\x0d\x01\x03\x01\x0d\x03\x03One\x0d\x03\x01a";
+    check_written(&rt, alloc, &Choice::One("a"), bytes)?;
+    let bytes = b"\x00\x02\0\0\0\0\x03\x12\x01\x03\x01\x0d\x03\x03Two\x00\x03\x02\
+\x0d\x03\x01a\x03\x05";
+    check_written(&rt, alloc, &Choice::Two("a", 5), bytes)?;
+    let bytes = b"\x00\x02\0\0\0\0\x03\x18\x01\x03\x01\x0d\x03\x05Named\x01\x03\x01\
+\x0d\x03\x03abc\x0d\x03\x01a";
+    let named = Choice::Named {
+        abc: "a",
+        def: None,
+    };
+    check_written(&rt, alloc, &named, bytes)?;
+    let bytes = b"\x00\x02\0\0\0\0\x03\x20\x01\x03\x01\x0d\x03\x05Named\x01\x03\x02\
+\x0d\x03\x03abc\x0d\x03\x01a\x0d\x03\x03def\x03\xfe";
+    let named = Choice::Named {
+        abc: "a",
+        def: Some(-2),
+    };
+    check_written(&rt, alloc, &named, bytes)
+}

@@ -1,0 +1,17 @@
+use Rattle.std.proofs.Common.{◌≡◌}
+use Rattle.bser_due.specs.State.{State}
+use Rattle.bser_deserializer.specs.View.{state}
+use Rattle.bser_types.specs.Accesses.{open_items}
+use Rattle.bser_types.proofs.Sets.{PutsItems}
+use Rattle.bser_types.proofs.impls.sets.BTreeSetDeserialize.deserialize.Given as goal
+
+abbrev pub invariant-loop-alloc : goal.invariant-loop-alloc
+invariant-loop-alloc g l =
+    let o : State = state g.R.DeRead.window g.L.Lending.kept l.fn.from in
+    record {
+      same_reference : l.seq.from.ghost_name ≡ l.initial.seq.from.ghost_name;
+      items : PutsItems g.T.Shape.reads g.T.Shape.asks g.T.Ord.cmp g.T.Shape.holds o l.items.keys (open_items g.R.DeRead.window g.L.Lending.kept l.seq);
+    }
+
+abbrev pub decreases-loop-alloc : goal.decreases-loop-alloc
+decreases-loop-alloc g l = l.seq.head.remaining

@@ -1,0 +1,54 @@
+//! Sets in the order of their items. A template is read as the array of its rows.
+ghost use Rattle.std.specs.Prelude.{true, false, refl, Some, option_map};
+ghost use Rattle.bser_format.specs.ReadsHolders.{reads_vec};
+ghost use Rattle.bser_types.specs.Askings.{asking_vec};
+ghost use Rattle.bser_types.specs.HoldsSets.{HoldsSet};
+
+use crate::container::ReadsContainers;
+use crate::deserialize::{Deserialize, OwnedShape, Shape};
+use bser_bunser::refusal::Answer;
+use bser_deserializer::deserializer::Deserializer;
+use bser_format::errors::Error;
+use bser_read::read::DeRead;
+use bser_source::read::LendsText;
+use std::alloc::Global;
+use std::collections::BTreeSet;
+
+/// An array of any number of items, in any order. The first of equal items stays, and each is to
+/// be one that the type reads. Want of memory is refused by [`Error::OutOfMemory`].
+///
+/// [`Error::OutOfMemory`]: bser_format::errors::Error::OutOfMemory
+impl<T: Shape + Ord> Shape for BTreeSet<T> {
+    ghost reads = { reads_vec T.reads };
+
+    ghost holds = { λ s. HoldsSet T.cmp T.holds s.keys };
+
+    ghost needs = { record { lent = T.needs.lent; memory = true; keys = false } };
+
+    ghost asks = { option_map asking_vec T.asks };
+
+    ghost plain = { Some (λ _. refl) };
+}
+
+impl<L: LendsText, T: Deserialize<L> + Ord> Deserialize<L> for BTreeSet<T> {
+    fn deserialize<R: DeRead<Lent = L>>(
+        alloc: Global,
+        from: &mut Deserializer<R>,
+    ) -> Answer<BTreeSet<T>> {
+        let mut items = BTreeSet::new(alloc);
+        let mut seq = from.read_seq(alloc)?;
+        while seq.remaining() != 0 {
+            let item = seq.required_element::<T>(alloc)?;
+            match items.insert(item) {
+                Ok(_) => {}
+                Err(_) => return Err(seq.refuse(Error::OutOfMemory)),
+            }
+        }
+        seq.end()?;
+        Ok(items)
+    }
+}
+
+impl<T: OwnedShape + Ord> OwnedShape for BTreeSet<T> {
+    ghost owned = { T.owned };
+}
