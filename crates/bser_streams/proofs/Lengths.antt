@@ -1,7 +1,6 @@
 -- The length of a message, by a head that was taken of a slice.
 use Rattle.std.proofs.Common.{◌≡◌, ℕ, ◌+◌, ◌-◌, ◌<◌, ◌^◌, min, List, [], ◌++◌, Some, length, append_assoc, append-nil, refl, sym, ap, subst, ◌∙◌, arith, inl, inr}
-use Rattle.std.specs.Prelude.{ℤ, pos, ◌+ℤ◌, ◌≤◌, FitsSigned}
-use Rattle.std.specs.Int.{w64}
+use Rattle.std.specs.Prelude.{ℤ, pos, ◌+ℤ◌, ◌≤◌}
 use Rattle.std.proofs.lemmas.Int.{ints}
 use Rattle.bser_format.specs.declared.errors.Error.{Error}
 use Rattle.bser_format.specs.declared.errors.Error.TheVariants.{DeReaderError, OutOfMemory}
@@ -47,15 +46,11 @@ told_length bytes a b c len start n fresh h at sum =
     let same : p.0 ≡ n = omega (arith, ints, p.2, sum) in
     subst (HasLength bytes) same p.1
 
--- a sum that is no i64
-pub told_great : (bytes : List ℕ) (a b : Window) (c : ℕ) (len start : ℤ) (e : Error) → a ≡ slice_fresh bytes → TookHead a b c len → start ≡ pos (min b.count (2 ^ 63 - 1))
-    → (FitsSigned w64 (start +ℤ len) → ⊥) → e ≡ named.complain CountTooGreat → TooGreat bytes e
-told_great bytes a b c len start e fresh h at none name =
-    let p = taken_length bytes b c len start (subst (λ w. TookHead w b c len) fresh h) at in
-    record { size = p.0; length = p.1; more = great p.0 (subst (λ z. FitsSigned w64 z → ⊥) p.2 none); name = name }
-  where
-    great : (n : ℕ) → (FitsSigned w64 (pos n) → ⊥) → 2 ^ 63 ≤ n
-    great n none = grind (arith, ints, none)
+-- more than any slice has
+pub told_great : (bytes : List ℕ) (a b : Window) (c : ℕ) (len start : ℤ) (n : ℕ) (e : Error) → a ≡ slice_fresh bytes → TookHead a b c len → start ≡ pos (min b.count (2 ^ 63 - 1))
+    → start +ℤ len ≡ pos n → 2 ^ 63 ≤ n → e ≡ named.complain CountTooGreat → TooGreat bytes e
+told_great bytes a b c len start n e fresh h at sum more name =
+    record { size = n; length = told_length bytes a b c len start n fresh h at sum; more = more; name = name }
 
 -- nothing but its bytes is to blame for the refusal of a slice
 slice_inside : {X : Type 0} (r : named.Reader X) (e : Error) (bytes : List ℕ) → Outside (RefusedAs r) e (slice_fresh bytes) → ⊥

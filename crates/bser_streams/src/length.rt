@@ -22,10 +22,13 @@ pub fn message_length(alloc: Global, bytes: &[u8]) -> Result<Option<usize>>
     ensures refused { IfErr result (RefusesLength bytes.now) }
 {
     match Bunser::new(alloc, SliceRead::new(bytes)).read_pdu() {
-        Ok(info) => match info.start.checked_add(info.len) {
-            Some(length) => Ok(Some(length as usize)),
-            None => Err(Error::de_custom(Complaint::CountTooGreat)),
-        },
+        Ok(info) => {
+            let length = info.start as usize + info.len as usize;
+            if length > i64::MAX as usize {
+                return Err(Error::de_custom(Complaint::CountTooGreat));
+            }
+            Ok(Some(length))
+        }
         Err(
             Error::DeReaderError {
                 source: ReadCause::Eof,
