@@ -1,5 +1,5 @@
 -- The length of a message, by a head that was taken of a slice.
-use Rattle.std.proofs.Common.{◌≡◌, ℕ, ◌+◌, ◌-◌, ◌<◌, ◌^◌, min, List, [], ◌++◌, Some, length, append_assoc, append-nil, refl, sym, ap, subst, ◌∙◌, arith, inl, inr}
+use Rattle.std.proofs.Common.{◌≡◌, ℕ, ◌+◌, ◌-◌, ◌^◌, min, List, [], ◌++◌, length, append_assoc, append-nil, refl, sym, ap, subst, ◌∙◌, arith, inl, inr}
 use Rattle.std.specs.Prelude.{ℤ, pos, ◌+ℤ◌, ◌≤◌}
 use Rattle.std.proofs.lemmas.Int.{ints}
 use Rattle.bser_format.specs.declared.errors.Error.{Error}

@@ -1,23 +1,22 @@
 -- The first byte of a reader's next message, or none.
-use Rattle.std.proofs.Common.{◌≡◌, ℕ, ◌+◌, ◌≤◌, ◌<◌, ◌^◌, Bool, true, false, List, [], ◌++◌, ◌⊎◌, Option, None, Some, length, length-append, refl, sym, ap, subst, ◌∙◌, arith, inl, inr}
+use Rattle.std.proofs.Common.{◌≡◌, ℕ, ◌+◌, ◌≤◌, ◌<◌, ◌^◌, true, false, List, [], ◌⊎◌, Option, None, Some, length, length-append, refl, sym, ap, subst, ◌∙◌, arith, inl, inr}
 use Rattle.std.proofs.lemmas.List.{nil_from_length}
 use Rattle.std.specs.Borrow.{GName}
 use Rattle.std.specs.Io.KnownBytes.{IsAtEnd}
-use Rattle.bser_format.specs.Content.{Content, Meaning, Needs}
+use Rattle.bser_format.specs.Content.{Meaning, Needs}
 use Rattle.bser_format.specs.Errors.{error_of}
-use Rattle.bser_format.specs.Message.{Head}
 use Rattle.bser_format.specs.declared.errors.Error.{Error}
 use Rattle.bser_format.specs.declared.errors.Error.TheVariants.{DeReaderError}
 use Rattle.bser_format.specs.declared.errors.ReadCause.{ReadCause}
 use Rattle.bser_format.specs.declared.errors.ReadCause.TheVariants.{Eof, Utf8, Reader, Memory, Failed}
-use Rattle.bser_source.specs.Device.{Blamed, one_more}
+use Rattle.bser_source.specs.Device.{Blamed}
 use Rattle.bser_read.specs.Refusal.{Refused}
-use Rattle.bser_read.specs.Window.{Window, Grown, Filled, left}
+use Rattle.bser_read.specs.Window.{Window, Filled, left}
 use Rattle.bser_read.proofs.Windows.{left_grown, hand_first}
 use Rattle.bser_due.specs.Reading.{Asking}
-use Rattle.bser_messages.specs.Messages.{NamesReader, IsReaderFault}
+use Rattle.bser_messages.specs.Messages.{NamesReader}
 use Rattle.bser_messages.proofs.Sources.{reader_fresh, blamed_more, fresh_itself, fresh_left}
-use Rattle.bser_streams.specs.Limited.{RefusesReaderWithin, RefusesWithin}
+use Rattle.bser_streams.specs.Limited.{RefusesWithin}
 use Rattle.bser_streams.specs.Streams.{RefusesNext}
 use Rattle.bser_streams.proofs.Readers.{reader_refused_within}
 use Rattle.bser_streams.proofs.Windows.{refused_before}

@@ -1,18 +1,18 @@
 -- A message of a reader.
-use Rattle.std.proofs.Common.{◌≡◌, ℕ, ◌+◌, ◌-◌, ◌≤◌, max, Bool, true, false, List, [], ◌++◌, ◌⊎◌, Option, None, Some, length, append-nil, refl, sym, ap, subst, ◌∙◌, arith, inl, inr}
+use Rattle.std.proofs.Common.{◌≡◌, ℕ, ◌+◌, ◌-◌, ◌≤◌, max, false, List, [], ◌++◌, ◌⊎◌, Option, Some, length, append-nil, refl, sym, ap, subst, ◌∙◌, arith, inl, inr}
 use Rattle.std.proofs.lemmas.List.{nil_from_length}
 use Rattle.std.specs.Borrow.{GName}
 use Rattle.std.specs.Io.KnownBytes.{Consumes}
 use Rattle.bser_format.specs.Content.{Content, Meaning, Needs}
 use Rattle.bser_format.specs.declared.errors.Error.{Error}
-use Rattle.bser_read.specs.Window.{Window, Within, Took, left, with_limit}
+use Rattle.bser_read.specs.Window.{Window, Took, left, with_limit}
 use Rattle.bser_bunser.specs.Refusal.{failures_by}
 use Rattle.bser_due.specs.Reading.{Asking, ExcusedBy, bare}
 use Rattle.bser_format.specs.Message.{Head}
 use Rattle.bser_messages.specs.Messages.{IsReaderFault}
 use Rattle.bser_messages.proofs.Ends.{head_length}
 use Rattle.bser_messages.proofs.Sources.{reader_fresh, fresh_left, reader_excused, reader_refused}
-use Rattle.bser_streams.specs.Limited.{TookWithin, ReadsWithin, RefusesWithin, TooLongReader, RefusesReaderWithin}
+use Rattle.bser_streams.specs.Limited.{TookWithin, ReadsWithin, RefusesWithin, RefusesReaderWithin}
 
 -- where nothing was buffered nor announced, nothing past what was taken left the reader
 reader_gave : (a t : Window) (text : List ℕ) → a.buffered ≡ [] → a.limit ≡ 0 → Took a (with_limit a.limit t) text → Consumes a.beyond t.beyond text

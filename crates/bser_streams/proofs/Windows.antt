@@ -1,5 +1,5 @@
 -- A message that was read within limits, and one that was refused: over any source.
-use Rattle.std.proofs.Common.{◌≡◌, ℕ, ◌+◌, ◌≤◌, ◌<◌, List, [], ◌++◌, ◌⊎◌, Option, None, Some, length, append-nil, refl, sym, ap, ◌∙◌, arith, inl, inr}
+use Rattle.std.proofs.Common.{◌≡◌, ℕ, ◌≤◌, ◌<◌, List, [], ◌++◌, ◌⊎◌, Option, None, Some, length, append-nil, refl, sym, ap, ◌∙◌, arith, inl, inr}
 use Rattle.std.specs.Prelude.{pos, IsTrue}
 use Rattle.std.proofs.lemmas.Int.{ints}
 use Rattle.bser_format.specs.Content.{Content, Meaning, Needs}
@@ -12,16 +12,16 @@ use Rattle.bser_read.specs.Window.{Window, Grown, Took, with_limit}
 use Rattle.bser_read.proofs.Windows.{left_took, left_grown, took_grown}
 use Rattle.bser_bunser.specs.Names.{Names}
 use Rattle.bser_bunser.specs.Refusal.{Fails, failures_by}
-use Rattle.bser_bunser.specs.Tagged.{IsHead, TookHead}
+use Rattle.bser_bunser.specs.Tagged.{IsHead}
 use Rattle.bser_bunser.proofs.Readers.{head_there}
 use Rattle.bser_due.specs.State.{State, Begins, IsAtEnd, refused}
 use Rattle.bser_due.specs.Reading.{Answers, Asking, ExcusedBy, MayRefuse, Refuses, bare, refusing}
 use Rattle.bser_due.proofs.Clean.{clean_head}
 use Rattle.bser_due.proofs.Refusals.{by_name, excused_before, names_any, names_by_grown}
 use Rattle.bser_deserializer.specs.View.{not_at_end}
-use Rattle.bser_messages.specs.Messages.{NamesMessage, ReadsMessage, RefusesBody, RefusesMessage}
+use Rattle.bser_messages.specs.Messages.{NamesMessage, RefusesBody, RefusesMessage}
 use Rattle.bser_messages.proofs.Messages.{head_refused, value_refused, end_refused, read_text}
-use Rattle.bser_streams.specs.Limited.{ReadsWithin, ReadsBodyWithin, StopsAt, AnnouncesShort, RefusesShort, RefusesShortBody, RefusesBodyWithin, RefusesWithin}
+use Rattle.bser_streams.specs.Limited.{ReadsWithin, ReadsBodyWithin, StopsAt, AnnouncesShort, RefusesBodyWithin, RefusesWithin}
 use Rattle.bser_streams.proofs.Heads.{body_size, some_head, some_message}
 
 -- ---- heads

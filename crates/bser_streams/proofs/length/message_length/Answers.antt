@@ -1,5 +1,5 @@
 -- The length that a head tells.
-use Rattle.std.proofs.Common.{◌≡◌, ℕ, ◌+◌, ◌∙◌, rules, arith, inr}
+use Rattle.std.proofs.Common.{ℕ, ◌+◌, ◌∙◌, rules, arith, inr}
 use Rattle.std.specs.Prelude.{nat_abs}
 use Rattle.std.specs.Int.{w64}
 use mir.Val.{SFits}
