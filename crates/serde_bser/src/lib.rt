@@ -9,6 +9,7 @@ pub mod de;
 pub mod laws;
 pub mod prelude;
 pub mod ser;
+pub mod stream;
 
 pub use bser_format::{bytestring, errors, header};
 pub use bser_messages::message::{from_reader, from_slice};

@@ -1,0 +1,6 @@
+pub mod Heads
+pub mod Lengths
+pub mod Windows
+pub mod Slices
+pub mod Readers
+pub mod Nexts

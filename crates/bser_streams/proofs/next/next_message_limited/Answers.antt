@@ -1,0 +1,27 @@
+-- The next message of a reader.
+use Rattle.std.proofs.Common.{rules, ap}
+use Rattle.bser_streams.proofs.Windows.{read_before}
+use Rattle.bser_streams.proofs.Readers.{reader_took, took_known}
+use Rattle.bser_streams.proofs.Nexts.{next_known, next_refused, reader_fails}
+use Rattle.bser_streams.proofs.next.next_message_limited.Goals as goal
+
+pub returns-in-Ok-answer-clause-found : goal.returns-in-Ok-answer-clause-found
+returns-in-Ok-answer-clause-found g c =
+    let fresh = c.new-read.ensures in
+    let read = rw c.unread-from.ensures.source at c.in-Ok-answer.ensures.found in
+    took_known c.args.limits.levels c.args.limits.bytes g.T.Shape.reads g.T.Shape.holds _ _ _ _ c.in-Ok-answer.value (ap (λ w. w.beyond) fresh) (search rules)
+    (reader_took c.args.limits.levels c.args.limits.bytes g.T.Shape.reads g.T.Shape.holds _ _ c.in-Ok-answer.value (ap (λ w. w.buffered) fresh) (ap (λ w. w.limit) fresh)
+    (read_before c.args.limits.levels c.args.limits.bytes g.T.Shape.reads g.T.Shape.holds _ _ _ c.in-Ok-answer.value c.in-Ok.ensures.ok.filled.grown read))
+
+pub returns-in-Err-answer-clause-refused : goal.returns-in-Err-answer-clause-refused
+returns-in-Err-answer-clause-refused g c =
+    let fresh = c.new-read.ensures in
+    let refused = rw c.unread-from.ensures.source at c.in-Err-answer.ensures.refused in
+    next_known c.args.limits.levels c.args.limits.bytes g.T.Shape.reads g.T.Shape.asks _ _ _ _ _ _ _ _ _ (ap (λ w. w.beyond) fresh) (search rules) (ap (λ w. w.failures) fresh) (search rules)
+    (next_refused c.args.limits.levels c.args.limits.bytes g.T.Shape.reads g.T.Shape.asks g.T.Shape.needs _ _ _ _ _ _ _ (search rules) fresh c.in-Ok.ensures.ok.filled refused)
+
+pub returns-in_default : goal.returns-in_default
+returns-in_default g c = record {
+  found = tt;
+  refused = rw c.de_reader_error.ensures (reader_fails c.args.limits.levels c.args.limits.bytes g.T.Shape.reads g.T.Shape.asks c.in-Err.cause _ _ _ _ _ _ _ c.new-read.ensures (search rules) c.in_default.not-Eof c.in-Err.ensures.memory c.in-Err.ensures.err);
+}

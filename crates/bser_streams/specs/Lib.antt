@@ -1,0 +1,4 @@
+pub mod Lengths
+pub mod Limited
+pub mod Streams
+pub mod Views

@@ -1,0 +1,23 @@
+-- Messages that follow each other.
+use Rattle.std.specs.Prelude.{◌≡◌, ℕ, ◌+◌, ◌-◌, ◌^◌, min, List, [], Option, Some, None}
+use Rattle.std.specs.Io.KnownBytes.{IsAtEnd}
+use Rattle.bser_format.specs.Content.{Content, Meaning}
+use Rattle.bser_format.specs.declared.errors.Error.{Error}
+use Rattle.bser_due.specs.Reading.{Asking}
+use Rattle.bser_messages.specs.Messages.{IsReaderFault}
+use Rattle.bser_streams.specs.Limited.{TookWithin, RefusesReaderWithin}
+
+-- the next message was taken, or nothing was left
+abbrev pub IsNext : {A : Type 0} → ℕ → ℕ → Meaning → (A → Content → Type 0) → Option (List ℕ) → Option (List ℕ) → Option A → Type 0
+IsNext n m reads holds old new None = IsAtEnd old
+IsNext n m reads holds old new (Some v) = TookWithin n m reads holds old new v
+
+-- the next message is refused; where nothing is left, only because memory was refused or the reader failed
+pub record RefusesNext (n m : ℕ) (reads : Meaning) (asks : Option (Asking reads)) (e : Error) (old new : Option (List ℕ)) (before after : ℕ) : Type 0 where
+  pub refused : RefusesReaderWithin n m reads asks e old new before after
+  pub some : old ≡ Some [] → IsReaderFault before after e
+
+-- one message more, up to the greatest u64
+abbrev pub counts_message : {A : Type 0} → Option A → ℕ → ℕ
+counts_message None n = n
+counts_message (Some v) n = min (n + 1) (2 ^ 64 - 1)

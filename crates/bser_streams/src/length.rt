@@ -1,0 +1,39 @@
+//! How long a message is, by its first bytes.
+ghost use Rattle.std.specs.Prelude.{◌≡◌, ◌≤◌, ◌<◌, ◌^◌, IfOk, IfErr, IfSome, IfNone};
+ghost use Rattle.bser_named.specs.Named.{head, refuses, eof};
+ghost use Rattle.bser_streams.specs.Lengths.{HasLength, IsLengthOfEach, RefusesLength};
+
+use bser_bunser::bunser::Bunser;
+use bser_format::errors::{Complaint, Error, ReadCause, Result};
+use bser_read::slice_read::SliceRead;
+use std::alloc::Global;
+
+/// The length in bytes of the message that begins with `bytes`, its head and its body, at most
+/// `i64::MAX`; or `None` where its head is not whole yet. What follows the message is ignored.
+///
+/// A head has at most 15 bytes. It is refused as [`Bunser::read_pdu`] refuses it, and by the message
+/// [`Complaint::CountTooGreat`] where head and body together have more than `i64::MAX` bytes.
+/// Nothing of the body is looked at. The crate has no such call.
+pub fn message_length(alloc: Global, bytes: &[u8]) -> Result<Option<usize>>
+    ensures whole { IfOk result (λ answer. IfSome answer (HasLength bytes.now)) }
+    ensures each { IfOk result (λ answer. IfSome answer (IsLengthOfEach bytes.now)) }
+    ensures fits { IfOk result (λ answer. IfSome answer (λ n. n < 2 ^ 63)) }
+    ensures cut { IfOk result (λ answer. IfNone answer (head bytes.now ≡ refuses eof)) }
+    ensures refused { IfErr result (RefusesLength bytes.now) }
+{
+    match Bunser::new(alloc, SliceRead::new(bytes)).read_pdu() {
+        Ok(info) => {
+            let length = info.start as usize + info.len as usize;
+            if length > i64::MAX as usize {
+                return Err(Error::de_custom(Complaint::CountTooGreat));
+            }
+            Ok(Some(length))
+        }
+        Err(
+            Error::DeReaderError {
+                source: ReadCause::Eof,
+            },
+        ) => Ok(None),
+        Err(error) => Err(error),
+    }
+}

@@ -1,0 +1,94 @@
+//! The next message of a reader, or the end of its stream.
+ghost use Rattle.std.specs.Prelude.{◌≡◌, ◌≤◌, ◌^◌, ◌-◌, IfOk, IfErr};
+ghost use Rattle.bser_streams.specs.Limited.{TookWithin, RefusesReaderWithin};
+ghost use Rattle.bser_streams.specs.Streams.{IsNext, RefusesNext};
+
+use crate::limited::read_within;
+use crate::limits::Limits;
+use bser_deserializer::deserializer::Deserializer;
+use bser_format::errors::{Error, ReadCause, Result};
+use bser_read::io_read::IoRead;
+use bser_read::read::DeRead;
+use bser_source::device::Source;
+use bser_types::deserialize::DeserializeOwned;
+use std::alloc::Global;
+
+/// Reads a value from the reader's next message, of at most 128 levels, or answers `None` where no
+/// byte is left.
+///
+/// A reader that ends inside a message is refused by [`ReadCause::Eof`]. All else is as in
+/// [`from_reader`](bser_messages::message::from_reader). The crate does not tell the two ends apart.
+pub fn next_message<S: Source, T: DeserializeOwned>(
+    alloc: Global,
+    reader: &mut S,
+) -> Result<Option<T>>
+    ensures found { IfOk result (IsNext 128 (2 ^ 64 - 1) T.reads T.holds
+        (S.remaining reader.old) (S.remaining reader.new)) }
+    ensures refused { IfErr result (λ e. RefusesNext 128 (2 ^ 64 - 1) T.reads T.asks e
+        (S.remaining reader.old) (S.remaining reader.new)
+        (S.failures reader.old) (S.failures reader.new)) }
+{
+    next_message_limited(alloc, Limits::new(), reader)
+}
+
+/// Reads a value from the reader's next message, within these limits, or answers `None` where no
+/// byte is left.
+///
+/// As [`next_message`], with one refusal more: a head that announces a body of more than
+/// `limits.bytes` bytes is [`Error::DeTooLong`]. Then the head was taken, and no byte of the body.
+pub fn next_message_limited<S: Source, T: DeserializeOwned>(
+    alloc: Global,
+    limits: Limits,
+    reader: &mut S,
+) -> Result<Option<T>>
+    requires { limits.levels ≤ 1024 }
+    ensures found { IfOk result (IsNext limits.levels limits.bytes T.reads T.holds
+        (S.remaining reader.old) (S.remaining reader.new)) }
+    ensures refused { IfErr result (λ e. RefusesNext limits.levels limits.bytes T.reads T.asks e
+        (S.remaining reader.old) (S.remaining reader.new)
+        (S.failures reader.old) (S.failures reader.new)) }
+{
+    let mut read = IoRead::new(reader);
+    match read.peek() {
+        Ok(_first) => {
+            let mut from = Deserializer::unread(alloc, read);
+            let answer = read_within(alloc, limits, &mut from);
+            let _reader = from.into_inner().into_inner();
+            match answer {
+                Ok(value) => Ok(Some(value)),
+                Err(error) => Err(error),
+            }
+        }
+        Err(cause) => {
+            let _reader = read.into_inner();
+            match cause {
+                ReadCause::Eof => Ok(None),
+                other => Err(Error::de_reader_error(other)),
+            }
+        }
+    }
+}
+
+/// Reads a value from the reader's next message, within these limits, and leaves what follows it.
+///
+/// As [`from_reader_within`](bser_messages::message::from_reader_within), with one refusal more: a
+/// head that announces a body of more than `limits.bytes` bytes is [`Error::DeTooLong`]. Then the
+/// head was taken, and no byte of the body. The crate has no limit of bytes.
+pub fn from_reader_limited<S: Source, T: DeserializeOwned>(
+    alloc: Global,
+    limits: Limits,
+    reader: &mut S,
+) -> Result<T>
+    requires { limits.levels ≤ 1024 }
+    ensures found { IfOk result (TookWithin limits.levels limits.bytes T.reads T.holds
+        (S.remaining reader.old) (S.remaining reader.new)) }
+    ensures refused { IfErr result (λ e.
+        RefusesReaderWithin limits.levels limits.bytes T.reads T.asks e
+        (S.remaining reader.old) (S.remaining reader.new)
+        (S.failures reader.old) (S.failures reader.new)) }
+{
+    let mut from = Deserializer::unread(alloc, IoRead::new(reader));
+    let answer = read_within(alloc, limits, &mut from);
+    let _reader = from.into_inner().into_inner();
+    answer
+}

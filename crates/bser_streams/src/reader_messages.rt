@@ -1,0 +1,129 @@
+//! The messages of a reader, one after the other.
+ghost use Rattle.std.specs.Prelude.{◌≡◌, ◌≤◌, ◌^◌, ◌-◌, true, false, IfOk, IfErr, OnOk, OnErr};
+ghost use Rattle.bser_streams.specs.Streams.{IsNext, RefusesNext, counts_message};
+
+use crate::limits::Limits;
+use crate::next::next_message_limited;
+use bser_format::errors::{Error, ReadCause, Result};
+use bser_source::device::Source;
+use bser_types::deserialize::DeserializeOwned;
+use std::alloc::Global;
+
+/// Reads the messages of a reader one after the other.
+///
+/// After a refusal nothing is known of where the reader is in a message, so each later call is
+/// refused by [`ReadCause::Failed`]. The crate has no such type.
+#[derive(Drop)]
+pub struct ReaderMessages<S> {
+    alloc: Global,
+    limits: Limits,
+    reader: S,
+    taken: u64,
+    failed: bool,
+    ghost levels: { limits.levels ≤ 1024 },
+}
+
+impl<S: Source> ReaderMessages<S> {
+    ghost use Rattle.bser_streams.specs.Views.{reader_limits, reader_of, reader_taken, reader_failed, RefusesAgain};
+
+    /// Reads from the reader's next byte on, messages of at most 128 levels. Nothing is read yet.
+    pub fn new(alloc: Global, reader: S) -> Self
+        ensures levels { (reader_limits result).levels ≡ 128 }
+        ensures bytes { (reader_limits result).bytes ≡ 2 ^ 64 - 1 }
+        ensures reader { reader_of result ≡ reader }
+        ensures taken { reader_taken result ≡ 0 }
+        ensures failed { reader_failed result ≡ false }
+    {
+        Self::with_limits(alloc, Limits::new(), reader)
+    }
+
+    /// Reads from the reader's next byte on, messages within these limits. Nothing is read yet.
+    pub fn with_limits(alloc: Global, limits: Limits, reader: S) -> Self
+        requires { limits.levels ≤ 1024 }
+        ensures limits { reader_limits result ≡ limits }
+        ensures reader { reader_of result ≡ reader }
+        ensures taken { reader_taken result ≡ 0 }
+        ensures failed { reader_failed result ≡ false }
+    {
+        ReaderMessages {
+            alloc,
+            limits,
+            reader,
+            taken: 0,
+            failed: false,
+        }
+    }
+
+    /// Reads a value from the next message, or answers `None` where no byte is left.
+    ///
+    /// Refused as [`next_message_limited`] is, and after a refusal by [`ReadCause::Failed`], without
+    /// a call of the reader. After `None` it may be called again, where the reader may give more.
+    pub fn next_message<T: DeserializeOwned>(&mut self) -> Result<Option<T>>
+        ensures found { IfOk result (IsNext
+            (reader_limits self.old).levels (reader_limits self.old).bytes T.reads T.holds
+            (S.remaining (reader_of self.old)) (S.remaining (reader_of self.new))) }
+        ensures counted { IfOk result (λ answer.
+            reader_taken self.new ≡ counts_message answer (reader_taken self.old)) }
+        ensures works { OnOk result (reader_failed self.old ≡ false) }
+        ensures working { OnOk result (reader_failed self.new ≡ false) }
+        ensures refused { IfErr result (λ e. reader_failed self.old ≡ false → RefusesNext
+            (reader_limits self.old).levels (reader_limits self.old).bytes T.reads T.asks e
+            (S.remaining (reader_of self.old)) (S.remaining (reader_of self.new))
+            (S.failures (reader_of self.old)) (S.failures (reader_of self.new))) }
+        ensures again { IfErr result (λ e. reader_failed self.old ≡ true
+            → RefusesAgain e self.old self.new) }
+        ensures failed { OnErr result (reader_failed self.new ≡ true) }
+        ensures stays { OnErr result (reader_taken self.new ≡ reader_taken self.old) }
+        ensures limits { reader_limits self.new ≡ reader_limits self.old }
+    {
+        if self.failed {
+            return Err(Error::de_reader_error(ReadCause::Failed));
+        }
+        match next_message_limited(self.alloc, self.limits, &mut self.reader) {
+            Ok(Some(value)) => {
+                self.taken = self.taken.saturating_add(1);
+                Ok(Some(value))
+            }
+            Ok(None) => Ok(None),
+            Err(error) => {
+                self.failed = true;
+                Err(error)
+            }
+        }
+    }
+
+    /// How many messages were taken, up to `u64::MAX`.
+    pub fn taken(&self) -> u64
+        ensures { result ≡ reader_taken self.now }
+    {
+        self.taken
+    }
+
+    /// Whether a call was refused, so that each later one is.
+    pub fn is_failed(&self) -> bool
+        ensures { result ≡ reader_failed self.now }
+    {
+        self.failed
+    }
+
+    /// The reader.
+    pub fn get_ref(&self) -> &S
+        ensures { result.now ≡ reader_of self.now }
+    {
+        &self.reader
+    }
+
+    /// Gives the reader back. Where no call was refused it is at the front of the next message.
+    pub fn into_inner(self) -> S
+        ensures { result ≡ reader_of self }
+    {
+        let ReaderMessages {
+            alloc: _,
+            limits: _,
+            reader,
+            taken: _,
+            failed: _,
+        } = self;
+        reader
+    }
+}

@@ -1,0 +1,5 @@
+//! Tests of messages that follow each other.
+#![tactic(auto)]
+
+#[cfg(test)]
+mod tests;

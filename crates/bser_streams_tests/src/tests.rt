@@ -1,0 +1,60 @@
+//! Messages of a Watchman server, and such as break off or announce too much: from a slice, and
+//! from a reader that gives one byte a call.
+mod lengths;
+mod readers;
+mod slices;
+
+use bser_format::errors::{Error, ReadCause};
+use std::io;
+use std::io::Read;
+use std::test::Fail;
+
+type Tested = std::result::Result<(), Fail>;
+
+/// A server's answer to `version`: an object of 4.9.0 under `version`, of 29 bytes.
+const VERSION: &[u8] =
+    b"\x00\x02\x00\x00\x00\x00\x03\x15\x01\x03\x01\x02\x03\x07version\x0d\x03\x054.9.0";
+
+/// The number 300 in four bytes, and that in two: messages of 13 and of 11 bytes.
+const NUMBERS: &[u8] =
+    b"\x00\x02\x00\x00\x00\x00\x03\x05\x05\x2c\x01\x00\x00\x00\x02\x00\x00\x00\x00\x03\x03\x04\x2c\x01";
+
+/// The number 5, then an object, then the number 6.
+const MIXED: &[u8] =
+    b"\x00\x02\x00\x00\x00\x00\x03\x02\x03\x05\x00\x02\x00\x00\x00\x00\x03\x03\x01\x03\x00\x00\x02\x00\x00\x00\x00\x03\x02\x03\x06";
+
+/// A head that announces a body of 2^32 bytes, and the first two bytes of it.
+const HUGE: &[u8] = b"\x00\x02\x00\x00\x00\x00\x06\x00\x00\x00\x00\x01\x00\x00\x00\x02\x03";
+
+/// A reader that gives one byte a call.
+#[derive(Drop)]
+struct OneByOne<'a> {
+    bytes: &'a [u8],
+}
+
+impl<'a> Read for OneByOne<'a> {
+    fn read(&mut self, buf: &mut [u8]) -> io::Result<usize> {
+        let count = buf.len().min(1).min(self.bytes.len());
+        buf[..count].copy_from_slice(&self.bytes[..count]);
+        self.bytes = &self.bytes[count..];
+        Ok(count)
+    }
+}
+
+fn is_eof(error: &Error) -> bool {
+    matches!(
+        error,
+        Error::DeReaderError {
+            source: ReadCause::Eof
+        }
+    )
+}
+
+fn is_failed(error: &Error) -> bool {
+    matches!(
+        error,
+        Error::DeReaderError {
+            source: ReadCause::Failed
+        }
+    )
+}
