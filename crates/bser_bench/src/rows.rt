@@ -118,7 +118,7 @@ impl<L: LendsText, B: Deserialize<L>, S: Deserialize<L>> Deserialize<L> for File
 }
 
 impl<B: OwnedShape, S: OwnedShape> OwnedShape for Files<B, S> {
-    ghost owned = { none_lent ⟦<File<B, S> as OwnedShape>⟧.owned refl };
+    ghost owned = { none_lent (none_lent B.owned (none_lent S.owned refl)) refl };
 }
 
 impl<B: Bytes, S: Bytes> Files<B, S> {

@@ -12,11 +12,14 @@ fn the_messages_of_a_reader_are_read_in_turn(rt: HostRuntime) -> Tested {
     let alloc = rt.alloc();
     let mut reader = Watched::new(OneByOne { bytes: NUMBERS });
     let mut messages = ReaderMessages::new(alloc, &mut reader);
-    let mut sum = 0;
-    while let Some(number) = messages.next_message::<i64>()? {
-        sum += number;
+    let mut numbers = Vec::new(alloc);
+    for _ in 0..u64::MAX {
+        match messages.next_message::<i64>()? {
+            Some(number) => numbers.push(number)?,
+            None => break,
+        }
     }
-    assert_eq!(rt; sum, 600);
+    assert_eq!(rt; numbers.as_slice(), [300, 300].as_slice());
     assert_eq!(rt; messages.taken(), 2);
     assert!(rt; !messages.is_failed());
     Ok(())
