@@ -1,7 +1,6 @@
 //! Tests of structs that are read by their fields.
 #![tactic(auto)]
 
-mod listed;
 mod structs;
 #[cfg(test)]
 mod tests;

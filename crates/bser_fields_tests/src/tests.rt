@@ -1,5 +1,4 @@
 //! Messages that are read as structs, from a slice, and from a reader that gives one byte a call.
-use crate::listed::Listed;
 use crate::structs::{FileInfo, Files, TemplateRow};
 use bser_format::errors::{Complaint, Error, Message, ReadCause, Result};
 use bser_messages::message::{from_reader, from_slice};
@@ -231,34 +230,5 @@ fn rows_that_break_off_are_refused(rt: HostRuntime) -> Result<()> {
             ghi: Some(789)
         }
     );
-    Ok(())
-}
-
-/// The body is an array of two names, then of a name and an object, then the rows of a template.
-#[test]
-fn a_list_has_names_or_objects(rt: HostRuntime) -> Result<()> {
-    let alloc = rt.alloc();
-    let names = b"\x00\x02\x00\x00\x00\x00\x03\x0b\x00\x03\x02\x0d\x03\x01x\x02\x03\x01y";
-    let listed: Vec<Listed<&str>> = from_slice(alloc, names)?;
-    assert_eq!(rt;
-        listed.as_slice(),
-        [Listed::Name("x"), Listed::Name("y")].as_slice()
-    );
-    let mixed =
-        b"\x00\x02\x00\x00\x00\x00\x03\x1e\x00\x03\x02\x0d\x03\x01x\x01\x03\x02\x0d\x03\x04name\x0d\x03\x01y\x0d\x03\x04size\x03\x05";
-    let file = Listed::File(FileInfo { name: "y", size: 5 });
-    let listed: Vec<Listed<&str>> = from_slice(alloc, mixed)?;
-    assert_eq!(rt; listed.as_slice(), [Listed::Name("x"), file].as_slice());
-    let rows =
-        b"\x00\x02\x00\x00\x00\x00\x03\x1a\x0b\x00\x03\x02\x0d\x03\x04name\x0d\x03\x04size\x03\x01\x0d\x03\x01y\x03\x05";
-    let mut reader = Watched::new(OneByOne { bytes: rows });
-    let listed: Vec<Listed<String>> = from_reader(alloc, &mut reader)?;
-    let name = String::from_str(alloc, "y")?;
-    assert_eq!(rt;
-        listed.as_slice(),
-        [Listed::File(FileInfo { name, size: 5 })].as_slice()
-    );
-    let number = b"\x00\x02\x00\x00\x00\x00\x03\x02\x03\x07";
-    check_refused::<Listed<String>>(&rt, alloc, number, Name::Complains(Complaint::WrongType));
     Ok(())
 }

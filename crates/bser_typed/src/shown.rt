@@ -9,7 +9,6 @@ ghost use Rattle.std.specs.Prelude.{◌≡◌, ◌++◌, ℕ, List, string_bytes
 
 mod enums;
 mod holders;
-mod lists;
 mod scalars;
 mod strings;
 mod structs;
