@@ -6,7 +6,7 @@ ghost use Rattle.bser_compact.specs.Texts.{compact_tree, Breaks, value_text, ite
 
 use crate::template::{add_template_head, shared_keys};
 use bser_ser::message::serialize_to;
-use bser_ser::{Refused, Serialize, Serializer};
+use bser_ser::{PutRefused, Serialize, Serializer};
 use bser_source::device::Sink;
 use bser_value::value::Value;
 use std::alloc::Global;
@@ -60,7 +60,7 @@ impl Serialize for Compact<'_> {
 // Puts a value. The serializer keeps the reason of a refusal.
 #[cycle(add)]
 #[inline(always)]
-fn add_compact<W: Sink>(value: &Value, out: &mut Serializer<W>) -> Result<(), Refused>
+fn add_compact<W: Sink>(value: &Value, out: &mut Serializer<W>) -> Result<(), PutRefused>
     ensures ok { OnOk result (Sent W.took W.failures out.old out.new (value_text value.now)) }
     ensures err { OnErr result (Breaks W.took W.failures out.old out.new (value_text value.now)) }
 {
@@ -85,7 +85,7 @@ fn add_compact<W: Sink>(value: &Value, out: &mut Serializer<W>) -> Result<(), Re
 // Puts an array that is no template.
 #[cycle(add)]
 #[inline(never)]
-fn add_items<W: Sink>(items: &Vec<Value>, out: &mut Serializer<W>) -> Result<(), Refused>
+fn add_items<W: Sink>(items: &Vec<Value>, out: &mut Serializer<W>) -> Result<(), PutRefused>
     ensures ok { OnOk result (Sent W.took W.failures out.old out.new (items_text items.now.items)) }
     ensures err { OnErr result
         (Breaks W.took W.failures out.old out.new (items_text items.now.items)) }
@@ -102,7 +102,7 @@ fn add_items<W: Sink>(items: &Vec<Value>, out: &mut Serializer<W>) -> Result<(),
 fn add_entries<W: Sink>(
     entries: &BTreeMap<String, Value>,
     out: &mut Serializer<W>,
-) -> Result<(), Refused>
+) -> Result<(), PutRefused>
     ensures ok { OnOk result
         (Sent W.took W.failures out.old out.new (entries_text entries.now.entries)) }
     ensures err { OnErr result
@@ -119,7 +119,7 @@ fn add_entries<W: Sink>(
 // Puts the rows of a template.
 #[cycle(add)]
 #[inline(never)]
-fn add_rows<W: Sink>(items: &Vec<Value>, out: &mut Serializer<W>) -> Result<(), Refused>
+fn add_rows<W: Sink>(items: &Vec<Value>, out: &mut Serializer<W>) -> Result<(), PutRefused>
     ensures ok { OnOk result (Sent W.took W.failures out.old out.new (rows_text items.now.items)) }
     ensures err { OnErr result
         (Breaks W.took W.failures out.old out.new (rows_text items.now.items)) }
@@ -132,7 +132,7 @@ fn add_rows<W: Sink>(items: &Vec<Value>, out: &mut Serializer<W>) -> Result<(), 
 
 // Puts the fields of an object, which are its values.
 #[cycle(add)]
-fn add_row<W: Sink>(item: &Value, out: &mut Serializer<W>) -> Result<(), Refused>
+fn add_row<W: Sink>(item: &Value, out: &mut Serializer<W>) -> Result<(), PutRefused>
     ensures ok { OnOk result (Sent W.took W.failures out.old out.new (row_text item.now)) }
     ensures err { OnErr result (Breaks W.took W.failures out.old out.new (row_text item.now)) }
 {

@@ -4,7 +4,7 @@ ghost use Rattle.bser_format.specs.Compact.{same_keys};
 ghost use Rattle.bser_ser.specs.Sent.{Sent};
 ghost use Rattle.bser_compact.specs.Texts.{Breaks, has_keys, head_text, names_of, template_names};
 
-use bser_ser::{Refused, Serializer};
+use bser_ser::{PutRefused, Serializer};
 use bser_source::device::Sink;
 use bser_value::value::Value;
 use std::collections::BTreeMap;
@@ -15,7 +15,7 @@ pub fn add_template_head<W: Sink>(
     first: &BTreeMap<String, Value>,
     rows: usize,
     out: &mut Serializer<W>,
-) -> Result<(), Refused>
+) -> Result<(), PutRefused>
     requires { rows < 2 ^ 63 }
     ensures ok { OnOk result
         (Sent W.took W.failures out.old out.new (head_text first.now.entries rows)) }

@@ -17,8 +17,8 @@ use Rattle.bser_events.specs.Events as told
 use Rattle.bser_events.specs.Events.{Event, key, events, part_events}
 use Rattle.bser_events.specs.Found.{Found, IsStringTag, value_rest}
 use Rattle.bser_events.specs.Pieces.{InFront, DueInFront, IsFirst, IsScalar, IsNoScalar, IsDueScalar, IsDueString}
-use Rattle.bser_events.specs.declared.frame.Due.{Due}
-use Rattle.bser_events.specs.declared.frame.Due.TheVariants.{Item, Entry, Field}
+use Rattle.bser_events.specs.declared.frame.Part.{Part}
+use Rattle.bser_events.specs.declared.frame.Part.TheVariants.{Item, Entry, Field}
 use Rattle.bser_events.proofs.Begins.{value_begins, value_field, skip_there}
 use Rattle.bser_events.proofs.Tables.{scalar_found}
 use Rattle.bser_events.proofs.Texts.{utf8_reads, after_tag}
@@ -161,14 +161,14 @@ field_in_front levels n e held is =
 
 -- ---- what is due
 
-pub due_scalar_in_front : (due : Due) (t : Token) (e : Event) (held : List ℕ) (n : ℕ) → IsTokenPrefix held (prefixes.Found t n) → IsDueScalar due t e
+pub due_scalar_in_front : (due : Part) (t : Token) (e : Event) (held : List ℕ) (n : ℕ) → IsTokenPrefix held (prefixes.Found t n) → IsDueScalar due t e
     → DueInFront due held n e
 due_scalar_in_front Entry t e held n h is = absurd is
 due_scalar_in_front Item t e held n h is = scalar_in_front t e held n h is
 due_scalar_in_front Field t e held n h (inl is) = λ levels. field_in_front levels n e held (scalar_in_front t e held n h is levels)
 due_scalar_in_front Field t e held n h (inr is) = skip_in_front n e held (subst (λ z. IsTokenPrefix held (prefixes.Found z n)) is.0 h) is.1
 
-pub due_string_in_front : (due : Due) (b : Bool) (m n : ℕ) (t : Token) (e : Event) (held s : List ℕ) → t ≡ tokens.Str b m → IsTokenPrefix held (prefixes.Found t n)
+pub due_string_in_front : (due : Part) (b : Bool) (m n : ℕ) (t : Token) (e : Event) (held s : List ℕ) → t ≡ tokens.Str b m → IsTokenPrefix held (prefixes.Found t n)
     → IsFirst m (drop n held) s → IsDueString due b s e → DueInFront due held (n + m) e
 due_string_in_front Entry b m n t e held s is h first own = key_in_front b m n t e held s s is h first refl own.0 own.1
 due_string_in_front Item true m n t e held s is h first own = text_in_front m n t e held s s is h first refl own.0 own.1

@@ -9,8 +9,8 @@ use Rattle.bser_events.specs.Frames.{Left, parts_of, Fits, left_events, Takes, I
 use Rattle.bser_events.specs.declared.frame.Frame.{Frame}
 use Rattle.bser_events.specs.declared.frame.Parts.{Parts}
 use Rattle.bser_events.specs.declared.frame.Parts.TheVariants.{Items, Entries, Rows}
-use Rattle.bser_events.specs.declared.frame.Due.{Due}
-use Rattle.bser_events.specs.declared.frame.Due.TheVariants.{Item, Entry, Field}
+use Rattle.bser_events.specs.declared.frame.Part.{Part}
+use Rattle.bser_events.specs.declared.frame.Part.TheVariants.{Item, Entry, Field}
 
 -- ---- readers one after the other
 
@@ -48,12 +48,12 @@ Awaits {X = X} {Y = Y} r told Next now es =
     (k : X → Reader Y) × ((x : List ℕ) → now x ≡ (r >>= k) x) × ((v : X) → Next (k v) (es ++ told v))
 
 -- a value is due, or a field
-abbrev pub AwaitsPart : {Y : Type 0} → Due → ℕ → (Reader Y → List Event → Type 0) → Reader Y → List Event → Type 0
+abbrev pub AwaitsPart : {Y : Type 0} → Part → ℕ → (Reader Y → List Event → Type 0) → Reader Y → List Event → Type 0
 AwaitsPart Field n Next now es = Awaits (field_of (with_text_keys n)) part_events Next now es
 AwaitsPart _ n Next now es = Awaits (with_text_keys n) events Next now es
 
 -- the same, after a key where an entry is due
-abbrev pub AwaitsDue : {Y : Type 0} → Due → ℕ → (Reader Y → List Event → Type 0) → Reader Y → List Event → Type 0
+abbrev pub AwaitsDue : {Y : Type 0} → Part → ℕ → (Reader Y → List Event → Type 0) → Reader Y → List Event → Type 0
 AwaitsDue Entry n Next now es = Awaits (text_of MapKey) (λ s. key s ∷ []) (Awaits (with_text_keys n) events Next) now es
 AwaitsDue due n Next now es = AwaitsPart due n Next now es
 
@@ -140,7 +140,7 @@ row_due ev n r w fs now es (k0, same, rest) =
     )
 
 -- the next part is due
-pub leads_due : {Y : Type 0} (ev : Y → List Event) (due : Due) (n : ℕ) (p q : Parts) (fs : List Frame) (now : Reader Y) (es : List Event)
+pub leads_due : {Y : Type 0} (ev : Y → List Event) (due : Part) (n : ℕ) (p q : Parts) (fs : List Frame) (now : Reader Y) (es : List Event)
     → Takes due p q → Leads ev (frame_of n p ∷ fs) now es → AwaitsDue due n (Leads ev (frame_of n q ∷ fs)) now es
 leads_due ev Item n p q fs now es (k, old, new) h =
     subst (λ z. Awaits (with_text_keys n) events (Leads ev (frame_of n z ∷ fs)) now es) (sym new)

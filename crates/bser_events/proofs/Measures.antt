@@ -8,8 +8,8 @@ use Rattle.bser_events.specs.Frames.{Takes, IsSmall}
 use Rattle.bser_events.specs.declared.frame.Frame.{Frame}
 use Rattle.bser_events.specs.declared.frame.Parts.{Parts}
 use Rattle.bser_events.specs.declared.frame.Parts.TheVariants.{Items, Entries, Rows}
-use Rattle.bser_events.specs.declared.frame.Due.{Due}
-use Rattle.bser_events.specs.declared.frame.Due.TheVariants.{Item, Entry, Field}
+use Rattle.bser_events.specs.declared.frame.Part.{Part}
+use Rattle.bser_events.specs.declared.frame.Part.TheVariants.{Item, Entry, Field}
 use Rattle.bser_events.proofs.Leads.{frame_of}
 
 -- how many parts are left
@@ -33,7 +33,7 @@ unfolding cost
 cost_some zero = omega arith
 cost_some (suc n) = let h = cost_some n in omega (arith, h)
 
-pub one_less : (due : Due) (p q : Parts) → Takes due p q → parts_left p ≡ suc (parts_left q)
+pub one_less : (due : Part) (p q : Parts) → Takes due p q → parts_left p ≡ suc (parts_left q)
 one_less Item p q (k, old, new) = rw (old, new) refl
 one_less Entry p q (k, old, new) = rw (old, new) refl
 one_less Field p q (f, r, w, new, inl old) = rw (old, new) (grind arith)

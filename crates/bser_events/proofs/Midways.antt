@@ -22,8 +22,8 @@ use Rattle.bser_events.specs.Frames.{Left, parts_of, Fits, left_events, Takes, I
 use Rattle.bser_events.specs.Found.{Found, Opened, FoundOrOpened, KeyFound, Refuses, token_at, value_rest, IsContainer}
 use Rattle.bser_events.specs.declared.frame.Frame.{Frame}
 use Rattle.bser_events.specs.declared.frame.Parts.{Parts}
-use Rattle.bser_events.specs.declared.frame.Due.{Due}
-use Rattle.bser_events.specs.declared.frame.Due.TheVariants.{Item, Entry, Field}
+use Rattle.bser_events.specs.declared.frame.Part.{Part}
+use Rattle.bser_events.specs.declared.frame.Part.TheVariants.{Item, Entry, Field}
 use Rattle.bser_events.proofs.Takings.{takes_one, takes_then}
 use Rattle.bser_events.proofs.Leads.{map_then, Leads, Awaits, AwaitsPart, AwaitsDue, frame_of, leads_due, leads_closed, leads_ended}
 use Rattle.bser_events.proofs.Begins.{value_begins, value_refused, field_begins, field_refused, skip_there}
@@ -92,7 +92,7 @@ midway_found takes whole r told_of Next a b c before mid after m found =
     }
 
 -- the next part of the innermost container is due
-pub midway_due : {Y B : Type 0} (takes : B → Event → B → Type 0) (whole : Reader Y) (ev : Y → List Event) (due : Due) (n : ℕ) (p q : Parts) (fs : List Frame)
+pub midway_due : {Y B : Type 0} (takes : B → Event → B → Type 0) (whole : Reader Y) (ev : Y → List Event) (due : Part) (n : ℕ) (p q : Parts) (fs : List Frame)
     (a b : Window) (before after : B)
     → Takes due p q → Midway takes whole (Leads ev (frame_of n p ∷ fs)) a b before after
     → Midway takes whole (AwaitsDue due n (Leads ev (frame_of n q ∷ fs))) a b before after
@@ -100,7 +100,7 @@ midway_due takes whole ev due n p q fs a b before after counted m =
     midway_seen takes whole _ _ a b before after (λ now es h. leads_due ev due n p q fs now es counted h) m
 
 -- the key of an entry was read
-pub midway_key : {Y B : Type 0} (takes : B → Event → B → Type 0) (whole : Reader Y) (due : Due) (n : ℕ) (Next : Reader Y → List Event → Type 0)
+pub midway_key : {Y B : Type 0} (takes : B → Event → B → Type 0) (whole : Reader Y) (due : Part) (n : ℕ) (Next : Reader Y → List Event → Type 0)
     (a b c : Window) (before mid after : B)
     → KeyFound takes due b c mid after → Midway takes whole (AwaitsDue due n Next) a b before mid → Midway takes whole (AwaitsPart due n Next) a c before after
 midway_key takes whole Entry n Next a b c before mid after found m =
@@ -135,7 +135,7 @@ value_token takes whole n t Next a b c before after took level m =
     (m.next.0, (λ x. refl), m.next.2)
 
 -- a token was taken where a value or a field is due, and is no skip of a field
-pub midway_token : {Y B : Type 0} (takes : B → Event → B → Type 0) (whole : Reader Y) (due : Due) (n : ℕ) (t : Token) (Next : Reader Y → List Event → Type 0) (a b c : Window) (before after : B)
+pub midway_token : {Y B : Type 0} (takes : B → Event → B → Type 0) (whole : Reader Y) (due : Part) (n : ℕ) (t : Token) (Next : Reader Y → List Event → Type 0) (a b c : Window) (before after : B)
     → TookToken b c t → (IsContainer t → 0 < n) → (due ≡ Field → t ≡ tokens.Skip → ⊥) → Midway takes whole (AwaitsPart due n Next) a b before after
     → Midway takes whole (Awaits (value_rest n t) events Next) a c before after
 midway_token takes whole Item n t Next a b c before after took level never m = value_token takes whole n t Next a b c before after took level m
@@ -147,7 +147,7 @@ midway_token takes whole Field n t Next a b c before after took level never m =
     ((λ u. k (Some u)), (λ x. refl), λ u. m.next.2 (Some u))
 
 -- a field was skipped, and that was told
-pub midway_skip : {Y B : Type 0} (takes : B → Event → B → Type 0) (whole : Reader Y) (due : Due) (n : ℕ) (t : Token) (Next : Reader Y → List Event → Type 0) (a b c : Window) (before mid after : B)
+pub midway_skip : {Y B : Type 0} (takes : B → Event → B → Type 0) (whole : Reader Y) (due : Part) (n : ℕ) (t : Token) (Next : Reader Y → List Event → Type 0) (a b c : Window) (before mid after : B)
     → (due ≡ Field) × (t ≡ tokens.Skip) → TookToken b c t → takes mid skip after → Midway takes whole (AwaitsPart due n Next) a b before mid
     → Midway takes whole Next a c before after
 midway_skip takes whole due n t Next a b c before mid after is took told m =
@@ -235,7 +235,7 @@ midway_refused takes whole r told_of Next wants wanted e a b c before after more
 }
 
 -- a key is refused
-pub key_refused : {Y B : Type 0} (takes : B → Event → B → Type 0) (whole : Reader Y) (due : Due) (n : ℕ) (Next : Reader Y → List Event → Type 0)
+pub key_refused : {Y B : Type 0} (takes : B → Event → B → Type 0) (whole : Reader Y) (due : Part) (n : ℕ) (Next : Reader Y → List Event → Type 0)
     (wants wanted : Type 0) (e : Error) (a b c : Window) (before after : B)
     → (wants → wanted) → due ≡ Entry → Midway takes whole (AwaitsDue due n Next) a b before after → Refuses wants (text_of MapKey) e b c → Refuses wanted whole e a c
 key_refused takes whole due n Next wants wanted e a b c before after more is m refused =
@@ -246,7 +246,7 @@ names_of : {X : Type 0} (n : ℕ) (r : Reader X) (e : Error) (a : Window) → ((
 names_of n r e a same h = blames_more (RefusedAs (token_at n)) (RefusedAs r) e a same h
 
 -- a token is refused
-pub token_refused : {Y B : Type 0} (takes : B → Event → B → Type 0) (whole : Reader Y) (due : Due) (n : ℕ) (Next : Reader Y → List Event → Type 0)
+pub token_refused : {Y B : Type 0} (takes : B → Event → B → Type 0) (whole : Reader Y) (due : Part) (n : ℕ) (Next : Reader Y → List Event → Type 0)
     (wanted : Type 0) (e : Error) (a b c : Window) (before after : B)
     → Midway takes whole (AwaitsPart due n Next) a b before after → Fails e b c → Names (token_at n) e b → Refuses wanted whole e a c
 token_refused takes whole Item n Next wanted e a b c before after m fails names =

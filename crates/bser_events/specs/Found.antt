@@ -14,8 +14,8 @@ use Rattle.bser_bunser.specs.declared.prefix.Token.{Token}
 use Rattle.bser_bunser.specs.declared.prefix.Token.TheVariants as tokens
 use Rattle.bser_events.specs.Events.{Event, key, TakesAll, events, field_events, close}
 use Rattle.bser_events.specs.Frames.{Left, parts_of, Fits, left_events, IsSmall}
-use Rattle.bser_events.specs.declared.frame.Due.{Due}
-use Rattle.bser_events.specs.declared.frame.Due.TheVariants.{Entry}
+use Rattle.bser_events.specs.declared.frame.Part.{Part}
+use Rattle.bser_events.specs.declared.frame.Part.TheVariants.{Entry}
 use Rattle.bser_events.specs.declared.frame.Frame.{Frame}
 
 -- ---- plain readers
@@ -113,7 +113,7 @@ IsInside levels None = ⊤
 IsInside levels (Some f) = (levels ≡ suc f.levels) × IsSmall f.parts
 
 -- a key was found, where an entry is due, and else nothing changed
-abbrev pub KeyFound : {B : Type 0} → (B → Event → B → Type 0) → Due → Window → Window → B → B → Type 0
+abbrev pub KeyFound : {B : Type 0} → (B → Event → B → Type 0) → Part → Window → Window → B → B → Type 0
 KeyFound takes Entry old new before after = Found takes (text_of kinds.MapKey) (λ s. key s ∷ []) old new before after
 KeyFound takes _ old new before after = (new ≡ old) × (after ≡ before)
 

@@ -6,8 +6,8 @@ use Rattle.bser_named.specs.Named.{Reader, give, ◌>>=◌, many, entry_of, fiel
 use Rattle.bser_events.specs.Events.{Event, item_events, entry_events, field_events, row_events}
 use Rattle.bser_events.specs.declared.frame.Parts.{Parts}
 use Rattle.bser_events.specs.declared.frame.Parts.TheVariants.{Items, Entries, Rows}
-use Rattle.bser_events.specs.declared.frame.Due.{Due}
-use Rattle.bser_events.specs.declared.frame.Due.TheVariants.{Item, Entry, Field}
+use Rattle.bser_events.specs.declared.frame.Part.{Part}
+use Rattle.bser_events.specs.declared.frame.Part.TheVariants.{Item, Entry, Field}
 
 -- what is read where these parts are wanted: items, entries, or the row in work and those after it
 abbrev pub Left : Parts → Type 0
@@ -41,7 +41,7 @@ IsSmall (Entries k) = k < 2 ^ 64
 IsSmall (Rows f r w) = (f < 2 ^ 64) × (r < 2 ^ 64) × (w < 2 ^ 64)
 
 -- where this is due, the parts from the old on are it and then the new
-abbrev pub Takes : Due → Parts → Parts → Type 0
+abbrev pub Takes : Part → Parts → Parts → Type 0
 Takes Item old new = (k : ℕ) × (old ≡ Items (suc k)) × (new ≡ Items k)
 Takes Entry old new = (k : ℕ) × (old ≡ Entries (suc k)) × (new ≡ Entries k)
 Takes Field old new =
@@ -55,11 +55,11 @@ IsDone (Entries k) = k ≡ 0
 IsDone (Rows f r w) = (f ≡ 0) × ((r ≡ 0) ⊎ (w ≡ 0))
 
 -- the next part is due, or none is left
-abbrev pub CountsDown : Parts → Parts → Option Due → Type 0
+abbrev pub CountsDown : Parts → Parts → Option Part → Type 0
 CountsDown old new None = IsDone old × (new ≡ old)
 CountsDown old new (Some due) = Takes due old new
 
 -- after a key of an entry its value is due, and else the next part
-abbrev pub CountsOn : Due → Parts → Parts → Option Due → Type 0
+abbrev pub CountsOn : Part → Parts → Parts → Option Part → Type 0
 CountsOn Entry old new due = (due ≡ Some Item) × (new ≡ old)
 CountsOn _ old new due = CountsDown old new due

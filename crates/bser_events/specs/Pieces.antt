@@ -6,8 +6,8 @@ use Rattle.bser_bunser.specs.declared.prefix.Token.{Token}
 use Rattle.bser_bunser.specs.declared.prefix.Token.TheVariants as tokens
 use Rattle.bser_events.specs.Events as told
 use Rattle.bser_events.specs.Events.{Event, key, events, part_events}
-use Rattle.bser_events.specs.declared.frame.Due.{Due}
-use Rattle.bser_events.specs.declared.frame.Due.TheVariants.{Item, Entry, Field}
+use Rattle.bser_events.specs.declared.frame.Part.{Part}
+use Rattle.bser_events.specs.declared.frame.Part.TheVariants.{Item, Entry, Field}
 
 -- the first n bytes are what r reads, and of that this event is told
 pub record InFront {X : Type 0} (r : Reader X) (told_of : X → List Event) (bytes : List ℕ) (n : ℕ) (e : Event) : Type 0 where
@@ -17,7 +17,7 @@ pub record InFront {X : Type 0} (r : Reader X) (told_of : X → List Event) (byt
   pub one : told_of value ≡ e ∷ []
 
 -- the first n bytes are what is due, but for an entry its key alone, whatever levels are left
-abbrev pub DueInFront : Due → List ℕ → ℕ → Event → Type 0
+abbrev pub DueInFront : Part → List ℕ → ℕ → Event → Type 0
 DueInFront Entry bytes n e = InFront (text_of MapKey) (λ s. key s ∷ []) bytes n e
 DueInFront Item bytes n e = (levels : ℕ) → InFront (with_text_keys levels) events bytes n e
 DueInFront Field bytes n e = (levels : ℕ) → InFront (field_of (with_text_keys levels)) part_events bytes n e
@@ -40,13 +40,13 @@ abbrev pub IsNoScalar : Token → Type 0
 IsNoScalar t = (e : Event) → IsScalar t e → ⊥
 
 -- the event of a scalar, or in a row of a skip, where this is due
-abbrev pub IsDueScalar : Due → Token → Event → Type 0
+abbrev pub IsDueScalar : Part → Token → Event → Type 0
 IsDueScalar Entry t e = ⊥
 IsDueScalar Item t e = IsScalar t e
 IsDueScalar Field t e = IsScalar t e ⊎ ((t ≡ tokens.Skip) × (e ≡ told.skip))
 
 -- the event of a string, a text or not, where this is due: a key is a text in any case
-abbrev pub IsDueString : Due → Bool → List ℕ → Event → Type 0
+abbrev pub IsDueString : Part → Bool → List ℕ → Event → Type 0
 IsDueString Entry b s e = IsUtf8 s × (e ≡ key s)
 IsDueString _ true s e = IsUtf8 s × (e ≡ told.text s)
 IsDueString _ false s e = e ≡ told.bytes s

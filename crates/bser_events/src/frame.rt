@@ -28,9 +28,9 @@ pub struct Frame {
     pub parts: Parts,
 }
 
-/// What is due.
+/// The part of a container that is due.
 #[derive(Clone, Copy)]
-pub enum Due {
+pub enum Part {
     /// A value.
     Item,
     /// A key, and then a value.
@@ -42,7 +42,7 @@ pub enum Due {
 impl Parts {
     /// Counts the next part down. None where none is left.
     #[inline(always)]
-    pub fn next(&mut self) -> Option<Due>
+    pub fn next(&mut self) -> Option<Part>
         ensures counted { CountsDown self.old self.new result }
         ensures small { IsSmall self.old → IsSmall self.new }
     {
@@ -52,14 +52,14 @@ impl Parts {
                     return None;
                 }
                 *len -= 1;
-                Some(Due::Item)
+                Some(Part::Item)
             }
             Parts::Entries(len) => {
                 if *len == 0 {
                     return None;
                 }
                 *len -= 1;
-                Some(Due::Entry)
+                Some(Part::Entry)
             }
             Parts::Rows {
                 fields,
@@ -68,27 +68,27 @@ impl Parts {
             } => {
                 if *fields != 0 {
                     *fields -= 1;
-                    return Some(Due::Field);
+                    return Some(Part::Field);
                 }
                 if *rows == 0 || *width == 0 {
                     return None;
                 }
                 *rows -= 1;
                 *fields = *width - 1;
-                Some(Due::Field)
+                Some(Part::Field)
             }
         }
     }
     /// What is due after this piece: the value of an entry after its key, or the next part. None
     /// where none is left.
     #[inline(always)]
-    pub fn next_after(&mut self, due: Due) -> Option<Due>
+    pub fn next_after(&mut self, due: Part) -> Option<Part>
         ensures counted { CountsOn due self.old self.new result }
         ensures small { IsSmall self.old → IsSmall self.new }
     {
         match due {
-            Due::Entry => Some(Due::Item),
-            Due::Item | Due::Field => self.next(),
+            Part::Entry => Some(Part::Item),
+            Part::Item | Part::Field => self.next(),
         }
     }
 }

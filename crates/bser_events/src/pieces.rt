@@ -11,7 +11,7 @@ ghost use Rattle.bser_events.specs.Pieces.{
 };
 
 use crate::event::Event;
-use crate::frame::Due;
+use crate::frame::Part;
 use bser_bunser::prefix::{Prefix, Token, token_prefix};
 use bser_source::text::as_text;
 
@@ -28,7 +28,7 @@ pub struct Piece<'s> {
 ///
 /// None where it is not there whole, or another thing is: a container, or a fault.
 #[inline(always)]
-pub fn due_piece(due: Due, bytes: &[u8]) -> Option<Piece<'_>>
+pub fn due_piece(due: Part, bytes: &[u8]) -> Option<Piece<'_>>
     ensures { MatchOption result ⊤ (λ p. DueInFront due bytes.now p.len (told p.event)) }
 {
     let Prefix::Found { value, len } = token_prefix(bytes) else {
@@ -47,12 +47,12 @@ pub fn due_piece(due: Due, bytes: &[u8]) -> Option<Piece<'_>>
 
 /// What is told of a string where this is due. None where it is no text, and has to be one.
 #[inline(always)]
-fn due_string(due: Due, is_text: bool, string: &[u8]) -> Option<Event<'_>>
+fn due_string(due: Part, is_text: bool, string: &[u8]) -> Option<Event<'_>>
     ensures { MatchOption result ⊤ (λ e. IsDueString due is_text string.now (told e)) }
 {
     match due {
-        Due::Entry => Some(Event::Key(as_text(string)?)),
-        Due::Item | Due::Field => {
+        Part::Entry => Some(Event::Key(as_text(string)?)),
+        Part::Item | Part::Field => {
             if is_text {
                 Some(Event::Text(as_text(string)?))
             } else {
@@ -64,13 +64,13 @@ fn due_string(due: Due, is_text: bool, string: &[u8]) -> Option<Event<'_>>
 
 /// What is told of a scalar or of a skip where this is due. None for another token.
 #[inline(always)]
-fn due_scalar(due: Due, token: Token) -> Option<Event<'static>>
+fn due_scalar(due: Part, token: Token) -> Option<Event<'static>>
     ensures { MatchOption result ⊤ (λ e. IsDueScalar due token (told e)) }
 {
     match scalar(token) {
         Some(event) => match due {
-            Due::Entry => None,
-            Due::Item | Due::Field => Some(event),
+            Part::Entry => None,
+            Part::Item | Part::Field => Some(event),
         },
         None if is_skipped(due, token) => Some(Event::Skip),
         None => None,
@@ -79,16 +79,16 @@ fn due_scalar(due: Due, token: Token) -> Option<Event<'static>>
 
 /// Whether a field is due, and is missing.
 #[inline(always)]
-pub fn is_skipped(due: Due, token: Token) -> bool
-    ensures { MatchBool result ((due ≡ Due.Field) × (token ≡ Token.Skip))
-        (due ≡ Due.Field → token ≢ Token.Skip) }
+pub fn is_skipped(due: Part, token: Token) -> bool
+    ensures { MatchBool result ((due ≡ Part.Field) × (token ≡ Token.Skip))
+        (due ≡ Part.Field → token ≢ Token.Skip) }
 {
     match due {
-        Due::Field => match token {
+        Part::Field => match token {
             Token::Skip => true,
             _ => false,
         },
-        Due::Item | Due::Entry => false,
+        Part::Item | Part::Entry => false,
     }
 }
 

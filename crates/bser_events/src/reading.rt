@@ -11,7 +11,7 @@ ghost use Rattle.bser_events.specs.Found.{Found, KeyFound, Refuses, fields_at, t
 
 use crate::builder::Builder;
 use crate::event::Event;
-use crate::frame::{Due, Frame, Parts};
+use crate::frame::{Frame, Part, Parts};
 use crate::heads::{check_working, refuse_memory, tell, token_within};
 use crate::parts::read_after;
 use crate::pieces::{due_piece, is_skipped};
@@ -172,20 +172,20 @@ fn push_frame<R: DeRead>(
 #[inline(never)]
 fn read_due_key<R: DeRead, B: Builder>(
     bunser: &mut Bunser<R>,
-    due: Due,
+    due: Part,
     scratch: &mut Vec<u8>,
     builder: &mut B,
 ) -> Answer<()>
     ensures ok { OnOk result (KeyFound B.takes due
         (bunser_window R.window bunser.old) (bunser_window R.window bunser.new)
         builder.old builder.new) }
-    ensures entry { OnErr result (due ≡ Due.Entry) }
+    ensures entry { OnErr result (due ≡ Part.Entry) }
     ensures err { OnErr result (Refuses (B.memory ≡ true) (text_of kinds.MapKey)
         (refusal_of bunser.new)
         (bunser_window R.window bunser.old) (bunser_window R.window bunser.new)) }
 {
     match due {
-        Due::Entry => read_key(bunser, Kind::MapKey, scratch, builder),
-        Due::Item | Due::Field => Ok(()),
+        Part::Entry => read_key(bunser, Kind::MapKey, scratch, builder),
+        Part::Item | Part::Field => Ok(()),
     }
 }

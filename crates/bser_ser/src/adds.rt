@@ -7,7 +7,7 @@ ghost use Rattle.bser_ser.specs.Sent.{Adds, refusal_of};
 
 use crate::integer::{LONGEST, spell};
 use crate::pending::{append_both, append_front, append_variant, append_variant_of};
-use crate::serializer::{Refused, Serializer};
+use crate::serializer::{PutRefused, Serializer};
 use bser_format::errors::Error;
 use bser_format::header::{
     BSER_ARRAY, BSER_BYTESTRING, BSER_FALSE, BSER_INT8, BSER_NULL, BSER_OBJECT, BSER_REAL,
@@ -19,12 +19,12 @@ use std::result::Result;
 
 /// The puts for a value of many parts, which hand no error from part to part.
 ///
-/// Each call does what the put of its name does. Where it is refused it answers [`Refused`], and
+/// Each call does what the put of its name does. Where it is refused it answers [`PutRefused`], and
 /// [`refusal`](Serializer::refusal) tells why: the writer's fault (`Io`), or `OutOfMemory`.
 ///
 /// The crate has none of these calls.
 impl<W: Sink> Serializer<W> {
-    /// Why the last call that answered [`Refused`] did so.
+    /// Why the last call that answered [`PutRefused`] did so.
     #[cold]
     pub fn refusal(&self) -> Error
         ensures { result ≡ refusal_of self.now }
@@ -37,7 +37,7 @@ impl<W: Sink> Serializer<W> {
 
     /// Puts null.
     #[inline(always)]
-    pub fn add_null(&mut self) -> Result<(), Refused>
+    pub fn add_null(&mut self) -> Result<(), PutRefused>
         ensures { Adds W.took W.failures self.old self.new null_piece result }
     {
         self.append(&[BSER_NULL])
@@ -45,7 +45,7 @@ impl<W: Sink> Serializer<W> {
 
     /// Puts a truth value.
     #[inline(always)]
-    pub fn add_bool(&mut self, v: bool) -> Result<(), Refused>
+    pub fn add_bool(&mut self, v: bool) -> Result<(), PutRefused>
         ensures { Adds W.took W.failures self.old self.new (bool_piece v) result }
     {
         self.append(&[if v { BSER_TRUE } else { BSER_FALSE }])
@@ -53,7 +53,7 @@ impl<W: Sink> Serializer<W> {
 
     /// Puts an integer in its least size.
     #[inline(always)]
-    pub fn add_i64(&mut self, v: i64) -> Result<(), Refused>
+    pub fn add_i64(&mut self, v: i64) -> Result<(), PutRefused>
         ensures { Adds W.took W.failures self.old self.new (integer_piece v) result }
     {
         let mut integer = [0; LONGEST];
@@ -66,7 +66,7 @@ impl<W: Sink> Serializer<W> {
 
     /// Puts a real, given by its 64 bits.
     #[inline(always)]
-    pub fn add_real_bits(&mut self, bits: u64) -> Result<(), Refused>
+    pub fn add_real_bits(&mut self, bits: u64) -> Result<(), PutRefused>
         ensures { Adds W.took W.failures self.old self.new (real_piece bits) result }
     {
         let mut piece = [BSER_REAL; 9];
@@ -76,7 +76,7 @@ impl<W: Sink> Serializer<W> {
 
     /// Puts a text.
     #[inline(always)]
-    pub fn add_text(&mut self, text: &str) -> Result<(), Refused>
+    pub fn add_text(&mut self, text: &str) -> Result<(), PutRefused>
         ensures { Adds W.took W.failures self.old self.new (text_piece text.now) result }
     {
         self.add_string(BSER_UTF8STRING, text.as_bytes())
@@ -84,7 +84,7 @@ impl<W: Sink> Serializer<W> {
 
     /// Puts a byte string.
     #[inline(always)]
-    pub fn add_bytes(&mut self, bytes: &[u8]) -> Result<(), Refused>
+    pub fn add_bytes(&mut self, bytes: &[u8]) -> Result<(), PutRefused>
         ensures { Adds W.took W.failures self.old self.new (bytes_piece bytes.now) result }
     {
         self.add_string(BSER_BYTESTRING, bytes)
@@ -92,7 +92,7 @@ impl<W: Sink> Serializer<W> {
 
     /// Puts an object's key that is a text, as [`put_key`](Serializer::put_key) does.
     #[inline(always)]
-    pub fn add_text_key(&mut self, key: &str) -> Result<(), Refused>
+    pub fn add_text_key(&mut self, key: &str) -> Result<(), PutRefused>
         ensures { Adds W.took W.failures self.old self.new (key_piece key.now) result }
     {
         self.add_text(key)
@@ -100,7 +100,7 @@ impl<W: Sink> Serializer<W> {
 
     /// Puts an array's head; the items follow.
     #[inline(always)]
-    pub fn add_array(&mut self, count: usize) -> Result<(), Refused>
+    pub fn add_array(&mut self, count: usize) -> Result<(), PutRefused>
         requires { count < 2 ^ 63 }
         ensures { Adds W.took W.failures self.old self.new (array_head count) result }
     {
@@ -109,7 +109,7 @@ impl<W: Sink> Serializer<W> {
 
     /// Puts an object's head; for each entry its key and its value follow.
     #[inline(always)]
-    pub fn add_object(&mut self, count: usize) -> Result<(), Refused>
+    pub fn add_object(&mut self, count: usize) -> Result<(), PutRefused>
         requires { count < 2 ^ 63 }
         ensures { Adds W.took W.failures self.old self.new (object_head count) result }
     {
@@ -120,14 +120,14 @@ impl<W: Sink> Serializer<W> {
     /// count of its keys, each key as a text, and the count of its rows as an integer; then the
     /// fields of each row.
     #[inline(always)]
-    pub fn add_template(&mut self) -> Result<(), Refused>
+    pub fn add_template(&mut self) -> Result<(), PutRefused>
         ensures { Adds W.took W.failures self.old self.new template_tag result }
     {
         self.append(&[BSER_TEMPLATE])
     }
 
     // Puts the head of an enum's variant with one value.
-    pub(crate) fn add_variant(&mut self, name: &str) -> Result<(), Refused>
+    pub(crate) fn add_variant(&mut self, name: &str) -> Result<(), PutRefused>
         ensures { Adds W.took W.failures self.old self.new (newtype_variant_head name.now) result }
     {
         self.make_room()?;
@@ -138,7 +138,12 @@ impl<W: Sink> Serializer<W> {
     }
 
     // Puts a variant's head, and its payload's tag and count.
-    pub(crate) fn add_variant_of(&mut self, name: &str, tag: u8, count: i64) -> Result<(), Refused>
+    pub(crate) fn add_variant_of(
+        &mut self,
+        name: &str,
+        tag: u8,
+        count: i64,
+    ) -> Result<(), PutRefused>
         ensures { Adds W.took W.failures self.old self.new
             (newtype_variant_head name.now ++ tag ∷ least_integer count) result }
     {
@@ -150,7 +155,7 @@ impl<W: Sink> Serializer<W> {
     }
 
     // Puts the front of a message whose body has this many bytes.
-    pub(crate) fn add_front(&mut self, body: i64) -> Result<(), Refused>
+    pub(crate) fn add_front(&mut self, body: i64) -> Result<(), PutRefused>
         ensures { Adds W.took W.failures self.old self.new
             (0 ∷ 2 ∷ (to_le_bytes w32 0 ++ least_integer body)) result }
     {
@@ -161,7 +166,7 @@ impl<W: Sink> Serializer<W> {
 
     // Puts a container's tag and its count.
     #[inline(always)]
-    fn add_head(&mut self, tag: u8, count: usize) -> Result<(), Refused>
+    fn add_head(&mut self, tag: u8, count: usize) -> Result<(), PutRefused>
         requires { count < 2 ^ 63 }
         ensures { Adds W.took W.failures self.old self.new (tag ∷ least_count count) result }
     {
@@ -173,7 +178,7 @@ impl<W: Sink> Serializer<W> {
 
     // Puts a string under this tag.
     #[inline(always)]
-    fn add_string(&mut self, tag: u8, bytes: &[u8]) -> Result<(), Refused>
+    fn add_string(&mut self, tag: u8, bytes: &[u8]) -> Result<(), PutRefused>
         ensures { Adds W.took W.failures self.old self.new
             (tag ∷ (least_count (length bytes.now) ++ bytes.now)) result }
     {
@@ -185,7 +190,7 @@ impl<W: Sink> Serializer<W> {
 
     // Puts a tag and a count of one byte, and then these bytes.
     #[inline(always)]
-    fn add_short(&mut self, tag: u8, count: u8, bytes: &[u8]) -> Result<(), Refused>
+    fn add_short(&mut self, tag: u8, count: u8, bytes: &[u8]) -> Result<(), PutRefused>
         ensures { Adds W.took W.failures self.old self.new (tag ∷ 3 ∷ count ∷ bytes.now) result }
     {
         if self.is_taken_at_once(&[tag, BSER_INT8, count], bytes) {
@@ -196,7 +201,7 @@ impl<W: Sink> Serializer<W> {
 
     // Puts a tag and a count, and then these bytes, whatever size the count takes.
     #[inline(never)]
-    fn add_great_counted(&mut self, tag: u8, count: i64, bytes: &[u8]) -> Result<(), Refused>
+    fn add_great_counted(&mut self, tag: u8, count: i64, bytes: &[u8]) -> Result<(), PutRefused>
         ensures { Adds W.took W.failures self.old self.new
             (tag ∷ (least_integer count ++ bytes.now)) result }
     {
@@ -207,7 +212,7 @@ impl<W: Sink> Serializer<W> {
 
     // Puts a piece.
     #[inline(always)]
-    fn append(&mut self, piece: &[u8]) -> Result<(), Refused>
+    fn append(&mut self, piece: &[u8]) -> Result<(), PutRefused>
         ensures { Adds W.took W.failures self.old self.new piece.now result }
     {
         if self.is_taken_at_once(piece, &[]) {
@@ -218,7 +223,7 @@ impl<W: Sink> Serializer<W> {
 
     // Puts a piece where it waits for the writer.
     #[inline(always)]
-    fn append_pending(&mut self, piece: &[u8]) -> Result<(), Refused>
+    fn append_pending(&mut self, piece: &[u8]) -> Result<(), PutRefused>
         ensures { Adds W.took W.failures self.old self.new piece.now result }
     {
         self.make_room()?;
@@ -230,7 +235,7 @@ impl<W: Sink> Serializer<W> {
 
     // Puts a piece that is given in two parts.
     #[inline]
-    fn append_parts(&mut self, front: &[u8], back: &[u8]) -> Result<(), Refused>
+    fn append_parts(&mut self, front: &[u8], back: &[u8]) -> Result<(), PutRefused>
         ensures { Adds W.took W.failures self.old self.new (front.now ++ back.now) result }
     {
         if self.is_taken_at_once(front, back) {
@@ -241,7 +246,7 @@ impl<W: Sink> Serializer<W> {
 
     // Puts the first n bytes of `bytes` where they wait for the writer.
     #[inline(always)]
-    fn append_pending_front(&mut self, bytes: &[u8], n: usize) -> Result<(), Refused>
+    fn append_pending_front(&mut self, bytes: &[u8], n: usize) -> Result<(), PutRefused>
         requires { n ≤ length bytes.now }
         ensures { Adds W.took W.failures self.old self.new (take n bytes.now) result }
     {
@@ -254,7 +259,7 @@ impl<W: Sink> Serializer<W> {
 
     // Puts a tag and a count of one byte, and then these bytes, where they wait for the writer.
     #[inline(never)]
-    fn append_pending_short(&mut self, tag: u8, count: u8, bytes: &[u8]) -> Result<(), Refused>
+    fn append_pending_short(&mut self, tag: u8, count: u8, bytes: &[u8]) -> Result<(), PutRefused>
         ensures { Adds W.took W.failures self.old self.new (tag ∷ 3 ∷ count ∷ bytes.now) result }
     {
         self.make_room()?;
@@ -266,7 +271,7 @@ impl<W: Sink> Serializer<W> {
 
     // Puts a piece that is given in two parts where it waits for the writer.
     #[inline(never)]
-    fn append_pending_parts(&mut self, front: &[u8], back: &[u8]) -> Result<(), Refused>
+    fn append_pending_parts(&mut self, front: &[u8], back: &[u8]) -> Result<(), PutRefused>
         ensures { Adds W.took W.failures self.old self.new (front.now ++ back.now) result }
     {
         self.make_room()?;

@@ -22,7 +22,7 @@ mod serializer;
 mod tuples;
 
 pub use crate::count::CountWrite;
-pub use crate::serializer::{Refused, Serializer};
+pub use crate::serializer::{PutRefused, Serializer};
 use bser_format::errors::Result;
 use bser_source::device::Sink;
 use std::alloc::Global;

@@ -29,7 +29,7 @@ pub struct Serializer<W> {
 
 /// A put was refused, and its serializer keeps the reason: [`Serializer::refusal`].
 #[derive(Debug, Clone, Copy)]
-pub struct Refused;
+pub struct PutRefused;
 
 impl<W> Serializer<W> {
     /// Writes to `writer`; nothing is pending, and no front of a message is put.
@@ -102,7 +102,7 @@ impl<W: Sink> Serializer<W> {
 
     /// Sends where more than [`LIMIT`] bytes are pending.
     #[inline(always)]
-    pub(crate) fn make_room(&mut self) -> Result<(), Refused>
+    pub(crate) fn make_room(&mut self) -> Result<(), PutRefused>
         ensures sent { Sent W.took W.failures self.old self.new [] }
         ensures room { OnOk result (length (pending_of self.new) ≤ 4096) }
         ensures err { OnErr result (Excuses W.failures self.old self.new (refusal_of self.new)) }
@@ -115,7 +115,7 @@ impl<W: Sink> Serializer<W> {
 
     // Sends all that is pending, and keeps the writer's fault.
     #[cold]
-    fn send_now(&mut self) -> Result<(), Refused>
+    fn send_now(&mut self) -> Result<(), PutRefused>
         ensures sent { Sent W.took W.failures self.old self.new [] }
         ensures ok { OnOk result (IsFlushed self.new) }
         ensures err { OnErr result (Excuses W.failures self.old self.new (refusal_of self.new)) }
@@ -124,20 +124,20 @@ impl<W: Sink> Serializer<W> {
             Ok(()) => Ok(()),
             Err(fault) => {
                 self.fault = Some(fault);
-                Err(Refused)
+                Err(PutRefused)
             }
         }
     }
 
     // Keeps want of memory as the reason of a refusal.
     #[cold]
-    pub(crate) fn out_of_memory(&mut self) -> Refused
+    pub(crate) fn out_of_memory(&mut self) -> PutRefused
         ensures writer { writer_of self.new ≡ writer_of self.old }
         ensures pending { pending_of self.new ≡ pending_of self.old }
         ensures reason { refusal_of self.new ≡ OutOfMemory }
     {
         self.fault = None;
-        Refused
+        PutRefused
     }
 
     // Gives the writer both parts of a piece, if nothing is pending and it takes them at once.

@@ -8,18 +8,17 @@
 //! one after another. A block of Rust without such a line is a fault. A line `<!-- names of PATH -->`
 //! begins a list of the public names of that file, up to the next title.
 //!
-//! Each fault is told by its page and line, and the status is 1 then.
+//! Each fault is told by its page and line, and the status is 1 then. The pages above a line `====`
+//! are wrong on purpose: their faults are told, and are no failure.
 #![tactic(auto)]
 
 mod files;
 mod names;
 mod quotes;
-#[cfg(test)]
-mod tests;
 
 use crate::files::{File, files, find};
 use crate::names::{indexes, missing, public_names};
-use anyhow::Result;
+use anyhow::{Context, Result};
 use std::alloc::Global;
 use std::io;
 use std::process::ExitCode;
@@ -36,21 +35,28 @@ struct Report {
 fn main(rt: HostRuntime) -> Result<ExitCode> {
     let alloc = rt.alloc();
     let text = io::read_to_string(alloc, rt.reader())?;
-    let report = compare(alloc, &files(alloc, text.as_str())?)?;
+    let (wrong, right) = text
+        .as_str()
+        .split_once("\n====\n")
+        .context("there is no line ====")?;
+    for fault in &compare(alloc, &files(alloc, wrong)?)?.faults {
+        println!(rt; "{fault}")?;
+    }
+    let report = compare(alloc, &files(alloc, right)?)?;
     for fault in &report.faults {
         println!(rt; "{fault}")?;
+    }
+    if !report.faults.is_empty() {
+        return Ok(ExitCode::FAILURE);
     }
     let Report {
         pages,
         quotes,
         names,
-        faults,
+        faults: _,
     } = report;
-    if faults.is_empty() {
-        println!(rt; "{pages} pages, {quotes} quotes, {names} names: no difference")?;
-        return Ok(ExitCode::SUCCESS);
-    }
-    Ok(ExitCode::FAILURE)
+    println!(rt; "{pages} pages, {quotes} quotes, {names} names: no difference")?;
+    Ok(ExitCode::SUCCESS)
 }
 
 /// Compares each page with the files that it names.

@@ -31,7 +31,7 @@ pub struct Quote<'a> {
 /// The fenced blocks of a page, in order.
 pub fn quotes<'a>(alloc: Global, page: &File<'a>) -> Result<Vec<Quote<'a>>, AllocError> {
     let mut quotes = Vec::new(alloc);
-    let mut path = None;
+    let mut path: Option<&str> = None;
     let mut open: Option<Quote<'a>> = None;
     for (at, line) in page.lines.iter().enumerate() {
         match open.take() {
@@ -42,7 +42,7 @@ pub fn quotes<'a>(alloc: Global, page: &File<'a>) -> Result<Vec<Quote<'a>>, Allo
             }
             None if line.starts_with("```") => {
                 open = Some(Quote {
-                    path,
+                    path: path.take(),
                     is_rust: *line == "```rust",
                     line: at.saturating_add(1),
                     lines: Vec::new(alloc),

@@ -6,7 +6,7 @@ ghost use Rattle.bser_ser.specs.Sent.{refusal_of};
 ghost use Rattle.bser_value.specs.ValueView.{tree_of};
 
 use crate::value::Value;
-use bser_ser::{Refused, Serialize, Serializer};
+use bser_ser::{PutRefused, Serialize, Serializer};
 use bser_source::device::Sink;
 use std::alloc::Global;
 use std::collections::BTreeMap;
@@ -31,7 +31,7 @@ impl Serialize for Value {
 // Puts a value. The serializer keeps the reason of a refusal.
 #[cycle(add)]
 #[inline(always)]
-fn add_value<W: Sink>(value: &Value, out: &mut Serializer<W>) -> Result<(), Refused>
+fn add_value<W: Sink>(value: &Value, out: &mut Serializer<W>) -> Result<(), PutRefused>
     ensures ok { OnOk result (Ends W.took W.failures
         (text_of (Some (tree_of value.now))) out.old out.new) }
     ensures err { OnErr result (Stops W.took W.failures
@@ -51,7 +51,7 @@ fn add_value<W: Sink>(value: &Value, out: &mut Serializer<W>) -> Result<(), Refu
 
 #[cycle(add)]
 #[inline(never)]
-fn add_items<W: Sink>(items: &Vec<Value>, out: &mut Serializer<W>) -> Result<(), Refused>
+fn add_items<W: Sink>(items: &Vec<Value>, out: &mut Serializer<W>) -> Result<(), PutRefused>
     ensures ok { OnOk result (Ends W.took W.failures
         (text_of (array_tree (λ v. Some (tree_of v)) items.now.items)) out.old out.new) }
     ensures err { OnErr result (Stops W.took W.failures
@@ -70,7 +70,7 @@ fn add_items<W: Sink>(items: &Vec<Value>, out: &mut Serializer<W>) -> Result<(),
 fn add_entries<W: Sink>(
     entries: &BTreeMap<String, Value>,
     out: &mut Serializer<W>,
-) -> Result<(), Refused>
+) -> Result<(), PutRefused>
     ensures ok { OnOk result (Ends W.took W.failures
         (text_of (object_tree string_bytes (λ v. Some (tree_of v)) entries.now.entries)) out.old
         out.new) }
