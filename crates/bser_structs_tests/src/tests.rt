@@ -6,12 +6,14 @@ use crate::queries::Query;
 use crate::rows::Row;
 use crate::signed::Shift;
 use serde_bser::bytestring::ByteString;
+use serde_bser::de::ObjectOr;
 use serde_bser::device::Watched;
 use serde_bser::errors::{Complaint, Error, Message, Result};
 use serde_bser::prelude::*;
 use serde_bser::ser::{Serialize, to_vec};
 use serde_bser::{from_reader, from_slice};
 use std::alloc::Global;
+use std::collections::BTreeMap;
 use std::io;
 use std::io::Read;
 use std::process::Abort;
@@ -199,6 +201,46 @@ fn numbers_have_a_sign(rt: HostRuntime) -> Result<()> {
     };
     check_read(&rt, alloc, bytes, &shift)?;
     check_written(&rt, alloc, &shift, bytes)
+}
+
+#[test]
+fn files_are_names_or_objects(rt: HostRuntime) -> Result<()> {
+    let alloc = rt.alloc();
+    let file = NamedFile {
+        name: String::from_str(alloc, "b")?,
+        size: 5,
+        exists: None,
+    };
+    let name = String::from_str(alloc, "a")?;
+    let bytes = b"\x00\x02\0\0\0\0\x03\x1e\x00\x03\x02\x0d\x03\x01a\
+\x01\x03\x02\x0d\x03\x04name\x0d\x03\x01b\x0d\x03\x04size\x03\x05";
+    let files = vec![in alloc; ObjectOr::Other(name), ObjectOr::Object(file)]?;
+    check_read(&rt, alloc, bytes, &files)?;
+    check_written(&rt, alloc, &files, bytes)
+}
+
+#[test]
+fn the_rows_of_a_template_are_objects(rt: HostRuntime) -> Result<()> {
+    let alloc = rt.alloc();
+    let bytes = b"\x00\x02\0\0\0\0\x03\x1a\x0b\x00\x03\x02\x0d\x03\x04name\x0d\x03\x04size\
+\x03\x01\x0d\x03\x01b\x03\x05";
+    let files: Vec<ObjectOr<NamedFile<&str>, &str>> = from_slice(alloc, bytes)?;
+    let file = NamedFile {
+        name: "b",
+        size: 5,
+        exists: None,
+    };
+    assert_eq!(rt; files.as_slice(), [ObjectOr::Object(file)].as_slice());
+    Ok(())
+}
+
+#[test]
+fn an_object_is_not_read_as_the_other_type(rt: HostRuntime) {
+    let bytes = b"\x00\x02\0\0\0\0\x03\x0e\x01\x03\x01\x0d\x03\x04name\x0d\x03\x01b";
+    type Listed = ObjectOr<NamedFile<String>, BTreeMap<String, String>>;
+    check_refused::<Listed>(&rt, rt.alloc(), bytes, Complaint::TooFewItems);
+    let bytes = b"\x00\x02\0\0\0\0\x03\x01\x0a";
+    check_refused::<Listed>(&rt, rt.alloc(), bytes, Complaint::WrongType);
 }
 
 #[test]

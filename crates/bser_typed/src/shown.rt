@@ -9,6 +9,7 @@ ghost use Rattle.std.specs.Prelude.{◌≡◌, ◌++◌, ℕ, List, string_bytes
 
 mod enums;
 mod holders;
+mod lists;
 mod scalars;
 mod strings;
 mod structs;

@@ -1,7 +1,8 @@
-//! The types by their names in the lists: `vec_T` is a `Vec` of T, `opt_T` an `Option`, `map_K_V` a
-//! `BTreeMap`, `tup_A_B` a tuple, `tup2`, `tup3` and `tup4` one of so many `i64`, and `unit` is `()`;
-//! `str` is `&str`, and `bytes` is `&[u8]`, but `ByteString` as the key of a map, where `raw` is
-//! `&[u8]`. A struct or enum has texts of its own, but with `_str` or `_raw` behind its name.
+//! The types by their names in the lists: `vec_T` is a `Vec` of T, `deque_T` a `VecDeque`, `set_T` a
+//! `BTreeSet`, `arr2_T` an array of two, `opt_T` an `Option`, `map_K_V` a `BTreeMap`, `tup_A_B` a
+//! tuple, `tup2`, `tup3` and `tup4` one of so many `i64`, and `unit` is `()`; `str` is `&str`, `cow` a
+//! `CowStr`, and `bytes` is `&[u8]`, but `ByteString` as the key of a map, where `raw` is `&[u8]`. A
+//! struct or enum has texts of its own, but with `_str` or `_raw` behind its name.
 use crate::ways::{Compared, Sample};
 use bser_vectors::enums::{EnumRow, TestEnum};
 use bser_vectors::files::ExactFile;
@@ -10,7 +11,8 @@ use serde_bser::bytestring::ByteString;
 use serde_bser::de::Ignored;
 use serde_bser::value::Value;
 use std::alloc::Global;
-use std::collections::BTreeMap;
+use std::borrow::CowStr;
+use std::collections::{BTreeMap, BTreeSet, VecDeque};
 
 /// Reads the message as the type of this name, and compares the answers, where there is one.
 pub fn compare(alloc: Global, kind: &str, sample: &Sample<'_>) -> Option<Compared> {
@@ -29,6 +31,7 @@ fn scalars(alloc: Global, kind: &str, sample: &Sample<'_>) -> Option<Compared> {
         "bool" => sample.owned_mismatch::<bool>(alloc),
         "i8" => sample.owned_mismatch::<i8>(alloc),
         "i64" => sample.owned_mismatch::<i64>(alloc),
+        "isize" => sample.owned_mismatch::<isize>(alloc),
         "u8" => sample.owned_mismatch::<u8>(alloc),
         "u64" => sample.owned_mismatch::<u64>(alloc),
         "unit" => sample.owned_mismatch::<()>(alloc),
@@ -37,6 +40,7 @@ fn scalars(alloc: Global, kind: &str, sample: &Sample<'_>) -> Option<Compared> {
         "char" => sample.owned_mismatch::<char>(alloc),
         "String" => sample.owned_mismatch::<String>(alloc),
         "ByteString" => sample.owned_mismatch::<ByteString>(alloc),
+        "cow" => sample.owned_mismatch::<CowStr<'_>>(alloc),
         "str" => sample.lent_mismatch::<&str>(alloc),
         "bytes" => sample.lent_mismatch::<&[u8]>(alloc),
         _ => return None,
@@ -65,12 +69,16 @@ fn lists(alloc: Global, kind: &str, sample: &Sample<'_>) -> Option<Compared> {
         "vec_Value" => sample.owned_mismatch::<Vec<Value>>(alloc),
         "vec_opt_i64" => sample.owned_mismatch::<Vec<Option<i64>>>(alloc),
         "vec_opt_vec_i64" => sample.owned_mismatch::<Vec<Option<Vec<i64>>>>(alloc),
+        "arr2_map_String_i64" => sample.owned_mismatch::<[BTreeMap<String, i64>; 2]>(alloc),
+        "deque_i64" => sample.owned_mismatch::<VecDeque<i64>>(alloc),
+        "set_String" => sample.owned_mismatch::<BTreeSet<String>>(alloc),
         _ => return None,
     })
 }
 
 fn tuples(alloc: Global, kind: &str, sample: &Sample<'_>) -> Option<Compared> {
     Some(match kind {
+        "tup_map_String_i64" => sample.owned_mismatch::<(BTreeMap<String, i64>,)>(alloc),
         "tup2" => sample.owned_mismatch::<(i64, i64)>(alloc),
         "tup3" => sample.owned_mismatch::<(i64, i64, i64)>(alloc),
         "tup4" => sample.owned_mismatch::<(i64, i64, i64, i64)>(alloc),

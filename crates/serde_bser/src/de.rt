@@ -32,6 +32,7 @@ pub use bser_source::read::{Reference, TextReference};
 pub use bser_streams::limited::from_slice_limited;
 pub use bser_streams::limits::Limits;
 pub use bser_streams::next::from_reader_limited;
+pub use bser_structs::object_or::ObjectOr;
 pub use bser_types::container::ReadsContainers;
 pub use bser_types::deserialize::{Deserialize, DeserializeOwned, OwnedShape, Shape};
 pub use bser_types::impls::{Ignored, MapKey, RealBits, SkipsValues};

@@ -1,23 +1,18 @@
-//! Values that may be missing, lists, tuples and maps.
+//! Values that may be missing, tuples and maps.
 ghost use Rattle.std.specs.Prelude.{◌≡◌, ◌++◌, OnOk, codes, string_bytes};
-ghost use Rattle.bser_typed.specs.Shown.{list_notation, map_notation, option_notation};
+ghost use Rattle.bser_typed.specs.Shown.{map_notation, option_notation};
 
 use crate::shown::Shown;
 use std::alloc::{AllocError, Global};
 use std::collections::BTreeMap;
 
-impl<T: Shown> Shown for Vec<T> {
-    ghost notation = { λ v. list_notation T.notation v.items };
+impl<A: Shown> Shown for (A,) {
+    ghost notation = { λ v. codes "(" ++ (A.notation v.0 ++ codes ")") };
 
     fn put(&self, alloc: Global, text: &mut String) -> Result<(), AllocError> {
-        text.push_str("[")?;
-        let mut separator = "";
-        for item in self {
-            text.push_str(separator)?;
-            item.put(alloc, text)?;
-            separator = ",";
-        }
-        text.push_str("]")
+        text.push_str("(")?;
+        self.0.put(alloc, text)?;
+        text.push_str(")")
     }
 }
 

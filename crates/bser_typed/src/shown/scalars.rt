@@ -30,6 +30,14 @@ impl Shown for i64 {
     }
 }
 
+impl Shown for isize {
+    ghost notation = { λ v. codes "i" ++ signed_decimal v };
+
+    fn put(&self, alloc: Global, text: &mut String) -> Result<(), AllocError> {
+        text.push_str(format!(in alloc; "i{self}")?.as_str())
+    }
+}
+
 impl Shown for u8 {
     ghost notation = { λ v. codes "i" ++ decimal v };
 

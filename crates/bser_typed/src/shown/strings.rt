@@ -1,11 +1,13 @@
 //! Strings and characters, by their bytes.
 ghost use Rattle.std.specs.Prelude.{◌≡◌, ◌++◌, string_bytes, OnOk};
 ghost use Rattle.std.specs.Char.{encode_utf8};
+ghost use Rattle.std.specs.Cow.{cow_str_bytes};
 ghost use Rattle.bser_typed.specs.Shown.{bytes_notation};
 
 use crate::shown::Shown;
 use serde_bser::bytestring::ByteString;
 use std::alloc::{AllocError, Global};
+use std::borrow::CowStr;
 
 impl Shown for char {
     ghost notation = { λ v. bytes_notation (encode_utf8 v) };
@@ -38,6 +40,14 @@ impl<'a> Shown for &'a str {
 
     fn put(&self, alloc: Global, text: &mut String) -> Result<(), AllocError> {
         put_bytes(alloc, text, self.as_bytes())
+    }
+}
+
+impl<'a> Shown for CowStr<'a> {
+    ghost notation = { λ v. bytes_notation (cow_str_bytes v) };
+
+    fn put(&self, alloc: Global, text: &mut String) -> Result<(), AllocError> {
+        put_bytes(alloc, text, self.as_str().as_bytes())
     }
 }
 

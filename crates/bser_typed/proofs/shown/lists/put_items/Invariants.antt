@@ -3,9 +3,9 @@ use Rattle.std.proofs.Common.{◌≡◌, [], ◌++◌, codes, drop, string_bytes
 use denote.Text.{Utf8}
 use denote.Shadow.{shadow}
 use Rattle.bser_typed.specs.Shown.{joined}
-use Rattle.bser_typed.proofs.shown.holders.VecShown.put.Given as goal
+use Rattle.bser_typed.proofs.shown.lists.put_items.Given as goal
 
 abbrev pub invariant-loop-item : goal.invariant-loop-item
 invariant-loop-item g l =
     shadow (Utf8 l.separator) ×
-    (string_bytes l.text ++ joined g.T.Shown.notation l.separator (drop l.item-index l.item-items) ≡ string_bytes l.fn.text ++ (codes "[" ++ joined g.T.Shown.notation [] l.self.items))
+    (string_bytes l.text ++ joined g.T.Shown.notation l.separator (drop l.item-index l.items) ≡ string_bytes l.fn.text ++ (codes "[" ++ joined g.T.Shown.notation [] l.items))

@@ -1,0 +1,16 @@
+-- What is held, and written, where an object is a value of one type and anything else one of another.
+use Rattle.std.specs.Prelude.{Option}
+use Rattle.bser_format.specs.Tree.{Tree}
+use Rattle.bser_format.specs.Content.{Content}
+use Rattle.bser_structs.specs.declared.object_or.ObjectOr.{ObjectOr}
+use Rattle.bser_structs.specs.declared.object_or.ObjectOr.TheVariants.{Object, Other}
+
+-- what the value holds that was read of an object, or of anything else
+abbrev pub HoldsObjectOr : {A B : Type 0} → (A → Content → Type 0) → (B → Content → Type 0) → ObjectOr A B → Content → Type 0
+HoldsObjectOr object other (Object v) c = object v c
+HoldsObjectOr object other (Other v) c = other v c
+
+-- the tree that this value is written as
+abbrev pub object_or_tree : {A B : Type 0} → (A → Option Tree) → (B → Option Tree) → ObjectOr A B → Option Tree
+object_or_tree object other (Object v) = object v
+object_or_tree object other (Other v) = other v
