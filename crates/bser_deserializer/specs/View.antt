@@ -22,6 +22,7 @@ use Rattle.bser_due.specs.declared.node.Node.TheVariants as kinds
 use Rattle.bser_due.specs.declared.frames.SeqHead.{SeqHead}
 use Rattle.bser_due.specs.declared.frames.MapHead.{MapHead}
 use Rattle.bser_deserializer.specs.declared.deserializer.Deserializer.{Deserializer}
+use Rattle.bser_deserializer.specs.declared.note.Note.{Note}
 
 -- the state of a deserializer, by the window of its source and the bytes of a kept key
 abbrev pub state : {R L K : Type 0} → (R → Window) → (K → List ℕ) → Deserializer R L K → State
@@ -42,6 +43,10 @@ state window kept d =
 -- the reason of a refusal
 abbrev pub refusal_in : {R L K : Type 0} → Deserializer R L K → Error
 refusal_in d = refusal_of d.bunser
+
+-- what the first refusal tells beside its reason
+abbrev pub note_in : {R L K : Type 0} → Deserializer R L K → Note
+note_in d = d.note
 
 -- why a deserializer is not at the end of its message
 abbrev pub not_at_end : State → Error

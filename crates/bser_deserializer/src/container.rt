@@ -11,6 +11,7 @@ ghost use Rattle.bser_deserializer.specs.View.{state, refusal_in, items_head, pa
 
 use crate::cursor::Cursor;
 use crate::deserializer::{Deserializer, Due};
+use crate::note::Wanted;
 use crate::template::take_table;
 use bser_bunser::refusal::Answer;
 pub use bser_due::frames::{MapHead, SeqHead};
@@ -46,7 +47,7 @@ impl<R: DeRead> Containers for Deserializer<R> {
         match self.value_tag()? {
             BSER_ARRAY => self.open_array(),
             BSER_TEMPLATE => self.open_template(alloc),
-            tag => Err(self.refuse_tag(tag)),
+            tag => Err(self.refuse_tag(Wanted::Array, tag)),
         }
     }
 
@@ -63,7 +64,7 @@ impl<R: DeRead> Containers for Deserializer<R> {
         }
         match self.value_tag()? {
             BSER_OBJECT => self.open_object(),
-            tag => Err(self.refuse_tag(tag)),
+            tag => Err(self.refuse_tag(Wanted::Object, tag)),
         }
     }
 

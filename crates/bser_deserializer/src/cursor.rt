@@ -1,5 +1,5 @@
 //! What is due.
-ghost use Rattle.std.specs.Prelude.{◌≡◌, true, false, IfOk, OnErr, IfSome, IfNone, if◌then◌else◌};
+ghost use Rattle.std.specs.Prelude.{◌≡◌, true, false, Some, IfOk, OnErr, IfSome, IfNone, if◌then◌else◌};
 ghost use Rattle.bser_format.specs.Expected.{nothing_due, node_due, key_due, field_due, row_due};
 ghost use Rattle.bser_named.specs.Clauses.{after_a_refusal};
 ghost use Rattle.bser_named.specs.DueReaders as due_readers;
@@ -9,9 +9,10 @@ ghost use Rattle.bser_bunser.specs.Refusal.{Fails};
 ghost use Rattle.bser_due.specs.Dues.{IsValueDue, name_at};
 ghost use Rattle.bser_due.specs.Reading.{NamesBy, NamesDue, bare};
 ghost use Rattle.bser_due.specs.State.{awaiting, refused};
-ghost use Rattle.bser_deserializer.specs.View.{state, refusal_in, due_in, keys_in, value_here, SeesTag, IsNameDue, NoNameDue};
+ghost use Rattle.bser_deserializer.specs.View.{state, refusal_in, note_in, due_in, keys_in, value_here, SeesTag, IsNameDue, NoNameDue};
 
 use crate::deserializer::{Deserializer, Due};
+use crate::note::{Finding, Wanted};
 use bser_bunser::refusal::{Answer, Refused};
 use bser_format::errors::{Complaint, Error, Kind, ReadCause};
 use bser_format::header::{BSER_BYTESTRING, BSER_SKIP, BSER_UTF8STRING};
@@ -192,15 +193,17 @@ impl<R: DeRead> Deserializer<R> {
         }
     }
 
-    /// Refuses a tag of another kind than is asked for.
+    /// Refuses a tag of another kind than is asked for, and notes what is wanted.
     #[cold]
     #[inline(never)]
-    pub(crate) fn refuse_tag(&mut self, tag: u8) -> Refused
+    pub(crate) fn refuse_tag(&mut self, wanted: Wanted, tag: u8) -> Refused
         ensures reason { refusal_in self.new ≡ stray_at
             (state R.window R.Lent.kept self.old).due tag }
         ensures state { state R.window R.Lent.kept self.new
             ≡ refused (state R.window R.Lent.kept self.old) }
+        ensures note { (note_in self.new).finding ≡ Some (Finding.Stray wanted tag) }
     {
+        self.note.finding = Some(Finding::Stray { wanted, tag });
         let reason = self.stray(tag);
         self.bunser.refuse(reason)
     }
@@ -220,7 +223,7 @@ impl<R: DeRead> Deserializer<R> {
             Due::Key => match self.bunser.fill(1) {
                 Ok(()) => {
                     let tag = self.bunser.buffered()[0];
-                    self.refuse_tag(tag)
+                    self.refuse_tag(Wanted::Value, tag)
                 }
                 Err(Refused) => Refused,
             },

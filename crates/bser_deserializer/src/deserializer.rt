@@ -9,6 +9,7 @@ ghost use Rattle.bser_bunser.specs.Names.{Names};
 ghost use Rattle.bser_bunser.specs.Refusal.{Fails};
 ghost use Rattle.bser_due.specs.State.{Begins, IsAtEnd, refused};
 
+use crate::note::Note;
 use bser_bunser::bunser::{Bunser, PduInfo};
 use bser_bunser::refusal::{Answer, Refused};
 pub use bser_due::due::Due;
@@ -37,6 +38,8 @@ pub struct Deserializer<R: DeRead> {
     // the keys of the innermost open template, and those of the templates around it
     pub(crate) keys: Vec<<R::Lent as Lending>::Kept>,
     pub(crate) outer: Vec<Vec<<R::Lent as Lending>::Kept>>,
+    // what the first refusal tells beside its error
+    pub(crate) note: Note,
 }
 
 impl<R: DeRead + Drop> Deserializer<R> {
@@ -94,6 +97,7 @@ impl<R: DeRead> Deserializer<R> {
             opened: 0,
             keys: Vec::new(alloc),
             outer: Vec::new(alloc),
+            note: Note::NONE,
         }
     }
 
@@ -229,6 +233,7 @@ impl<R: DeRead> Deserializer<R> {
             opened: _,
             keys: _,
             outer: _,
+            note: _,
         } = self;
         bunser.into_inner()
     }

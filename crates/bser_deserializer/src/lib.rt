@@ -5,6 +5,7 @@ pub mod any;
 pub mod container;
 pub mod cursor;
 pub mod deserializer;
+pub mod note;
 pub mod scalar;
 pub mod string;
 mod template;

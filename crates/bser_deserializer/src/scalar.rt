@@ -11,6 +11,7 @@ ghost use Rattle.bser_deserializer.specs.View.{state, refusal_in, is_null_at, is
 
 use crate::cursor::Cursor;
 use crate::deserializer::{Deserializer, Due};
+use crate::note::Wanted;
 use bser_bunser::prefix::{Look, Unexpected};
 use bser_bunser::refusal::Answer;
 pub use bser_due::node::Node;
@@ -55,7 +56,7 @@ impl<R: DeRead> Deserializer<R> {
                 let tag = self.bunser.buffered()[0];
                 match Node::at(self.due, tag) {
                     Some(node) => Ok(node),
-                    None => Err(self.refuse_tag(tag)),
+                    None => Err(self.refuse_tag(Wanted::Value, tag)),
                 }
             }
             _ => self.node_without_tag(),
@@ -114,7 +115,7 @@ impl<R: DeRead> Deserializer<R> {
             return Ok(false);
         }
         if !self.is_null_tag(tag) {
-            return Err(self.refuse_tag(tag));
+            return Err(self.refuse_tag(Wanted::Value, tag));
         }
         self.bunser.consume(1);
         self.due = Due::Nothing;
@@ -156,7 +157,7 @@ impl<R: DeRead> Deserializer<R> {
     {
         let tag = self.value_tag()?;
         if tag != BSER_TRUE && tag != BSER_FALSE {
-            return Err(self.refuse_tag(tag));
+            return Err(self.refuse_tag(Wanted::Truth, tag));
         }
         self.bunser.consume(1);
         self.due = Due::Nothing;
@@ -202,7 +203,7 @@ impl<R: DeRead> Deserializer<R> {
                 self.due = Due::Nothing;
                 Ok(number)
             }
-            Look::Unexpected(Unexpected::Tag(tag)) => Err(self.refuse_tag(tag)),
+            Look::Unexpected(Unexpected::Tag(tag)) => Err(self.refuse_tag(Wanted::Integer, tag)),
             Look::Unexpected(_) => Err(self.complain(Complaint::WrongType)),
         }
     }
@@ -218,7 +219,7 @@ impl<R: DeRead> Deserializer<R> {
     {
         let tag = self.value_tag()?;
         if tag != BSER_REAL {
-            return Err(self.refuse_tag(tag));
+            return Err(self.refuse_tag(Wanted::Real, tag));
         }
         let bits = self.bunser.next_bits()?;
         self.due = Due::Nothing;
@@ -236,7 +237,7 @@ impl<R: DeRead> Deserializer<R> {
     {
         let tag = self.value_tag()?;
         if !self.is_null_tag(tag) {
-            return Err(self.refuse_tag(tag));
+            return Err(self.refuse_tag(Wanted::Null, tag));
         }
         self.bunser.consume(1);
         self.due = Due::Nothing;

@@ -13,6 +13,7 @@ ghost use Rattle.bser_deserializer.specs.View.{state, refusal_in};
 
 use crate::cursor::{Cursor, is_key_tag, name_of};
 use crate::deserializer::{Deserializer, Due};
+use crate::note::Wanted;
 use bser_bunser::refusal::{Answer, Refused};
 use bser_format::bytestring::ByteString;
 use bser_format::errors::{Complaint, Error, ReadCause};
@@ -74,7 +75,7 @@ impl<R: DeRead> Deserializer<R> {
                 self.bunser.fill(1)?;
                 let tag = self.bunser.buffered()[0];
                 if !is_key_tag(tag) {
-                    return Err(self.refuse_tag(tag));
+                    return Err(self.refuse_tag(Wanted::Text, tag));
                 }
                 self.bunser.consume(1);
                 let bytes = self.bunser.next_string(scratch)?;
@@ -100,7 +101,7 @@ impl<R: DeRead> Deserializer<R> {
                 self.bunser.fill(1)?;
                 let tag = self.bunser.buffered()[0];
                 if !is_key_tag(tag) {
-                    return Err(self.refuse_tag(tag));
+                    return Err(self.refuse_tag(Wanted::Text, tag));
                 }
                 self.bunser.consume(1);
                 let bytes = self.bunser.next_copy(alloc)?;

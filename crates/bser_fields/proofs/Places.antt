@@ -24,6 +24,7 @@ use Rattle.bser_types.proofs.Naming.{names_by_wider}
 use Rattle.bser_types.proofs.Taken.{wider_needs}
 use Rattle.bser_types.specs.Fold.{read_once}
 use Rattle.bser_types.specs.Slots.{StructField, with_found, fill, fill_at, fill_field, field_at_end, any_lent, struct_needs, Keeps, KeepsField, KeepsBoth, FinishesField, FinishesEach, FillsStep}
+use Rattle.bser_fields.specs.Absent.{LacksAt}
 use Rattle.bser_fields.specs.Asked.{asked_field, asked_fields}
 use Rattle.bser_fields.specs.Askings.{AllAsked, joined}
 use Rattle.bser_fields.specs.Fields.{ReadsOnce, RefusesOnce, MakesStep, RefusesStep, NamesField, NamesFields}
@@ -337,3 +338,15 @@ pub others_unfinished : {B C : Type 0} (P : StructField → Type 0) (F : List St
     → ((ss : List StructField) → F ss → FinishesEach others ss None) → (ss : List StructField) → KeepsBoth P F ss → FinishesEach all ss None
 others_unfinished P F others all rest [] keeps = absurd keeps
 others_unfinished P F others all rest (s ∷ ss) keeps = others_absent s ss (rest ss keeps.1)
+
+-- the first field is the one that is required and absent
+pub first_lacks : {A : Type 0} (P : StructField → Type 0) (F : List StructField → Type 0) (holds : A → Content → Type 0)
+    → ((s : StructField) → P s → FinishesField holds s None) → (ss : List StructField) → KeepsBoth P F ss → LacksAt 0 ss
+first_lacks P F holds first [] keeps = absurd keeps
+first_lacks P F holds first (s ∷ ss) keeps = first s keeps.0
+
+-- one of the others is
+pub others_lack : (P : StructField → Type 0) (F : List StructField → Type 0) (place after : ℕ) → after ≡ suc place
+    → ((ss : List StructField) → F ss → LacksAt place ss) → (ss : List StructField) → KeepsBoth P F ss → LacksAt after ss
+others_lack P F place after next rest [] keeps = absurd keeps
+others_lack P F place after next rest (s ∷ ss) keeps = rw next (rest ss keeps.1)

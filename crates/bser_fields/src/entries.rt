@@ -18,10 +18,11 @@ ghost use Rattle.bser_fields.specs.Fields.{MakesStep, RefusesStep, NamesFields, 
 ghost use Rattle.bser_fields.specs.Rows.{AnyField, ReadsRest, RefusesTurns};
 
 use crate::slots::Slots;
-use bser_bunser::refusal::Answer;
+use bser_bunser::refusal::{Answer, Refused};
 use bser_deserializer::container::{Containers, MapHead};
 use bser_deserializer::cursor::{Cursor, keys_of};
 use bser_deserializer::deserializer::Deserializer;
+use bser_deserializer::note::Finding;
 use bser_due::field::{Field, find_field};
 use bser_format::errors::Complaint;
 use bser_read::read::DeRead;
@@ -52,7 +53,7 @@ where
         (refusal_in from.new) o (state R.window R.Lent.kept from.new)) }
 {
     let fields = read_rest(alloc, from, head.at, names, F::empty())?;
-    finish(from, head, fields)
+    finish(from, head, names, fields)
 }
 
 /// Reads the fields of the row from this place on, in any order.
@@ -80,7 +81,7 @@ where
     while place < keys_of(from).len() {
         let field = row_field(from, place, names);
         from.await_field();
-        read_value(alloc, from, field, &mut fields)?;
+        read_value(alloc, from, field, names, &mut fields)?;
         place += 1;
     }
     Ok(fields)
@@ -114,10 +115,10 @@ where
         from.await_key();
         let field = read_name(from, &mut scratch, names)?;
         from.await_node();
-        read_value(alloc, from, field, &mut fields)?;
+        read_value(alloc, from, field, names, &mut fields)?;
         head.at -= 1;
     }
-    finish(from, head, fields)
+    finish(from, head, names, fields)
 }
 
 /// The place in `names` at which the row's key at this place first stands.
@@ -152,12 +153,14 @@ where
     Ok(find_field(names, name.get_ref().as_bytes()))
 }
 
-/// Reads the value that is due as that of this field. The value of no field is passed over.
+/// Reads the value that is due as that of this field, of which a refusal notes the name. The value
+/// of no field is passed over.
 #[inline(always)]
 fn read_value<R: DeRead, F: Slots<R::Lent>>(
     alloc: Global,
     from: &mut Deserializer<R>,
     field: Field,
+    names: &[&str],
     fields: &mut F,
 ) -> Answer<()>
 where
@@ -173,7 +176,10 @@ where
         (state R.window R.Lent.kept from.old) (state R.window R.Lent.kept from.new)) }
 {
     match field {
-        Field::Known(place) => fields.fill_at(alloc, place, from),
+        Field::Known(place) => {
+            let answer = fields.fill_at(alloc, place, from);
+            from.in_field(answer, names, place)
+        }
         Field::Unknown => {
             Ignored::deserialize(alloc, from)?;
             Ok(())
@@ -186,6 +192,7 @@ where
 fn finish<R: DeRead, F: Slots<R::Lent>>(
     from: &mut Deserializer<R>,
     head: MapHead,
+    names: &[&str],
     fields: F,
 ) -> Answer<F::Values>
 where
@@ -203,10 +210,25 @@ where
         ≡ refused (state R.window R.Lent.kept from.old)) }
 {
     match fields.finish() {
-        Some(values) => {
+        Ok(values) => {
             from.close_pairs(head);
             Ok(values)
         }
-        None => Err(from.complain(Complaint::TooFewItems)),
+        Err(place) => Err(refuse_missing(from, names, place)),
     }
+}
+
+/// Refuses for want of the field of this place, and notes its name.
+#[cold]
+#[inline(never)]
+fn refuse_missing<R: DeRead>(from: &mut Deserializer<R>, names: &[&str], place: usize) -> Refused
+    ensures reason { refusal_in from.new
+        ≡ after_a_refusal (state R.window R.Lent.kept from.old).source.failed
+        (complain Complaint.TooFewItems) }
+    ensures state { state R.window R.Lent.kept from.new
+        ≡ refused (state R.window R.Lent.kept from.old) }
+{
+    let refused = from.complain_of(Complaint::TooFewItems, Finding::Missing);
+    from.note_field(names, place);
+    refused
 }

@@ -52,7 +52,7 @@ where
             return read_object::<R, F>(alloc, self, head, names);
         }
         if F::are_in_turn(self, 0, names) {
-            let values = F::read_in_turn(alloc, self)?;
+            let values = F::read_in_turn(alloc, self, names, 0)?;
             self.close_pairs(head);
             return Ok(values);
         }

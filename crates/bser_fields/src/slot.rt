@@ -2,15 +2,17 @@
 ghost use Rattle.std.specs.Prelude.{◌≡◌, Option, Some, option_map, IfOk, OnOk, OnErr};
 ghost use Rattle.bser_format.specs.Content.{Content, Needs};
 ghost use Rattle.bser_due.specs.Holds.{HoldsOption};
+ghost use Rattle.bser_named.specs.Clauses.{left_over};
 ghost use Rattle.bser_due.specs.Reading.{Asking};
+ghost use Rattle.bser_due.specs.State.{refused};
 ghost use Rattle.bser_deserializer.specs.View.{state, refusal_in};
 ghost use Rattle.bser_types.specs.Askings.{asking_option};
 ghost use Rattle.bser_types.specs.Slots.{StructField, required, optional, fill, KeepsField, FinishesField};
 ghost use Rattle.bser_fields.specs.Fields.{ReadsOnce, RefusesOnce, MakesStep, RefusesStep, NamesField};
 
-use bser_bunser::refusal::Answer;
-use bser_deserializer::cursor::Cursor;
+use bser_bunser::refusal::{Answer, Refused};
 use bser_deserializer::deserializer::Deserializer;
+use bser_deserializer::note::Finding;
 use bser_format::errors::Complaint;
 use bser_read::read::DeRead;
 use bser_source::read::LendsText;
@@ -187,8 +189,20 @@ where
         (state R.window R.Lent.kept from.old) (state R.window R.Lent.kept from.new)) }
 {
     if value.is_some() {
-        return Err(from.complain(Complaint::ItemsLeft));
+        return Err(refuse_repeated(from));
     }
     *value = Some(T::deserialize(alloc, from)?);
     Ok(())
+}
+
+/// Refuses a field that was read before, and notes it.
+#[cold]
+#[inline(never)]
+fn refuse_repeated<R: DeRead>(from: &mut Deserializer<R>) -> Refused
+    ensures reason { refusal_in from.new
+        ≡ left_over (state R.window R.Lent.kept from.old).source.failed }
+    ensures state { state R.window R.Lent.kept from.new
+        ≡ refused (state R.window R.Lent.kept from.old) }
+{
+    from.complain_of(Complaint::ItemsLeft, Finding::Repeated)
 }

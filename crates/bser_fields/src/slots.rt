@@ -1,12 +1,13 @@
 //! The fields of a struct, one after another.
-ghost use Rattle.std.specs.Prelude.{◌≡◌, ◌<◌, ℕ, List, [], ◌∷◌, length, map, Some, true, false, IfOk, OnOk, OnErr, IfSome};
+ghost use Rattle.std.specs.Prelude.{◌≡◌, ◌<◌, ◌-◌, ◌^◌, ℕ, List, [], ◌∷◌, length, map, Some, true, false, IfOk, OnOk, OnErr, IfErr, IfSome};
 ghost use Rattle.std.specs.Str.{bytes_eq};
 ghost use Rattle.bser_format.specs.Content.{Content, Needs};
 ghost use Rattle.bser_due.specs.Fields.{field_of};
 ghost use Rattle.bser_deserializer.specs.View.{state, refusal_in};
-ghost use Rattle.bser_types.specs.Slots.{StructField, fill_at, struct_needs, KeepsBoth, FinishesEach};
+ghost use Rattle.bser_types.specs.Slots.{StructField, FinishesField, fill, fill_at, struct_needs, KeepsBoth, FinishesEach};
 ghost use Rattle.bser_fields.specs.Askings.{FieldAskings, all_asked};
-ghost use Rattle.bser_fields.specs.Fields.{MakesStep, RefusesStep, NamesFields};
+ghost use Rattle.bser_fields.specs.Absent.{LacksAt, ok_of};
+ghost use Rattle.bser_fields.specs.Fields.{MakesStep, RefusesStep, NamesField, NamesFields};
 ghost use Rattle.bser_fields.specs.Rows.{IsInTurn, KeysInTurn, AllInTurn, IsKnown, Turns, RefusesTurns};
 
 use crate::slot::Slot;
@@ -77,10 +78,13 @@ pub trait Slots<L: LendsText>: Drop {
 
     /// Reads the row's values as those of the fields one after another.
     ///
-    /// A value is refused as its type refuses it; the deserializer then refuses each later call.
+    /// A value is refused as its type refuses it, and the refusal notes the field's name, of which
+    /// `at` is the place. The deserializer then refuses each later call.
     fn read_in_turn<R: DeRead<Lent = L>>(
         alloc: Global,
         from: &mut Deserializer<R>,
+        known: &[&str],
+        at: usize,
     ) -> Answer<Self::Values>
         ensures found { IfOk result (λ v. (names : List (List ℕ)) → (place : ℕ)
             → KeysInTurn names (length Self.fields) place (state R.window L.kept from.old)
@@ -92,10 +96,12 @@ pub trait Slots<L: LendsText>: Drop {
             (all_asked Self.fields Self.asks) (refusal_in from.new) Self.fields place
             (state R.window L.kept from.old) (state R.window L.kept from.new)) };
 
-    /// The fields' values, or None where one is required and absent.
-    fn finish(self) -> Option<Self::Values>
-        ensures { (ss : List StructField) → Self.keeps self ss
-            → FinishesEach Self.holds ss result };
+    /// The fields' values, or the place of the first that is required and absent.
+    fn finish(self) -> Result<Self::Values, usize>
+        ensures values { (ss : List StructField) → Self.keeps self ss
+            → FinishesEach Self.holds ss (ok_of result) }
+        ensures absent { IfErr result (λ place. place < 2 ^ 64 - 1
+            → (ss : List StructField) → Self.keeps self ss → LacksAt place ss) };
 }
 
 impl<L: LendsText> Slots<L> for () {
@@ -138,13 +144,15 @@ impl<L: LendsText> Slots<L> for () {
     fn read_in_turn<R: DeRead<Lent = L>>(
         _alloc: Global,
         _from: &mut Deserializer<R>,
+        _known: &[&str],
+        _at: usize,
     ) -> Answer<()> {
         Ok(())
     }
 
     #[inline(always)]
-    fn finish(self) -> Option<()> {
-        Some(())
+    fn finish(self) -> Result<(), usize> {
+        Ok(())
     }
 }
 
@@ -196,19 +204,30 @@ impl<L: LendsText, A: Slot<L>, F: Slots<L>> Slots<L> for (A, F) {
     fn read_in_turn<R: DeRead<Lent = L>>(
         alloc: Global,
         from: &mut Deserializer<R>,
+        known: &[&str],
+        at: usize,
     ) -> Answer<(A::Value, F::Values)> {
         from.await_field();
-        let first = A::read(alloc, from)?;
-        let others = F::read_in_turn(alloc, from)?;
-        Ok((first, others))
+        // by `match`, since two `?` for each field are too much to be inlined
+        match A::read(alloc, from) {
+            Ok(first) => match F::read_in_turn(alloc, from, known, at.saturating_add(1)) {
+                Ok(others) => Ok((first, others)),
+                Err(refused) => Err(refused),
+            },
+            Err(refused) => {
+                from.note_field(known, at);
+                Err(refused)
+            }
+        }
     }
 
     #[inline(always)]
-    fn finish(self) -> Option<(A::Value, F::Values)> {
+    fn finish(self) -> Result<(A::Value, F::Values), usize> {
         let (first, others) = self;
         match (first.finish(), others.finish()) {
-            (Some(first), Some(others)) => Some((first, others)),
-            _ => None,
+            (Some(first), Ok(others)) => Ok((first, others)),
+            (None, _) => Err(0),
+            (Some(_), Err(place)) => Err(place.saturating_add(1)),
         }
     }
 }

@@ -89,8 +89,10 @@ pub fn from_reader_within<S: Source, T: DeserializeOwned>(
     answer
 }
 
-/// Reads one message as a value.
-fn read_message<R: DeRead, T: Deserialize<R::Lent>>(
+/// Reads one message as a value, by a deserializer that has read nothing.
+///
+/// Refused as [`from_slice_within`] and [`from_reader_within`] are. The crate has no such call.
+pub fn read_message<R: DeRead, T: Deserialize<R::Lent>>(
     alloc: Global,
     limit: usize,
     from: &mut Deserializer<R>,

@@ -1,3 +1,4 @@
 pub mod Sent
+pub mod Stopped
 pub mod Ends
 pub mod Message

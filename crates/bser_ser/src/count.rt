@@ -1,5 +1,5 @@
 //! A writer that counts.
-ghost use Rattle.std.specs.Prelude.{◌≡◌, length};
+ghost use Rattle.std.specs.Prelude.{◌≡◌, Ok, length};
 ghost use Rattle.bser_source.specs.Device.{counts_to};
 ghost use Rattle.bser_source.specs.Sinks.{counts_to-none, counts_to-both};
 ghost use Rattle.bser_ser.specs.Sent.{count_of};
@@ -43,6 +43,8 @@ impl Write for CountWrite {
 
 impl Sink for CountWrite {
     ghost took = { λ a b xs. count_of b ≡ counts_to (count_of a) (length xs) };
+
+    ghost answered = { λ _ _ xs r. r ≡ Ok (length xs) };
 
     ghost failures = { λ _. 0 };
 

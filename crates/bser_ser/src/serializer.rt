@@ -2,6 +2,7 @@
 ghost use Rattle.std.specs.Prelude.{◌≡◌, ◌≤◌, [], ◌++◌, length, OnOk, OnErr, IfOk, IfErr, IsTrue, if◌then◌else◌};
 ghost use Rattle.bser_format.specs.declared.errors.Error.TheVariants.{OutOfMemory};
 ghost use Rattle.bser_ser.specs.Sent.{Sent, Excuses, Finishes, IsFlushed, IsNew, WriterFailed, writer_of, pending_of, refusal_of};
+ghost use Rattle.bser_ser.specs.Stopped.{Stopped};
 
 use crate::pending::send;
 use bser_source::device::Sink;
@@ -65,7 +66,11 @@ impl<W: Sink> Serializer<W> {
     pub fn flush(&mut self) -> io::Result<()>
         ensures sent { Sent W.took W.failures self.old self.new [] }
         ensures ok { OnOk result (IsFlushed self.new) }
+        ensures kept { OnOk result (W.failures (writer_of self.new)
+            ≡ W.failures (writer_of self.old)) }
         ensures err { OnErr result (WriterFailed W.failures self.old self.new) }
+        ensures names { IfErr result (λ e. Stopped W.took W.answered (writer_of self.old)
+            (writer_of self.new) (pending_of self.old) e) }
     {
         send(&mut self.writer, &mut self.pending)
     }
@@ -76,7 +81,10 @@ impl<W: Sink> Serializer<W> {
     pub fn finish(self) -> io::Result<W>
     where
         W: Drop,
-        ensures { IfOk result (λ w. Finishes W.took W.failures self w) }
+        ensures ok { IfOk result (λ w. Finishes W.took W.failures self w) }
+        ensures kept { IfOk result (λ w. W.failures w ≡ W.failures (writer_of self)) }
+        ensures names { IfErr result (λ e. (w : W) × Stopped W.took W.answered (writer_of self) w
+            (pending_of self) e) }
     {
         match self.try_finish() {
             Ok(writer) => Ok(writer),
@@ -90,8 +98,11 @@ impl<W: Sink> Serializer<W> {
     /// can go on.
     pub fn try_finish(self) -> Result<W, (Self, io::Error)>
         ensures ok { IfOk result (λ w. Finishes W.took W.failures self w) }
+        ensures kept { IfOk result (λ w. W.failures w ≡ W.failures (writer_of self)) }
         ensures err { IfErr result (λ e. Sent W.took W.failures self e.0 []
             × WriterFailed W.failures self e.0) }
+        ensures names { IfErr result (λ e. Stopped W.took W.answered (writer_of self)
+            (writer_of e.0) (pending_of self) e.1) }
     {
         let mut whole = self;
         match whole.flush() {

@@ -1,5 +1,6 @@
 //! Readers and writers that tell what they give and take, and count their failures.
-ghost use Rattle.std.specs.Prelude.{◌≡◌, ◌≤◌, ℕ, List, [], ◌++◌, length, take, Option, Some, None, IfOk, MatchResult, if◌then◌else◌};
+ghost use Rattle.std.specs.Prelude.{◌≡◌, ◌≤◌, ℕ, List, [], ◌++◌, length, take, Option, Some, None, IfOk, MatchResult, Result, if◌then◌else◌};
+ghost use Rattle.std.specs.declared.io.Error as io_error;
 ghost use Rattle.std.specs.Borrow.{GName};
 ghost use Rattle.std.specs.Io.{ReadsAtMost};
 ghost use Rattle.std.specs.Io.KnownBytes.{ReadConsumes, Appends};
@@ -43,6 +44,9 @@ pub trait Sink {
     // from the first state to the second it took these bytes
     ghost took: { Self → Self → List ℕ → Type 0 };
 
+    // from the first state to the second it answered so to a push of these bytes
+    ghost answered: { Self → Self → List ℕ → Result ℕ io_error.Error → Type 0 };
+
     // the failures so far, which stay at the greatest u64
     ghost failures: { Self → ℕ };
 
@@ -54,6 +58,7 @@ pub trait Sink {
         ensures bound { IfOk result (λ n. n ≤ length bytes.now) }
         ensures taken { MatchResult result (λ n. took self.old self.new (take n bytes.now))
             (λ _. took self.old self.new []) }
+        ensures answered { answered self.old self.new bytes.now result }
         ensures failures { failures self.new ≡ counted (has_failed result bytes.now)
             (failures self.old) };
 
@@ -137,6 +142,8 @@ impl<T: Read> Source for Watched<T> {
 impl<T: Write> Sink for Watched<T> {
     ghost took = { λ a b xs. Appends (T.contents (inner_of a)) (T.contents (inner_of b)) xs };
 
+    ghost answered = { λ a b xs r. failures_of b ≡ counted (has_failed r xs) (failures_of a) };
+
     ghost failures = { λ w. failures_of w };
 
     fn push(&mut self, bytes: &[u8]) -> io::Result<usize> {
@@ -176,6 +183,8 @@ impl<S: Sink> Sink for &mut S {
     ghost use Rattle.std.proofs.Common.{refl, ◌∙◌};
 
     ghost took = { λ a b xs. (b.ghost_name ≡ a.ghost_name) × S.took a.now b.now xs };
+
+    ghost answered = { λ a b xs r. S.answered a.now b.now xs r };
 
     ghost failures = { λ s. S.failures s.now };
 

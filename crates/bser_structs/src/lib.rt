@@ -1,18 +1,27 @@
-//! Structs by one list of their fields, for reading and for writing.
+//! Structs by one list of their fields, and enums by one list of their variants, for reading and
+//! for writing.
 //!
 //! A struct's [`Fields`] say what it is read as and written as. [`read_struct`](crate::read_struct)
-//! reads it, and [`put_struct`](crate::put_struct) writes it. [`ObjectOr`] chooses by the kind of
-//! what is due.
+//! reads it, and [`put_struct`](crate::put_struct) writes it. An enum's [`Variants`] say the same of
+//! an enum, which [`read_enum`](crate::read_enum) reads and [`put_enum`](crate::put_enum) writes.
+//! [`ObjectOr`] chooses by the kind of what is due.
 #![tactic(auto)]
 
+pub mod enums;
 pub mod fields;
 pub mod object_or;
+pub mod payload;
+pub mod payloads;
 pub mod reading;
 pub mod variants;
 pub mod writing;
 
+pub use crate::enums::{Variants, read_variants};
 pub use crate::fields::{Codec, Fields, ReadOnly, WriteOnly};
 pub use crate::object_or::ObjectOr;
+pub use crate::payload::{Newtype, ReadPayload, Struct, Unit};
+pub use crate::payloads::{OneOf, ReadPayloads};
 pub use crate::variants::{put_variant, put_variant_fields};
 pub use crate::writing::{Given, PutField, PutFields, put_fields};
 pub use bser_fields::slot::{Optional, Required};
+pub use std::marker::PhantomData;

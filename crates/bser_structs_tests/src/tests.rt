@@ -1,4 +1,5 @@
-//! Structs from objects and rows, from a slice and from a reader, and the messages written for them.
+//! Structs and enums from objects, rows and names, from a slice and from a reader, and the messages
+//! written for them.
 use crate::choices::Choice;
 use crate::files::File;
 use crate::named::NamedFile;
@@ -263,27 +264,88 @@ fn a_query_is_written(rt: HostRuntime) -> Result<()> {
 }
 
 #[test]
-fn a_variant_of_each_form_is_written(rt: HostRuntime) -> Result<()> {
+fn a_variant_of_each_form_is_read_as_it_is_written(rt: HostRuntime) -> Result<()> {
     let alloc = rt.alloc();
     let bytes = b"\x00\x02\0\0\0\0\x03\x0a\x0d\x03\x07Nothing";
-    check_written(&rt, alloc, &Choice::<&str>::Nothing, bytes)?;
+    check_choice(&rt, alloc, &Choice::Nothing, bytes)?;
     let bytes = b"\x00\x02\0\0\0\0\x03\x0d\x01\x03\x01\x0d\x03\x03One\x0d\x03\x01a";
-    check_written(&rt, alloc, &Choice::One("a"), bytes)?;
+    check_choice(
+        &rt,
+        alloc,
+        &Choice::One(String::from_str(alloc, "a")?),
+        bytes,
+    )?;
     let bytes = b"\x00\x02\0\0\0\0\x03\x12\x01\x03\x01\x0d\x03\x03Two\x00\x03\x02\
 \x0d\x03\x01a\x03\x05";
-    check_written(&rt, alloc, &Choice::Two("a", 5), bytes)?;
+    check_choice(
+        &rt,
+        alloc,
+        &Choice::Two(String::from_str(alloc, "a")?, 5),
+        bytes,
+    )?;
     let bytes = b"\x00\x02\0\0\0\0\x03\x18\x01\x03\x01\x0d\x03\x05Named\x01\x03\x01\
 \x0d\x03\x03abc\x0d\x03\x01a";
     let named = Choice::Named {
-        abc: "a",
+        abc: String::from_str(alloc, "a")?,
         def: None,
     };
-    check_written(&rt, alloc, &named, bytes)?;
+    check_choice(&rt, alloc, &named, bytes)?;
     let bytes = b"\x00\x02\0\0\0\0\x03\x20\x01\x03\x01\x0d\x03\x05Named\x01\x03\x02\
 \x0d\x03\x03abc\x0d\x03\x01a\x0d\x03\x03def\x03\xfe";
     let named = Choice::Named {
-        abc: "a",
+        abc: String::from_str(alloc, "a")?,
         def: Some(-2),
     };
-    check_written(&rt, alloc, &named, bytes)
+    check_choice(&rt, alloc, &named, bytes)
+}
+
+/// Checks that the message is read as this choice, and written for it.
+fn check_choice(
+    rt: &impl Abort,
+    alloc: Global,
+    choice: &Choice<String>,
+    bytes: &[u8],
+) -> Result<()> {
+    check_read(rt, alloc, bytes, choice)?;
+    check_written(rt, alloc, choice, bytes)
+}
+
+#[test]
+fn a_variant_is_read_from_an_object_or_a_row(rt: HostRuntime) -> Result<()> {
+    let alloc = rt.alloc();
+    let bytes = b"\x00\x02\0\0\0\0\x03\x0e\x01\x03\x01\x0d\x03\x07Nothing\x0a";
+    check_read(&rt, alloc, bytes, &Choice::<String>::Nothing)?;
+    let bytes = b"\x00\x02\0\0\0\0\x03\x10\x0b\x00\x03\x01\x0d\x03\x03One\x03\x01\x0d\x03\x01a";
+    let rows = vec![in alloc; Choice::One(String::from_str(alloc, "a")?)]?;
+    check_read(&rt, alloc, bytes, &rows)
+}
+
+#[test]
+fn a_name_of_no_variant_is_refused(rt: HostRuntime) {
+    let alloc = rt.alloc();
+    let bytes = b"\x00\x02\0\0\0\0\x03\x07\x0d\x03\x04Nope";
+    check_refused::<Choice<String>>(&rt, alloc, bytes, Complaint::UnknownVariant);
+    let bytes = b"\x00\x02\0\0\0\0\x03\x0b\x01\x03\x01\x0d\x03\x04Nope\x0a";
+    check_refused::<Choice<String>>(&rt, alloc, bytes, Complaint::UnknownVariant);
+}
+
+#[test]
+fn a_payload_that_is_not_as_its_variant_is_refused(rt: HostRuntime) {
+    let alloc = rt.alloc();
+    let bytes = b"\x00\x02\0\0\0\0\x03\x06\x0d\x03\x03One";
+    check_refused::<Choice<String>>(&rt, alloc, bytes, Complaint::WrongType);
+    let bytes = b"\x00\x02\0\0\0\0\x03\x0f\x01\x03\x01\x0d\x03\x07Nothing\x03\x01";
+    check_refused::<Choice<String>>(&rt, alloc, bytes, Complaint::WrongType);
+    let bytes = b"\x00\x02\0\0\0\0\x03\x10\x01\x03\x01\x0d\x03\x03Two\x00\x03\x01\x0d\x03\x01a";
+    check_refused::<Choice<String>>(&rt, alloc, bytes, Complaint::TooFewItems);
+    let bytes = b"\x00\x02\0\0\0\0\x03\x16\x01\x03\x01\x0d\x03\x05Named\x01\x03\x01\
+\x0d\x03\x03def\x03\x05";
+    check_refused::<Choice<String>>(&rt, alloc, bytes, Complaint::TooFewItems);
+}
+
+#[test]
+fn an_enum_of_two_entries_is_refused(rt: HostRuntime) {
+    let bytes = b"\x00\x02\0\0\0\0\x03\x19\x01\x03\x02\x0d\x03\x07Nothing\x0a\
+\x0d\x03\x07Nothing\x0a";
+    check_refused::<Choice<String>>(&rt, rt.alloc(), bytes, Complaint::EnumObjectEntries);
 }

@@ -4,6 +4,6 @@
 pub mod enum_access;
 pub mod laws;
 mod name;
-mod payload;
-mod variant;
+pub mod payload;
+pub mod variant;
 pub mod variant_access;

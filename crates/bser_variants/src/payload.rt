@@ -14,7 +14,7 @@ use bser_read::read::DeRead;
 use std::alloc::Global;
 
 /// Makes the payload due.
-pub(crate) fn await_payload<R: DeRead>(from: &mut Deserializer<R>, head: MapHead)
+pub fn await_payload<R: DeRead>(from: &mut Deserializer<R>, head: MapHead)
     ensures { state R.window R.Lent.kept from.new
         ≡ awaiting (payload_due head.row) (state R.window R.Lent.kept from.old) }
 {

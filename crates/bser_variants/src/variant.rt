@@ -24,7 +24,7 @@ use std::alloc::Global;
 
 /// Reads the name of the variant that is due: its first place in `variants`, and the head of its
 /// object or row, unless the name stands alone.
-pub(crate) fn open_variant<R: DeRead>(
+pub fn open_variant<R: DeRead>(
     from: &mut Deserializer<R>,
     alloc: Global,
     name: &str,

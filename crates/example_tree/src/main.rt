@@ -1,20 +1,19 @@
 //! Prints the message on standard input as an indented tree.
 #![tactic(auto)]
 
+use serde_bser::describe;
 use serde_bser::device::Watched;
-use serde_bser::errors::Result;
-use serde_bser::from_reader;
 use serde_bser::value::Value;
 use std::io;
 use std::io::Print;
 use std::process::ExitCode;
 
 fn main(rt: HostRuntime) -> ExitCode {
-    let message: Result<Value> = from_reader(rt.alloc(), &mut Watched::new(rt.stdin()));
+    let message = describe::from_reader::<_, Value>(rt.alloc(), &mut Watched::new(rt.stdin()));
     let printed = match message {
         Ok(value) => print_tree(&rt, 0, &value),
-        Err(error) => {
-            let _ = eprintln!(rt; "example_tree: {error}");
+        Err(refusal) => {
+            let _ = eprintln!(rt; "example_tree: {refusal}");
             return ExitCode::FAILURE;
         }
     };

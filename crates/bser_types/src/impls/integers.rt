@@ -1,18 +1,35 @@
 //! Reading integers.
-ghost use Rattle.std.specs.Prelude.{refl, Some};
+ghost use Rattle.std.specs.Prelude.{◌≡◌, refl, Some};
 ghost use Rattle.bser_format.specs.ReadsScalars.{is_signed, is_unsigned, reads_signed, reads_unsigned};
+ghost use Rattle.bser_named.specs.Clauses.{after_a_refusal};
+ghost use Rattle.bser_named.specs.Named.{complain};
 ghost use Rattle.bser_due.specs.Askings.{asking_integer};
 ghost use Rattle.bser_due.specs.Reading.{bare};
 ghost use Rattle.bser_due.specs.Holds.{HoldsNumber, HoldsSize};
+ghost use Rattle.bser_due.specs.State.{refused};
+ghost use Rattle.bser_deserializer.specs.View.{state, refusal_in};
 
 use crate::deserialize::{Deserialize, OwnedShape, Shape};
-use bser_bunser::refusal::Answer;
-use bser_deserializer::cursor::Cursor;
+use bser_bunser::refusal::{Answer, Refused};
 use bser_deserializer::deserializer::Deserializer;
+use bser_deserializer::note::Finding;
 use bser_format::errors::Complaint;
 use bser_read::read::DeRead;
 use bser_source::read::LendsText;
 use std::alloc::Global;
+
+/// Refuses an integer that the type does not hold, and notes it.
+#[cold]
+#[inline(never)]
+fn refuse_number<R: DeRead>(from: &mut Deserializer<R>, number: i64) -> Refused
+    ensures reason { refusal_in from.new
+        ≡ after_a_refusal (state R.window R.Lent.kept from.old).source.failed
+        (complain Complaint.IntegerOutOfRange) }
+    ensures state { state R.window R.Lent.kept from.new
+        ≡ refused (state R.window R.Lent.kept from.old) }
+{
+    from.complain_of(Complaint::IntegerOutOfRange, Finding::OutOfRange(number))
+}
 
 impl Shape for i64 {
     ghost reads = { reads_signed 64 };
@@ -53,9 +70,10 @@ impl Shape for i8 {
 impl<L: LendsText> Deserialize<L> for i8 {
     #[inline(always)]
     fn deserialize<R: DeRead<Lent = L>>(_alloc: Global, from: &mut Deserializer<R>) -> Answer<i8> {
-        match i8::try_from(from.read_i64()?) {
-            Ok(number) => Ok(number),
-            Err(_) => Err(from.complain(Complaint::IntegerOutOfRange)),
+        let number = from.read_i64()?;
+        match i8::try_from(number) {
+            Ok(narrow) => Ok(narrow),
+            Err(_) => Err(refuse_number(from, number)),
         }
     }
 }
@@ -79,9 +97,10 @@ impl Shape for i16 {
 impl<L: LendsText> Deserialize<L> for i16 {
     #[inline(always)]
     fn deserialize<R: DeRead<Lent = L>>(_alloc: Global, from: &mut Deserializer<R>) -> Answer<i16> {
-        match i16::try_from(from.read_i64()?) {
-            Ok(number) => Ok(number),
-            Err(_) => Err(from.complain(Complaint::IntegerOutOfRange)),
+        let number = from.read_i64()?;
+        match i16::try_from(number) {
+            Ok(narrow) => Ok(narrow),
+            Err(_) => Err(refuse_number(from, number)),
         }
     }
 }
@@ -105,9 +124,10 @@ impl Shape for i32 {
 impl<L: LendsText> Deserialize<L> for i32 {
     #[inline(always)]
     fn deserialize<R: DeRead<Lent = L>>(_alloc: Global, from: &mut Deserializer<R>) -> Answer<i32> {
-        match i32::try_from(from.read_i64()?) {
-            Ok(number) => Ok(number),
-            Err(_) => Err(from.complain(Complaint::IntegerOutOfRange)),
+        let number = from.read_i64()?;
+        match i32::try_from(number) {
+            Ok(narrow) => Ok(narrow),
+            Err(_) => Err(refuse_number(from, number)),
         }
     }
 }
@@ -131,9 +151,10 @@ impl Shape for u8 {
 impl<L: LendsText> Deserialize<L> for u8 {
     #[inline(always)]
     fn deserialize<R: DeRead<Lent = L>>(_alloc: Global, from: &mut Deserializer<R>) -> Answer<u8> {
-        match u8::try_from(from.read_i64()?) {
-            Ok(number) => Ok(number),
-            Err(_) => Err(from.complain(Complaint::IntegerOutOfRange)),
+        let number = from.read_i64()?;
+        match u8::try_from(number) {
+            Ok(narrow) => Ok(narrow),
+            Err(_) => Err(refuse_number(from, number)),
         }
     }
 }
@@ -157,9 +178,10 @@ impl Shape for u16 {
 impl<L: LendsText> Deserialize<L> for u16 {
     #[inline(always)]
     fn deserialize<R: DeRead<Lent = L>>(_alloc: Global, from: &mut Deserializer<R>) -> Answer<u16> {
-        match u16::try_from(from.read_i64()?) {
-            Ok(number) => Ok(number),
-            Err(_) => Err(from.complain(Complaint::IntegerOutOfRange)),
+        let number = from.read_i64()?;
+        match u16::try_from(number) {
+            Ok(narrow) => Ok(narrow),
+            Err(_) => Err(refuse_number(from, number)),
         }
     }
 }
@@ -183,9 +205,10 @@ impl Shape for u32 {
 impl<L: LendsText> Deserialize<L> for u32 {
     #[inline(always)]
     fn deserialize<R: DeRead<Lent = L>>(_alloc: Global, from: &mut Deserializer<R>) -> Answer<u32> {
-        match u32::try_from(from.read_i64()?) {
-            Ok(number) => Ok(number),
-            Err(_) => Err(from.complain(Complaint::IntegerOutOfRange)),
+        let number = from.read_i64()?;
+        match u32::try_from(number) {
+            Ok(narrow) => Ok(narrow),
+            Err(_) => Err(refuse_number(from, number)),
         }
     }
 }
@@ -209,9 +232,10 @@ impl Shape for u64 {
 impl<L: LendsText> Deserialize<L> for u64 {
     #[inline(always)]
     fn deserialize<R: DeRead<Lent = L>>(_alloc: Global, from: &mut Deserializer<R>) -> Answer<u64> {
-        match u64::try_from(from.read_i64()?) {
-            Ok(number) => Ok(number),
-            Err(_) => Err(from.complain(Complaint::IntegerOutOfRange)),
+        let number = from.read_i64()?;
+        match u64::try_from(number) {
+            Ok(narrow) => Ok(narrow),
+            Err(_) => Err(refuse_number(from, number)),
         }
     }
 }
@@ -239,9 +263,10 @@ impl<L: LendsText> Deserialize<L> for usize {
         _alloc: Global,
         from: &mut Deserializer<R>,
     ) -> Answer<usize> {
-        match usize::try_from(from.read_i64()?) {
-            Ok(number) => Ok(number),
-            Err(_) => Err(from.complain(Complaint::IntegerOutOfRange)),
+        let number = from.read_i64()?;
+        match usize::try_from(number) {
+            Ok(narrow) => Ok(narrow),
+            Err(_) => Err(refuse_number(from, number)),
         }
     }
 }

@@ -1,5 +1,5 @@
 use Rattle.std.proofs.Common.{rules, [], arith}
-use Rattle.bser_ser.proofs.Sending.{took_more, took_no_more, counted_le}
+use Rattle.bser_ser.proofs.Sending.{took_more, took_no_more}
 use Rattle.bser_ser.proofs.pending.send.Goals as goal
 
 pub returns-then-n-eq0-clause-sent : goal.returns-then-n-eq0-clause-sent
@@ -11,7 +11,7 @@ pub loop-done-preserved : goal.loop-done-preserved
 loop-done-preserved g c = record {
   within = search rules;
   took = took_more g.W.Sink.took g.met.W.Sink.took_both _ _ _ c.loop-done.done c.in-Ok.n _ c.loop-done.pending.items c.deref.result.now c.deref.ensures.value c.in-Ok.ensures.bound c.loop-done.invariant.took c.in-Ok.ensures.taken;
-  rose = omega (arith, c.in-Ok.ensures.failures, c.loop-done.invariant.rose, counted_le);
+  kept = search rules;
   start = search rules;
   same = search rules;
 }

@@ -5,7 +5,7 @@ abbrev pub invariant-loop-done : goal.invariant-loop-done
 invariant-loop-done g l = record {
   within : l.done ≤ length l.pending.items;
   took : g.W.Sink.took l.initial.writer l.writer (take l.done l.pending.items);
-  rose : g.W.Sink.failures l.initial.writer ≤ g.W.Sink.failures l.writer;
+  kept : g.W.Sink.failures l.writer ≡ g.W.Sink.failures l.initial.writer;
   start : l.initial.done ≡ 0;
   same : l.pending.items ≡ l.initial.pending.items;
 }

@@ -1,5 +1,4 @@
 use Rattle.std.proofs.Common.{List, length, Option, Some}
-use Rattle.std.proofs.lemmas.Result.{err_from_is_err_and}
 use Rattle.bser_due.specs.State.{State}
 use Rattle.bser_deserializer.specs.View.{state, refusal_in}
 use Rattle.bser_types.specs.Slots.{StructField, FinishesField, FinishesEach}
@@ -8,33 +7,31 @@ use Rattle.bser_fields.proofs.Places.{both_finished}
 use Rattle.bser_fields.proofs.Rows.{turn_then, turn_refused, turn_then_refused}
 use Rattle.bser_fields.proofs.slots.Tuple2Slots.read_in_turn.Goals as goal
 
-pub returns-in_err-first-clause-refused : goal.returns-in_err-first-clause-refused
-returns-in_err-first-clause-refused g c =
+pub returns-in-Err-clause-refused : goal.returns-in-Err-clause-refused
+returns-in-Err-clause-refused g c =
     let rest : Option (AllAsked g.F.Slots.fields) = all_asked g.F.Slots.fields g.F.Slots.asks in
     let o : State = state g.R.DeRead.window g.L.Lending.kept c.args.from.now in
     let q : State = state g.R.DeRead.window g.L.Lending.kept c.await_field.new.self in
     let z : State = state g.R.DeRead.window g.L.Lending.kept c.read.new.from in
-    let p = err_from_is_err_and c.from_residual.result c.from_residual.ensures.1 in
-    rw p.1 (turn_refused g.A.Slot.field g.F.Slots.fields g.A.Slot.asks rest g.A.Slot.needs g.F.Slots.needs (refusal_in c.read.new.from) (length g.F.Slots.fields) o q z c.await_field.ensures c.in_err-first.ensures.refused)
+    rw (c.note_field.ensures.reason, c.note_field.ensures.state) (turn_refused g.A.Slot.field g.F.Slots.fields g.A.Slot.asks rest g.A.Slot.needs g.F.Slots.needs (refusal_in c.read.new.from) (length g.F.Slots.fields) o q z c.await_field.ensures c.in-Err.ensures.refused)
 
-pub returns-in_err-others-clause-refused : goal.returns-in_err-others-clause-refused
-returns-in_err-others-clause-refused g c =
+pub returns-in-Err-read_in_turn-clause-refused : goal.returns-in-Err-read_in_turn-clause-refused
+returns-in-Err-read_in_turn-clause-refused g c =
     let rest : Option (AllAsked g.F.Slots.fields) = all_asked g.F.Slots.fields g.F.Slots.asks in
     let o : State = state g.R.DeRead.window g.L.Lending.kept c.args.from.now in
     let q : State = state g.R.DeRead.window g.L.Lending.kept c.await_field.new.self in
     let m : State = state g.R.DeRead.window g.L.Lending.kept c.read.new.from in
     let z : State = state g.R.DeRead.window g.L.Lending.kept c.read_in_turn.new.from in
-    let P : StructField → Type 0 = λ s. FinishesField g.A.Slot.holds s (Some c.in_ok-first.first) in
-    let p = err_from_is_err_and c.from_residual-in_err-others.result c.from_residual-in_err-others.ensures.1 in
-    rw p.1 (turn_then_refused g.A.Slot.field g.F.Slots.fields g.A.Slot.asks rest P g.A.Slot.needs g.F.Slots.needs (refusal_in c.read_in_turn.new.from) (length g.F.Slots.fields) o q m z c.await_field.ensures c.in_ok-first.ensures.found c.in_err-others.ensures.refused)
+    let P : StructField → Type 0 = λ s. FinishesField g.A.Slot.holds s (Some c.in-Ok.first) in
+    turn_then_refused g.A.Slot.field g.F.Slots.fields g.A.Slot.asks rest P g.A.Slot.needs g.F.Slots.needs (refusal_in c.read_in_turn.new.from) (length g.F.Slots.fields) o q m z c.await_field.ensures c.in-Ok.ensures.found c.in-Err-read_in_turn.ensures.refused
 
-pub returns-clause-found : goal.returns-clause-found
-returns-clause-found g c =
+pub returns-in-Ok-read_in_turn-clause-found : goal.returns-in-Ok-read_in_turn-clause-found
+returns-in-Ok-read_in_turn-clause-found g c =
     let o : State = state g.R.DeRead.window g.L.Lending.kept c.args.from.now in
     let q : State = state g.R.DeRead.window g.L.Lending.kept c.await_field.new.self in
     let m : State = state g.R.DeRead.window g.L.Lending.kept c.read.new.from in
     let z : State = state g.R.DeRead.window g.L.Lending.kept c.read_in_turn.new.from in
-    let P : StructField → Type 0 = λ s. FinishesField g.A.Slot.holds s (Some c.in_ok-first.first) in
-    let F : List StructField → Type 0 = λ ss. FinishesEach g.F.Slots.holds ss (Some c.in_ok-others.others) in
-    turn_then P F _ g.A.Slot.field g.F.Slots.fields (length g.F.Slots.fields) o q m z c.await_field.ensures c.in_ok-first.ensures.found c.in_ok-others.ensures.found
-    (both_finished P F g.A.Slot.holds g.F.Slots.holds c.in_ok-first.first c.in_ok-others.others (λ s p. p) (λ ss p. p))
+    let P : StructField → Type 0 = λ s. FinishesField g.A.Slot.holds s (Some c.in-Ok.first) in
+    let F : List StructField → Type 0 = λ ss. FinishesEach g.F.Slots.holds ss (Some c.in-Ok-read_in_turn.others) in
+    turn_then P F _ g.A.Slot.field g.F.Slots.fields (length g.F.Slots.fields) o q m z c.await_field.ensures c.in-Ok.ensures.found c.in-Ok-read_in_turn.ensures.found
+    (both_finished P F g.A.Slot.holds g.F.Slots.holds c.in-Ok.first c.in-Ok-read_in_turn.others (λ s p. p) (λ ss p. p))

@@ -1,0 +1,8 @@
+//! Whole messages, whose refusals are described for people.
+#![tactic(auto)]
+
+mod counted;
+pub mod description;
+pub mod reading;
+#[cfg(test)]
+mod tests;

@@ -1,0 +1,46 @@
+-- What the payload of a variant is read as, in a list over the variants.
+use Rattle.std.specs.Prelude.{ℕ, zero, suc, List, [], ◌∷◌, None}
+use Rattle.bser_format.specs.Content.{Content, one, Needs}
+use Rattle.bser_format.specs.Enums.{Payload, unit, holds}
+use Rattle.bser_format.specs.declared.errors.Error.{Error}
+use Rattle.bser_due.specs.State.{State}
+use Rattle.bser_variants.specs.Variants.{OpenEnum, HoldsVariant, IsPayload, IsUnitVariant, RefusesPayload, RefusesUnitVariant}
+use Rattle.bser_structs.specs.declared.payloads.OneOf.{OneOf}
+use Rattle.bser_structs.specs.declared.payloads.OneOf.TheVariants.{First, Others}
+
+-- ---- one variant
+
+-- the payload was read, and its content is one of these
+abbrev pub IsPayloadOf : Payload → (Content → Type 0) → OpenEnum → State → Type 0
+IsPayloadOf unit keeps old new = IsUnitVariant old new × keeps one
+IsPayloadOf (holds T) keeps old new = IsPayload T (λ _. keeps) old new (tt {0})
+
+-- the payload is refused
+abbrev pub RefusesPayloadOf : Payload → Needs → Error → OpenEnum → State → Type 0
+RefusesPayloadOf unit needs e old new = RefusesUnitVariant e old new
+RefusesPayloadOf (holds T) needs e old new = RefusesPayload T None needs e old new
+
+-- ---- the variant at a place
+
+-- the payload of the variant at this place was read
+abbrev pub IsPayloadAt : List Payload → ℕ → (Content → Type 0) → OpenEnum → State → Type 0
+IsPayloadAt [] place keeps old new = ⊥
+IsPayloadAt (p ∷ ps) zero keeps old new = IsPayloadOf p keeps old new
+IsPayloadAt (p ∷ ps) (suc place) keeps old new = IsPayloadAt ps place keeps old new
+
+-- the payload of the variant at this place is refused, as its type's needs allow
+abbrev pub RefusesPayloadAt : List Payload → List Needs → ℕ → Error → OpenEnum → State → Type 0
+RefusesPayloadAt (p ∷ ps) (n ∷ ns) zero e old new = RefusesPayloadOf p n e old new
+RefusesPayloadAt (p ∷ ps) (n ∷ ns) (suc place) e old new = RefusesPayloadAt ps ns place e old new
+RefusesPayloadAt _ _ place e old new = ⊥
+
+-- the value of the variant at this place, or of one of the others, which come after it
+abbrev pub HoldsOneOf : {A B : Type 0} → (A → Content → Type 0) → (ℕ → B → Content → Type 0)
+    → ℕ → OneOf A B → Content → Type 0
+HoldsOneOf first others place (First x) c = HoldsVariant place (first x) c
+HoldsOneOf first others place (Others y) c = others (suc place) y c
+
+-- each name with its payload, as many as there are of both
+abbrev pub labelled : List (List ℕ) → List Payload → List (List ℕ × Payload)
+labelled (n ∷ ns) (p ∷ ps) = (n, p) ∷ labelled ns ps
+labelled _ _ = []

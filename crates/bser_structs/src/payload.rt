@@ -1,0 +1,146 @@
+//! The payload of a variant, as it is read.
+ghost use Rattle.std.specs.Prelude.{◌≡◌, map, IfOk, OnErr};
+ghost use Rattle.bser_format.specs.Content.{Content, one, Needs};
+ghost use Rattle.bser_format.specs.Enums.{Payload, unit, holds};
+ghost use Rattle.bser_due.specs.HoldsLists.{HoldsTuple};
+ghost use Rattle.bser_due.specs.Reading.{bare};
+ghost use Rattle.bser_deserializer.specs.View.{state, refusal_in};
+ghost use Rattle.bser_types.specs.Slots.{reads_struct, struct_needs};
+ghost use Rattle.bser_variants.specs.EnumAccess.{enum_head};
+ghost use Rattle.bser_structs.specs.Payloads.{IsPayloadOf, RefusesPayloadOf};
+
+use bser_bunser::refusal::Answer;
+use bser_deserializer::container::{Containers, MapHead};
+use bser_deserializer::cursor::Cursor;
+use bser_deserializer::deserializer::Deserializer;
+use bser_fields::fields::ReadsFields;
+use bser_fields::slots::Slots;
+use bser_format::errors::Complaint;
+use bser_read::read::DeRead;
+use bser_source::read::LendsText;
+use bser_types::deserialize::Deserialize;
+use bser_variants::payload::await_payload;
+use std::alloc::Global;
+use std::marker::PhantomData;
+
+/// What the payload of a variant is read as.
+pub trait ReadPayload<L: LendsText> {
+    /// What is read of it.
+    type Value: Drop;
+
+    // none, or the trees that it reads
+    ghost payload: { Self → Payload };
+
+    // what its value holds
+    ghost holds: { Self.Value → Content → Type 0 };
+
+    // what reading it needs
+    ghost needs: { Needs };
+
+    /// Reads the payload of the variant whose name was read, in the object or row of this head, or
+    /// of a name that stands alone, and closes the object.
+    ///
+    /// Refused as the payload's type is, and by [`Complaint::WrongType`] where the name stands
+    /// alone and there has to be a payload; the deserializer then refuses each later call.
+    fn read<R: DeRead<Lent = L>>(
+        &self,
+        alloc: Global,
+        from: &mut Deserializer<R>,
+        head: Option<MapHead>,
+    ) -> Answer<Self::Value>
+        ensures found { IfOk result (λ v. IsPayloadOf (payload self.now) (Self.holds v)
+            (enum_head head (state R.window L.kept from.old)) (state R.window L.kept from.new)) }
+        ensures refused { OnErr result (RefusesPayloadOf (payload self.now) Self.needs
+            (refusal_in from.new)
+            (enum_head head (state R.window L.kept from.old)) (state R.window L.kept from.new)) };
+}
+
+/// No payload: the name alone, or null in an object or a row.
+#[derive(Drop)]
+pub struct Unit;
+
+impl<L: LendsText> ReadPayload<L> for Unit {
+    type Value = ();
+
+    ghost payload = { λ _. unit };
+
+    ghost holds = { λ _ c. c ≡ one };
+
+    ghost needs = { bare };
+
+    #[inline(always)]
+    fn read<R: DeRead<Lent = L>>(
+        &self,
+        _alloc: Global,
+        from: &mut Deserializer<R>,
+        head: Option<MapHead>,
+    ) -> Answer<()> {
+        let Some(head) = head else {
+            return Ok(());
+        };
+        await_payload(from, head);
+        from.read_unit()?;
+        from.close_pairs(head);
+        Ok(())
+    }
+}
+
+/// One value, or several as a tuple.
+#[derive(Drop)]
+pub struct Newtype<T>(pub PhantomData<T>);
+
+impl<L: LendsText, T: Deserialize<L>> ReadPayload<L> for Newtype<T> {
+    type Value = T;
+
+    ghost payload = { λ _. holds T.reads };
+
+    ghost holds = { T.holds };
+
+    ghost needs = { T.needs };
+
+    #[inline(always)]
+    fn read<R: DeRead<Lent = L>>(
+        &self,
+        alloc: Global,
+        from: &mut Deserializer<R>,
+        head: Option<MapHead>,
+    ) -> Answer<T> {
+        let Some(head) = head else {
+            return Err(from.complain(Complaint::WrongType));
+        };
+        await_payload(from, head);
+        let value = T::deserialize(alloc, from)?;
+        from.close_pairs(head);
+        Ok(value)
+    }
+}
+
+/// An object or a row of fields, which have these names.
+#[derive(Drop)]
+pub struct Struct<'n, F>(pub &'n [&'n str], pub PhantomData<F>);
+
+impl<'n, L: LendsText, F: Slots<L>> ReadPayload<L> for Struct<'n, F> {
+    type Value = F::Values;
+
+    ghost payload = { λ p. holds (reads_struct (map (λ r. r.now) p.0.now) F.fields) };
+
+    ghost holds = { λ v. HoldsTuple (F.holds v) };
+
+    ghost needs = { struct_needs F.needs };
+
+    #[inline(always)]
+    fn read<R: DeRead<Lent = L>>(
+        &self,
+        alloc: Global,
+        from: &mut Deserializer<R>,
+        head: Option<MapHead>,
+    ) -> Answer<F::Values> {
+        let Some(head) = head else {
+            return Err(from.complain(Complaint::WrongType));
+        };
+        await_payload(from, head);
+        let values = from.read_fields::<F>(alloc, self.0)?;
+        from.close_pairs(head);
+        Ok(values)
+    }
+}
