@@ -40,7 +40,8 @@ pub trait ReadPayloads<L: LendsText> {
 
     /// Reads the payload of the variant at this place.
     ///
-    /// Refused as [`ReadPayload::read`] is; the deserializer then refuses each later call.
+    /// Refused as [`ReadPayload::read`] is, and where there is no such place; the deserializer then
+    /// refuses each later call.
     fn read_at<R: DeRead<Lent = L>>(
         &self,
         alloc: Global,
@@ -48,12 +49,11 @@ pub trait ReadPayloads<L: LendsText> {
         from: &mut Deserializer<R>,
         head: Option<MapHead>,
     ) -> Answer<Self::Value>
-        requires { place < length (payloads self.now) }
         ensures found { IfOk result (λ v. (first : ℕ) → IsPayloadAt (payloads self.now) place
             (λ c. Self.holds first v (variant (first + place) c))
             (enum_head head (state R.window L.kept from.old)) (state R.window L.kept from.new)) }
-        ensures refused { OnErr result (RefusesPayloadAt (payloads self.now) Self.needs place
-            (refusal_in from.new)
+        ensures refused { OnErr result (place < length (payloads self.now)
+            → RefusesPayloadAt (payloads self.now) Self.needs place (refusal_in from.new)
             (enum_head head (state R.window L.kept from.old)) (state R.window L.kept from.new)) };
 }
 

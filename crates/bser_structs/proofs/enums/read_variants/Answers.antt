@@ -22,15 +22,6 @@ returns-in_err-place-clause-refused g c =
     let p = err_from_is_err_and c.from_residual.result c.from_residual.ensures.1 in
     rw p.1 (name_refused c.args.name.now names ps g.P.ReadPayloads.needs (refusal_in c.open_variant.new.from) o z same c.in_err-place.ensures.refused)
 
-pub read_at-requires : goal.read_at-requires
-read_at-requires g c =
-    let names : List (List ℕ) = map (λ (r : Bor (List ℕ)). r.now) c.args.names.now in
-    let ps : List Payload = g.P.ReadPayloads.payloads c.args.payloads.now in
-    let same : length names ≡ length ps = length-map c.args.names.now (λ (r : Bor (List ℕ)). r.now) ∙ c.requires in
-    let o : State = state g.R.DeRead.window g.R.Lent.Lending.kept c.args.from.now in
-    let v : OpenEnum = enum_head c.in_ok-place.head (state g.R.DeRead.window g.R.Lent.Lending.kept c.open_variant.new.from) in
-    place_known names ps o v c.in_ok-place.place same c.in_ok-place.ensures.found
-
 pub returns-clause-found : goal.returns-clause-found
 returns-clause-found g c =
     let names : List (List ℕ) = map (λ (r : Bor (List ℕ)). r.now) c.args.names.now in
@@ -49,4 +40,4 @@ returns-clause-refused g c =
     let o : State = state g.R.DeRead.window g.R.Lent.Lending.kept c.args.from.now in
     let v : OpenEnum = enum_head c.in_ok-place.head (state g.R.DeRead.window g.R.Lent.Lending.kept c.open_variant.new.from) in
     let z : State = state g.R.DeRead.window g.R.Lent.Lending.kept c.read_at.new.from in
-    if_err _ _ c.read_at.result (place_refused names ps g.P.ReadPayloads.needs (refusal_in c.read_at.new.from) o z v c.in_ok-place.place same c.in_ok-place.ensures.found) c.read_at.ensures.refused
+    if_err _ _ c.read_at.result (λ r. place_refused names ps g.P.ReadPayloads.needs (refusal_in c.read_at.new.from) o z v c.in_ok-place.place same c.in_ok-place.ensures.found (r (place_known names ps o v c.in_ok-place.place same c.in_ok-place.ensures.found))) c.read_at.ensures.refused
