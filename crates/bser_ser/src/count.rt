@@ -1,5 +1,5 @@
 //! A writer that counts.
-ghost use Rattle.std.specs.Prelude.{◌≡◌, Ok, length};
+ghost use Rattle.std.specs.Prelude.{◌≡◌, Ok, length, true};
 ghost use Rattle.bser_source.specs.Device.{counts_to};
 ghost use Rattle.bser_source.specs.Sinks.{counts_to-none, counts_to-both};
 ghost use Rattle.bser_ser.specs.Sent.{count_of};
@@ -31,12 +31,17 @@ impl CountWrite {
 }
 
 impl Write for CountWrite {
-    fn write(&mut self, bytes: &[u8]) -> io::Result<usize> {
+    fn write(&mut self, bytes: &[u8]) -> io::Result<usize>
+        ensures all { result ≡ Ok (length bytes.now) }
+        ensures counted { count_of self.new ≡ counts_to (count_of self.old) (length bytes.now) }
+    {
         self.count = self.count.saturating_add(bytes.len());
         Ok(bytes.len())
     }
 
-    fn flush(&mut self) -> io::Result<()> {
+    fn flush(&mut self) -> io::Result<()>
+        ensures { (result ≡ Ok tt) × (self.new ≡ self.old) }
+    {
         Ok(())
     }
 }
@@ -53,7 +58,9 @@ impl Sink for CountWrite {
         Ok(bytes.len())
     }
 
-    fn take_at_once(&mut self, front: &[u8], back: &[u8]) -> bool {
+    fn take_at_once(&mut self, front: &[u8], back: &[u8]) -> bool
+        ensures taken { result ≡ true }
+    {
         self.count = self
             .count
             .saturating_add(front.len())

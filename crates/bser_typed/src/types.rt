@@ -1,8 +1,9 @@
 //! The types by their names in the lists: `vec_T` is a `Vec` of T, `deque_T` a `VecDeque`, `set_T` a
-//! `BTreeSet`, `arr2_T` an array of two, `opt_T` an `Option`, `map_K_V` a `BTreeMap`, `tup_A_B` a
-//! tuple, `tup2`, `tup3` and `tup4` one of so many `i64`, and `unit` is `()`; `str` is `&str`, `cow` a
-//! `CowStr`, and `bytes` is `&[u8]`, but `ByteString` as the key of a map, where `raw` is `&[u8]`. A
-//! struct or enum has texts of its own, but with `_str` or `_raw` behind its name.
+//! `BTreeSet`, `arr2_T` an array of two, `opt_T` an `Option`, `box_T` a `Box`, `map_K_V` a
+//! `BTreeMap`, `tup_A_B` a tuple, `tup2`, `tup3` and `tup4` one of so many `i64`, and `unit` is `()`;
+//! `str` is `&str`, `cow` a `CowStr`, and `bytes` is `&[u8]`, but `ByteString` as the key of a map,
+//! where `raw` is `&[u8]`. A struct or enum has texts of its own, but with `_str` or `_raw` behind its
+//! name.
 use crate::ways::{Compared, Sample};
 use bser_vectors::enums::{EnumRow, TestEnum};
 use bser_vectors::files::ExactFile;
@@ -53,6 +54,8 @@ fn options(alloc: Global, kind: &str, sample: &Sample<'_>) -> Option<Compared> {
         "opt_opt_i64" => sample.owned_mismatch::<Option<Option<i64>>>(alloc),
         "opt_unit" => sample.owned_mismatch::<Option<()>>(alloc),
         "opt_str" => sample.lent_mismatch::<Option<&str>>(alloc),
+        "box_i64" => sample.owned_mismatch::<Box<i64>>(alloc),
+        "box_str" => sample.lent_mismatch::<Box<&str>>(alloc),
         _ => return None,
     })
 }

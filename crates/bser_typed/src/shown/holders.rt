@@ -1,4 +1,4 @@
-//! Values that may be missing, tuples and maps.
+//! Values that may be missing, boxes, tuples and maps.
 ghost use Rattle.std.specs.Prelude.{◌≡◌, ◌++◌, OnOk, codes, string_bytes};
 ghost use Rattle.bser_typed.specs.Shown.{map_notation, option_notation};
 
@@ -80,6 +80,14 @@ impl<T: Shown> Shown for Option<T> {
                 value.put(alloc, text)
             }
         }
+    }
+}
+
+impl<T: Shown> Shown for Box<T> {
+    ghost notation = { λ b. T.notation b.value };
+
+    fn put(&self, alloc: Global, text: &mut String) -> Result<(), AllocError> {
+        Shown::put(&**self, alloc, text)
     }
 }
 
