@@ -1,5 +1,6 @@
 //! The name of an enum, as an error keeps it.
-ghost use Rattle.std.specs.Prelude.{◌≡◌, ◌≤◌, ◌++◌, List, ℕ, length, take, IsUtf8};
+ghost use Rattle.std.specs.Prelude.{◌≡◌, ◌≤◌, ◌<◌, ◌++◌, List, ℕ, length, take, IsUtf8};
+ghost use Rattle.std.specs.Str.{IsCharBoundary};
 
 use std::fmt;
 
@@ -23,6 +24,8 @@ impl EnumName {
     pub fn new(name: &str) -> Self
         ensures whole { length name.now ≤ 60 → kept result ≡ name.now }
         ensures front { (rest : List ℕ) × (name.now ≡ kept result ++ rest) }
+        ensures longest { (i : ℕ) → length (kept result) < i → i ≤ 60
+            → ¬ (IsCharBoundary name.now i) }
     {
         let end = name.floor_char_boundary(Self::CAPACITY);
         let front = &name[..end];

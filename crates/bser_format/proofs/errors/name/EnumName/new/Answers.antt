@@ -12,6 +12,12 @@ kept_front name copied zeros end within same =
     let len : length copied ≡ end = ap length same ∙ length-take-le end name within in
     ap (λ n. take n (copied ++ zeros)) (sym len) ∙ take-append_seam copied zeros ∙ same
 
+-- what is longer than what is kept ends later
+past_end : (name copied zeros : List ℕ) (end i : ℕ) → end ≤ length name → copied ≡ take end name → length (take end (copied ++ zeros)) < i → end < i
+past_end name copied zeros end i within same above =
+    let len : length (take end (copied ++ zeros)) ≡ end = ap length (kept_front name copied zeros end within same) ∙ length-take-le end name within in
+    omega (arith, len, above)
+
 -- a text that is no longer than the capacity is kept to its end
 at_end : (name : List ℕ) (end : ℕ) → end ≤ length name → ((i : ℕ) → end < i → i ≤ 60 → ¬ (IsCharBoundary name i)) → length name ≤ 60 → end ≡ length name
 at_end name end within nearest small = omega (arith, λ (l : end < length name). nearest (length name) l small (IsCharBoundary-end name))
@@ -31,3 +37,11 @@ returns-clause-front c =
     let copied : c.copy_from_slice.new.self ≡ take end name = grind (arith, common_steps, c.copy_from_slice.ensures.after, c.as_bytes.ensures.value, c.range-front.ensures.value) in
     let front = kept_front name c.copy_from_slice.new.self _ end c.floor_char_boundary-end.ensures.boundary.0 copied in
     (drop end name, sym (take-append-drop end name) ∙ ap (λ k. k ++ drop end name) (sym front))
+
+pub returns-clause-longest : goal.returns-clause-longest
+returns-clause-longest c i above within =
+    let end = c.floor_char_boundary-end.result in
+    let name = c.args.name.now in
+    let inside : end ≤ length name = c.floor_char_boundary-end.ensures.boundary.0 in
+    let copied : c.copy_from_slice.new.self ≡ take end name = grind (arith, common_steps, c.copy_from_slice.ensures.after, c.as_bytes.ensures.value, c.range-front.ensures.value) in
+    c.floor_char_boundary-end.ensures.nearest i (past_end name c.copy_from_slice.new.self _ end i inside copied above) within
