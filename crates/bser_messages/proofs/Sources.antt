@@ -4,7 +4,7 @@ use Rattle.std.proofs.lemmas.List.{append-nil}
 use Rattle.std.proofs.lemmas.Bool.{ltb-false}
 use Rattle.std.specs.Prelude.{Result, Ok, Err, IfErr}
 use Rattle.std.specs.Borrow.{GName}
-use Rattle.bser_format.specs.Content.{Meaning, Needs}
+use Rattle.bser_format.specs.Content.{Content, Meaning, Needs}
 use Rattle.bser_format.specs.Expected.{node_due}
 use Rattle.bser_format.specs.declared.errors.Error.{Error}
 use Rattle.bser_format.specs.declared.errors.Error.TheVariants.{DeCustom, DeReaderError, OutOfMemory}
@@ -19,7 +19,7 @@ use Rattle.bser_bunser.specs.Refusal.{failures_by}
 use Rattle.bser_bunser.specs.Names as bunser
 use Rattle.bser_bunser.specs.Names.{Agree, Blame, MayBeLeft, RefusedAs}
 use Rattle.bser_due.specs.Reading.{Asking, OutsideBy, ExcusedBy, MayRefuse, refusing}
-use Rattle.bser_messages.specs.Messages.{NamesMessage, RefusesMessage, IsMemory, NamesSlice, RefusesSlice, CountsFault, MayCome, IsReaderFault, IsOutside, NamesReader, RefusesReader}
+use Rattle.bser_messages.specs.Messages.{ReadsMessage, NamesMessage, RefusesMessage, IsMemory, NamesSlice, RefusesSlice, CountsFault, MayCome, IsReaderFault, IsOutside, NamesReader, RefusesReader}
 
 -- ---- slices
 
@@ -145,6 +145,10 @@ reader_refused n reads asks needs e a t owned fresh v =
 -- the same of a reader that is known to have as much left, and to have counted as much
 pub reader_counted : (n : ℕ) (reads : Meaning) (asks : Option (Asking reads)) (e : Error) (left seen : Option (List ℕ)) (a b before after : ℕ) → seen ≡ left → a ≡ before → b ≡ after → RefusesReader n reads asks e seen a b → RefusesReader n reads asks e left before after
 reader_counted n reads asks e left seen a b before after p q r u = rw (sym p, sym q, sym r) u
+
+-- where a message was read, the reader counted no failure
+pub none_counted : {A : Type 0} (n : ℕ) (reads : Meaning) (holds : A → Content → Type 0) (v : A) (a b : Window) (before after : ℕ) → a.failures ≡ before → b.failures ≡ after → ReadsMessage n reads holds a b v → after ≡ before
+none_counted n reads holds v a b before after p q u = sym q ∙ u.took.failures ∙ p
 
 -- ---- answers
 

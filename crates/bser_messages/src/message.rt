@@ -1,5 +1,5 @@
 //! Reading whole messages.
-ghost use Rattle.std.specs.Prelude.{◌≡◌, ◌≤◌, [], IfOk, IfErr, OnErr};
+ghost use Rattle.std.specs.Prelude.{◌≡◌, ◌≤◌, [], IfOk, IfErr, OnOk, OnErr};
 ghost use Rattle.bser_deserializer.specs.View.{state, refusal_in};
 ghost use Rattle.bser_messages.specs.Messages.{
   BeginsWith,
@@ -65,6 +65,7 @@ pub fn from_reader<S: Source, T: DeserializeOwned>(alloc: Global, reader: &mut S
         (TookMessage 128 T.reads T.holds (S.remaining reader.old) (S.remaining reader.new)) }
     ensures refused { IfErr result (λ e. RefusesReader 128 T.reads T.asks e
         (S.remaining reader.old) (S.failures reader.old) (S.failures reader.new)) }
+    ensures kept { OnOk result (S.failures reader.new ≡ S.failures reader.old) }
 {
     from_reader_within(alloc, LEVELS, reader)
 }
@@ -82,6 +83,7 @@ pub fn from_reader_within<S: Source, T: DeserializeOwned>(
         (TookMessage limit T.reads T.holds (S.remaining reader.old) (S.remaining reader.new)) }
     ensures refused { IfErr result (λ e. RefusesReader limit T.reads T.asks e
         (S.remaining reader.old) (S.failures reader.old) (S.failures reader.new)) }
+    ensures kept { OnOk result (S.failures reader.new ≡ S.failures reader.old) }
 {
     let mut from = Deserializer::unread(alloc, IoRead::new(reader));
     let answer = read_message(alloc, limit, &mut from);

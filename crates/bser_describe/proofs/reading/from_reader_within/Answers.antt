@@ -1,6 +1,6 @@
 -- A reader whose message was read, and one that is refused.
 use Rattle.std.proofs.Common.{rules, ap, ◌∙◌}
-use Rattle.bser_messages.proofs.Sources.{fresh_itself, reader_refused, reader_counted}
+use Rattle.bser_messages.proofs.Sources.{fresh_itself, reader_refused, reader_counted, none_counted}
 use Rattle.bser_describe.proofs.Readers.{reader_took}
 use Rattle.bser_describe.proofs.reading.from_reader_within.Goals as goal
 
@@ -9,6 +9,12 @@ returns-in-Ok-clause-found g c =
     let fresh = c.unread-from.ensures.source ∙ c.new-2.ensures in
     reader_took c.args.limit g.T.Shape.reads g.T.Shape.holds c.in-Ok.value _ _ _ _ (fresh_itself _ _ _ _ fresh)
     (ap (λ w. w.beyond) fresh ∙ ap (λ r. g.S.Source.remaining r.now) c.new.ensures) (search rules) c.in-Ok.ensures.found
+
+pub returns-in-Ok-clause-kept : goal.returns-in-Ok-clause-kept
+returns-in-Ok-clause-kept g c =
+    let fresh = c.unread-from.ensures.source ∙ c.new-2.ensures in
+    none_counted c.args.limit g.T.Shape.reads g.T.Shape.holds c.in-Ok.value _ _ _ _
+    (ap (λ w. w.failures) fresh ∙ ap (λ r. g.S.Source.failures r.now) c.new.ensures) (search rules) c.in-Ok.ensures.found
 
 pub returns-in-Err-clause-refused : goal.returns-in-Err-clause-refused
 returns-in-Err-clause-refused g c =
