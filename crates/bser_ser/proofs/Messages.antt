@@ -6,6 +6,7 @@ use Rattle.bser_format.specs.Canonical.{canonical_body, least_integer}
 use Rattle.bser_format.specs.declared.errors.Error.{Error}
 use Rattle.bser_ser.specs.Sent.{Sent}
 use Rattle.bser_ser.specs.Ends.{Ends, Stops, text_of}
+use Rattle.bser_ser.specs.Stopped.{Answering}
 use Rattle.bser_ser.specs.Message.{message_of, IsBodyLength}
 use Rattle.bser_ser.specs.declared.serializer.Serializer.{Serializer}
 use Rattle.bser_ser.proofs.Ends.{Ends-both, Stops-second}
@@ -19,6 +20,6 @@ module _ {S : Type 0} (took : S → S → List ℕ → Type 0) (failures : S →
   Ends-message None len a b c is s t = t
   Ends-message (Some u) len a b c is s t = Ends-both took failures both (Some (front (pos (length (canonical_body u))))) (Some (canonical_body u)) a b c (rw (← is.0) s) t
 
-  pub Stops-message : (m : Option Tree) (len : ℤ) (a b c : Serializer S) (e : Error) → IsBodyLength m len → Sent took failures a b (front len) → Stops took failures (text_of m) b c e → Stops took failures (message_of m) a c e
+  pub Stops-message : {answered : Answering S} (m : Option Tree) (len : ℤ) (a b c : Serializer S) (e : Error) → IsBodyLength m len → Sent took failures a b (front len) → Stops took answered failures (text_of m) b c e → Stops took answered failures (message_of m) a c e
   Stops-message None len a b c e is s t = absurd is
   Stops-message (Some u) len a b c e is s t = Stops-second took failures both (Some (front (pos (length (canonical_body u))))) (Some (canonical_body u)) a b c e (rw (← is.0) s) t

@@ -44,6 +44,6 @@ pub trait Serialize {
     fn serialize<W: Sink>(&self, alloc: Global, out: &mut Serializer<W>) -> Result<()>
         ensures ok { OnOk result (Ends W.took W.failures
             (text_of (meaning self.now)) out.old out.new) }
-        ensures err { IfErr result (Stops W.took W.failures
+        ensures err { IfErr result (Stops W.took W.answered W.failures
             (text_of (meaning self.now)) out.old out.new) };
 }

@@ -1,8 +1,8 @@
 //! Whole messages.
-ghost use Rattle.std.specs.Prelude.{OnOk, IfOk, IfErr};
-ghost use Rattle.bser_ser.specs.Ends.{Ends, Stops, Tried};
+ghost use Rattle.std.specs.Prelude.{◌≡◌, List, ℕ, OnOk, IfOk, IfErr};
+ghost use Rattle.bser_ser.specs.Ends.{Ends, Stops};
 ghost use Rattle.bser_ser.specs.Message.{message_of, IsBodyLength, IsUnmeasured, Wrote, Missed};
-ghost use Rattle.bser_ser.specs.Sent.{IsFlushed};
+ghost use Rattle.bser_ser.specs.Sent.{IsFlushed, writer_of};
 
 use crate::Serialize;
 use crate::count::CountWrite;
@@ -20,7 +20,8 @@ use std::alloc::Global;
 /// fault (`Io`) or for memory; the writer has then taken a beginning of the message.
 pub fn serialize_to<W: Sink, T: Serialize>(alloc: Global, writer: &mut W, value: &T) -> Result<()>
     ensures ok { OnOk result (Wrote W.took (T.meaning value.now) writer.old writer.new) }
-    ensures err { IfErr result (Missed W.took W.failures
+    ensures kept { OnOk result (W.failures writer.new ≡ W.failures writer.old) }
+    ensures err { IfErr result (Missed W.took W.answered W.failures
         (T.meaning value.now) writer.old writer.new) }
 {
     let len = measure(alloc, value)?;
@@ -40,7 +41,8 @@ pub fn serialize<W: Sink, T: Serialize>(
     value: &T,
 ) -> std::result::Result<W, (W, Error)>
     ensures ok { IfOk result (λ w. Wrote W.took (T.meaning value.now) writer w) }
-    ensures err { IfErr result (λ r. Missed W.took W.failures
+    ensures kept { IfOk result (λ w. W.failures w ≡ W.failures writer) }
+    ensures err { IfErr result (λ r. Missed W.took W.answered W.failures
         (T.meaning value.now) writer r.0 r.1) }
 {
     let len = match measure(alloc, value) {
@@ -81,9 +83,9 @@ fn send_message<W: Sink, T: Serialize>(
     ensures ok { OnOk result (Ends W.took W.failures
         (message_of (T.meaning value.now)) out.old out.new) }
     ensures all { OnOk result (IsFlushed out.new) }
-    ensures err { IfErr result (Stops W.took W.failures
+    ensures err { IfErr result (Stops W.took W.answered W.failures
         (message_of (T.meaning value.now)) out.old out.new) }
-    ensures tied { Tried W.took W.failures out.old out.new }
+    ensures tied { (taken : List ℕ) × W.took (writer_of out.old) (writer_of out.new) taken }
 {
     put_message(alloc, out, len, value)?;
     out.flush()?;
@@ -100,7 +102,7 @@ fn put_message<W: Sink, T: Serialize>(
     requires { IsBodyLength (T.meaning value.now) len }
     ensures ok { OnOk result (Ends W.took W.failures
         (message_of (T.meaning value.now)) out.old out.new) }
-    ensures err { IfErr result (Stops W.took W.failures
+    ensures err { IfErr result (Stops W.took W.answered W.failures
         (message_of (T.meaning value.now)) out.old out.new) }
 {
     out.put_front(len)?;

@@ -64,10 +64,10 @@ pub add_value-returns-in-Array-clause-ok : goal.add_value-returns-in-Array-claus
 add_value-returns-in-Array-clause-ok g t c = rw (c.in-Array.is) (subst (λ (m : Option Tree). OnOk c.add_items.result (Ends g.W.Sink.took g.W.Sink.failures (text_of m) c.args.out.now c.add_items.new.out)) (sym (written-Array c.in-Array.items)) c.add_items.ensures.ok)
 
 pub add_value-returns-in-Array-clause-err : goal.add_value-returns-in-Array-clause-err
-add_value-returns-in-Array-clause-err g t c = rw (c.in-Array.is) (subst (λ (m : Option Tree). OnErr c.add_items.result (Stops g.W.Sink.took g.W.Sink.failures (text_of m) c.args.out.now c.add_items.new.out (refusal_of c.add_items.new.out))) (sym (written-Array c.in-Array.items)) c.add_items.ensures.err)
+add_value-returns-in-Array-clause-err g t c = rw (c.in-Array.is) (subst (λ (m : Option Tree). OnErr c.add_items.result (Stops g.W.Sink.took g.W.Sink.answered g.W.Sink.failures (text_of m) c.args.out.now c.add_items.new.out (refusal_of c.add_items.new.out))) (sym (written-Array c.in-Array.items)) c.add_items.ensures.err)
 
 pub add_value-returns-in-Object-clause-ok : goal.add_value-returns-in-Object-clause-ok
 add_value-returns-in-Object-clause-ok g t c = rw (c.in-Object.is) (subst (λ (m : Option Tree). OnOk c.add_entries.result (Ends g.W.Sink.took g.W.Sink.failures (text_of m) c.args.out.now c.add_entries.new.out)) (sym (written-Object c.in-Object.entries)) c.add_entries.ensures.ok)
 
 pub add_value-returns-in-Object-clause-err : goal.add_value-returns-in-Object-clause-err
-add_value-returns-in-Object-clause-err g t c = rw (c.in-Object.is) (subst (λ (m : Option Tree). OnErr c.add_entries.result (Stops g.W.Sink.took g.W.Sink.failures (text_of m) c.args.out.now c.add_entries.new.out (refusal_of c.add_entries.new.out))) (sym (written-Object c.in-Object.entries)) c.add_entries.ensures.err)
+add_value-returns-in-Object-clause-err g t c = rw (c.in-Object.is) (subst (λ (m : Option Tree). OnErr c.add_entries.result (Stops g.W.Sink.took g.W.Sink.answered g.W.Sink.failures (text_of m) c.args.out.now c.add_entries.new.out (refusal_of c.add_entries.new.out))) (sym (written-Object c.in-Object.entries)) c.add_entries.ensures.err)
