@@ -29,8 +29,9 @@ module _ {S : Type 0} (took : S → S → List ℕ → Type 0) (failures : S →
     sent = Sent-both both a b c h.front piece h.sent s;
   }
 
+module _ {S : Type 0} (took : S → S → List ℕ → Type 0) (answered : Answering S) (failures : S → ℕ) (both : (a b c : S) (xs ys : List ℕ) → took a b xs → took b c ys → took a c (xs ++ ys)) where
   -- the next piece of the rest was refused
-  pub AllBut-stops : {answered : Answering S} (whole rest piece left : List ℕ) (a b c : Serializer S) (e : Error) → AllBut took failures whole rest a b → rest ≡ piece ++ left → Stops took answered failures (Some piece) b c e → Stops took answered failures (Some whole) a c e
-  AllBut-stops {answered = answered} whole rest piece left a b c e h step s =
+  pub AllBut-stops : (whole rest piece left : List ℕ) (a b c : Serializer S) (e : Error) → AllBut took failures whole rest a b → rest ≡ piece ++ left → Stops took answered failures (Some piece) b c e → Stops took answered failures (Some whole) a c e
+  AllBut-stops whole rest piece left a b c e h step s =
       subst (λ l. Stops took answered failures (Some l) a c e) (append_assoc h.front piece left ∙ ap (λ l. h.front ++ l) (sym step) ∙ sym h.is)
-      (Stops-first took failures (Some (h.front ++ piece)) (Some left) a c e (Stops-second took failures both (Some h.front) (Some piece) a b c e h.sent s))
+      (Stops-first took answered failures (Some (h.front ++ piece)) (Some left) a c e (Stops-second took answered failures both (Some h.front) (Some piece) a b c e h.sent s))

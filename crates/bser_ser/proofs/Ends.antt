@@ -32,19 +32,19 @@ joined-append g [] ys = sym (nil-then (joined g ys))
 joined-append g (x ∷ xs) ys = ap (then (g x)) (joined-append g xs ys) ∙ sym (then-assoc (g x) (joined g xs) (joined g ys))
 
 -- a put after a call that put nothing
-pub Adds-after : {S A E : Type 0} {answered : Answering S} (took : S → S → List ℕ → Type 0) (failures : S → ℕ) → ((a b c : S) (xs ys : List ℕ) → took a b xs → took b c ys → took a c (xs ++ ys))
+pub Adds-after : {S A E : Type 0} (took : S → S → List ℕ → Type 0) (answered : Answering S) (failures : S → ℕ) → ((a b c : S) (xs ys : List ℕ) → took a b xs → took b c ys → took a c (xs ++ ys))
     → (a b c : Serializer S) (piece : List ℕ) (r : Result A E) → Sent took failures a b [] → Adds took answered failures b c piece r → Adds took answered failures a c piece r
-Adds-after took failures both a b c piece r s x =
+Adds-after took answered failures both a b c piece r s x =
     MatchResult-weaker r x (λ _ t. (Sent-both both a b c [] piece s t.0, t.1))
-    (λ _ t. (Refused-after both a b c [] [] (refusal_of c) s t.0, t.1))
+    (λ _ t. (Refused-after took answered failures both a b c [] [] (refusal_of c) s t.0, t.1))
 
-module _ {S : Type 0} (took : S → S → List ℕ → Type 0) (failures : S → ℕ) where
+module _ {S : Type 0} (took : S → S → List ℕ → Type 0) (answered : Answering S) (failures : S → ℕ) where
   -- nothing was written
-  pub Stops-none : {answered : Answering S} (m : Option (List ℕ)) (a b : Serializer S) (e : Error) → Refused took answered failures a b [] e → IsExcuse e → Stops took answered failures m a b e
+  pub Stops-none : (m : Option (List ℕ)) (a b : Serializer S) (e : Error) → Refused took answered failures a b [] e → IsExcuse e → Stops took answered failures m a b e
   Stops-none None a b e s x = record { front = []; refused = s }
   Stops-none (Some bs) a b e s x = record { front = []; rest = bs; is = refl; refused = s; excuse = x }
 
-  pub Stops-first : {answered : Answering S} (m n : Option (List ℕ)) (a b : Serializer S) (e : Error) → Stops took answered failures m a b e → Stops took answered failures (then m n) a b e
+  pub Stops-first : (m n : Option (List ℕ)) (a b : Serializer S) (e : Error) → Stops took answered failures m a b e → Stops took answered failures (then m n) a b e
   Stops-first None n a b e s = s
   Stops-first (Some xs) None a b e s = record { front = s.front; refused = s.refused }
   Stops-first (Some xs) (Some ys) a b e s = record { front = s.front; rest = s.rest ++ ys; is = ap (λ zs. zs ++ ys) s.is ∙ append_assoc s.front s.rest ys; refused = s.refused; excuse = s.excuse }
@@ -55,14 +55,15 @@ module _ {S : Type 0} (took : S → S → List ℕ → Type 0) (failures : S →
   Ends-both (Some xs) None a b c s t = absurd t
   Ends-both (Some xs) (Some ys) a b c s t = Sent-both both a b c xs ys s t
 
-  pub Stops-second : {answered : Answering S} (m n : Option (List ℕ)) (a b c : Serializer S) (e : Error) → Ends took failures m a b → Stops took answered failures n b c e → Stops took answered failures (then m n) a c e
+module _ {S : Type 0} (took : S → S → List ℕ → Type 0) (answered : Answering S) (failures : S → ℕ) (both : (a b c : S) (xs ys : List ℕ) → took a b xs → took b c ys → took a c (xs ++ ys)) where
+  pub Stops-second : (m n : Option (List ℕ)) (a b c : Serializer S) (e : Error) → Ends took failures m a b → Stops took answered failures n b c e → Stops took answered failures (then m n) a c e
   Stops-second None n a b c e s t = absurd s
-  Stops-second (Some xs) None a b c e s t = record { front = xs ++ t.front; refused = Refused-after both a b c xs t.front e s t.refused }
+  Stops-second (Some xs) None a b c e s t = record { front = xs ++ t.front; refused = Refused-after took answered failures both a b c xs t.front e s t.refused }
   Stops-second (Some xs) (Some ys) a b c e s t = record {
     front = xs ++ t.front;
     rest = t.rest;
     is = ap (λ zs. xs ++ zs) t.is ∙ sym (append_assoc xs t.front t.rest);
-    refused = Refused-after both a b c xs t.front e s t.refused;
+    refused = Refused-after took answered failures both a b c xs t.front e s t.refused;
     excuse = t.excuse;
   }
 
@@ -89,28 +90,31 @@ module _ {S A : Type 0} (took : S → S → List ℕ → Type 0) (failures : S �
         (Ends-both took failures both _ (g x) a b c u.ended t);
   }
 
-  pub UpTo-stops : {answered : Answering S} (all rest left : List A) (x : A) (a b c : Serializer S) (e : Error) → UpTo took failures h g all rest a b → rest ≡ x ∷ left → Stops took answered failures (g x) b c e → Stops took answered failures (then (Some h) (joined g all)) a c e
-  UpTo-stops {answered = answered} all rest left x a b c e u step t =
+module _ {S A : Type 0} (took : S → S → List ℕ → Type 0) (answered : Answering S) (failures : S → ℕ) (both : (a b c : S) (xs ys : List ℕ) → took a b xs → took b c ys → took a c (xs ++ ys)) (h : List ℕ) (g : A → Option (List ℕ)) where
+  pub UpTo-stops : (all rest left : List A) (x : A) (a b c : Serializer S) (e : Error) → UpTo took failures h g all rest a b → rest ≡ x ∷ left → Stops took answered failures (g x) b c e → Stops took answered failures (then (Some h) (joined g all)) a c e
+  UpTo-stops all rest left x a b c e u step t =
       let whole : joined g all ≡ then (joined g u.done) (then (g x) (joined g left)) = ap (joined g) (u.split ∙ ap (λ ys. u.done ++ ys) step) ∙ joined-append g u.done (x ∷ left) in
       subst (λ (m : Option (List ℕ)). Stops took answered failures m a c e)
       (then-assoc (then (Some h) (joined g u.done)) (g x) (joined g left) ∙ (then-assoc (Some h) (joined g u.done) (then (g x) (joined g left)) ∙ ap (then (Some h)) (sym whole)))
-      (Stops-first took failures _ (joined g left) a c e (Stops-second took failures both _ (g x) a b c e u.ended t))
+      (Stops-first took answered failures _ (joined g left) a c e (Stops-second took answered failures both _ (g x) a b c e u.ended t))
 
 module _ {S : Type 0} (took : S → S → List ℕ → Type 0) (failures : S → ℕ) (both : (a b c : S) (xs ys : List ℕ) → took a b xs → took b c ys → took a c (xs ++ ys)) (m : Option (List ℕ)) where
   -- nothing more was put
   pub Ends-flushed : (a b c : Serializer S) → Ends took failures m a b → Sent took failures b c [] → Ends took failures m a c
   Ends-flushed a b c s t = subst (λ (n : Option (List ℕ)). Ends took failures n a c) (then-nil m) (Ends-both took failures both m (Some []) a b c s t)
 
-  pub Stops-flushed : {answered : Answering S} (a b c : Serializer S) (e : Error) → Ends took failures m a b → Refused took answered failures b c [] e → IsExcuse e → Stops took answered failures m a c e
-  Stops-flushed {answered = answered} a b c e s t x = subst (λ (n : Option (List ℕ)). Stops took answered failures n a c e) (then-nil m)
-      (Stops-second took failures both m (Some []) a b c e s (Stops-none took failures (Some []) b c e t x))
+module _ {S : Type 0} (took : S → S → List ℕ → Type 0) (answered : Answering S) (failures : S → ℕ) (both : (a b c : S) (xs ys : List ℕ) → took a b xs → took b c ys → took a c (xs ++ ys)) (m : Option (List ℕ)) where
+  pub Stops-flushed : (a b c : Serializer S) (e : Error) → Ends took failures m a b → Refused took answered failures b c [] e → IsExcuse e → Stops took answered failures m a c e
+  Stops-flushed a b c e s t x = subst (λ (n : Option (List ℕ)). Stops took answered failures n a c e) (then-nil m)
+      (Stops-second took answered failures both m (Some []) a b c e s (Stops-none took answered failures (Some []) b c e t x))
 
--- what the writer took of a text, and of what was put before a refusal
-module _ {S : Type 0} {took : S → S → List ℕ → Type 0} {failures : S → ℕ} where
+-- what the writer took of a text
+module _ {S : Type 0} (took : S → S → List ℕ → Type 0) (failures : S → ℕ) where
   pub ended_tied : (m : Option (List ℕ)) (a b : Serializer S) → Ends took failures m a b → (taken : List ℕ) × took a.writer b.writer taken
   ended_tied None a b s = absurd s
   ended_tied (Some bs) a b s = (s.taken, s.took_it)
 
-  pub stopped_tied : {answered : Answering S} (m : Option (List ℕ)) (a b : Serializer S) (e : Error) → Stops took answered failures m a b e → (taken : List ℕ) × took a.writer b.writer taken
+module _ {S : Type 0} (took : S → S → List ℕ → Type 0) (answered : Answering S) (failures : S → ℕ) where
+  pub stopped_tied : (m : Option (List ℕ)) (a b : Serializer S) (e : Error) → Stops took answered failures m a b e → (taken : List ℕ) × took a.writer b.writer taken
   stopped_tied None a b e s = (s.refused.taken, s.refused.took_it)
   stopped_tied (Some bs) a b e s = (s.refused.taken, s.refused.took_it)

@@ -22,7 +22,7 @@ Sent-both both a b c xs ys s t = record {
 pub Sent-none : {S : Type 0} {took : S → S → List ℕ → Type 0} {failures : S → ℕ} → ((s : S) → took s s []) → (a : Serializer S) → Sent took failures a a []
 Sent-none none a = record { taken = []; took_it = none a.writer; grew = append-nil a.pending.items; kept = refl }
 
-module _ {S : Type 0} {took : S → S → List ℕ → Type 0} {answered : Answering S} {failures : S → ℕ} (both : (a b c : S) (xs ys : List ℕ) → took a b xs → took b c ys → took a c (xs ++ ys)) where
+module _ {S : Type 0} (took : S → S → List ℕ → Type 0) (answered : Answering S) (failures : S → ℕ) (both : (a b c : S) (xs ys : List ℕ) → took a b xs → took b c ys → took a c (xs ++ ys)) where
   stopped_after : (a b c : S) (xs bytes : List ℕ) (e : _) → took a b xs → Stopped took answered b c bytes e → Stopped took answered a c (xs ++ bytes) e
   stopped_after a b c xs bytes e p t = record {
     before = t.before;

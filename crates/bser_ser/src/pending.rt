@@ -1,8 +1,8 @@
 //! The bytes that a writer has still to take.
 ghost use Rattle.std.specs.Prelude.{◌≡◌, ◌≤◌, List, ℕ, [], ◌∷◌, ◌++◌, length, take, drop, OnOk, OnErr, IfErr};
 ghost use Rattle.bser_format.specs.Canonical.{least_integer};
-ghost use Rattle.bser_source.specs.Device.{one_more};
-ghost use Rattle.bser_ser.specs.Stopped.{Stopped};
+ghost use Rattle.bser_format.specs.declared.errors.Error.TheVariants.{Io};
+ghost use Rattle.bser_ser.specs.Stopped.{Accounts};
 ghost use Rattle.bser_format.specs.Pieces.{newtype_variant_head};
 
 use crate::integer::{LONGEST, spell};
@@ -100,9 +100,8 @@ pub fn send<W: Sink>(writer: &mut W, pending: &mut Vec<u8>) -> io::Result<()>
         (pending.old.items ≡ taken ++ pending.new.items) }
     ensures ok { OnOk result (pending.new.items ≡ []) }
     ensures kept { OnOk result (W.failures writer.new ≡ W.failures writer.old) }
-    ensures counted { OnErr result (W.failures writer.new ≡ one_more (W.failures writer.old)) }
-    ensures names { IfErr result (λ e. Stopped W.took W.answered writer.old writer.new
-        pending.old.items e) }
+    ensures err { IfErr result (λ e. Accounts W.took W.answered W.failures
+        writer.old writer.new pending.old.items (Io e)) }
 {
     let mut done = 0;
     while done < pending.len() {
