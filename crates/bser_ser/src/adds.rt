@@ -20,7 +20,8 @@ use std::result::Result;
 /// The puts for a value of many parts, which hand no error from part to part.
 ///
 /// Each call does what the put of its name does. Where it is refused it answers [`PutRefused`], and
-/// [`refusal`](Serializer::refusal) tells why: the writer's fault (`Io`), or `OutOfMemory`.
+/// [`refusal`](Serializer::refusal) tells why: the fault that the writer answered at this call
+/// (`Io`), or `OutOfMemory`.
 ///
 /// The crate has none of these calls.
 impl<W: Sink> Serializer<W> {

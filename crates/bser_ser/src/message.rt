@@ -17,7 +17,8 @@ use std::alloc::Global;
 /// isn't kept. Where measuring refuses, the writer has taken nothing: the value has no tree, as a
 /// `u64` above `i64::MAX` (`SerU64TooBig`), its body is longer than `i64::MAX` bytes (`SerCustom`
 /// `CountTooGreat`), or memory is refused (`OutOfMemory`). Writing itself refuses with the writer's
-/// fault (`Io`) or for memory; the writer has then taken a beginning of the message.
+/// own fault (`Io`), of kind `WriteZero` where it took nothing, or for memory; the writer has then
+/// taken a beginning of the message. It counts a failure only for an `Io`.
 pub fn serialize_to<W: Sink, T: Serialize>(alloc: Global, writer: &mut W, value: &T) -> Result<()>
     ensures ok { OnOk result (Wrote W.took (T.meaning value.now) writer.old writer.new) }
     ensures kept { OnOk result (W.failures writer.new ≡ W.failures writer.old) }

@@ -14,7 +14,9 @@ use bser_source::device::Sink;
 /// Each put appends its piece, or nothing where it is refused.
 ///
 /// A put sends first where more than 4096 bytes are pending, and hands the writer's fault on as
-/// `Io`; a growth that is refused is `OutOfMemory`. Other refusals stand at each put.
+/// `Io`: it is what the writer answered, or of kind `WriteZero` where it took nothing, and is not
+/// tried again. A growth that is refused is `OutOfMemory`. Other refusals stand at each put. The
+/// writer counts one failure for an `Io`, and none where a put succeeds or is refused otherwise.
 ///
 /// The crate has serde's `serialize_` calls in the place of the puts.
 impl<W: Sink> Serializer<W> {
@@ -122,9 +124,8 @@ impl<W: Sink> Serializer<W> {
     /// A missing count is refused with `SerNeedSize`, and one above `i64::MAX` with `SerCustom`
     /// `CountTooGreat`.
     pub fn put_seq(&mut self, count: Option<usize>) -> Result<()>
-        ensures put { PutsOr (IsMiscounted Sequence count) W.took W.answered W.failures self.old
-            self.new
-            (array_head (count_or_zero count)) result }
+        ensures put { PutsOr (IsMiscounted Sequence count) W.took W.answered W.failures
+            self.old self.new (array_head (count_or_zero count)) result }
         ensures counted { OnOk result (IsCounted count) }
     {
         let Some(n) = count else {

@@ -1,4 +1,4 @@
-use Rattle.std.proofs.Common.{rules, inr}
+use Rattle.std.proofs.Common.{inr}
 use Rattle.bser_ser.proofs.Messages.{Broke-new}
 use Rattle.bser_ser.proofs.message.serialize.Goals as goal
 
