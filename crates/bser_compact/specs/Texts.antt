@@ -7,6 +7,7 @@ use Rattle.bser_format.specs.Compact.{keys, values, same_keys, as_template, fold
 use Rattle.bser_format.specs.Pieces.{array_head, template_tag}
 use Rattle.bser_ser.specs.Ends.{Broken}
 use Rattle.bser_ser.specs.Sent.{refusal_of}
+use Rattle.bser_ser.specs.Stopped.{Answering}
 use Rattle.bser_ser.specs.declared.serializer.Serializer.{Serializer}
 use Rattle.bser_value.specs.declared.value.Value.{Value}
 use Rattle.bser_value.specs.ValueView.{tree_of, items_view, entries_view}
@@ -16,8 +17,8 @@ abbrev pub compact_tree : Value → Tree
 compact_tree v = fold_templates (tree_of v)
 
 -- a beginning of the text was put, and there is an excuse for the rest, which the serializer keeps
-abbrev pub Breaks : {S : Type 0} → (S → S → List ℕ → Type 0) → (S → ℕ) → Serializer S → Serializer S → List ℕ → Type 0
-Breaks took failures old new text = Broken took failures text old new (refusal_of new)
+abbrev pub Breaks : {S : Type 0} → (S → S → List ℕ → Type 0) → Answering S → (S → ℕ) → Serializer S → Serializer S → List ℕ → Type 0
+Breaks took answered failures old new text = Broken took answered failures text old new (refusal_of new)
 
 -- ---- values
 

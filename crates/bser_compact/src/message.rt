@@ -31,7 +31,8 @@ pub fn serialize_compact<W: Sink>(
 ) -> bser_format::errors::Result<()>
     ensures ok { OnOk result (Wrote W.took (Some (compact_tree value.now)) writer.old writer.new) }
     ensures err { IfErr result
-        (Missed W.took W.failures (Some (compact_tree value.now)) writer.old writer.new) }
+        (Missed W.took W.answered W.failures
+        (Some (compact_tree value.now)) writer.old writer.new) }
 {
     serialize_to(alloc, writer, &Compact { value })
 }
@@ -62,7 +63,8 @@ impl Serialize for Compact<'_> {
 #[inline(always)]
 fn add_compact<W: Sink>(value: &Value, out: &mut Serializer<W>) -> Result<(), PutRefused>
     ensures ok { OnOk result (Sent W.took W.failures out.old out.new (value_text value.now)) }
-    ensures err { OnErr result (Breaks W.took W.failures out.old out.new (value_text value.now)) }
+    ensures err { OnErr result (Breaks W.took W.answered W.failures out.old out.new
+        (value_text value.now)) }
 {
     match value {
         Value::Array(items) => match shared_keys(items) {
@@ -88,7 +90,7 @@ fn add_compact<W: Sink>(value: &Value, out: &mut Serializer<W>) -> Result<(), Pu
 fn add_items<W: Sink>(items: &Vec<Value>, out: &mut Serializer<W>) -> Result<(), PutRefused>
     ensures ok { OnOk result (Sent W.took W.failures out.old out.new (items_text items.now.items)) }
     ensures err { OnErr result
-        (Breaks W.took W.failures out.old out.new (items_text items.now.items)) }
+        (Breaks W.took W.answered W.failures out.old out.new (items_text items.now.items)) }
 {
     out.add_array(items.len())?;
     for item in items {
@@ -106,7 +108,7 @@ fn add_entries<W: Sink>(
     ensures ok { OnOk result
         (Sent W.took W.failures out.old out.new (entries_text entries.now.entries)) }
     ensures err { OnErr result
-        (Breaks W.took W.failures out.old out.new (entries_text entries.now.entries)) }
+        (Breaks W.took W.answered W.failures out.old out.new (entries_text entries.now.entries)) }
 {
     out.add_object(entries.len())?;
     for (key, value) in entries {
@@ -122,7 +124,7 @@ fn add_entries<W: Sink>(
 fn add_rows<W: Sink>(items: &Vec<Value>, out: &mut Serializer<W>) -> Result<(), PutRefused>
     ensures ok { OnOk result (Sent W.took W.failures out.old out.new (rows_text items.now.items)) }
     ensures err { OnErr result
-        (Breaks W.took W.failures out.old out.new (rows_text items.now.items)) }
+        (Breaks W.took W.answered W.failures out.old out.new (rows_text items.now.items)) }
 {
     for item in items {
         add_row(item, out)?;
@@ -134,7 +136,8 @@ fn add_rows<W: Sink>(items: &Vec<Value>, out: &mut Serializer<W>) -> Result<(), 
 #[cycle(add)]
 fn add_row<W: Sink>(item: &Value, out: &mut Serializer<W>) -> Result<(), PutRefused>
     ensures ok { OnOk result (Sent W.took W.failures out.old out.new (row_text item.now)) }
-    ensures err { OnErr result (Breaks W.took W.failures out.old out.new (row_text item.now)) }
+    ensures err { OnErr result (Breaks W.took W.answered W.failures out.old out.new
+        (row_text item.now)) }
 {
     if let Value::Object(entries) = item {
         for (_, value) in entries.iter() {

@@ -20,7 +20,7 @@ pub fn add_template_head<W: Sink>(
     ensures ok { OnOk result
         (Sent W.took W.failures out.old out.new (head_text first.now.entries rows)) }
     ensures err { OnErr result
-        (Breaks W.took W.failures out.old out.new (head_text first.now.entries rows)) }
+        (Breaks W.took W.answered W.failures out.old out.new (head_text first.now.entries rows)) }
 {
     out.add_template()?;
     out.add_array(first.len())?;

@@ -25,7 +25,7 @@ pub fn canon<R: Source, W: Sink>(alloc: Global, reader: &mut R, writer: &mut W) 
     ensures refused { IfErr result
         (RefusesRewriting canonical_form ⟦<Value as Shape>⟧.reads
         ⟦<Value as Shape>⟧.asks R.remaining R.failures W.took
-        W.failures reader.old reader.new writer.old writer.new) }
+        W.answered W.failures reader.old reader.new writer.old writer.new) }
 {
     let value: Value = from_reader(alloc, reader)?;
     serialize_to(alloc, writer, &value)
@@ -45,7 +45,7 @@ pub fn canon_compact<R: Source, W: Sink>(
     ensures refused { IfErr result
         (RefusesRewriting fold_templates ⟦<Value as Shape>⟧.reads
         ⟦<Value as Shape>⟧.asks R.remaining R.failures W.took
-        W.failures reader.old reader.new writer.old writer.new) }
+        W.answered W.failures reader.old reader.new writer.old writer.new) }
 {
     let read: Value = from_reader(alloc, reader)?;
     serialize_compact(alloc, writer, &read)

@@ -55,7 +55,7 @@ pub fn run<R: Source, W: Sink, E: Sink>(
         (e : Error)
         × RefusesRewriting (asked args.now) ⟦<Value as Shape>⟧.reads
         ⟦<Value as Shape>⟧.asks R.remaining R.failures W.took
-        W.failures reader.old reader.new writer.old writer.new e }
+        W.answered W.failures reader.old reader.new writer.old writer.new e }
 {
     let Some(form) = form_asked(args) else {
         put(errors, b"bser_canon: unknown argument\n");
@@ -105,7 +105,7 @@ fn rewrite<R: Source, W: Sink>(
     ensures refused { IfErr result
         (RefusesRewriting (in_form form) ⟦<Value as Shape>⟧.reads
         ⟦<Value as Shape>⟧.asks R.remaining R.failures W.took
-        W.failures reader.old reader.new writer.old writer.new) }
+        W.answered W.failures reader.old reader.new writer.old writer.new) }
 {
     match form {
         Form::Canonical => canon(alloc, reader, writer),

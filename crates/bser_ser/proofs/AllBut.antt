@@ -3,6 +3,7 @@ use Rattle.std.proofs.Common.{◌≡◌, ℕ, List, [], ◌++◌, Some, sym, ap,
 use Rattle.bser_format.specs.declared.errors.Error.{Error}
 use Rattle.bser_ser.specs.Sent.{Sent}
 use Rattle.bser_ser.specs.Ends.{Stops}
+use Rattle.bser_ser.specs.Stopped.{Answering}
 use Rattle.bser_ser.specs.declared.serializer.Serializer.{Serializer}
 use Rattle.bser_ser.proofs.Sends.{Sent-both}
 use Rattle.bser_ser.proofs.Ends.{Stops-first, Stops-second}
@@ -28,8 +29,9 @@ module _ {S : Type 0} (took : S → S → List ℕ → Type 0) (failures : S →
     sent = Sent-both both a b c h.front piece h.sent s;
   }
 
+module _ {S : Type 0} (took : S → S → List ℕ → Type 0) (answered : Answering S) (failures : S → ℕ) (both : (a b c : S) (xs ys : List ℕ) → took a b xs → took b c ys → took a c (xs ++ ys)) where
   -- the next piece of the rest was refused
-  pub AllBut-stops : (whole rest piece left : List ℕ) (a b c : Serializer S) (e : Error) → AllBut took failures whole rest a b → rest ≡ piece ++ left → Stops took failures (Some piece) b c e → Stops took failures (Some whole) a c e
+  pub AllBut-stops : (whole rest piece left : List ℕ) (a b c : Serializer S) (e : Error) → AllBut took failures whole rest a b → rest ≡ piece ++ left → Stops took answered failures (Some piece) b c e → Stops took answered failures (Some whole) a c e
   AllBut-stops whole rest piece left a b c e h step s =
-      subst (λ l. Stops took failures (Some l) a c e) (append_assoc h.front piece left ∙ ap (λ l. h.front ++ l) (sym step) ∙ sym h.is)
-      (Stops-first took failures (Some (h.front ++ piece)) (Some left) a c e (Stops-second took failures both (Some h.front) (Some piece) a b c e h.sent s))
+      subst (λ l. Stops took answered failures (Some l) a c e) (append_assoc h.front piece left ∙ ap (λ l. h.front ++ l) (sym step) ∙ sym h.is)
+      (Stops-first took answered failures (Some (h.front ++ piece)) (Some left) a c e (Stops-second took answered failures both (Some h.front) (Some piece) a b c e h.sent s))

@@ -1,14 +1,13 @@
 -- What was written, part by part.
-use Rattle.std.proofs.Common.{◌≡◌, ℕ, ◌≤◌, List, [], ◌∷◌, ◌++◌, Option, Some, None, append_assoc, append-nil, arith, sym, ◌∙◌, ap, refl, subst}
-use Rattle.bser_source.specs.Device.{Blamed}
+use Rattle.std.proofs.Common.{◌≡◌, ℕ, List, [], ◌∷◌, ◌++◌, Option, Some, None, append_assoc, append-nil, sym, ◌∙◌, ap, refl, subst}
 use Rattle.std.proofs.Common.{Result}
 use Rattle.std.proofs.lemmas.Result.{MatchResult-weaker}
-use Rattle.bser_ser.specs.Sent.{Sent, Excuses, Adds, refusal_of}
+use Rattle.bser_ser.specs.Sent.{Sent, Refused, IsExcuse, Adds, refusal_of}
+use Rattle.bser_ser.specs.Stopped.{Answering}
 use Rattle.bser_ser.specs.declared.serializer.Serializer.{Serializer}
 use Rattle.bser_format.specs.declared.errors.Error.{Error}
-use Rattle.bser_format.specs.declared.errors.Error.TheVariants.{OutOfMemory, Io}
-use Rattle.bser_ser.proofs.Sends.{Sent-both}
-use Rattle.bser_ser.specs.Ends.{Ends, Stops, Tried, then}
+use Rattle.bser_ser.proofs.Sends.{Sent-both, Refused-after}
+use Rattle.bser_ser.specs.Ends.{Ends, Stops, then}
 
 abbrev pub joined : {A : Type 0} → (A → Option (List ℕ)) → List A → Option (List ℕ)
 joined g [] = Some []
@@ -32,31 +31,23 @@ pub joined-append : {A : Type 0} (g : A → Option (List ℕ)) (xs ys : List A) 
 joined-append g [] ys = sym (nil-then (joined g ys))
 joined-append g (x ∷ xs) ys = ap (then (g x)) (joined-append g xs ys) ∙ sym (then-assoc (g x) (joined g xs) (joined g ys))
 
-blamed_later : (a b c : ℕ) → a ≤ b → b ≤ c → Blamed b c → Blamed a c
-blamed_later a b c h l k = grind arith
-
-excused_later : {S : Type 0} (failures : S → ℕ) (a b c : Serializer S) (e : Error) → failures a.writer ≤ failures b.writer → failures b.writer ≤ failures c.writer → Excuses failures b c e → Excuses failures a c e
-excused_later failures a b c OutOfMemory h l k = k
-excused_later failures a b c (Io e) h l k = blamed_later _ _ _ h l k
-excused_later failures a b c _ h l k = absurd k
-
 -- a put after a call that put nothing
-pub Adds-after : {S A E : Type 0} (took : S → S → List ℕ → Type 0) (failures : S → ℕ) → ((a b c : S) (xs ys : List ℕ) → took a b xs → took b c ys → took a c (xs ++ ys))
-    → (a b c : Serializer S) (piece : List ℕ) (r : Result A E) → Sent took failures a b [] → Adds took failures b c piece r → Adds took failures a c piece r
-Adds-after took failures both a b c piece r s x =
+pub Adds-after : {S A E : Type 0} (took : S → S → List ℕ → Type 0) (answered : Answering S) (failures : S → ℕ) → ((a b c : S) (xs ys : List ℕ) → took a b xs → took b c ys → took a c (xs ++ ys))
+    → (a b c : Serializer S) (piece : List ℕ) (r : Result A E) → Sent took failures a b [] → Adds took answered failures b c piece r → Adds took answered failures a c piece r
+Adds-after took answered failures both a b c piece r s x =
     MatchResult-weaker r x (λ _ t. (Sent-both both a b c [] piece s t.0, t.1))
-    (λ _ t. (Sent-both both a b c [] [] s t.0, excused_later failures a b c (refusal_of c) s.rose t.0.rose t.1))
+    (λ _ t. (Refused-after took answered failures both a b c [] [] (refusal_of c) s t.0, t.1))
 
-module _ {S : Type 0} (took : S → S → List ℕ → Type 0) (failures : S → ℕ) where
+module _ {S : Type 0} (took : S → S → List ℕ → Type 0) (answered : Answering S) (failures : S → ℕ) where
   -- nothing was written
-  pub Stops-none : (m : Option (List ℕ)) (a b : Serializer S) (e : Error) → Sent took failures a b [] → Excuses failures a b e → Stops took failures m a b e
-  Stops-none None a b e s x = record { front = []; sent = s }
-  Stops-none (Some bs) a b e s x = record { front = []; rest = bs; is = refl; sent = s; excuse = x }
+  pub Stops-none : (m : Option (List ℕ)) (a b : Serializer S) (e : Error) → Refused took answered failures a b [] e → IsExcuse e → Stops took answered failures m a b e
+  Stops-none None a b e s x = record { front = []; refused = s }
+  Stops-none (Some bs) a b e s x = record { front = []; rest = bs; is = refl; refused = s; excuse = x }
 
-  pub Stops-first : (m n : Option (List ℕ)) (a b : Serializer S) (e : Error) → Stops took failures m a b e → Stops took failures (then m n) a b e
+  pub Stops-first : (m n : Option (List ℕ)) (a b : Serializer S) (e : Error) → Stops took answered failures m a b e → Stops took answered failures (then m n) a b e
   Stops-first None n a b e s = s
-  Stops-first (Some xs) None a b e s = record { front = s.front; sent = s.sent }
-  Stops-first (Some xs) (Some ys) a b e s = record { front = s.front; rest = s.rest ++ ys; is = ap (λ zs. zs ++ ys) s.is ∙ append_assoc s.front s.rest ys; sent = s.sent; excuse = s.excuse }
+  Stops-first (Some xs) None a b e s = record { front = s.front; refused = s.refused }
+  Stops-first (Some xs) (Some ys) a b e s = record { front = s.front; rest = s.rest ++ ys; is = ap (λ zs. zs ++ ys) s.is ∙ append_assoc s.front s.rest ys; refused = s.refused; excuse = s.excuse }
 
 module _ {S : Type 0} (took : S → S → List ℕ → Type 0) (failures : S → ℕ) (both : (a b c : S) (xs ys : List ℕ) → took a b xs → took b c ys → took a c (xs ++ ys)) where
   pub Ends-both : (m n : Option (List ℕ)) (a b c : Serializer S) → Ends took failures m a b → Ends took failures n b c → Ends took failures (then m n) a c
@@ -64,15 +55,16 @@ module _ {S : Type 0} (took : S → S → List ℕ → Type 0) (failures : S →
   Ends-both (Some xs) None a b c s t = absurd t
   Ends-both (Some xs) (Some ys) a b c s t = Sent-both both a b c xs ys s t
 
-  pub Stops-second : (m n : Option (List ℕ)) (a b c : Serializer S) (e : Error) → Ends took failures m a b → Stops took failures n b c e → Stops took failures (then m n) a c e
+module _ {S : Type 0} (took : S → S → List ℕ → Type 0) (answered : Answering S) (failures : S → ℕ) (both : (a b c : S) (xs ys : List ℕ) → took a b xs → took b c ys → took a c (xs ++ ys)) where
+  pub Stops-second : (m n : Option (List ℕ)) (a b c : Serializer S) (e : Error) → Ends took failures m a b → Stops took answered failures n b c e → Stops took answered failures (then m n) a c e
   Stops-second None n a b c e s t = absurd s
-  Stops-second (Some xs) None a b c e s t = record { front = xs ++ t.front; sent = Sent-both both a b c xs t.front s t.sent }
+  Stops-second (Some xs) None a b c e s t = record { front = xs ++ t.front; refused = Refused-after took answered failures both a b c xs t.front e s t.refused }
   Stops-second (Some xs) (Some ys) a b c e s t = record {
     front = xs ++ t.front;
     rest = t.rest;
     is = ap (λ zs. xs ++ zs) t.is ∙ sym (append_assoc xs t.front t.rest);
-    sent = Sent-both both a b c xs t.front s t.sent;
-    excuse = excused_later failures a b c e s.rose t.sent.rose t.excuse;
+    refused = Refused-after took answered failures both a b c xs t.front e s t.refused;
+    excuse = t.excuse;
   }
 
 -- of all, those before rest are written, after a head
@@ -98,23 +90,31 @@ module _ {S A : Type 0} (took : S → S → List ℕ → Type 0) (failures : S �
         (Ends-both took failures both _ (g x) a b c u.ended t);
   }
 
-  pub UpTo-stops : (all rest left : List A) (x : A) (a b c : Serializer S) (e : Error) → UpTo took failures h g all rest a b → rest ≡ x ∷ left → Stops took failures (g x) b c e → Stops took failures (then (Some h) (joined g all)) a c e
+module _ {S A : Type 0} (took : S → S → List ℕ → Type 0) (answered : Answering S) (failures : S → ℕ) (both : (a b c : S) (xs ys : List ℕ) → took a b xs → took b c ys → took a c (xs ++ ys)) (h : List ℕ) (g : A → Option (List ℕ)) where
+  pub UpTo-stops : (all rest left : List A) (x : A) (a b c : Serializer S) (e : Error) → UpTo took failures h g all rest a b → rest ≡ x ∷ left → Stops took answered failures (g x) b c e → Stops took answered failures (then (Some h) (joined g all)) a c e
   UpTo-stops all rest left x a b c e u step t =
       let whole : joined g all ≡ then (joined g u.done) (then (g x) (joined g left)) = ap (joined g) (u.split ∙ ap (λ ys. u.done ++ ys) step) ∙ joined-append g u.done (x ∷ left) in
-      subst (λ (m : Option (List ℕ)). Stops took failures m a c e)
+      subst (λ (m : Option (List ℕ)). Stops took answered failures m a c e)
       (then-assoc (then (Some h) (joined g u.done)) (g x) (joined g left) ∙ (then-assoc (Some h) (joined g u.done) (then (g x) (joined g left)) ∙ ap (then (Some h)) (sym whole)))
-      (Stops-first took failures _ (joined g left) a c e (Stops-second took failures both _ (g x) a b c e u.ended t))
+      (Stops-first took answered failures _ (joined g left) a c e (Stops-second took answered failures both _ (g x) a b c e u.ended t))
 
 module _ {S : Type 0} (took : S → S → List ℕ → Type 0) (failures : S → ℕ) (both : (a b c : S) (xs ys : List ℕ) → took a b xs → took b c ys → took a c (xs ++ ys)) (m : Option (List ℕ)) where
   -- nothing more was put
   pub Ends-flushed : (a b c : Serializer S) → Ends took failures m a b → Sent took failures b c [] → Ends took failures m a c
   Ends-flushed a b c s t = subst (λ (n : Option (List ℕ)). Ends took failures n a c) (then-nil m) (Ends-both took failures both m (Some []) a b c s t)
 
-  pub Stops-flushed : (a b c : Serializer S) (e : Error) → Ends took failures m a b → Sent took failures b c [] → Excuses failures b c e → Stops took failures m a c e
-  Stops-flushed a b c e s t x = subst (λ (n : Option (List ℕ)). Stops took failures n a c e) (then-nil m)
-      (Stops-second took failures both m (Some []) a b c e s (Stops-none took failures (Some []) b c e t x))
+module _ {S : Type 0} (took : S → S → List ℕ → Type 0) (answered : Answering S) (failures : S → ℕ) (both : (a b c : S) (xs ys : List ℕ) → took a b xs → took b c ys → took a c (xs ++ ys)) (m : Option (List ℕ)) where
+  pub Stops-flushed : (a b c : Serializer S) (e : Error) → Ends took failures m a b → Refused took answered failures b c [] e → IsExcuse e → Stops took answered failures m a c e
+  Stops-flushed a b c e s t x = subst (λ (n : Option (List ℕ)). Stops took answered failures n a c e) (then-nil m)
+      (Stops-second took answered failures both m (Some []) a b c e s (Stops-none took answered failures (Some []) b c e t x))
 
+-- what the writer took of a text
 module _ {S : Type 0} (took : S → S → List ℕ → Type 0) (failures : S → ℕ) where
-  pub Tried-ended : (m : Option (List ℕ)) (a b : Serializer S) → Ends took failures m a b → Tried took failures a b
-  Tried-ended None a b s = absurd s
-  Tried-ended (Some bs) a b s = record { front = bs; sent = s }
+  pub ended_tied : (m : Option (List ℕ)) (a b : Serializer S) → Ends took failures m a b → (taken : List ℕ) × took a.writer b.writer taken
+  ended_tied None a b s = absurd s
+  ended_tied (Some bs) a b s = (s.taken, s.took_it)
+
+module _ {S : Type 0} (took : S → S → List ℕ → Type 0) (answered : Answering S) (failures : S → ℕ) where
+  pub stopped_tied : (m : Option (List ℕ)) (a b : Serializer S) (e : Error) → Stops took answered failures m a b e → (taken : List ℕ) × took a.writer b.writer taken
+  stopped_tied None a b e s = (s.refused.taken, s.refused.took_it)
+  stopped_tied (Some bs) a b e s = (s.refused.taken, s.refused.took_it)

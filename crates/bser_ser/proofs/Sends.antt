@@ -1,7 +1,11 @@
 -- What a serializer sent, put by put.
-use Rattle.std.proofs.Common.{ℕ, List, [], ◌++◌, append_assoc, arith, sym, ◌∙◌, ap}
+use Rattle.std.proofs.Common.{◌≡◌, ℕ, List, [], ◌++◌, append_assoc, sym, ◌∙◌, ap, refl, subst}
 use Rattle.std.proofs.lemmas.List.{append-nil}
-use Rattle.bser_ser.specs.Sent.{Sent}
+use Rattle.bser_source.specs.Device.{one_more}
+use Rattle.bser_format.specs.declared.errors.Error.{Error}
+use Rattle.bser_format.specs.declared.errors.Error.TheVariants.{Io}
+use Rattle.bser_ser.specs.Sent.{Sent, Refused}
+use Rattle.bser_ser.specs.Stopped.{Answering, Stopped, Accounts}
 use Rattle.bser_ser.specs.declared.serializer.Serializer.{Serializer}
 
 -- one after the other
@@ -12,8 +16,36 @@ Sent-both both a b c xs ys s t = record {
   taken = s.taken ++ t.taken;
   took_it = both a.writer b.writer c.writer s.taken t.taken s.took_it t.took_it;
   grew = sym (append_assoc a.pending.items xs ys) ∙ (ap (λ zs. zs ++ ys) s.grew ∙ (append_assoc s.taken b.pending.items ys ∙ (ap (λ zs. s.taken ++ zs) t.grew ∙ sym (append_assoc s.taken t.taken c.pending.items))));
-  rose = omega (arith, s.rose, t.rose);
+  kept = t.kept ∙ s.kept;
 }
 
 pub Sent-none : {S : Type 0} {took : S → S → List ℕ → Type 0} {failures : S → ℕ} → ((s : S) → took s s []) → (a : Serializer S) → Sent took failures a a []
-Sent-none none a = record { taken = []; took_it = none a.writer; grew = append-nil a.pending.items; rose = omega arith }
+Sent-none none a = record { taken = []; took_it = none a.writer; grew = append-nil a.pending.items; kept = refl }
+
+module _ {S : Type 0} (took : S → S → List ℕ → Type 0) (answered : Answering S) (failures : S → ℕ) (both : (a b c : S) (xs ys : List ℕ) → took a b xs → took b c ys → took a c (xs ++ ys)) where
+  stopped_after : (a b c : S) (xs bytes : List ℕ) (e : _) → took a b xs → Stopped took answered b c bytes e → Stopped took answered a c (xs ++ bytes) e
+  stopped_after a b c xs bytes e p t = record {
+    before = t.before;
+    front = xs ++ t.front;
+    rest = t.rest;
+    whole = ap (λ zs. xs ++ zs) t.whole ∙ sym (append_assoc xs t.front t.rest);
+    took_front = both a b t.before xs t.front p t.took_front;
+    answer = t.answer;
+    asked = t.asked;
+    why = t.why;
+  }
+
+  accounts_after : (a b c : S) (xs bytes : List ℕ) (e : Error) → took a b xs → failures b ≡ failures a → Accounts took answered failures b c bytes e → Accounts took answered failures a c (xs ++ bytes) e
+  accounts_after a b c xs bytes (Io e) p k x = (x.0 ∙ ap one_more k, stopped_after a b c xs bytes e p x.1)
+  accounts_after a b c xs bytes _ p k x = x ∙ k
+
+  -- a refusal after what was put
+  pub Refused-after : (a b c : Serializer S) (xs ys : List ℕ) (e : Error) → Sent took failures a b xs → Refused took answered failures b c ys e → Refused took answered failures a c (xs ++ ys) e
+  Refused-after a b c xs ys e s t =
+      let bytes : s.taken ++ (b.pending.items ++ ys) ≡ a.pending.items ++ (xs ++ ys) = sym (append_assoc s.taken b.pending.items ys) ∙ (ap (λ zs. zs ++ ys) (sym s.grew) ∙ append_assoc a.pending.items xs ys) in
+      record {
+        taken = s.taken ++ t.taken;
+        took_it = both a.writer b.writer c.writer s.taken t.taken s.took_it t.took_it;
+        grew = sym bytes ∙ (ap (λ zs. s.taken ++ zs) t.grew ∙ sym (append_assoc s.taken t.taken c.pending.items));
+        why = subst (λ zs. Accounts took answered failures a.writer c.writer zs e) bytes (accounts_after a.writer b.writer c.writer s.taken (b.pending.items ++ ys) e s.took_it s.kept t.why);
+      }

@@ -5,8 +5,9 @@ use Rattle.bser_format.specs.Canonical.{canonical_body, canonical_key, least_int
 use Rattle.bser_format.specs.Pieces.{array_head, object_head, newtype_variant_head, tuple_variant_head, struct_variant_head}
 use Rattle.bser_format.specs.Written.{part_tree, plain_bytes, tuple_tree, struct_tree, variant_tree}
 use Rattle.bser_format.specs.declared.errors.Error.{Error}
-use Rattle.bser_ser.specs.Sent.{Sent, Excuses}
+use Rattle.bser_ser.specs.Sent.{Sent, Refused, IsExcuse}
 use Rattle.bser_ser.specs.Ends.{Ends, Stops, text_of, then}
+use Rattle.bser_ser.specs.Stopped.{Answering}
 use Rattle.bser_ser.specs.declared.serializer.Serializer.{Serializer}
 use Rattle.bser_ser.proofs.Ends.{joined, then-assoc, Ends-both, Stops-second, Stops-none, UpTo, UpTo-start, UpTo-more, UpTo-all, UpTo-stops}
 use Rattle.bser_ser.proofs.Texts.{item_text, entry_text, array_text, object_text}
@@ -48,24 +49,28 @@ module _ {S A : Type 0} (took : S → S → List ℕ → Type 0) (failures : S �
   pub walk_all : {a b : Serializer S} → UpTo took failures head part parts [] a b → Ends took failures (text_of m) a b
   walk_all {a = a} {b = b} u = subst (λ (t : Option (List ℕ)). Ends took failures t a b) (sym whole) (UpTo-all took failures head part parts [] a b u refl)
 
-  pub walk_stop : {x : A} {rest : List A} {a b : Serializer S} (c : Serializer S) (e : Error) → UpTo took failures head part parts (x ∷ rest) a b → Stops took failures (part x) b c e → Stops took failures (text_of m) a c e
-  walk_stop {x = x} {rest = rest} {a = a} {b = b} c e u t = subst (λ (n : Option (List ℕ)). Stops took failures n a c e) (sym whole) (UpTo-stops took failures both head part parts (x ∷ rest) rest x a b c e u refl t)
+module _ {S A : Type 0} (took : S → S → List ℕ → Type 0) (answered : Answering S) (failures : S → ℕ) (both : (a b c : S) (xs ys : List ℕ) → took a b xs → took b c ys → took a c (xs ++ ys))
+    (head : List ℕ) (part : A → Option (List ℕ)) (parts : List A) (m : Option Tree) (whole : text_of m ≡ then (Some head) (joined part parts)) where
+  pub walk_stop : {x : A} {rest : List A} {a b : Serializer S} (c : Serializer S) (e : Error) → UpTo took failures head part parts (x ∷ rest) a b → Stops took answered failures (part x) b c e → Stops took answered failures (text_of m) a c e
+  walk_stop {x = x} {rest = rest} {a = a} {b = b} c e u t = subst (λ (n : Option (List ℕ)). Stops took answered failures n a c e) (sym whole) (UpTo-stops took answered failures both head part parts (x ∷ rest) rest x a b c e u refl t)
 
 -- A field: its key, and then its value.
 module _ {S : Type 0} (took : S → S → List ℕ → Type 0) (failures : S → ℕ) (both : (a b c : S) (xs ys : List ℕ) → took a b xs → took b c ys → took a c (xs ++ ys)) (key : List ℕ) (m : Option Tree) where
   pub field_ends : (a b c : Serializer S) → Sent took failures a b (canonical_key key) → Ends took failures (text_of m) b c → Ends took failures (entry_text plain_bytes part_tree (key, m)) a c
   field_ends a b c s t = Ends-both took failures both (Some (canonical_key key)) (text_of m) a b c s t
 
-  pub field_stops_at_key : (a b : Serializer S) (e : Error) → Sent took failures a b [] → Excuses failures a b e → Stops took failures (entry_text plain_bytes part_tree (key, m)) a b e
-  field_stops_at_key a b e s x = Stops-none took failures (entry_text plain_bytes part_tree (key, m)) a b e s x
+module _ {S : Type 0} (took : S → S → List ℕ → Type 0) (answered : Answering S) (failures : S → ℕ) (both : (a b c : S) (xs ys : List ℕ) → took a b xs → took b c ys → took a c (xs ++ ys)) (key : List ℕ) (m : Option Tree) where
+  pub field_stops_at_key : (a b : Serializer S) (e : Error) → Refused took answered failures a b [] e → IsExcuse e → Stops took answered failures (entry_text plain_bytes part_tree (key, m)) a b e
+  field_stops_at_key a b e s x = Stops-none took answered failures (entry_text plain_bytes part_tree (key, m)) a b e s x
 
-  pub field_stops : (a b c : Serializer S) (e : Error) → Sent took failures a b (canonical_key key) → Stops took failures (text_of m) b c e → Stops took failures (entry_text plain_bytes part_tree (key, m)) a c e
-  field_stops a b c e s t = Stops-second took failures both (Some (canonical_key key)) (text_of m) a b c e s t
+  pub field_stops : (a b c : Serializer S) (e : Error) → Sent took failures a b (canonical_key key) → Stops took answered failures (text_of m) b c e → Stops took answered failures (entry_text plain_bytes part_tree (key, m)) a c e
+  field_stops a b c e s t = Stops-second took answered failures both (Some (canonical_key key)) (text_of m) a b c e s t
 
 -- A variant's head, and then its payload.
 module _ {S : Type 0} (took : S → S → List ℕ → Type 0) (failures : S → ℕ) (both : (a b c : S) (xs ys : List ℕ) → took a b xs → took b c ys → took a c (xs ++ ys)) (name : List ℕ) (m : Option Tree) where
   pub payload_ends : (a b c : Serializer S) → Sent took failures a b (newtype_variant_head name) → Ends took failures (text_of m) b c → Ends took failures (text_of (variant_tree name m)) a c
   payload_ends a b c s t = subst (λ (n : Option (List ℕ)). Ends took failures n a c) (sym (variant_text name m)) (Ends-both took failures both (Some (newtype_variant_head name)) (text_of m) a b c s t)
 
-  pub payload_stops : (a b c : Serializer S) (e : Error) → Sent took failures a b (newtype_variant_head name) → Stops took failures (text_of m) b c e → Stops took failures (text_of (variant_tree name m)) a c e
-  payload_stops a b c e s t = subst (λ (n : Option (List ℕ)). Stops took failures n a c e) (sym (variant_text name m)) (Stops-second took failures both (Some (newtype_variant_head name)) (text_of m) a b c e s t)
+module _ {S : Type 0} (took : S → S → List ℕ → Type 0) (answered : Answering S) (failures : S → ℕ) (both : (a b c : S) (xs ys : List ℕ) → took a b xs → took b c ys → took a c (xs ++ ys)) (name : List ℕ) (m : Option Tree) where
+  pub payload_stops : (a b c : Serializer S) (e : Error) → Sent took failures a b (newtype_variant_head name) → Stops took answered failures (text_of m) b c e → Stops took answered failures (text_of (variant_tree name m)) a c e
+  payload_stops a b c e s t = subst (λ (n : Option (List ℕ)). Stops took answered failures n a c e) (sym (variant_text name m)) (Stops-second took answered failures both (Some (newtype_variant_head name)) (text_of m) a b c e s t)

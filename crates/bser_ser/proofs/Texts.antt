@@ -7,6 +7,7 @@ use Rattle.bser_format.specs.Written.{item_before, entry_before, written_items, 
 use Rattle.bser_format.specs.declared.errors.Error.{Error}
 use Rattle.bser_ser.specs.Sent.{Sent}
 use Rattle.bser_ser.specs.Ends.{Ends, Stops, text_of, then}
+use Rattle.bser_ser.specs.Stopped.{Answering}
 use Rattle.bser_ser.specs.declared.serializer.Serializer.{Serializer}
 use Rattle.bser_ser.proofs.Ends.{joined, UpTo, UpTo-start, UpTo-more, UpTo-all, UpTo-stops}
 
@@ -72,19 +73,21 @@ module _ {S A : Type 0} (took : S → S → List ℕ → Type 0) (failures : S �
   pub Ends-array : (rest : List A) (a b : Serializer S) → UpTo took failures (array_head (length xs)) (item_text f) xs rest a b → rest ≡ [] → Ends took failures (text_of (array_tree f xs)) a b
   Ends-array rest a b u none = subst (λ (m : Option (List ℕ)). Ends took failures m a b) (sym (array_text f xs)) (UpTo-all took failures (array_head (length xs)) (item_text f) xs rest a b u none)
 
+module _ {S A : Type 0} (took : S → S → List ℕ → Type 0) (answered : Answering S) (failures : S → ℕ) (f : A → Option Tree) (xs : List A) where
   pub Stops-array : ((a b c : S) (xs ys : List ℕ) → took a b xs → took b c ys → took a c (xs ++ ys)) → (rest left : List A) (x : A) (a b c : Serializer S) (e : Error)
-      → UpTo took failures (array_head (length xs)) (item_text f) xs rest a b → rest ≡ x ∷ left → Stops took failures (text_of (f x)) b c e → Stops took failures (text_of (array_tree f xs)) a c e
+      → UpTo took failures (array_head (length xs)) (item_text f) xs rest a b → rest ≡ x ∷ left → Stops took answered failures (text_of (f x)) b c e → Stops took answered failures (text_of (array_tree f xs)) a c e
   Stops-array both rest left x a b c e u step t =
-      subst (λ (m : Option (List ℕ)). Stops took failures m a c e) (sym (array_text f xs)) (UpTo-stops took failures both (array_head (length xs)) (item_text f) xs rest left x a b c e u step t)
+      subst (λ (m : Option (List ℕ)). Stops took answered failures m a c e) (sym (array_text f xs)) (UpTo-stops took answered failures both (array_head (length xs)) (item_text f) xs rest left x a b c e u step t)
 
 module _ {S K V : Type 0} (took : S → S → List ℕ → Type 0) (failures : S → ℕ) (k : K → List ℕ) (f : V → Option Tree) (es : List (K × V)) where
   pub Ends-object : (rest : List (K × V)) (a b : Serializer S) → UpTo took failures (object_head (length es)) (entry_text k f) es rest a b → rest ≡ [] → Ends took failures (text_of (object_tree k f es)) a b
   Ends-object rest a b u none = subst (λ (m : Option (List ℕ)). Ends took failures m a b) (sym (object_text k f es)) (UpTo-all took failures (object_head (length es)) (entry_text k f) es rest a b u none)
 
+module _ {S K V : Type 0} (took : S → S → List ℕ → Type 0) (answered : Answering S) (failures : S → ℕ) (k : K → List ℕ) (f : V → Option Tree) (es : List (K × V)) where
   pub Stops-object : ((a b c : S) (xs ys : List ℕ) → took a b xs → took b c ys → took a c (xs ++ ys)) → (rest left : List (K × V)) (x : K × V) (a b c : Serializer S) (e : Error)
-      → UpTo took failures (object_head (length es)) (entry_text k f) es rest a b → rest ≡ x ∷ left → Stops took failures (entry_text k f x) b c e → Stops took failures (text_of (object_tree k f es)) a c e
+      → UpTo took failures (object_head (length es)) (entry_text k f) es rest a b → rest ≡ x ∷ left → Stops took answered failures (entry_text k f x) b c e → Stops took answered failures (text_of (object_tree k f es)) a c e
   Stops-object both rest left x a b c e u step t =
-      subst (λ (m : Option (List ℕ)). Stops took failures m a c e) (sym (object_text k f es)) (UpTo-stops took failures both (object_head (length es)) (entry_text k f) es rest left x a b c e u step t)
+      subst (λ (m : Option (List ℕ)). Stops took answered failures m a c e) (sym (object_text k f es)) (UpTo-stops took answered failures both (object_head (length es)) (entry_text k f) es rest left x a b c e u step t)
 
 -- a tuple, part by part
 module _ {S : Type 0} (took : S → S → List ℕ → Type 0) (failures : S → ℕ) (both : (a b c : S) (xs ys : List ℕ) → took a b xs → took b c ys → took a c (xs ++ ys)) (parts : List (Option Tree)) where
@@ -101,8 +104,9 @@ module _ {S : Type 0} (took : S → S → List ℕ → Type 0) (failures : S →
   pub parts_all : (a b : Serializer S) → Parts [] a b → Ends took failures (text_of (tuple_tree parts)) a b
   parts_all a b u = Ends-array took failures part_tree parts [] a b u refl
 
-  pub parts_stop : {m : Option Tree} {rest : List (Option Tree)} {a b : Serializer S} (c : Serializer S) (e : Error) → Parts (m ∷ rest) a b → Stops took failures (text_of m) b c e → Stops took failures (text_of (tuple_tree parts)) a c e
-  parts_stop {m = m} {rest = rest} {a = a} {b = b} c e u t = Stops-array took failures part_tree parts both (m ∷ rest) rest m a b c e u refl t
+module _ {S : Type 0} (took : S → S → List ℕ → Type 0) (answered : Answering S) (failures : S → ℕ) (both : (a b c : S) (xs ys : List ℕ) → took a b xs → took b c ys → took a c (xs ++ ys)) (parts : List (Option Tree)) where
+  pub parts_stop : {m : Option Tree} {rest : List (Option Tree)} {a b : Serializer S} (c : Serializer S) (e : Error) → Parts took failures both parts (m ∷ rest) a b → Stops took answered failures (text_of m) b c e → Stops took answered failures (text_of (tuple_tree parts)) a c e
+  parts_stop {m = m} {rest = rest} {a = a} {b = b} c e u t = Stops-array took answered failures part_tree parts both (m ∷ rest) rest m a b c e u refl t
 
 slice_within : {A : Type 0} (f : A → Option Tree) (xs : List A) → length xs < 2 ^ 63 → slice_tree f xs ≡ array_tree f xs
 slice_within f xs h = grind (arith, h)
@@ -111,5 +115,6 @@ module _ {S A : Type 0} (took : S → S → List ℕ → Type 0) (failures : S �
   pub Ends-slice : (a b : Serializer S) → length xs < 2 ^ 63 → Ends took failures (text_of (array_tree f xs)) a b → Ends took failures (text_of (slice_tree f xs)) a b
   Ends-slice a b h s = subst (λ (m : Option Tree). Ends took failures (text_of m) a b) (sym (slice_within f xs h)) s
 
-  pub Stops-slice : (a b : Serializer S) (e : Error) → length xs < 2 ^ 63 → Stops took failures (text_of (array_tree f xs)) a b e → Stops took failures (text_of (slice_tree f xs)) a b e
-  Stops-slice a b e h s = subst (λ (m : Option Tree). Stops took failures (text_of m) a b e) (sym (slice_within f xs h)) s
+module _ {S A : Type 0} (took : S → S → List ℕ → Type 0) (answered : Answering S) (failures : S → ℕ) (f : A → Option Tree) (xs : List A) where
+  pub Stops-slice : (a b : Serializer S) (e : Error) → length xs < 2 ^ 63 → Stops took answered failures (text_of (array_tree f xs)) a b e → Stops took answered failures (text_of (slice_tree f xs)) a b e
+  Stops-slice a b e h s = subst (λ (m : Option Tree). Stops took answered failures (text_of m) a b e) (sym (slice_within f xs h)) s

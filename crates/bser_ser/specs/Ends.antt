@@ -3,7 +3,8 @@ use Rattle.std.specs.Prelude.{◌≡◌, ℕ, List, ◌++◌, Option, Some, None
 use Rattle.bser_format.specs.Tree.{Tree}
 use Rattle.bser_format.specs.Canonical.{canonical_body, canonical_key}
 use Rattle.bser_format.specs.declared.errors.Error.{Error}
-use Rattle.bser_ser.specs.Sent.{Sent, Excuses}
+use Rattle.bser_ser.specs.Sent.{Sent, Refused, IsExcuse}
+use Rattle.bser_ser.specs.Stopped.{Answering}
 use Rattle.bser_ser.specs.declared.serializer.Serializer.{Serializer}
 
 -- the canonical text of a value, where it has a tree
@@ -26,20 +27,20 @@ abbrev pub Ends : {S : Type 0} → (S → S → List ℕ → Type 0) → (S → 
 Ends took failures None old new = ⊥
 Ends took failures (Some text) old new = Sent took failures old new text
 
--- a beginning of the text was put, and there is an excuse for the rest
-pub record Broken {S : Type 0} (took : S → S → List ℕ → Type 0) (failures : S → ℕ) (text : List ℕ) (old new : Serializer S) (e : Error) : Type 0 where
+-- a beginning of the text was put, and then a put was refused, with an excuse
+pub record Broken {S : Type 0} (took : S → S → List ℕ → Type 0) (answered : Answering S) (failures : S → ℕ) (text : List ℕ) (old new : Serializer S) (e : Error) : Type 0 where
   pub front : List ℕ
   pub rest : List ℕ
   pub is : text ≡ front ++ rest
-  pub sent : Sent took failures old new front
-  pub excuse : Excuses failures old new e
+  pub refused : Refused took answered failures old new front e
+  pub excuse : IsExcuse e
 
--- something was put
-pub record Tried {S : Type 0} (took : S → S → List ℕ → Type 0) (failures : S → ℕ) (old new : Serializer S) : Type 0 where
+-- something was put before the refusal
+pub record Tried {S : Type 0} (took : S → S → List ℕ → Type 0) (answered : Answering S) (failures : S → ℕ) (old new : Serializer S) (e : Error) : Type 0 where
   pub front : List ℕ
-  pub sent : Sent took failures old new front
+  pub refused : Refused took answered failures old new front e
 
 -- a refusal: without a text something was put, and else a beginning of it, with an excuse
-abbrev pub Stops : {S : Type 0} → (S → S → List ℕ → Type 0) → (S → ℕ) → Option (List ℕ) → Serializer S → Serializer S → Error → Type 0
-Stops took failures None old new e = Tried took failures old new
-Stops took failures (Some text) old new e = Broken took failures text old new e
+abbrev pub Stops : {S : Type 0} → (S → S → List ℕ → Type 0) → Answering S → (S → ℕ) → Option (List ℕ) → Serializer S → Serializer S → Error → Type 0
+Stops took answered failures None old new e = Tried took answered failures old new e
+Stops took answered failures (Some text) old new e = Broken took answered failures text old new e

@@ -1,11 +1,11 @@
 -- What the writing of a whole message leaves.
 use Rattle.std.specs.Prelude.{◌≡◌, ℕ, ℤ, pos, ◌<◌, ◌^◌, List, ◌++◌, length, Option, Some, None, ⊤, ◌⊎◌}
-use Rattle.bser_source.specs.Device.{Blamed}
 use Rattle.bser_format.specs.Tree.{Tree}
 use Rattle.bser_format.specs.Canonical.{canonical_body, canonical_message}
 use Rattle.bser_format.specs.declared.errors.Error.{Error}
 use Rattle.bser_format.specs.declared.errors.Error.TheVariants.{OutOfMemory, Io}
-use Rattle.bser_ser.specs.Sent.{IsTooMany}
+use Rattle.bser_ser.specs.Sent.{IsExcuse, IsTooMany}
+use Rattle.bser_ser.specs.Stopped.{Answering, Accounts}
 
 -- the canonical message of a value, where it has a tree
 abbrev pub message_of : Option Tree → Option (List ℕ)
@@ -17,9 +17,14 @@ abbrev pub IsBodyLength : Option Tree → ℤ → Type 0
 IsBodyLength None n = ⊥
 IsBodyLength (Some t) n = (n ≡ pos (length (canonical_body t))) × (length (canonical_body t) < 2 ^ 63)
 
+-- a refusal that is no writer's fault
+abbrev pub IsNoFault : Error → Type 0
+IsNoFault (Io e) = ⊥
+IsNoFault _ = ⊤
+
 -- why a value has no length: no tree, a body too long for an i64, or want of memory
 abbrev pub IsUnmeasured : Option Tree → Error → Type 0
-IsUnmeasured None e = ⊤
+IsUnmeasured None e = IsNoFault e
 IsUnmeasured (Some t) e = (e ≡ OutOfMemory) ⊎ IsTooMany (length (canonical_body t)) e
 
 -- there is a tree, its body is not too long, and the writer took its canonical message and nothing else
@@ -27,25 +32,21 @@ abbrev pub Wrote : {S : Type 0} → (S → S → List ℕ → Type 0) → Option
 Wrote took None old new = ⊥
 Wrote took (Some t) old new = took old new (canonical_message t) × (length (canonical_body t) < 2 ^ 63)
 
--- want of memory, or a fault that the writer counted between the two counts
-abbrev pub IsWriterFault : ℕ → ℕ → Error → Type 0
-IsWriterFault before after OutOfMemory = ⊤
-IsWriterFault before after (Io e) = Blamed before after
-IsWriterFault before after _ = ⊥
-
--- the writer took a beginning of the message, and there is a fault
-pub record Partly {S : Type 0} (took : S → S → List ℕ → Type 0) (failures : S → ℕ) (message : List ℕ) (old new : S) (e : Error) : Type 0 where
+-- the writer took a beginning of the message, more of it was pending, and there is an excuse
+pub record Partly {S : Type 0} (took : S → S → List ℕ → Type 0) (answered : Answering S) (failures : S → ℕ) (message : List ℕ) (old new : S) (e : Error) : Type 0 where
   pub front : List ℕ
+  pub pending : List ℕ
   pub rest : List ℕ
-  pub is : message ≡ front ++ rest
+  pub is : message ≡ front ++ (pending ++ rest)
   pub took_it : took old new front
-  pub fault : IsWriterFault (failures old) (failures new) e
+  pub why : Accounts took answered failures old new (front ++ pending) e
+  pub excuse : IsExcuse e
 
 -- the writing of a message broke off
-abbrev pub Broke : {S : Type 0} → (S → S → List ℕ → Type 0) → (S → ℕ) → Option Tree → S → S → Error → Type 0
-Broke took failures None old new e = ⊥
-Broke took failures (Some t) old new e = Partly took failures (canonical_message t) old new e
+abbrev pub Broke : {S : Type 0} → (S → S → List ℕ → Type 0) → Answering S → (S → ℕ) → Option Tree → S → S → Error → Type 0
+Broke took answered failures None old new e = ⊥
+Broke took answered failures (Some t) old new e = Partly took answered failures (canonical_message t) old new e
 
 -- a refusal: of the measuring, with the writer as it was, or a message that broke off
-abbrev pub Missed : {S : Type 0} → (S → S → List ℕ → Type 0) → (S → ℕ) → Option Tree → S → S → Error → Type 0
-Missed took failures m old new e = (IsUnmeasured m e × (new ≡ old)) ⊎ Broke took failures m old new e
+abbrev pub Missed : {S : Type 0} → (S → S → List ℕ → Type 0) → Answering S → (S → ℕ) → Option Tree → S → S → Error → Type 0
+Missed took answered failures m old new e = (IsUnmeasured m e × (new ≡ old)) ⊎ Broke took answered failures m old new e

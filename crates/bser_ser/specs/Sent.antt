@@ -1,12 +1,12 @@
 -- What a serializer's writer took, and what is still pending.
 use Rattle.std.specs.Prelude.{◌≡◌, ℕ, ◌+◌, ◌<◌, ◌≤◌, ◌^◌, List, [], ◌++◌, length, Option, Some, None, ⊤, Result, MatchResult, ◌⊎◌}
-use Rattle.bser_source.specs.Device.{Blamed}
 use Rattle.bser_format.specs.declared.errors.Collection.{Collection}
 use Rattle.bser_format.specs.declared.errors.Complaint.TheVariants.{CountTooGreat}
 use Rattle.bser_format.specs.declared.errors.Error.{Error}
 use Rattle.bser_format.specs.declared.errors.Error.TheVariants.{OutOfMemory, Io, SerU64TooBig, SerNeedSize, SerCustom}
 use Rattle.bser_format.specs.declared.errors.Message.TheVariants.{Fixed}
 use Rattle.std.specs.declared.io.Error as io
+use Rattle.bser_ser.specs.Stopped.{Answering, Accounts}
 use Rattle.bser_ser.specs.declared.count.CountWrite.{CountWrite}
 use Rattle.bser_ser.specs.declared.serializer.Serializer.{Serializer}
 
@@ -22,22 +22,25 @@ writer_of s = s.writer
 abbrev pub pending_of : {S : Type 0} → Serializer S → List ℕ
 pending_of s = s.pending.items
 
--- what the writer took, followed by what is pending, grew by these bytes
+-- what the writer took, followed by what is pending, grew by these bytes, and the writer counted no failure
 pub record Sent {S : Type 0} (took : S → S → List ℕ → Type 0) (failures : S → ℕ) (old new : Serializer S) (bytes : List ℕ) : Type 0 where
   pub taken : List ℕ
   pub took_it : took (writer_of old) (writer_of new) taken
   pub grew : pending_of old ++ bytes ≡ taken ++ pending_of new
-  pub rose : failures (writer_of old) ≤ failures (writer_of new)
+  pub kept : failures (writer_of new) ≡ failures (writer_of old)
 
--- the writer failed between the two states, or had failed too often to count
-abbrev pub WriterFailed : {S : Type 0} → (S → ℕ) → Serializer S → Serializer S → Type 0
-WriterFailed failures old new = Blamed (failures (writer_of old)) (failures (writer_of new))
+-- after these bytes a put was refused, and where that was the writer's fault, it is the writer's answer
+pub record Refused {S : Type 0} (took : S → S → List ℕ → Type 0) (answered : Answering S) (failures : S → ℕ) (old new : Serializer S) (bytes : List ℕ) (e : Error) : Type 0 where
+  pub taken : List ℕ
+  pub took_it : took (writer_of old) (writer_of new) taken
+  pub grew : pending_of old ++ bytes ≡ taken ++ pending_of new
+  pub why : Accounts took answered failures (writer_of old) (writer_of new) (pending_of old ++ bytes) e
 
 -- want of memory, or a fault of the writer
-abbrev pub Excuses : {S : Type 0} → (S → ℕ) → Serializer S → Serializer S → Error → Type 0
-Excuses failures old new OutOfMemory = ⊤
-Excuses failures old new (Io e) = WriterFailed failures old new
-Excuses failures old new _ = ⊥
+abbrev pub IsExcuse : Error → Type 0
+IsExcuse OutOfMemory = ⊤
+IsExcuse (Io e) = ⊤
+IsExcuse _ = ⊥
 
 -- a fault of the writer, or else want of memory
 abbrev pub reason : Option io.Error → Error
@@ -61,22 +64,22 @@ abbrev pub IsWithin : {S : Type 0} → Serializer S → List ℕ → Type 0
 IsWithin s piece = length (pending_of s) ≤ 4096 + length piece
 
 -- a put appends its piece, or, for a reason of its own or with an excuse, nothing
-abbrev pub PutsOr : {S A : Type 0} → (Error → Type 0) → (S → S → List ℕ → Type 0) → (S → ℕ) → Serializer S → Serializer S → List ℕ → Result A Error → Type 0
-PutsOr Reason took failures old new piece r = MatchResult r
+abbrev pub PutsOr : {S A : Type 0} → (Error → Type 0) → (S → S → List ℕ → Type 0) → Answering S → (S → ℕ) → Serializer S → Serializer S → List ℕ → Result A Error → Type 0
+PutsOr Reason took answered failures old new piece r = MatchResult r
     (λ _. Sent took failures old new piece × IsWithin new piece)
-    (λ e. Sent took failures old new [] × (Excuses failures old new e ⊎ Reason e))
+    (λ e. Refused took answered failures old new [] e × (IsExcuse e ⊎ Reason e))
 
 -- a put appends its piece or, with an excuse, nothing
-abbrev pub Puts : {S A : Type 0} → (S → S → List ℕ → Type 0) → (S → ℕ) → Serializer S → Serializer S → List ℕ → Result A Error → Type 0
-Puts took failures old new piece r = MatchResult r
+abbrev pub Puts : {S A : Type 0} → (S → S → List ℕ → Type 0) → Answering S → (S → ℕ) → Serializer S → Serializer S → List ℕ → Result A Error → Type 0
+Puts took answered failures old new piece r = MatchResult r
     (λ _. Sent took failures old new piece × IsWithin new piece)
-    (λ e. Sent took failures old new [] × Excuses failures old new e)
+    (λ e. Refused took answered failures old new [] e × IsExcuse e)
 
 -- a put appends its piece or, with an excuse that the serializer keeps, nothing
-abbrev pub Adds : {S A E : Type 0} → (S → S → List ℕ → Type 0) → (S → ℕ) → Serializer S → Serializer S → List ℕ → Result A E → Type 0
-Adds took failures old new piece r = MatchResult r
+abbrev pub Adds : {S A E : Type 0} → (S → S → List ℕ → Type 0) → Answering S → (S → ℕ) → Serializer S → Serializer S → List ℕ → Result A E → Type 0
+Adds took answered failures old new piece r = MatchResult r
     (λ _. Sent took failures old new piece × IsWithin new piece)
-    (λ _. Sent took failures old new [] × Excuses failures old new (refusal_of new))
+    (λ _. Refused took answered failures old new [] (refusal_of new) × IsExcuse (refusal_of new))
 
 -- an integer above the greatest i64
 abbrev pub IsTooBig : ℕ → Error → Type 0
@@ -101,7 +104,7 @@ abbrev pub count_or_zero : Option ℕ → ℕ
 count_or_zero None = 0
 count_or_zero (Some n) = n
 
--- the writer took all that was pending
+-- the writer took all that was pending, and counted no failure
 pub record Finishes {S : Type 0} (took : S → S → List ℕ → Type 0) (failures : S → ℕ) (old : Serializer S) (writer : S) : Type 0 where
   pub took_it : took (writer_of old) writer (pending_of old)
-  pub rose : failures (writer_of old) ≤ failures writer
+  pub kept : failures writer ≡ failures (writer_of old)

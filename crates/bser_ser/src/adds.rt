@@ -20,7 +20,8 @@ use std::result::Result;
 /// The puts for a value of many parts, which hand no error from part to part.
 ///
 /// Each call does what the put of its name does. Where it is refused it answers [`PutRefused`], and
-/// [`refusal`](Serializer::refusal) tells why: the writer's fault (`Io`), or `OutOfMemory`.
+/// [`refusal`](Serializer::refusal) tells why: the fault that the writer answered at this call
+/// (`Io`), or `OutOfMemory`.
 ///
 /// The crate has none of these calls.
 impl<W: Sink> Serializer<W> {
@@ -38,7 +39,7 @@ impl<W: Sink> Serializer<W> {
     /// Puts null.
     #[inline(always)]
     pub fn add_null(&mut self) -> Result<(), PutRefused>
-        ensures { Adds W.took W.failures self.old self.new null_piece result }
+        ensures { Adds W.took W.answered W.failures self.old self.new null_piece result }
     {
         self.append(&[BSER_NULL])
     }
@@ -46,7 +47,7 @@ impl<W: Sink> Serializer<W> {
     /// Puts a truth value.
     #[inline(always)]
     pub fn add_bool(&mut self, v: bool) -> Result<(), PutRefused>
-        ensures { Adds W.took W.failures self.old self.new (bool_piece v) result }
+        ensures { Adds W.took W.answered W.failures self.old self.new (bool_piece v) result }
     {
         self.append(&[if v { BSER_TRUE } else { BSER_FALSE }])
     }
@@ -54,7 +55,7 @@ impl<W: Sink> Serializer<W> {
     /// Puts an integer in its least size.
     #[inline(always)]
     pub fn add_i64(&mut self, v: i64) -> Result<(), PutRefused>
-        ensures { Adds W.took W.failures self.old self.new (integer_piece v) result }
+        ensures { Adds W.took W.answered W.failures self.old self.new (integer_piece v) result }
     {
         let mut integer = [0; LONGEST];
         let len = spell(&mut integer, v);
@@ -67,7 +68,7 @@ impl<W: Sink> Serializer<W> {
     /// Puts a real, given by its 64 bits.
     #[inline(always)]
     pub fn add_real_bits(&mut self, bits: u64) -> Result<(), PutRefused>
-        ensures { Adds W.took W.failures self.old self.new (real_piece bits) result }
+        ensures { Adds W.took W.answered W.failures self.old self.new (real_piece bits) result }
     {
         let mut piece = [BSER_REAL; 9];
         LittleEndian::write_u64(&mut piece[1..], bits);
@@ -77,7 +78,7 @@ impl<W: Sink> Serializer<W> {
     /// Puts a text.
     #[inline(always)]
     pub fn add_text(&mut self, text: &str) -> Result<(), PutRefused>
-        ensures { Adds W.took W.failures self.old self.new (text_piece text.now) result }
+        ensures { Adds W.took W.answered W.failures self.old self.new (text_piece text.now) result }
     {
         self.add_string(BSER_UTF8STRING, text.as_bytes())
     }
@@ -85,7 +86,8 @@ impl<W: Sink> Serializer<W> {
     /// Puts a byte string.
     #[inline(always)]
     pub fn add_bytes(&mut self, bytes: &[u8]) -> Result<(), PutRefused>
-        ensures { Adds W.took W.failures self.old self.new (bytes_piece bytes.now) result }
+        ensures { Adds W.took W.answered W.failures self.old self.new
+            (bytes_piece bytes.now) result }
     {
         self.add_string(BSER_BYTESTRING, bytes)
     }
@@ -93,7 +95,7 @@ impl<W: Sink> Serializer<W> {
     /// Puts an object's key that is a text, as [`put_key`](Serializer::put_key) does.
     #[inline(always)]
     pub fn add_text_key(&mut self, key: &str) -> Result<(), PutRefused>
-        ensures { Adds W.took W.failures self.old self.new (key_piece key.now) result }
+        ensures { Adds W.took W.answered W.failures self.old self.new (key_piece key.now) result }
     {
         self.add_text(key)
     }
@@ -102,7 +104,7 @@ impl<W: Sink> Serializer<W> {
     #[inline(always)]
     pub fn add_array(&mut self, count: usize) -> Result<(), PutRefused>
         requires { count < 2 ^ 63 }
-        ensures { Adds W.took W.failures self.old self.new (array_head count) result }
+        ensures { Adds W.took W.answered W.failures self.old self.new (array_head count) result }
     {
         self.add_head(BSER_ARRAY, count)
     }
@@ -111,7 +113,7 @@ impl<W: Sink> Serializer<W> {
     #[inline(always)]
     pub fn add_object(&mut self, count: usize) -> Result<(), PutRefused>
         requires { count < 2 ^ 63 }
-        ensures { Adds W.took W.failures self.old self.new (object_head count) result }
+        ensures { Adds W.took W.answered W.failures self.old self.new (object_head count) result }
     {
         self.add_head(BSER_OBJECT, count)
     }
@@ -121,14 +123,15 @@ impl<W: Sink> Serializer<W> {
     /// fields of each row.
     #[inline(always)]
     pub fn add_template(&mut self) -> Result<(), PutRefused>
-        ensures { Adds W.took W.failures self.old self.new template_tag result }
+        ensures { Adds W.took W.answered W.failures self.old self.new template_tag result }
     {
         self.append(&[BSER_TEMPLATE])
     }
 
     // Puts the head of an enum's variant with one value.
     pub(crate) fn add_variant(&mut self, name: &str) -> Result<(), PutRefused>
-        ensures { Adds W.took W.failures self.old self.new (newtype_variant_head name.now) result }
+        ensures { Adds W.took W.answered W.failures self.old self.new
+            (newtype_variant_head name.now) result }
     {
         self.make_room()?;
         match append_variant(&mut self.pending, name) {
@@ -144,7 +147,7 @@ impl<W: Sink> Serializer<W> {
         tag: u8,
         count: i64,
     ) -> Result<(), PutRefused>
-        ensures { Adds W.took W.failures self.old self.new
+        ensures { Adds W.took W.answered W.failures self.old self.new
             (newtype_variant_head name.now ++ tag ∷ least_integer count) result }
     {
         self.make_room()?;
@@ -156,7 +159,7 @@ impl<W: Sink> Serializer<W> {
 
     // Puts the front of a message whose body has this many bytes.
     pub(crate) fn add_front(&mut self, body: i64) -> Result<(), PutRefused>
-        ensures { Adds W.took W.failures self.old self.new
+        ensures { Adds W.took W.answered W.failures self.old self.new
             (0 ∷ 2 ∷ (to_le_bytes w32 0 ++ least_integer body)) result }
     {
         let mut integer = [0; LONGEST];
@@ -168,7 +171,8 @@ impl<W: Sink> Serializer<W> {
     #[inline(always)]
     fn add_head(&mut self, tag: u8, count: usize) -> Result<(), PutRefused>
         requires { count < 2 ^ 63 }
-        ensures { Adds W.took W.failures self.old self.new (tag ∷ least_count count) result }
+        ensures { Adds W.took W.answered W.failures self.old self.new
+            (tag ∷ least_count count) result }
     {
         if count < 0x80 {
             return self.append(&[tag, BSER_INT8, count as u8]);
@@ -179,7 +183,7 @@ impl<W: Sink> Serializer<W> {
     // Puts a string under this tag.
     #[inline(always)]
     fn add_string(&mut self, tag: u8, bytes: &[u8]) -> Result<(), PutRefused>
-        ensures { Adds W.took W.failures self.old self.new
+        ensures { Adds W.took W.answered W.failures self.old self.new
             (tag ∷ (least_count (length bytes.now) ++ bytes.now)) result }
     {
         if bytes.len() < 0x80 {
@@ -191,7 +195,8 @@ impl<W: Sink> Serializer<W> {
     // Puts a tag and a count of one byte, and then these bytes.
     #[inline(always)]
     fn add_short(&mut self, tag: u8, count: u8, bytes: &[u8]) -> Result<(), PutRefused>
-        ensures { Adds W.took W.failures self.old self.new (tag ∷ 3 ∷ count ∷ bytes.now) result }
+        ensures { Adds W.took W.answered W.failures self.old self.new
+            (tag ∷ 3 ∷ count ∷ bytes.now) result }
     {
         if self.is_taken_at_once(&[tag, BSER_INT8, count], bytes) {
             return Ok(());
@@ -202,7 +207,7 @@ impl<W: Sink> Serializer<W> {
     // Puts a tag and a count, and then these bytes, whatever size the count takes.
     #[inline(never)]
     fn add_great_counted(&mut self, tag: u8, count: i64, bytes: &[u8]) -> Result<(), PutRefused>
-        ensures { Adds W.took W.failures self.old self.new
+        ensures { Adds W.took W.answered W.failures self.old self.new
             (tag ∷ (least_integer count ++ bytes.now)) result }
     {
         let mut head = [tag; LONGEST + 1];
@@ -213,7 +218,7 @@ impl<W: Sink> Serializer<W> {
     // Puts a piece.
     #[inline(always)]
     fn append(&mut self, piece: &[u8]) -> Result<(), PutRefused>
-        ensures { Adds W.took W.failures self.old self.new piece.now result }
+        ensures { Adds W.took W.answered W.failures self.old self.new piece.now result }
     {
         if self.is_taken_at_once(piece, &[]) {
             return Ok(());
@@ -224,7 +229,7 @@ impl<W: Sink> Serializer<W> {
     // Puts a piece where it waits for the writer.
     #[inline(always)]
     fn append_pending(&mut self, piece: &[u8]) -> Result<(), PutRefused>
-        ensures { Adds W.took W.failures self.old self.new piece.now result }
+        ensures { Adds W.took W.answered W.failures self.old self.new piece.now result }
     {
         self.make_room()?;
         match self.pending.extend_from_slice(piece) {
@@ -236,7 +241,8 @@ impl<W: Sink> Serializer<W> {
     // Puts a piece that is given in two parts.
     #[inline]
     fn append_parts(&mut self, front: &[u8], back: &[u8]) -> Result<(), PutRefused>
-        ensures { Adds W.took W.failures self.old self.new (front.now ++ back.now) result }
+        ensures { Adds W.took W.answered W.failures self.old self.new
+            (front.now ++ back.now) result }
     {
         if self.is_taken_at_once(front, back) {
             return Ok(());
@@ -248,7 +254,7 @@ impl<W: Sink> Serializer<W> {
     #[inline(always)]
     fn append_pending_front(&mut self, bytes: &[u8], n: usize) -> Result<(), PutRefused>
         requires { n ≤ length bytes.now }
-        ensures { Adds W.took W.failures self.old self.new (take n bytes.now) result }
+        ensures { Adds W.took W.answered W.failures self.old self.new (take n bytes.now) result }
     {
         self.make_room()?;
         match append_front(&mut self.pending, bytes, n) {
@@ -260,7 +266,8 @@ impl<W: Sink> Serializer<W> {
     // Puts a tag and a count of one byte, and then these bytes, where they wait for the writer.
     #[inline(never)]
     fn append_pending_short(&mut self, tag: u8, count: u8, bytes: &[u8]) -> Result<(), PutRefused>
-        ensures { Adds W.took W.failures self.old self.new (tag ∷ 3 ∷ count ∷ bytes.now) result }
+        ensures { Adds W.took W.answered W.failures self.old self.new
+            (tag ∷ 3 ∷ count ∷ bytes.now) result }
     {
         self.make_room()?;
         match append_both(&mut self.pending, &[tag, BSER_INT8, count], bytes) {
@@ -272,7 +279,8 @@ impl<W: Sink> Serializer<W> {
     // Puts a piece that is given in two parts where it waits for the writer.
     #[inline(never)]
     fn append_pending_parts(&mut self, front: &[u8], back: &[u8]) -> Result<(), PutRefused>
-        ensures { Adds W.took W.failures self.old self.new (front.now ++ back.now) result }
+        ensures { Adds W.took W.answered W.failures self.old self.new
+            (front.now ++ back.now) result }
     {
         self.make_room()?;
         match append_both(&mut self.pending, front, back) {

@@ -39,11 +39,11 @@ pub trait Serialize {
     ///
     /// A value without a tree is refused, as an integer above `i64::MAX` with
     /// [`SerU64TooBig`](bser_format::errors::Error::SerU64TooBig). Besides, the faults of the puts
-    /// are handed on: `Io` for the writer's, and `OutOfMemory`. After a refusal the parts before it
-    /// have been put.
+    /// are handed on: `Io` for the writer's own, and `OutOfMemory`. After a refusal the parts before
+    /// it have been put. The writer counts a failure only for an `Io`.
     fn serialize<W: Sink>(&self, alloc: Global, out: &mut Serializer<W>) -> Result<()>
         ensures ok { OnOk result (Ends W.took W.failures
             (text_of (meaning self.now)) out.old out.new) }
-        ensures err { IfErr result (Stops W.took W.failures
+        ensures err { IfErr result (Stops W.took W.answered W.failures
             (text_of (meaning self.now)) out.old out.new) };
 }

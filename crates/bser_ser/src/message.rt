@@ -1,8 +1,8 @@
 //! Whole messages.
-ghost use Rattle.std.specs.Prelude.{OnOk, IfOk, IfErr};
-ghost use Rattle.bser_ser.specs.Ends.{Ends, Stops, Tried};
+ghost use Rattle.std.specs.Prelude.{◌≡◌, List, ℕ, OnOk, IfOk, IfErr};
+ghost use Rattle.bser_ser.specs.Ends.{Ends, Stops};
 ghost use Rattle.bser_ser.specs.Message.{message_of, IsBodyLength, IsUnmeasured, Wrote, Missed};
-ghost use Rattle.bser_ser.specs.Sent.{IsFlushed};
+ghost use Rattle.bser_ser.specs.Sent.{IsFlushed, writer_of};
 
 use crate::Serialize;
 use crate::count::CountWrite;
@@ -17,10 +17,12 @@ use std::alloc::Global;
 /// isn't kept. Where measuring refuses, the writer has taken nothing: the value has no tree, as a
 /// `u64` above `i64::MAX` (`SerU64TooBig`), its body is longer than `i64::MAX` bytes (`SerCustom`
 /// `CountTooGreat`), or memory is refused (`OutOfMemory`). Writing itself refuses with the writer's
-/// fault (`Io`) or for memory; the writer has then taken a beginning of the message.
+/// own fault (`Io`), of kind `WriteZero` where it took nothing, or for memory; the writer has then
+/// taken a beginning of the message. It counts a failure only for an `Io`.
 pub fn serialize_to<W: Sink, T: Serialize>(alloc: Global, writer: &mut W, value: &T) -> Result<()>
     ensures ok { OnOk result (Wrote W.took (T.meaning value.now) writer.old writer.new) }
-    ensures err { IfErr result (Missed W.took W.failures
+    ensures kept { OnOk result (W.failures writer.new ≡ W.failures writer.old) }
+    ensures err { IfErr result (Missed W.took W.answered W.failures
         (T.meaning value.now) writer.old writer.new) }
 {
     let len = measure(alloc, value)?;
@@ -40,7 +42,8 @@ pub fn serialize<W: Sink, T: Serialize>(
     value: &T,
 ) -> std::result::Result<W, (W, Error)>
     ensures ok { IfOk result (λ w. Wrote W.took (T.meaning value.now) writer w) }
-    ensures err { IfErr result (λ r. Missed W.took W.failures
+    ensures kept { IfOk result (λ w. W.failures w ≡ W.failures writer) }
+    ensures err { IfErr result (λ r. Missed W.took W.answered W.failures
         (T.meaning value.now) writer r.0 r.1) }
 {
     let len = match measure(alloc, value) {
@@ -81,9 +84,9 @@ fn send_message<W: Sink, T: Serialize>(
     ensures ok { OnOk result (Ends W.took W.failures
         (message_of (T.meaning value.now)) out.old out.new) }
     ensures all { OnOk result (IsFlushed out.new) }
-    ensures err { IfErr result (Stops W.took W.failures
+    ensures err { IfErr result (Stops W.took W.answered W.failures
         (message_of (T.meaning value.now)) out.old out.new) }
-    ensures tied { Tried W.took W.failures out.old out.new }
+    ensures tied { (taken : List ℕ) × W.took (writer_of out.old) (writer_of out.new) taken }
 {
     put_message(alloc, out, len, value)?;
     out.flush()?;
@@ -100,7 +103,7 @@ fn put_message<W: Sink, T: Serialize>(
     requires { IsBodyLength (T.meaning value.now) len }
     ensures ok { OnOk result (Ends W.took W.failures
         (message_of (T.meaning value.now)) out.old out.new) }
-    ensures err { IfErr result (Stops W.took W.failures
+    ensures err { IfErr result (Stops W.took W.answered W.failures
         (message_of (T.meaning value.now)) out.old out.new) }
 {
     out.put_front(len)?;

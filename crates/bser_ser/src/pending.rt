@@ -1,8 +1,8 @@
 //! The bytes that a writer has still to take.
 ghost use Rattle.std.specs.Prelude.{◌≡◌, ◌≤◌, List, ℕ, [], ◌∷◌, ◌++◌, length, take, drop, OnOk, OnErr, IfErr};
 ghost use Rattle.bser_format.specs.Canonical.{least_integer};
-ghost use Rattle.bser_source.specs.Device.{Blamed};
-ghost use Rattle.bser_ser.specs.Stopped.{Stopped};
+ghost use Rattle.bser_format.specs.declared.errors.Error.TheVariants.{Io};
+ghost use Rattle.bser_ser.specs.Stopped.{Accounts};
 ghost use Rattle.bser_format.specs.Pieces.{newtype_variant_head};
 
 use crate::integer::{LONGEST, spell};
@@ -94,16 +94,14 @@ pub fn append_variant_of(
 /// Sends all that is pending. After a fault the bytes that the writer has not taken are pending.
 ///
 /// The fault is the writer's own, or of kind `WriteZero` where it took nothing. Where none is
-/// answered, none was counted.
+/// answered, none was counted, and else one.
 pub fn send<W: Sink>(writer: &mut W, pending: &mut Vec<u8>) -> io::Result<()>
     ensures sent { (taken : List ℕ) × W.took writer.old writer.new taken ×
         (pending.old.items ≡ taken ++ pending.new.items) }
-    ensures rose { W.failures writer.old ≤ W.failures writer.new }
     ensures ok { OnOk result (pending.new.items ≡ []) }
     ensures kept { OnOk result (W.failures writer.new ≡ W.failures writer.old) }
-    ensures err { OnErr result (Blamed (W.failures writer.old) (W.failures writer.new)) }
-    ensures names { IfErr result (λ e. Stopped W.took W.answered writer.old writer.new
-        pending.old.items e) }
+    ensures err { IfErr result (λ e. Accounts W.took W.answered W.failures
+        writer.old writer.new pending.old.items (Io e)) }
 {
     let mut done = 0;
     while done < pending.len() {

@@ -14,13 +14,15 @@ use bser_source::device::Sink;
 /// Each put appends its piece, or nothing where it is refused.
 ///
 /// A put sends first where more than 4096 bytes are pending, and hands the writer's fault on as
-/// `Io`; a growth that is refused is `OutOfMemory`. Other refusals stand at each put.
+/// `Io`: it is what the writer answered, or of kind `WriteZero` where it took nothing, and is not
+/// tried again. A growth that is refused is `OutOfMemory`. Other refusals stand at each put. The
+/// writer counts one failure for an `Io`, and none where a put succeeds or is refused otherwise.
 ///
 /// The crate has serde's `serialize_` calls in the place of the puts.
 impl<W: Sink> Serializer<W> {
     /// Puts null.
     pub fn put_null(&mut self) -> Result<()>
-        ensures { Puts W.took W.failures self.old self.new null_piece result }
+        ensures { Puts W.took W.answered W.failures self.old self.new null_piece result }
     {
         match self.add_null() {
             Ok(()) => Ok(()),
@@ -30,7 +32,7 @@ impl<W: Sink> Serializer<W> {
 
     /// Puts a truth value.
     pub fn put_bool(&mut self, v: bool) -> Result<()>
-        ensures { Puts W.took W.failures self.old self.new (bool_piece v) result }
+        ensures { Puts W.took W.answered W.failures self.old self.new (bool_piece v) result }
     {
         match self.add_bool(v) {
             Ok(()) => Ok(()),
@@ -40,7 +42,7 @@ impl<W: Sink> Serializer<W> {
 
     /// Puts an integer in its least size.
     pub fn put_i64(&mut self, v: i64) -> Result<()>
-        ensures { Puts W.took W.failures self.old self.new (integer_piece v) result }
+        ensures { Puts W.took W.answered W.failures self.old self.new (integer_piece v) result }
     {
         match self.add_i64(v) {
             Ok(()) => Ok(()),
@@ -50,7 +52,7 @@ impl<W: Sink> Serializer<W> {
 
     /// Puts an integer in its least size. One above `i64::MAX` is refused with `SerU64TooBig`.
     pub fn put_u64(&mut self, v: u64) -> Result<()>
-        ensures put { PutsOr (IsTooBig v) W.took W.failures self.old self.new
+        ensures put { PutsOr (IsTooBig v) W.took W.answered W.failures self.old self.new
             (integer_piece (pos v)) result }
         ensures fits { OnOk result (v < 2 ^ 63) }
     {
@@ -62,7 +64,7 @@ impl<W: Sink> Serializer<W> {
 
     /// Puts a real, given by its 64 bits.
     pub fn put_real_bits(&mut self, bits: u64) -> Result<()>
-        ensures { Puts W.took W.failures self.old self.new (real_piece bits) result }
+        ensures { Puts W.took W.answered W.failures self.old self.new (real_piece bits) result }
     {
         match self.add_real_bits(bits) {
             Ok(()) => Ok(()),
@@ -72,7 +74,7 @@ impl<W: Sink> Serializer<W> {
 
     /// Puts a text.
     pub fn put_text(&mut self, text: &str) -> Result<()>
-        ensures { Puts W.took W.failures self.old self.new (text_piece text.now) result }
+        ensures { Puts W.took W.answered W.failures self.old self.new (text_piece text.now) result }
     {
         match self.add_text(text) {
             Ok(()) => Ok(()),
@@ -82,7 +84,8 @@ impl<W: Sink> Serializer<W> {
 
     /// Puts the text of one character.
     pub fn put_char(&mut self, c: char) -> Result<()>
-        ensures { Puts W.took W.failures self.old self.new (text_piece (encode_utf8 c)) result }
+        ensures { Puts W.took W.answered W.failures self.old self.new
+            (text_piece (encode_utf8 c)) result }
     {
         let mut buf = [0; 4];
         self.put_text(c.encode_utf8(&mut buf))
@@ -90,7 +93,8 @@ impl<W: Sink> Serializer<W> {
 
     /// Puts a byte string.
     pub fn put_bytes(&mut self, bytes: &[u8]) -> Result<()>
-        ensures { Puts W.took W.failures self.old self.new (bytes_piece bytes.now) result }
+        ensures { Puts W.took W.answered W.failures self.old self.new
+            (bytes_piece bytes.now) result }
     {
         match self.add_bytes(bytes) {
             Ok(()) => Ok(()),
@@ -100,7 +104,7 @@ impl<W: Sink> Serializer<W> {
 
     /// Puts an object's key: a text where it is UTF-8, else a byte string.
     pub fn put_key(&mut self, key: &[u8]) -> Result<()>
-        ensures { Puts W.took W.failures self.old self.new (key_piece key.now) result }
+        ensures { Puts W.took W.answered W.failures self.old self.new (key_piece key.now) result }
     {
         match str::from_utf8(key) {
             Ok(text) => self.put_text(text),
@@ -110,7 +114,7 @@ impl<W: Sink> Serializer<W> {
 
     // Puts an object's key that is a text.
     pub(crate) fn put_text_key(&mut self, key: &str) -> Result<()>
-        ensures { Puts W.took W.failures self.old self.new (key_piece key.now) result }
+        ensures { Puts W.took W.answered W.failures self.old self.new (key_piece key.now) result }
     {
         self.put_text(key)
     }
@@ -120,8 +124,8 @@ impl<W: Sink> Serializer<W> {
     /// A missing count is refused with `SerNeedSize`, and one above `i64::MAX` with `SerCustom`
     /// `CountTooGreat`.
     pub fn put_seq(&mut self, count: Option<usize>) -> Result<()>
-        ensures put { PutsOr (IsMiscounted Sequence count) W.took W.failures self.old self.new
-            (array_head (count_or_zero count)) result }
+        ensures put { PutsOr (IsMiscounted Sequence count) W.took W.answered W.failures
+            self.old self.new (array_head (count_or_zero count)) result }
         ensures counted { OnOk result (IsCounted count) }
     {
         let Some(n) = count else {
@@ -141,7 +145,7 @@ impl<W: Sink> Serializer<W> {
     /// A missing count is refused with `SerNeedSize`, and one above `i64::MAX` with `SerCustom`
     /// `CountTooGreat`.
     pub fn put_map(&mut self, count: Option<usize>) -> Result<()>
-        ensures put { PutsOr (IsMiscounted Map count) W.took W.failures self.old self.new
+        ensures put { PutsOr (IsMiscounted Map count) W.took W.answered W.failures self.old self.new
             (object_head (count_or_zero count)) result }
         ensures counted { OnOk result (IsCounted count) }
     {
@@ -163,7 +167,7 @@ impl<W: Sink> Serializer<W> {
     ///
     /// Nothing checks that what follows makes a template. The crate never writes one.
     pub fn put_template(&mut self) -> Result<()>
-        ensures { Puts W.took W.failures self.old self.new template_tag result }
+        ensures { Puts W.took W.answered W.failures self.old self.new template_tag result }
     {
         match self.add_template() {
             Ok(()) => Ok(()),
@@ -173,7 +177,8 @@ impl<W: Sink> Serializer<W> {
 
     /// Puts the head of an enum's variant with one value, which follows.
     pub fn put_newtype_variant(&mut self, name: &str) -> Result<()>
-        ensures { Puts W.took W.failures self.old self.new (newtype_variant_head name.now) result }
+        ensures { Puts W.took W.answered W.failures self.old self.new
+            (newtype_variant_head name.now) result }
     {
         match self.add_variant(name) {
             Ok(()) => Ok(()),
@@ -186,7 +191,7 @@ impl<W: Sink> Serializer<W> {
     ///
     /// A count above `i64::MAX` is refused with `SerCustom` `CountTooGreat`.
     pub fn put_tuple_variant(&mut self, name: &str, count: usize) -> Result<()>
-        ensures put { PutsOr (IsTooMany count) W.took W.failures self.old self.new
+        ensures put { PutsOr (IsTooMany count) W.took W.answered W.failures self.old self.new
             (tuple_variant_head name.now count) result }
         ensures fits { OnOk result (count < 2 ^ 63) }
     {
@@ -198,7 +203,7 @@ impl<W: Sink> Serializer<W> {
     ///
     /// A count above `i64::MAX` is refused with `SerCustom` `CountTooGreat`.
     pub fn put_struct_variant(&mut self, name: &str, count: usize) -> Result<()>
-        ensures put { PutsOr (IsTooMany count) W.took W.failures self.old self.new
+        ensures put { PutsOr (IsTooMany count) W.took W.answered W.failures self.old self.new
             (struct_variant_head name.now count) result }
         ensures fits { OnOk result (count < 2 ^ 63) }
     {
@@ -207,7 +212,7 @@ impl<W: Sink> Serializer<W> {
 
     // Puts the front of a message whose body has this many bytes.
     pub(crate) fn put_front(&mut self, body: i64) -> Result<()>
-        ensures { Puts W.took W.failures self.old self.new
+        ensures { Puts W.took W.answered W.failures self.old self.new
             (0 ∷ 2 ∷ (to_le_bytes w32 0 ++ least_integer body)) result }
     {
         match self.add_front(body) {
@@ -218,7 +223,7 @@ impl<W: Sink> Serializer<W> {
 
     // Puts a variant's head, and its payload's tag and count.
     fn put_variant_of(&mut self, name: &str, tag: u8, count: usize) -> Result<()>
-        ensures put { PutsOr (IsTooMany count) W.took W.failures self.old self.new
+        ensures put { PutsOr (IsTooMany count) W.took W.answered W.failures self.old self.new
             (newtype_variant_head name.now ++ tag ∷ least_count count) result }
         ensures fits { OnOk result (count < 2 ^ 63) }
     {

@@ -1,8 +1,7 @@
 //! A serializer: pieces on their way to a writer.
 ghost use Rattle.std.specs.Prelude.{◌≡◌, ◌≤◌, [], ◌++◌, length, OnOk, OnErr, IfOk, IfErr, IsTrue, if◌then◌else◌};
-ghost use Rattle.bser_format.specs.declared.errors.Error.TheVariants.{OutOfMemory};
-ghost use Rattle.bser_ser.specs.Sent.{Sent, Excuses, Finishes, IsFlushed, IsNew, WriterFailed, writer_of, pending_of, refusal_of};
-ghost use Rattle.bser_ser.specs.Stopped.{Stopped};
+ghost use Rattle.bser_format.specs.declared.errors.Error.TheVariants.{OutOfMemory, Io};
+ghost use Rattle.bser_ser.specs.Sent.{Sent, Refused, Finishes, IsFlushed, IsNew, writer_of, pending_of, refusal_of};
 
 use crate::pending::send;
 use bser_source::device::Sink;
@@ -64,13 +63,10 @@ impl<W: Sink> Serializer<W> {
     /// gives a fault of kind `WriteZero`. The next call goes on at the first byte that the writer
     /// has not taken.
     pub fn flush(&mut self) -> io::Result<()>
-        ensures sent { Sent W.took W.failures self.old self.new [] }
-        ensures ok { OnOk result (IsFlushed self.new) }
-        ensures kept { OnOk result (W.failures (writer_of self.new)
-            ≡ W.failures (writer_of self.old)) }
-        ensures err { OnErr result (WriterFailed W.failures self.old self.new) }
-        ensures names { IfErr result (λ e. Stopped W.took W.answered (writer_of self.old)
-            (writer_of self.new) (pending_of self.old) e) }
+        ensures ok { OnOk result (Sent W.took W.failures self.old self.new []) }
+        ensures all { OnOk result (IsFlushed self.new) }
+        ensures err { IfErr result (λ e. Refused W.took W.answered W.failures
+            self.old self.new [] (Io e)) }
     {
         send(&mut self.writer, &mut self.pending)
     }
@@ -82,9 +78,8 @@ impl<W: Sink> Serializer<W> {
     where
         W: Drop,
         ensures ok { IfOk result (λ w. Finishes W.took W.failures self w) }
-        ensures kept { IfOk result (λ w. W.failures w ≡ W.failures (writer_of self)) }
-        ensures names { IfErr result (λ e. (w : W) × Stopped W.took W.answered (writer_of self) w
-            (pending_of self) e) }
+        ensures err { IfErr result (λ e. (dropped : Serializer W)
+            × Refused W.took W.answered W.failures self dropped [] (Io e)) }
     {
         match self.try_finish() {
             Ok(writer) => Ok(writer),
@@ -98,11 +93,8 @@ impl<W: Sink> Serializer<W> {
     /// can go on.
     pub fn try_finish(self) -> Result<W, (Self, io::Error)>
         ensures ok { IfOk result (λ w. Finishes W.took W.failures self w) }
-        ensures kept { IfOk result (λ w. W.failures w ≡ W.failures (writer_of self)) }
-        ensures err { IfErr result (λ e. Sent W.took W.failures self e.0 []
-            × WriterFailed W.failures self e.0) }
-        ensures names { IfErr result (λ e. Stopped W.took W.answered (writer_of self)
-            (writer_of e.0) (pending_of self) e.1) }
+        ensures err { IfErr result (λ e. Refused W.took W.answered W.failures
+            self e.0 [] (Io e.1)) }
     {
         let mut whole = self;
         match whole.flush() {
@@ -114,9 +106,10 @@ impl<W: Sink> Serializer<W> {
     /// Sends where more than [`LIMIT`] bytes are pending.
     #[inline(always)]
     pub(crate) fn make_room(&mut self) -> Result<(), PutRefused>
-        ensures sent { Sent W.took W.failures self.old self.new [] }
+        ensures ok { OnOk result (Sent W.took W.failures self.old self.new []) }
         ensures room { OnOk result (length (pending_of self.new) ≤ 4096) }
-        ensures err { OnErr result (Excuses W.failures self.old self.new (refusal_of self.new)) }
+        ensures err { OnErr result (Refused W.took W.answered W.failures
+            self.old self.new [] (refusal_of self.new)) }
     {
         if self.pending.len() > LIMIT {
             return self.send_now();
@@ -127,9 +120,10 @@ impl<W: Sink> Serializer<W> {
     // Sends all that is pending, and keeps the writer's fault.
     #[cold]
     fn send_now(&mut self) -> Result<(), PutRefused>
-        ensures sent { Sent W.took W.failures self.old self.new [] }
-        ensures ok { OnOk result (IsFlushed self.new) }
-        ensures err { OnErr result (Excuses W.failures self.old self.new (refusal_of self.new)) }
+        ensures ok { OnOk result (Sent W.took W.failures self.old self.new []) }
+        ensures all { OnOk result (IsFlushed self.new) }
+        ensures err { OnErr result (Refused W.took W.answered W.failures
+            self.old self.new [] (refusal_of self.new)) }
     {
         match self.flush() {
             Ok(()) => Ok(()),

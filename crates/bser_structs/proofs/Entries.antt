@@ -7,6 +7,7 @@ use Rattle.bser_format.specs.Written.{part_tree, plain_bytes, struct_tree}
 use Rattle.bser_format.specs.declared.errors.Error.{Error}
 use Rattle.bser_ser.specs.Sent.{Sent}
 use Rattle.bser_ser.specs.Ends.{Ends, Stops, text_of, then, field_text}
+use Rattle.bser_ser.specs.Stopped.{Answering}
 use Rattle.bser_ser.specs.declared.serializer.Serializer.{Serializer}
 use Rattle.bser_ser.proofs.Ends.{joined, then-assoc, then-nil, nil-then, Ends-both, Stops-first, Stops-second}
 use Rattle.bser_ser.proofs.Structs.{struct_text, field_ends, field_stops}
@@ -37,22 +38,23 @@ module _ {S : Type 0} (took : S → S → List ℕ → Type 0) (failures : S →
   pub one_ends : (key : List ℕ) (m : Option Tree) (a b c : Serializer S) → Sent took failures a b (canonical_key key) → Ends took failures (text_of m) b c → Ends took failures (entries_text ((key, m) ∷ [])) a c
   one_ends key m a b c s t = subst (λ (n : Option (List ℕ)). Ends took failures n a c) (sym (then-nil (field_text key m))) (field_ends took failures both key m a b c s t)
 
-  pub one_stops : (key : List ℕ) (m : Option Tree) (a b c : Serializer S) (e : Error) → Sent took failures a b (canonical_key key) → Stops took failures (text_of m) b c e → Stops took failures (entries_text ((key, m) ∷ [])) a c e
-  one_stops key m a b c e s t = subst (λ (n : Option (List ℕ)). Stops took failures n a c e) (sym (then-nil (field_text key m))) (field_stops took failures both key m a b c e s t)
-
   -- a field, and the others
   pub each_ends : (xs ys : List (List ℕ × Option Tree)) (a b c : Serializer S) → Ends took failures (entries_text xs) a b → Ends took failures (entries_text ys) b c → Ends took failures (entries_text (xs ++ ys)) a c
   each_ends xs ys a b c s t = subst (λ (n : Option (List ℕ)). Ends took failures n a c) (sym (entries_append xs ys)) (Ends-both took failures both (entries_text xs) (entries_text ys) a b c s t)
-
-  pub first_stops : (xs ys : List (List ℕ × Option Tree)) (a b : Serializer S) (e : Error) → Stops took failures (entries_text xs) a b e → Stops took failures (entries_text (xs ++ ys)) a b e
-  first_stops xs ys a b e s = subst (λ (n : Option (List ℕ)). Stops took failures n a b e) (sym (entries_append xs ys)) (Stops-first took failures (entries_text xs) (entries_text ys) a b e s)
-
-  pub others_stop : (xs ys : List (List ℕ × Option Tree)) (a b c : Serializer S) (e : Error) → Ends took failures (entries_text xs) a b → Stops took failures (entries_text ys) b c e → Stops took failures (entries_text (xs ++ ys)) a c e
-  others_stop xs ys a b c e s t = subst (λ (n : Option (List ℕ)). Stops took failures n a c e) (sym (entries_append xs ys)) (Stops-second took failures both (entries_text xs) (entries_text ys) a b c e s t)
 
   -- the head, and the fields
   pub tree_ends : (fs : List (List ℕ × Option Tree)) (count : ℕ) → IsCount (length fs) count → count < 2 ^ 63 → (a b c : Serializer S) → Sent took failures a b (object_head count) → Ends took failures (entries_text fs) b c → Ends took failures (text_of (entries_tree fs)) a c
   tree_ends fs count n h a b c s t = subst (λ (m : Option (List ℕ)). Ends took failures m a c) (sym (tree_text fs count (is_count (length fs) count n h) h)) (Ends-both took failures both (Some (object_head count)) (entries_text fs) a b c s t)
 
-  pub tree_stops : (fs : List (List ℕ × Option Tree)) (count : ℕ) → IsCount (length fs) count → count < 2 ^ 63 → (a b c : Serializer S) (e : Error) → Sent took failures a b (object_head count) → Stops took failures (entries_text fs) b c e → Stops took failures (text_of (entries_tree fs)) a c e
-  tree_stops fs count n h a b c e s t = subst (λ (m : Option (List ℕ)). Stops took failures m a c e) (sym (tree_text fs count (is_count (length fs) count n h) h)) (Stops-second took failures both (Some (object_head count)) (entries_text fs) a b c e s t)
+module _ {S : Type 0} (took : S → S → List ℕ → Type 0) (answered : Answering S) (failures : S → ℕ) (both : (a b c : S) (xs ys : List ℕ) → took a b xs → took b c ys → took a c (xs ++ ys)) where
+  pub one_stops : (key : List ℕ) (m : Option Tree) (a b c : Serializer S) (e : Error) → Sent took failures a b (canonical_key key) → Stops took answered failures (text_of m) b c e → Stops took answered failures (entries_text ((key, m) ∷ [])) a c e
+  one_stops key m a b c e s t = subst (λ (n : Option (List ℕ)). Stops took answered failures n a c e) (sym (then-nil (field_text key m))) (field_stops took answered failures both key m a b c e s t)
+
+  pub first_stops : (xs ys : List (List ℕ × Option Tree)) (a b : Serializer S) (e : Error) → Stops took answered failures (entries_text xs) a b e → Stops took answered failures (entries_text (xs ++ ys)) a b e
+  first_stops xs ys a b e s = subst (λ (n : Option (List ℕ)). Stops took answered failures n a b e) (sym (entries_append xs ys)) (Stops-first took answered failures (entries_text xs) (entries_text ys) a b e s)
+
+  pub others_stop : (xs ys : List (List ℕ × Option Tree)) (a b c : Serializer S) (e : Error) → Ends took failures (entries_text xs) a b → Stops took answered failures (entries_text ys) b c e → Stops took answered failures (entries_text (xs ++ ys)) a c e
+  others_stop xs ys a b c e s t = subst (λ (n : Option (List ℕ)). Stops took answered failures n a c e) (sym (entries_append xs ys)) (Stops-second took answered failures both (entries_text xs) (entries_text ys) a b c e s t)
+
+  pub tree_stops : (fs : List (List ℕ × Option Tree)) (count : ℕ) → IsCount (length fs) count → count < 2 ^ 63 → (a b c : Serializer S) (e : Error) → Sent took failures a b (object_head count) → Stops took answered failures (entries_text fs) b c e → Stops took answered failures (text_of (entries_tree fs)) a c e
+  tree_stops fs count n h a b c e s t = subst (λ (m : Option (List ℕ)). Stops took answered failures m a c e) (sym (tree_text fs count (is_count (length fs) count n h) h)) (Stops-second took answered failures both (Some (object_head count)) (entries_text fs) a b c e s t)

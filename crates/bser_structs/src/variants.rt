@@ -24,7 +24,7 @@ pub fn put_variant<W: Sink, T: Serialize>(
 ) -> Result<()>
     ensures ok { OnOk result (Ends W.took W.failures
         (text_of (variant_tree name.now (T.meaning payload.now))) out.old out.new) }
-    ensures err { IfErr result (Stops W.took W.failures
+    ensures err { IfErr result (Stops W.took W.answered W.failures
         (text_of (variant_tree name.now (T.meaning payload.now))) out.old out.new) }
 {
     out.put_newtype_variant(name)?;
@@ -44,7 +44,7 @@ pub fn put_variant_fields<W: Sink, F: PutFields>(
 ) -> Result<()>
     ensures ok { OnOk result (Ends W.took W.failures
         (text_of (variant_tree name.now (entries_tree (F.entries fields.now)))) out.old out.new) }
-    ensures err { IfErr result (Stops W.took W.failures
+    ensures err { IfErr result (Stops W.took W.answered W.failures
         (text_of (variant_tree name.now (entries_tree (F.entries fields.now)))) out.old out.new) }
 {
     out.put_newtype_variant(name)?;

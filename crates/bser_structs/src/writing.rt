@@ -25,7 +25,7 @@ pub trait PutField {
     fn put<W: Sink>(&self, alloc: Global, out: &mut Serializer<W>) -> Result<()>
         ensures ok { OnOk result (Ends W.took W.failures
             (entries_text (entries self.now)) out.old out.new) }
-        ensures err { IfErr result (Stops W.took W.failures
+        ensures err { IfErr result (Stops W.took W.answered W.failures
             (entries_text (entries self.now)) out.old out.new) };
 }
 
@@ -85,7 +85,7 @@ pub trait PutFields {
     fn put_each<W: Sink>(&self, alloc: Global, out: &mut Serializer<W>) -> Result<()>
         ensures ok { OnOk result (Ends W.took W.failures
             (entries_text (entries self.now)) out.old out.new) }
-        ensures err { IfErr result (Stops W.took W.failures
+        ensures err { IfErr result (Stops W.took W.answered W.failures
             (entries_text (entries self.now)) out.old out.new) };
 }
 
@@ -130,7 +130,7 @@ pub fn put_fields<W: Sink, F: PutFields>(
 ) -> Result<()>
     ensures ok { OnOk result (Ends W.took W.failures
         (text_of (entries_tree (F.entries fields.now))) out.old out.new) }
-    ensures err { IfErr result (Stops W.took W.failures
+    ensures err { IfErr result (Stops W.took W.answered W.failures
         (text_of (entries_tree (F.entries fields.now))) out.old out.new) }
 {
     out.put_map(Some(fields.count()))?;

@@ -34,7 +34,7 @@ impl Serialize for Value {
 fn add_value<W: Sink>(value: &Value, out: &mut Serializer<W>) -> Result<(), PutRefused>
     ensures ok { OnOk result (Ends W.took W.failures
         (text_of (Some (tree_of value.now))) out.old out.new) }
-    ensures err { OnErr result (Stops W.took W.failures
+    ensures err { OnErr result (Stops W.took W.answered W.failures
         (text_of (Some (tree_of value.now))) out.old out.new (refusal_of out.new)) }
 {
     match value {
@@ -54,7 +54,7 @@ fn add_value<W: Sink>(value: &Value, out: &mut Serializer<W>) -> Result<(), PutR
 fn add_items<W: Sink>(items: &Vec<Value>, out: &mut Serializer<W>) -> Result<(), PutRefused>
     ensures ok { OnOk result (Ends W.took W.failures
         (text_of (array_tree (λ v. Some (tree_of v)) items.now.items)) out.old out.new) }
-    ensures err { OnErr result (Stops W.took W.failures
+    ensures err { OnErr result (Stops W.took W.answered W.failures
         (text_of (array_tree (λ v. Some (tree_of v)) items.now.items)) out.old out.new
         (refusal_of out.new)) }
 {
@@ -74,7 +74,7 @@ fn add_entries<W: Sink>(
     ensures ok { OnOk result (Ends W.took W.failures
         (text_of (object_tree string_bytes (λ v. Some (tree_of v)) entries.now.entries)) out.old
         out.new) }
-    ensures err { OnErr result (Stops W.took W.failures
+    ensures err { OnErr result (Stops W.took W.answered W.failures
         (text_of (object_tree string_bytes (λ v. Some (tree_of v)) entries.now.entries)) out.old
         out.new (refusal_of out.new)) }
 {

@@ -25,7 +25,7 @@ add_items-loop-item-init g t c =
 pub add_items-returns-in_err-add_compact-clause-err : goal.add_items-returns-in_err-add_compact-clause-err
 add_items-returns-in_err-add_compact-clause-err g t c =
     let p = err_from_is_err_and c.from_residual-in_err-add_compact.result c.from_residual-in_err-add_compact.ensures.1 in
-    rw p.1 (AllBut-stops g.W.Sink.took g.W.Sink.failures g.met.W.Sink.took_both _ _ (value_text c.item-item.result) _ c.args.out.now c.loop-item.out c.add_compact.new.out (refusal_of c.add_compact.new.out) c.loop-item.invariant
+    rw p.1 (AllBut-stops g.W.Sink.took g.W.Sink.answered g.W.Sink.failures g.met.W.Sink.took_both _ _ (value_text c.item-item.result) _ c.args.out.now c.loop-item.out c.add_compact.new.out (refusal_of c.add_compact.new.out) c.loop-item.invariant
     (item_piece _ _ c.item-item.result (item_here c.deref-item-items.result.now c.loop-item.item-index c.item-item.result c.loop-item-test.true c.item-item.is)) c.in_err-add_compact.ensures.err)
 
 pub add_items-loop-item-preserved : goal.add_items-loop-item-preserved
@@ -47,18 +47,18 @@ add_entries-returns-in_err-add_text_key-clause-err g t c =
     let p = err_from_is_err_and c.from_residual-in_err-add_text_key.result c.from_residual-in_err-add_text_key.ensures.1 in
     let name = canonical_key (string_bytes c.in-Some.key.now) in
     let body = value_text c.in-Some.value.now in
-    rw p.1 (AllBut-stops g.W.Sink.took g.W.Sink.failures g.met.W.Sink.took_both _ _ (name ++ body) _ c.args.out.now c.loop-key.out c.add_text_key.new.self (refusal_of c.add_text_key.new.self) c.loop-key.invariant
+    rw p.1 (AllBut-stops g.W.Sink.took g.W.Sink.answered g.W.Sink.failures g.met.W.Sink.took_both _ _ (name ++ body) _ c.args.out.now c.loop-key.out c.add_text_key.new.self (refusal_of c.add_text_key.new.self) c.loop-key.invariant
     (entry_piece c.loop-key.key-iterator c.next.new.self (c.in-Some.key.now, c.in-Some.value.now) c.in-Some.ensures.steps)
-    (Stops-none g.W.Sink.took g.W.Sink.failures (Some (name ++ body)) c.loop-key.out c.add_text_key.new.self (refusal_of c.add_text_key.new.self) c.in_err-add_text_key.ensures.0 c.in_err-add_text_key.ensures.1))
+    (Stops-none g.W.Sink.took g.W.Sink.answered g.W.Sink.failures (Some (name ++ body)) c.loop-key.out c.add_text_key.new.self (refusal_of c.add_text_key.new.self) c.in_err-add_text_key.ensures.0 c.in_err-add_text_key.ensures.1))
 
 pub add_entries-returns-in_err-add_compact-clause-err : goal.add_entries-returns-in_err-add_compact-clause-err
 add_entries-returns-in_err-add_compact-clause-err g t c =
     let p = err_from_is_err_and c.from_residual-in_err-add_compact.result c.from_residual-in_err-add_compact.ensures.1 in
     let name = canonical_key (string_bytes c.in-Some.key.now) in
     let body = value_text c.in-Some.value.now in
-    rw p.1 (AllBut-stops g.W.Sink.took g.W.Sink.failures g.met.W.Sink.took_both _ _ (name ++ body) _ c.args.out.now c.loop-key.out c.add_compact.new.out (refusal_of c.add_compact.new.out) c.loop-key.invariant
+    rw p.1 (AllBut-stops g.W.Sink.took g.W.Sink.answered g.W.Sink.failures g.met.W.Sink.took_both _ _ (name ++ body) _ c.args.out.now c.loop-key.out c.add_compact.new.out (refusal_of c.add_compact.new.out) c.loop-key.invariant
     (entry_piece c.loop-key.key-iterator c.next.new.self (c.in-Some.key.now, c.in-Some.value.now) c.in-Some.ensures.steps)
-    (Stops-second g.W.Sink.took g.W.Sink.failures g.met.W.Sink.took_both (Some name) (Some body) c.loop-key.out c.add_text_key.new.self c.add_compact.new.out (refusal_of c.add_compact.new.out) (rw c.as_str.ensures.value at c.in_ok-add_text_key.ensures.0) c.in_err-add_compact.ensures.err))
+    (Stops-second g.W.Sink.took g.W.Sink.answered g.W.Sink.failures g.met.W.Sink.took_both (Some name) (Some body) c.loop-key.out c.add_text_key.new.self c.add_compact.new.out (refusal_of c.add_compact.new.out) (rw c.as_str.ensures.value at c.in_ok-add_text_key.ensures.0) c.in_err-add_compact.ensures.err))
 
 pub add_entries-loop-key-preserved : goal.add_entries-loop-key-preserved
 add_entries-loop-key-preserved g t c =
@@ -73,7 +73,7 @@ add_entries-loop-key-preserved g t c =
 pub add_rows-returns-in_err-add_row-clause-err : goal.add_rows-returns-in_err-add_row-clause-err
 add_rows-returns-in_err-add_row-clause-err g t c =
     let p = err_from_is_err_and c.from_residual.result c.from_residual.ensures.1 in
-    rw p.1 (AllBut-stops g.W.Sink.took g.W.Sink.failures g.met.W.Sink.took_both _ _ (row_text c.item-item.result) _ c.args.out.now c.loop-item.out c.add_row.new.out (refusal_of c.add_row.new.out) c.loop-item.invariant
+    rw p.1 (AllBut-stops g.W.Sink.took g.W.Sink.answered g.W.Sink.failures g.met.W.Sink.took_both _ _ (row_text c.item-item.result) _ c.args.out.now c.loop-item.out c.add_row.new.out (refusal_of c.add_row.new.out) c.loop-item.invariant
     (ap rows_text (item_here c.deref-item-items.result.now c.loop-item.item-index c.item-item.result c.loop-item-test.true c.item-item.is)) c.in_err-add_row.ensures.err)
 
 pub add_rows-loop-item-preserved : goal.add_rows-loop-item-preserved
@@ -96,7 +96,7 @@ add_row-loop-value-preserved g t c =
 pub add_row-returns-in_err-add_compact-clause-err : goal.add_row-returns-in_err-add_compact-clause-err
 add_row-returns-in_err-add_compact-clause-err g t c =
     let p = err_from_is_err_and c.from_residual.result c.from_residual.ensures.1 in
-    rw p.1 (AllBut-stops g.W.Sink.took g.W.Sink.failures g.met.W.Sink.took_both _ _ (value_text c.in-Some.value.now) _ c.args.out.now c.loop-value.out c.add_compact.new.out (refusal_of c.add_compact.new.out) c.loop-value.invariant
+    rw p.1 (AllBut-stops g.W.Sink.took g.W.Sink.answered g.W.Sink.failures g.met.W.Sink.took_both _ _ (value_text c.in-Some.value.now) _ c.args.out.now c.loop-value.out c.add_compact.new.out (refusal_of c.add_compact.new.out) c.loop-value.invariant
     (field_piece c.loop-value.value-iterator c.next.new.self (c.in-Some.field-0-0.now, c.in-Some.value.now) c.in-Some.ensures.steps) c.in_err-add_compact.ensures.err)
 
 -- ---- a template
@@ -108,7 +108,7 @@ add_compact-returns-in_err-add_template_head-in-Some-clause-err g t c =
     let head = template_head (names_of c.in-Some.first.now.entries) c.len.result in
     let whole = compact-Template v c.deref.result.now (names_of c.in-Some.first.now.entries) c.len.result c.deref.ensures.value c.in-Some.ensures (omega (arith, c.len.ensures, v.ok.0)) in
     let begun = AllBut-start g.W.Sink.took g.W.Sink.failures _ [] _ c.args.out.now c.args.out.now refl (Sent-none g.met.W.Sink.took_nothing c.args.out.now) in
-    rw (p.1, c.in-Array.is) (AllBut-stops g.W.Sink.took g.W.Sink.failures g.met.W.Sink.took_both _ _ head (rows_text v.items) c.args.out.now c.args.out.now c.add_template_head.new.out (refusal_of c.add_template_head.new.out) begun whole c.in_err-add_template_head-in-Some.ensures.err)
+    rw (p.1, c.in-Array.is) (AllBut-stops g.W.Sink.took g.W.Sink.answered g.W.Sink.failures g.met.W.Sink.took_both _ _ head (rows_text v.items) c.args.out.now c.args.out.now c.add_template_head.new.out (refusal_of c.add_template_head.new.out) begun whole c.in_err-add_template_head-in-Some.ensures.err)
 
 pub add_compact-returns-in_ok-add_template_head-in-Some-clause-ok : goal.add_compact-returns-in_ok-add_template_head-in-Some-clause-ok
 add_compact-returns-in_ok-add_template_head-in-Some-clause-ok g t c =
@@ -130,5 +130,5 @@ add_compact-returns-in_ok-add_template_head-in-Some-clause-err g t c =
     let whole = compact-Template v c.deref.result.now (names_of c.in-Some.first.now.entries) c.len.result c.deref.ensures.value c.in-Some.ensures (omega (arith, c.len.ensures, v.ok.0)) in
     let begun = AllBut-start g.W.Sink.took g.W.Sink.failures _ head rest c.args.out.now c.add_template_head.new.out whole c.in_ok-add_template_head-in-Some.ensures.ok in
     rw c.in-Array.is (on_err_weaker c.add_rows.result
-    (λ s. AllBut-stops g.W.Sink.took g.W.Sink.failures g.met.W.Sink.took_both _ rest rest [] c.args.out.now c.add_template_head.new.out c.add_rows.new.out (refusal_of c.add_rows.new.out) begun (sym (append-nil rest)) s)
+    (λ s. AllBut-stops g.W.Sink.took g.W.Sink.answered g.W.Sink.failures g.met.W.Sink.took_both _ rest rest [] c.args.out.now c.add_template_head.new.out c.add_rows.new.out (refusal_of c.add_rows.new.out) begun (sym (append-nil rest)) s)
     c.add_rows.ensures.err)

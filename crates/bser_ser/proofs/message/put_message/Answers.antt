@@ -16,4 +16,4 @@ returns-clause-err g c =
     let fits : FitsSigned w64 c.args.len = search rules in
     let s = simp to_z-of_z at c.in_ok-put_front.ensures.0 in
     MatchResult-weaker c.serialize.result c.serialize.ensures.err (λ _ t. t)
-    (λ e t. Stops-message g.W.Sink.took g.W.Sink.failures g.met.W.Sink.took_both (g.T.Serialize.meaning c.args.value.now) c.args.len c.args.out.now c.put_front.new.self c.serialize.new.out e c.requires s t)
+    (λ e t. Stops-message g.W.Sink.took g.W.Sink.answered g.W.Sink.failures g.met.W.Sink.took_both (g.T.Serialize.meaning c.args.value.now) c.args.len c.args.out.now c.put_front.new.self c.serialize.new.out e c.requires s t)

@@ -1,4 +1,4 @@
-use Rattle.std.proofs.Common.{rules, [], arith}
+use Rattle.std.proofs.Common.{rules, []}
 use Rattle.bser_ser.proofs.Sending.{took_more, took_no_more}
 use Rattle.bser_ser.proofs.pending.send.Goals as goal
 

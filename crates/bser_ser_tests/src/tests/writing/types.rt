@@ -123,8 +123,10 @@ fn put_field<W: Sink, T: Serialize>(
     key: &[u8],
     value: &T,
 ) -> Result<()>
-    ensures ok { OnOk result (Ends W.took W.failures (field_text key.now (T.meaning value.now)) out.old out.new) }
-    ensures err { IfErr result (Stops W.took W.failures (field_text key.now (T.meaning value.now)) out.old out.new) }
+    ensures ok { OnOk result (Ends W.took W.failures
+        (field_text key.now (T.meaning value.now)) out.old out.new) }
+    ensures err { IfErr result (Stops W.took W.answered W.failures
+        (field_text key.now (T.meaning value.now)) out.old out.new) }
 {
     out.put_key(key)?;
     value.serialize(alloc, out)

@@ -8,4 +8,4 @@ returns-clause-ok g c =
 
 pub returns-clause-err : goal.returns-clause-err
 returns-clause-err g c =
-    MatchResult-weaker c.put_each.result c.put_each.ensures.err (λ _ t. t) (λ e t. tree_stops g.W.Sink.took g.W.Sink.failures g.met.W.Sink.took_both (g.F.PutFields.entries c.args.fields.now) c.count.result c.count.ensures c.in_ok-put_map.ensures.counted c.args.out.now c.put_map.new.self c.put_each.new.out e c.in_ok-put_map.ensures.put.0 t)
+    MatchResult-weaker c.put_each.result c.put_each.ensures.err (λ _ t. t) (λ e t. tree_stops g.W.Sink.took g.W.Sink.answered g.W.Sink.failures g.met.W.Sink.took_both (g.F.PutFields.entries c.args.fields.now) c.count.result c.count.ensures c.in_ok-put_map.ensures.counted c.args.out.now c.put_map.new.self c.put_each.new.out e c.in_ok-put_map.ensures.put.0 t)

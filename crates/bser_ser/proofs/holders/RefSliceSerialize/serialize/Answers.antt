@@ -11,8 +11,8 @@ pub returns-in_err-serialize-clause-err : goal.returns-in_err-serialize-clause-e
 returns-in_err-serialize-clause-err g c =
     let p = err_from_is_err_and c.from_residual-in_err-serialize.result c.from_residual-in_err-serialize.ensures.1 in
     let xs = c.args.self.now.now in
-    rw (p.1, p.2) (Stops-slice g.W.Sink.took g.W.Sink.failures g.T.Serialize.meaning xs c.args.out.now c.serialize.new.out c.in_err-serialize.field-0.0 c.in_ok-put_seq.ensures.counted
-    (Stops-array g.W.Sink.took g.W.Sink.failures g.T.Serialize.meaning xs g.met.W.Sink.took_both _ _ c.item-item.result
+    rw (p.1, p.2) (Stops-slice g.W.Sink.took g.W.Sink.answered g.W.Sink.failures g.T.Serialize.meaning xs c.args.out.now c.serialize.new.out c.in_err-serialize.field-0.0 c.in_ok-put_seq.ensures.counted
+    (Stops-array g.W.Sink.took g.W.Sink.answered g.W.Sink.failures g.T.Serialize.meaning xs g.met.W.Sink.took_both _ _ c.item-item.result
     c.args.out.now c.loop-item.out c.serialize.new.out c.in_err-serialize.field-0.0 c.loop-item.invariant
     (item_here xs c.loop-item.item-index c.item-item.result c.loop-item-test.true c.item-item.is) c.in_err-serialize.ensures.err))
 

@@ -10,7 +10,7 @@ use Rattle.bser_ser.proofs.holders.VecSerialize.serialize.Goals as goal
 pub returns-in_err-serialize-clause-err : goal.returns-in_err-serialize-clause-err
 returns-in_err-serialize-clause-err g c =
     let p = err_from_is_err_and c.from_residual-in_err-serialize.result c.from_residual-in_err-serialize.ensures.1 in
-    rw (p.1, p.2) (Stops-array g.W.Sink.took g.W.Sink.failures g.T.Serialize.meaning c.args.self.now.items g.met.W.Sink.took_both _ _ c.item-item.result
+    rw (p.1, p.2) (Stops-array g.W.Sink.took g.W.Sink.answered g.W.Sink.failures g.T.Serialize.meaning c.args.self.now.items g.met.W.Sink.took_both _ _ c.item-item.result
     c.args.out.now c.loop-item.out c.serialize.new.out c.in_err-serialize.field-0.0 c.loop-item.invariant
     (item_here c.deref-item-items.result.now c.loop-item.item-index c.item-item.result c.loop-item-test.true c.item-item.is) c.in_err-serialize.ensures.err)
 

@@ -17,7 +17,7 @@ loop-item-preserved g c =
 pub returns-in_err-serialize-clause-err : goal.returns-in_err-serialize-clause-err
 returns-in_err-serialize-clause-err g c =
     let p = err_from_is_err_and c.from_residual-in_err-serialize.result c.from_residual-in_err-serialize.ensures.1 in
-    rw (p.1, p.2) (Stops-array g.W.Sink.took g.W.Sink.failures g.T.Serialize.meaning c.args.self.now.items g.met.W.Sink.took_both _ _ c.in-Some.item.now
+    rw (p.1, p.2) (Stops-array g.W.Sink.took g.W.Sink.answered g.W.Sink.failures g.T.Serialize.meaning c.args.self.now.items g.met.W.Sink.took_both _ _ c.in-Some.item.now
     c.args.out.now c.loop-item.out c.serialize.new.out c.in_err-serialize.field-0.0 c.loop-item.invariant c.in-Some.ensures.steps c.in_err-serialize.ensures.err)
 
 pub returns-clause-ok : goal.returns-clause-ok

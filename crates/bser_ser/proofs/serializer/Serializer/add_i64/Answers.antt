@@ -9,5 +9,5 @@ pub returns : goal.returns
 returns g c =
     let fits : FitsSigned w64 c.args.v = search rules in
     let spelled : take c.spell-len.result c.spell-len.new.buf ≡ least_integer c.args.v = simp to_z-of_z at c.spell-len.ensures.spelled in
-    subst (λ (bs : List ℕ). Adds g.W.Sink.took g.W.Sink.failures c.args.self.now c.append_pending_front.new.self bs c.append_pending_front.result) spelled
-    (Adds-after g.W.Sink.took g.W.Sink.failures g.met.W.Sink.took_both c.args.self.now c.is_taken_at_once.new.self c.append_pending_front.new.self _ c.append_pending_front.result (rw c.if-is_taken_at_once.false at c.is_taken_at_once.ensures.sent) c.append_pending_front.ensures)
+    subst (λ (bs : List ℕ). Adds g.W.Sink.took g.W.Sink.answered g.W.Sink.failures c.args.self.now c.append_pending_front.new.self bs c.append_pending_front.result) spelled
+    (Adds-after g.W.Sink.took g.W.Sink.answered g.W.Sink.failures g.met.W.Sink.took_both c.args.self.now c.is_taken_at_once.new.self c.append_pending_front.new.self _ c.append_pending_front.result (rw c.if-is_taken_at_once.false at c.is_taken_at_once.ensures.sent) c.append_pending_front.ensures)

@@ -14,4 +14,4 @@ pub returns-clause-err : goal.returns-clause-err
 returns-clause-err g c =
     let parts : List (Option Tree) = g.A.Serialize.meaning c.args.self.now.0 ∷ [] in
     let u0 = parts_start g.W.Sink.took g.W.Sink.failures g.met.W.Sink.took_both parts c.args.out.now c.put_seq.new.self c.in_ok-put_seq.ensures.put.0 in
-    MatchResult-weaker c.serialize.result c.serialize.ensures.err (λ _ t. t) (λ e t. parts_stop g.W.Sink.took g.W.Sink.failures g.met.W.Sink.took_both parts c.serialize.new.out e u0 t)
+    MatchResult-weaker c.serialize.result c.serialize.ensures.err (λ _ t. t) (λ e t. parts_stop g.W.Sink.took g.W.Sink.answered g.W.Sink.failures g.met.W.Sink.took_both parts c.serialize.new.out e u0 t)

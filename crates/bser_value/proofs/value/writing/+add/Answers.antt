@@ -21,7 +21,7 @@ told v = Some (tree_of v)
 pub add_items-returns-in_err-add_value-clause-err : goal.add_items-returns-in_err-add_value-clause-err
 add_items-returns-in_err-add_value-clause-err g t c =
     let p = err_from_is_err_and c.from_residual-in_err-add_value.result c.from_residual-in_err-add_value.ensures.1 in
-    rw p.1 (Stops-array g.W.Sink.took g.W.Sink.failures told c.args.items.now.items g.met.W.Sink.took_both _ _ c.item-item.result
+    rw p.1 (Stops-array g.W.Sink.took g.W.Sink.answered g.W.Sink.failures told c.args.items.now.items g.met.W.Sink.took_both _ _ c.item-item.result
     c.args.out.now c.loop-item.out c.add_value.new.out (refusal_of c.add_value.new.out) c.loop-item.invariant
     (item_here c.deref-item-items.result.now c.loop-item.item-index c.item-item.result c.loop-item-test.true c.item-item.is) c.in_err-add_value.ensures.err)
 
@@ -39,16 +39,16 @@ add_items-returns-clause-ok g t c =
 pub add_entries-returns-in_err-add_text_key-clause-err : goal.add_entries-returns-in_err-add_text_key-clause-err
 add_entries-returns-in_err-add_text_key-clause-err g t c =
     let p = err_from_is_err_and c.from_residual-in_err-add_text_key.result c.from_residual-in_err-add_text_key.ensures.1 in
-    rw p.1 (Stops-object g.W.Sink.took g.W.Sink.failures string_bytes told c.args.entries.now.entries g.met.W.Sink.took_both _ c.next.new.self (c.in-Some.key.now, c.in-Some.value.now)
+    rw p.1 (Stops-object g.W.Sink.took g.W.Sink.answered g.W.Sink.failures string_bytes told c.args.entries.now.entries g.met.W.Sink.took_both _ c.next.new.self (c.in-Some.key.now, c.in-Some.value.now)
     c.args.out.now c.loop-key.out c.add_text_key.new.self (refusal_of c.add_text_key.new.self) c.loop-key.invariant c.in-Some.ensures.steps
-    (Stops-none g.W.Sink.took g.W.Sink.failures (entry_text string_bytes told (c.in-Some.key.now, c.in-Some.value.now)) c.loop-key.out c.add_text_key.new.self (refusal_of c.add_text_key.new.self) c.in_err-add_text_key.ensures.0 c.in_err-add_text_key.ensures.1))
+    (Stops-none g.W.Sink.took g.W.Sink.answered g.W.Sink.failures (entry_text string_bytes told (c.in-Some.key.now, c.in-Some.value.now)) c.loop-key.out c.add_text_key.new.self (refusal_of c.add_text_key.new.self) c.in_err-add_text_key.ensures.0 c.in_err-add_text_key.ensures.1))
 
 pub add_entries-returns-in_err-add_value-clause-err : goal.add_entries-returns-in_err-add_value-clause-err
 add_entries-returns-in_err-add_value-clause-err g t c =
     let p = err_from_is_err_and c.from_residual-in_err-add_value.result c.from_residual-in_err-add_value.ensures.1 in
-    rw p.1 (Stops-object g.W.Sink.took g.W.Sink.failures string_bytes told c.args.entries.now.entries g.met.W.Sink.took_both _ c.next.new.self (c.in-Some.key.now, c.in-Some.value.now)
+    rw p.1 (Stops-object g.W.Sink.took g.W.Sink.answered g.W.Sink.failures string_bytes told c.args.entries.now.entries g.met.W.Sink.took_both _ c.next.new.self (c.in-Some.key.now, c.in-Some.value.now)
     c.args.out.now c.loop-key.out c.add_value.new.out (refusal_of c.add_value.new.out) c.loop-key.invariant c.in-Some.ensures.steps
-    (Stops-second g.W.Sink.took g.W.Sink.failures g.met.W.Sink.took_both (Some (canonical_key (string_bytes c.in-Some.key.now))) (text_of (told c.in-Some.value.now)) c.loop-key.out c.add_text_key.new.self c.add_value.new.out (refusal_of c.add_value.new.out) (rw c.as_str.ensures.value at c.in_ok-add_text_key.ensures.0) c.in_err-add_value.ensures.err))
+    (Stops-second g.W.Sink.took g.W.Sink.answered g.W.Sink.failures g.met.W.Sink.took_both (Some (canonical_key (string_bytes c.in-Some.key.now))) (text_of (told c.in-Some.value.now)) c.loop-key.out c.add_text_key.new.self c.add_value.new.out (refusal_of c.add_value.new.out) (rw c.as_str.ensures.value at c.in_ok-add_text_key.ensures.0) c.in_err-add_value.ensures.err))
 
 pub add_entries-loop-key-preserved : goal.add_entries-loop-key-preserved
 add_entries-loop-key-preserved g t c =
@@ -64,10 +64,10 @@ pub add_value-returns-in-Array-clause-ok : goal.add_value-returns-in-Array-claus
 add_value-returns-in-Array-clause-ok g t c = rw (c.in-Array.is) (subst (λ (m : Option Tree). OnOk c.add_items.result (Ends g.W.Sink.took g.W.Sink.failures (text_of m) c.args.out.now c.add_items.new.out)) (sym (written-Array c.in-Array.items)) c.add_items.ensures.ok)
 
 pub add_value-returns-in-Array-clause-err : goal.add_value-returns-in-Array-clause-err
-add_value-returns-in-Array-clause-err g t c = rw (c.in-Array.is) (subst (λ (m : Option Tree). OnErr c.add_items.result (Stops g.W.Sink.took g.W.Sink.failures (text_of m) c.args.out.now c.add_items.new.out (refusal_of c.add_items.new.out))) (sym (written-Array c.in-Array.items)) c.add_items.ensures.err)
+add_value-returns-in-Array-clause-err g t c = rw (c.in-Array.is) (subst (λ (m : Option Tree). OnErr c.add_items.result (Stops g.W.Sink.took g.W.Sink.answered g.W.Sink.failures (text_of m) c.args.out.now c.add_items.new.out (refusal_of c.add_items.new.out))) (sym (written-Array c.in-Array.items)) c.add_items.ensures.err)
 
 pub add_value-returns-in-Object-clause-ok : goal.add_value-returns-in-Object-clause-ok
 add_value-returns-in-Object-clause-ok g t c = rw (c.in-Object.is) (subst (λ (m : Option Tree). OnOk c.add_entries.result (Ends g.W.Sink.took g.W.Sink.failures (text_of m) c.args.out.now c.add_entries.new.out)) (sym (written-Object c.in-Object.entries)) c.add_entries.ensures.ok)
 
 pub add_value-returns-in-Object-clause-err : goal.add_value-returns-in-Object-clause-err
-add_value-returns-in-Object-clause-err g t c = rw (c.in-Object.is) (subst (λ (m : Option Tree). OnErr c.add_entries.result (Stops g.W.Sink.took g.W.Sink.failures (text_of m) c.args.out.now c.add_entries.new.out (refusal_of c.add_entries.new.out))) (sym (written-Object c.in-Object.entries)) c.add_entries.ensures.err)
+add_value-returns-in-Object-clause-err g t c = rw (c.in-Object.is) (subst (λ (m : Option Tree). OnErr c.add_entries.result (Stops g.W.Sink.took g.W.Sink.answered g.W.Sink.failures (text_of m) c.args.out.now c.add_entries.new.out (refusal_of c.add_entries.new.out))) (sym (written-Object c.in-Object.entries)) c.add_entries.ensures.err)

@@ -12,7 +12,7 @@ returns-in_err-put_field-clause-err g c =
     let same = err_from_is_err_and c.from_residual-in_err-put_field.result c.from_residual-in_err-put_field.ensures.1 in
     let fields : List (List ℕ × Option Tree) = (codes "test_list", array_tree (λ n. Some (integer n)) c.args.self.now.test_list.items) ∷ (codes "test_tuple", tuple_tree (Some (text c.args.self.now.test_tuple.0.now) ∷ option_tree (λ r. Some (real r.0)) c.args.self.now.test_tuple.1 ∷ [])) ∷ (codes "test_enum", g.E.Serialize.meaning c.args.self.now.test_enum) ∷ (codes "test_enum_list", array_tree g.E.Serialize.meaning c.args.self.now.test_enum_list.items) ∷ [] in
     let u = walk_start g.W.Sink.took g.W.Sink.failures g.met.W.Sink.took_both (object_head 4) (entry_text plain_bytes part_tree) fields (struct_tree fields) (struct_text fields) c.args.out.now c.put_map.new.self c.in_ok-put_map.ensures.put.0 in
-    rw (same.1, same.2) (walk_stop g.W.Sink.took g.W.Sink.failures g.met.W.Sink.took_both (object_head 4) (entry_text plain_bytes part_tree) fields (struct_tree fields) (struct_text fields) c.put_field.new.out c.in_err-put_field.field-0.0 u c.in_err-put_field.ensures.err)
+    rw (same.1, same.2) (walk_stop g.W.Sink.took g.W.Sink.answered g.W.Sink.failures g.met.W.Sink.took_both (object_head 4) (entry_text plain_bytes part_tree) fields (struct_tree fields) (struct_text fields) c.put_field.new.out c.in_err-put_field.field-0.0 u c.in_err-put_field.ensures.err)
 
 pub returns-in_err-put_field-2-clause-err : goal.returns-in_err-put_field-2-clause-err
 returns-in_err-put_field-2-clause-err g c =
@@ -20,7 +20,7 @@ returns-in_err-put_field-2-clause-err g c =
     let fields : List (List ℕ × Option Tree) = (codes "test_list", array_tree (λ n. Some (integer n)) c.args.self.now.test_list.items) ∷ (codes "test_tuple", tuple_tree (Some (text c.args.self.now.test_tuple.0.now) ∷ option_tree (λ r. Some (real r.0)) c.args.self.now.test_tuple.1 ∷ [])) ∷ (codes "test_enum", g.E.Serialize.meaning c.args.self.now.test_enum) ∷ (codes "test_enum_list", array_tree g.E.Serialize.meaning c.args.self.now.test_enum_list.items) ∷ [] in
     let u = walk_start g.W.Sink.took g.W.Sink.failures g.met.W.Sink.took_both (object_head 4) (entry_text plain_bytes part_tree) fields (struct_tree fields) (struct_text fields) c.args.out.now c.put_map.new.self c.in_ok-put_map.ensures.put.0 in
     let v = walk_more g.W.Sink.took g.W.Sink.failures g.met.W.Sink.took_both (object_head 4) (entry_text plain_bytes part_tree) fields (struct_tree fields) (struct_text fields) c.put_field.new.out u c.in_ok-put_field.ensures.ok in
-    rw (same.1, same.2) (walk_stop g.W.Sink.took g.W.Sink.failures g.met.W.Sink.took_both (object_head 4) (entry_text plain_bytes part_tree) fields (struct_tree fields) (struct_text fields) c.put_field-2.new.out c.in_err-put_field-2.field-0.0 v c.in_err-put_field-2.ensures.err)
+    rw (same.1, same.2) (walk_stop g.W.Sink.took g.W.Sink.answered g.W.Sink.failures g.met.W.Sink.took_both (object_head 4) (entry_text plain_bytes part_tree) fields (struct_tree fields) (struct_text fields) c.put_field-2.new.out c.in_err-put_field-2.field-0.0 v c.in_err-put_field-2.ensures.err)
 
 pub returns-in_err-put_field-3-clause-err : goal.returns-in_err-put_field-3-clause-err
 returns-in_err-put_field-3-clause-err g c =
@@ -29,7 +29,7 @@ returns-in_err-put_field-3-clause-err g c =
     let u = walk_start g.W.Sink.took g.W.Sink.failures g.met.W.Sink.took_both (object_head 4) (entry_text plain_bytes part_tree) fields (struct_tree fields) (struct_text fields) c.args.out.now c.put_map.new.self c.in_ok-put_map.ensures.put.0 in
     let v = walk_more g.W.Sink.took g.W.Sink.failures g.met.W.Sink.took_both (object_head 4) (entry_text plain_bytes part_tree) fields (struct_tree fields) (struct_text fields) c.put_field.new.out u c.in_ok-put_field.ensures.ok in
     let w = walk_more g.W.Sink.took g.W.Sink.failures g.met.W.Sink.took_both (object_head 4) (entry_text plain_bytes part_tree) fields (struct_tree fields) (struct_text fields) c.put_field-2.new.out v c.in_ok-put_field-2.ensures.ok in
-    rw (same.1, same.2) (walk_stop g.W.Sink.took g.W.Sink.failures g.met.W.Sink.took_both (object_head 4) (entry_text plain_bytes part_tree) fields (struct_tree fields) (struct_text fields) c.put_field-3.new.out c.in_err-put_field-3.field-0.0 w c.in_err-put_field-3.ensures.err)
+    rw (same.1, same.2) (walk_stop g.W.Sink.took g.W.Sink.answered g.W.Sink.failures g.met.W.Sink.took_both (object_head 4) (entry_text plain_bytes part_tree) fields (struct_tree fields) (struct_text fields) c.put_field-3.new.out c.in_err-put_field-3.field-0.0 w c.in_err-put_field-3.ensures.err)
 
 pub returns-clause-ok : goal.returns-clause-ok
 returns-clause-ok g c =
@@ -47,4 +47,4 @@ returns-clause-err g c =
     let v = walk_more g.W.Sink.took g.W.Sink.failures g.met.W.Sink.took_both (object_head 4) (entry_text plain_bytes part_tree) fields (struct_tree fields) (struct_text fields) c.put_field.new.out u c.in_ok-put_field.ensures.ok in
     let w = walk_more g.W.Sink.took g.W.Sink.failures g.met.W.Sink.took_both (object_head 4) (entry_text plain_bytes part_tree) fields (struct_tree fields) (struct_text fields) c.put_field-2.new.out v c.in_ok-put_field-2.ensures.ok in
     let x = walk_more g.W.Sink.took g.W.Sink.failures g.met.W.Sink.took_both (object_head 4) (entry_text plain_bytes part_tree) fields (struct_tree fields) (struct_text fields) c.put_field-3.new.out w c.in_ok-put_field-3.ensures.ok in
-    MatchResult-weaker c.put_field-4.result c.put_field-4.ensures.err (λ _ t. t) (λ e t. walk_stop g.W.Sink.took g.W.Sink.failures g.met.W.Sink.took_both (object_head 4) (entry_text plain_bytes part_tree) fields (struct_tree fields) (struct_text fields) c.put_field-4.new.out e x t)
+    MatchResult-weaker c.put_field-4.result c.put_field-4.ensures.err (λ _ t. t) (λ e t. walk_stop g.W.Sink.took g.W.Sink.answered g.W.Sink.failures g.met.W.Sink.took_both (object_head 4) (entry_text plain_bytes part_tree) fields (struct_tree fields) (struct_text fields) c.put_field-4.new.out e x t)
