@@ -62,6 +62,8 @@ impl<S: Source> ReaderMessages<S> {
         ensures found { IfOk result (IsNext
             (reader_limits self.old).levels (reader_limits self.old).bytes T.reads T.holds
             (S.remaining (reader_of self.old)) (S.remaining (reader_of self.new))) }
+        ensures kept { OnOk result
+            (S.failures (reader_of self.new) ≡ S.failures (reader_of self.old)) }
         ensures counted { IfOk result (λ answer.
             reader_taken self.new ≡ counts_message answer (reader_taken self.old)) }
         ensures works { OnOk result (reader_failed self.old ≡ false) }

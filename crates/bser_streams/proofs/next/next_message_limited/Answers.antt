@@ -1,5 +1,6 @@
 -- The next message of a reader.
 use Rattle.std.proofs.Common.{rules, ap}
+use Rattle.bser_messages.proofs.Sources.{none_counted}
 use Rattle.bser_streams.proofs.Windows.{read_before}
 use Rattle.bser_streams.proofs.Readers.{reader_took, took_known}
 use Rattle.bser_streams.proofs.Nexts.{next_known, next_refused, reader_fails}
@@ -13,6 +14,13 @@ returns-in-Ok-answer-clause-found g c =
     (reader_took c.args.limits.levels c.args.limits.bytes g.T.Shape.reads g.T.Shape.holds _ _ c.in-Ok-answer.value (ap (λ w. w.buffered) fresh) (ap (λ w. w.limit) fresh)
     (read_before c.args.limits.levels c.args.limits.bytes g.T.Shape.reads g.T.Shape.holds _ _ _ c.in-Ok-answer.value c.in-Ok.ensures.ok.filled.grown read))
 
+pub returns-in-Ok-answer-clause-kept : goal.returns-in-Ok-answer-clause-kept
+returns-in-Ok-answer-clause-kept g c =
+    let fresh = c.new-read.ensures in
+    let read = rw c.unread-from.ensures.source at c.in-Ok-answer.ensures.found in
+    none_counted c.args.limits.levels g.T.Shape.reads g.T.Shape.holds c.in-Ok-answer.value _ _ _ _ (ap (λ w. w.failures) fresh) (search rules)
+    (read_before c.args.limits.levels c.args.limits.bytes g.T.Shape.reads g.T.Shape.holds _ _ _ c.in-Ok-answer.value c.in-Ok.ensures.ok.filled.grown read).whole
+
 pub returns-in-Err-answer-clause-refused : goal.returns-in-Err-answer-clause-refused
 returns-in-Err-answer-clause-refused g c =
     let fresh = c.new-read.ensures in
@@ -23,5 +31,6 @@ returns-in-Err-answer-clause-refused g c =
 pub returns-in_default : goal.returns-in_default
 returns-in_default g c = record {
   found = tt;
+  kept = tt;
   refused = rw c.de_reader_error.ensures (reader_fails c.args.limits.levels c.args.limits.bytes g.T.Shape.reads g.T.Shape.asks c.in-Err.cause _ _ _ _ _ _ _ c.new-read.ensures (search rules) c.in_default.not-Eof c.in-Err.ensures.memory c.in-Err.ensures.err);
 }
