@@ -9,5 +9,3 @@ pub mod least;
 pub mod messages;
 pub mod returned;
 pub mod templates;
-#[cfg(test)]
-mod tests;

@@ -5,5 +5,3 @@
 pub mod engine;
 pub mod program;
 pub mod standard;
-#[cfg(test)]
-mod tests;

@@ -1,11 +1,11 @@
 //! Structs and enums from objects, rows and names, from a slice and from a reader, and the messages
 //! written for them.
-use crate::choices::Choice;
-use crate::files::File;
-use crate::named::NamedFile;
-use crate::queries::Query;
-use crate::rows::Row;
-use crate::signed::Shift;
+use bser_structs_types::choices::Choice;
+use bser_structs_types::files::File;
+use bser_structs_types::named::NamedFile;
+use bser_structs_types::queries::Query;
+use bser_structs_types::rows::Row;
+use bser_structs_types::signed::Shift;
 use serde_bser::bytestring::ByteString;
 use serde_bser::de::ObjectOr;
 use serde_bser::device::Watched;

@@ -1,9 +1,9 @@
 //! Tests of the engine, and of the program over streams in memory.
 mod compact;
 
-use crate::engine::canon;
-use crate::program::{DONE, REFUSED, UNKNOWN_ARGUMENT, run};
 use bser_format::errors::{Error, Kind, ReadCause};
+use bser_rewriting::engine::canon;
+use bser_rewriting::program::{DONE, REFUSED, UNKNOWN_ARGUMENT, run};
 use bser_source::device::Watched;
 use std::alloc::{AllocError, Global};
 use std::io;

@@ -1,13 +1,13 @@
 //! Each promise at a concrete type.
-use crate::agreement::read_both_ways;
-use crate::bounds::read_within_bounds;
-use crate::least::{compactly_rewritten, least_compact_message, least_message, rewritten};
-use crate::messages::{have_one_compact_message, have_one_message};
-use crate::returned::{
+use bser_promises::agreement::read_both_ways;
+use bser_promises::bounds::read_within_bounds;
+use bser_promises::least::{compactly_rewritten, least_compact_message, least_message, rewritten};
+use bser_promises::messages::{have_one_compact_message, have_one_message};
+use bser_promises::returned::{
     compactly_written_and_read, compactly_written_and_read_on, written_and_read,
     written_and_read_on,
 };
-use crate::templates::{read_written_out, read_written_out_on};
+use bser_promises::templates::{read_written_out, read_written_out_on};
 use bser_source::device::Watched;
 use serde_bser::errors::{Error, Kind, ReadCause, Result};
 use serde_bser::from_slice;

@@ -20,7 +20,7 @@ pub enum Choice<S> {
 }
 
 impl<S: Shape + Serialize> Variants for Choice<S> {
-    ghost use Rattle.bser_structs_tests.specs.declared.choices.Choice.TheVariants.{Nothing, One, Two, Named};
+    ghost use Rattle.bser_structs_types.specs.declared.choices.Choice.TheVariants.{Nothing, One, Two, Named};
 
     ghost variants = { unit (codes "Nothing") (λ v. elim v [ Nothing ↦ true | _ ↦ false ])
         ∷ newtype (codes "One") (λ v. elim v [ One x ↦ Some x | _ ↦ None ])

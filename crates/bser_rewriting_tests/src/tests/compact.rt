@@ -1,7 +1,7 @@
 //! Tests of the compact form, and of the argument that asks for it.
 use super::{NULL, ROWS, Tested, memory};
-use crate::engine::canon_compact;
-use crate::program::{DONE, UNKNOWN_ARGUMENT, run};
+use bser_rewriting::engine::canon_compact;
+use bser_rewriting::program::{DONE, UNKNOWN_ARGUMENT, run};
 use bser_source::device::Watched;
 use std::alloc::{AllocError, Global};
 use std::process::Abort;

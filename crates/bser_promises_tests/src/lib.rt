@@ -1,0 +1,5 @@
+//! Tests of the promises, each at a concrete type.
+#![tactic(auto)]
+
+#[cfg(test)]
+mod tests;
