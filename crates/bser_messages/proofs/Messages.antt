@@ -7,7 +7,7 @@ use Rattle.std.proofs.lemmas.Int.{ints}
 use Rattle.bser_format.specs.Tree.{Tree}
 use Rattle.bser_format.specs.Expand.{expand}
 use Rattle.bser_format.specs.Expected.{Fills, FillsNode, nothing_due, node_due}
-use Rattle.bser_format.specs.Content.{Content, Meaning, Needs}
+use Rattle.bser_format.specs.Content.{Content, Meaning}
 use Rattle.bser_format.specs.declared.errors.Error.{Error}
 use Rattle.bser_format.proofs.Frames.{framed, parts}
 use Rattle.bser_format.proofs.Fronts.{one_value}
@@ -23,7 +23,7 @@ use Rattle.bser_bunser.specs.Names.{Names}
 use Rattle.bser_bunser.proofs.Names.{known_rest, left_now, left_untaken}
 use Rattle.bser_bunser.proofs.Readers.{head_there}
 use Rattle.bser_due.specs.State.{State, Begins, IsAtEnd}
-use Rattle.bser_due.specs.Reading.{Answers, Asking, NamesAsked, NamesBy, Refuses, FillsReadably, IsRefusal, bare}
+use Rattle.bser_due.specs.Reading.{Answers, Asking, NamesAsked, NamesBy, Refuses, FillsReadably, IsRefusal, bare, Needs}
 use Rattle.bser_due.proofs.Clean.{clean_head}
 use Rattle.bser_due.proofs.Refusals.{first_part, sequel, with_needs, by_name, names_any, names_bare, names_by_more, names_by_untaken, no_failure}
 use Rattle.bser_deserializer.specs.View.{not_at_end}

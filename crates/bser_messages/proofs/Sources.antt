@@ -4,7 +4,7 @@ use Rattle.std.proofs.lemmas.List.{append-nil}
 use Rattle.std.proofs.lemmas.Bool.{ltb-false}
 use Rattle.std.specs.Prelude.{Result, Ok, Err, IfErr}
 use Rattle.std.specs.Borrow.{GName}
-use Rattle.bser_format.specs.Content.{Meaning, Needs}
+use Rattle.bser_format.specs.Content.{Meaning}
 use Rattle.bser_format.specs.Expected.{node_due}
 use Rattle.bser_format.specs.declared.errors.Error.{Error}
 use Rattle.bser_format.specs.declared.errors.Error.TheVariants.{DeCustom, DeReaderError, OutOfMemory}
@@ -18,7 +18,7 @@ use Rattle.bser_read.specs.Slice.{slice_fresh}
 use Rattle.bser_bunser.specs.Refusal.{failures_by}
 use Rattle.bser_bunser.specs.Names as bunser
 use Rattle.bser_bunser.specs.Names.{Agree, Blame, MayBeLeft, RefusedAs}
-use Rattle.bser_due.specs.Reading.{Asking, OutsideBy, ExcusedBy, MayRefuse, refusing}
+use Rattle.bser_due.specs.Reading.{Asking, OutsideBy, ExcusedBy, MayRefuse, refusing, Needs}
 use Rattle.bser_messages.specs.Messages.{NamesMessage, RefusesMessage, IsMemory, NamesSlice, RefusesSlice, CountsFault, MayCome, IsReaderFault, IsOutside, NamesReader, RefusesReader}
 
 -- ---- slices

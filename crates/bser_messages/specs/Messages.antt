@@ -4,7 +4,7 @@ use Rattle.std.specs.Io.KnownBytes.{Consumes}
 use Rattle.bser_format.specs.Tree.{Tree}
 use Rattle.bser_format.specs.Expand.{expand}
 use Rattle.bser_format.specs.Message.{IsMessage}
-use Rattle.bser_format.specs.Content.{Content, Meaning, Needs}
+use Rattle.bser_format.specs.Content.{Content, Meaning}
 use Rattle.bser_format.specs.Expected.{node_due}
 use Rattle.bser_format.specs.Grammar.{Format}
 use Rattle.bser_format.specs.declared.errors.Error.{Error}
@@ -16,7 +16,7 @@ use Rattle.bser_read.specs.Window.{Window, Took, left, with_limit}
 use Rattle.bser_bunser.specs.Refusal.{failures_by}
 use Rattle.bser_due.specs.State.{State, Begins}
 use Rattle.bser_bunser.specs.Names.{Agree}
-use Rattle.bser_due.specs.Reading.{Answers, Asking, ExcusedBy, MayRefuse, NamesBy, RefusesFront}
+use Rattle.bser_due.specs.Reading.{Answers, Asking, ExcusedBy, MayRefuse, NamesBy, RefusesFront, Needs}
 
 -- ---- what is read
 

@@ -8,7 +8,7 @@ use Rattle.std.specs.Ordering.{match_ordering, is_eq}
 use Rattle.std.specs.BTreeMap.{insert_entry}
 use Rattle.bser_format.specs.Tree.{Tree, null, boolean, integer, real, bytes, text, array, object, template, Entries}
 use Rattle.bser_format.specs.Expand.{key_tree}
-use Rattle.bser_format.specs.Content.{Content, byte_list, pair, Meaning, Needs, each_some}
+use Rattle.bser_format.specs.Content.{Content, byte_list, pair, Meaning, each_some}
 use Rattle.bser_format.specs.Expected.{Fills, WantedPairs, node_due, key_due, field_due, name_due, entries_of_object, fields_of_row}
 use Rattle.bser_format.specs.ReadsHolders.{reads_map, reads_entry, list_of}
 use Rattle.bser_format.specs.declared.errors.Error.{Error}
@@ -21,7 +21,7 @@ use Rattle.bser_named.proofs.Steps as steps
 use Rattle.bser_named.proofs.Steps.{Continues, first_read}
 use Rattle.bser_read.specs.Window.{closed}
 use Rattle.bser_due.specs.State.{State, awaiting}
-use Rattle.bser_due.specs.Reading.{Answers, Asking, Refuses}
+use Rattle.bser_due.specs.Reading.{Answers, Asking, Refuses, Needs}
 use Rattle.bser_due.specs.Parts.{BeginsPairs, pairs_left, pair_key, pair_value, pairs_after}
 use Rattle.bser_due.specs.Access.{OpenPairs, OpensPairs, RefusesPairs, NoEntry, IsEntry, ClosesPairs}
 use Rattle.bser_due.specs.HoldsMaps.{HoldsEntries}

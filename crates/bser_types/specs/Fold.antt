@@ -2,7 +2,8 @@
 use Rattle.std.specs.Prelude.{ℕ, true, List, [], ◌∷◌, Option, Some, None, option_and_then, if◌then◌else◌}
 use Rattle.std.specs.Str.{is_utf8}
 use Rattle.bser_format.specs.Tree.{Tree, object, entries}
-use Rattle.bser_format.specs.Content.{Content, Meaning, Needs}
+use Rattle.bser_format.specs.Content.{Content, Meaning}
+use Rattle.bser_due.specs.Reading.{Needs}
 use Rattle.bser_due.specs.Fields.{field_of}
 use Rattle.bser_due.specs.declared.field.Field.{Field}
 

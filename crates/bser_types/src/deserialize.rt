@@ -1,7 +1,7 @@
 //! Types that are read.
 ghost use Rattle.std.specs.Prelude.{◌≡◌, false, Option, IfOk, OnErr};
-ghost use Rattle.bser_format.specs.Content.{Content, Meaning, Needs, ReadsNoObject};
-ghost use Rattle.bser_due.specs.Reading.{Answers, Asking, Refuses};
+ghost use Rattle.bser_format.specs.Content.{Content, Meaning, ReadsNoObject};
+ghost use Rattle.bser_due.specs.Reading.{Answers, Asking, Refuses, Needs};
 ghost use Rattle.bser_deserializer.specs.View.{state, refusal_in};
 
 use bser_bunser::refusal::Answer;

@@ -2,7 +2,7 @@
 use Rattle.std.proofs.Common.{◌||◌, true, false, refl, subst}
 use Rattle.std.proofs.lemmas.Bool.{or_left, or_right}
 use Rattle.std.proofs.lemmas.Result.{err_from_is_err_and}
-use Rattle.bser_format.specs.Content.{Needs}
+use Rattle.bser_due.specs.Reading.{Needs}
 use Rattle.bser_due.specs.State.{State}
 use Rattle.bser_due.specs.Nodes.{SeesNode}
 use Rattle.bser_due.specs.declared.node.Node.TheVariants as kinds
