@@ -1,5 +1,6 @@
 //! Reading whole messages.
-ghost use Rattle.std.specs.Prelude.{◌≡◌, ◌≤◌, [], IfOk, IfErr, OnErr};
+ghost use Rattle.std.specs.Prelude.{◌≡◌, ◌≢◌, ◌≤◌, [], IfOk, IfErr, OnErr};
+ghost use Rattle.bser_due.specs.Reading.{TakesNoMemory};
 ghost use Rattle.bser_deserializer.specs.View.{state, refusal_in};
 ghost use Rattle.bser_messages.specs.Messages.{
   BeginsWith,
@@ -14,7 +15,7 @@ ghost use Rattle.bser_messages.specs.Messages.{
 
 use bser_bunser::refusal::{Answer, Refused};
 use bser_deserializer::deserializer::{Deserializer, LEVELS};
-use bser_format::errors::Result;
+use bser_format::errors::{Error, Result};
 use bser_read::io_read::IoRead;
 use bser_read::read::DeRead;
 use bser_read::slice_read::SliceRead;
@@ -57,14 +58,16 @@ pub fn from_slice_within<'de, T: Deserialize<&'de [u8]>>(
 ///
 /// Answers a value exactly where a front of the bytes left is a well-formed message whose tree,
 /// templates written out, the type reads as that value, want of memory and faults that the reader
-/// counts aside. Refused else by the name of the first fault in the order of reading. After a
-/// refusal nothing is said of how far the reader went. The crate takes the reader by value, and no
-/// allocator.
+/// counts aside. Refused else by the name of the first fault in the order of reading, or for want
+/// of memory, and that only of a type that takes memory or reads bytes which are copied: never of
+/// `bool`, `()` or a number. After a refusal nothing is said of how far the reader went. The crate
+/// takes the reader by value, and no allocator.
 pub fn from_reader<S: Source, T: DeserializeOwned>(alloc: Global, reader: &mut S) -> Result<T>
     ensures found { IfOk result
         (TookMessage 128 T.reads T.holds (S.remaining reader.old) (S.remaining reader.new)) }
     ensures refused { IfErr result (λ e. RefusesReader 128 T.reads T.asks e
         (S.remaining reader.old) (S.failures reader.old) (S.failures reader.new)) }
+    ensures memory { TakesNoMemory T.needs → IfErr result (λ e. e ≢ Error.OutOfMemory) }
 {
     from_reader_within(alloc, LEVELS, reader)
 }
@@ -82,6 +85,7 @@ pub fn from_reader_within<S: Source, T: DeserializeOwned>(
         (TookMessage limit T.reads T.holds (S.remaining reader.old) (S.remaining reader.new)) }
     ensures refused { IfErr result (λ e. RefusesReader limit T.reads T.asks e
         (S.remaining reader.old) (S.failures reader.old) (S.failures reader.new)) }
+    ensures memory { TakesNoMemory T.needs → IfErr result (λ e. e ≢ Error.OutOfMemory) }
 {
     let mut from = Deserializer::unread(alloc, IoRead::new(reader));
     let answer = read_message(alloc, limit, &mut from);
@@ -107,6 +111,7 @@ where
         (state R.window R.Lent.kept from.old).source (state R.window R.Lent.kept from.new).source) }
     ensures refused { IfErr result (λ e. RefusesMessage limit T.reads T.asks T.needs e
         (state R.window R.Lent.kept from.old).source (state R.window R.Lent.kept from.new).source) }
+    ensures memory { TakesNoMemory T.needs → IfErr result (λ e. e ≢ Error.OutOfMemory) }
 {
     match read_body(alloc, limit, from) {
         Ok(value) => {
@@ -132,6 +137,8 @@ where
         (state R.window R.Lent.kept from.old).source (state R.window R.Lent.kept from.new)) }
     ensures refused { OnErr result (RefusesBody limit T.reads T.asks T.needs (refusal_in from.new)
         (state R.window R.Lent.kept from.old).source (state R.window R.Lent.kept from.new).source) }
+    ensures memory { TakesNoMemory T.needs
+        → OnErr result (refusal_in from.new ≢ Error.OutOfMemory) }
 {
     from.read_head(limit)?;
     T::deserialize(alloc, from)

@@ -1,5 +1,6 @@
 //! The next message of a reader, or the end of its stream.
-ghost use Rattle.std.specs.Prelude.{◌≡◌, ◌≤◌, ◌^◌, ◌-◌, IfOk, IfErr};
+ghost use Rattle.std.specs.Prelude.{◌≡◌, ◌≢◌, ◌≤◌, ◌^◌, ◌-◌, IfOk, IfErr};
+ghost use Rattle.bser_due.specs.Reading.{TakesNoMemory};
 ghost use Rattle.bser_streams.specs.Limited.{TookWithin, RefusesReaderWithin};
 ghost use Rattle.bser_streams.specs.Streams.{IsNext, RefusesNext};
 
@@ -27,6 +28,7 @@ pub fn next_message<S: Source, T: DeserializeOwned>(
     ensures refused { IfErr result (λ e. RefusesNext 128 (2 ^ 64 - 1) T.reads T.asks e
         (S.remaining reader.old) (S.remaining reader.new)
         (S.failures reader.old) (S.failures reader.new)) }
+    ensures memory { TakesNoMemory T.needs → IfErr result (λ e. e ≢ Error.OutOfMemory) }
 {
     next_message_limited(alloc, Limits::new(), reader)
 }
@@ -47,6 +49,7 @@ pub fn next_message_limited<S: Source, T: DeserializeOwned>(
     ensures refused { IfErr result (λ e. RefusesNext limits.levels limits.bytes T.reads T.asks e
         (S.remaining reader.old) (S.remaining reader.new)
         (S.failures reader.old) (S.failures reader.new)) }
+    ensures memory { TakesNoMemory T.needs → IfErr result (λ e. e ≢ Error.OutOfMemory) }
 {
     let mut read = IoRead::new(reader);
     match read.peek() {
@@ -86,6 +89,7 @@ pub fn from_reader_limited<S: Source, T: DeserializeOwned>(
         RefusesReaderWithin limits.levels limits.bytes T.reads T.asks e
         (S.remaining reader.old) (S.remaining reader.new)
         (S.failures reader.old) (S.failures reader.new)) }
+    ensures memory { TakesNoMemory T.needs → IfErr result (λ e. e ≢ Error.OutOfMemory) }
 {
     let mut from = Deserializer::unread(alloc, IoRead::new(reader));
     let answer = read_within(alloc, limits, &mut from);

@@ -155,7 +155,7 @@ items_end T tells holds items_of o z u v h closes =
 
 -- what a list needs of its items' needs
 abbrev pub with_memory : Needs → Needs
-with_memory needs = record { lent = needs.lent; memory = true; keys = false }
+with_memory needs = record { lent = needs.lent; memory = true; keys = false; copied = true }
 
 -- how a list is refused
 abbrev pub RefusesList : (T : Meaning) → Option (Asking T) → Needs → Error → State → State → Type 0

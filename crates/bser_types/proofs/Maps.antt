@@ -205,7 +205,7 @@ fewer (fields_of_row (k ∷ ks)) h = omega arith
 
 -- what a map of these keys and values needs
 abbrev pub map_needs : Needs → Needs → Needs
-map_needs key some = record { lent = key.lent || some.lent; memory = true; keys = false }
+map_needs key some = record { lent = key.lent || some.lent; memory = true; keys = false; copied = true }
 
 -- the types of a map's keys and of its values, what they ask for, and by which bytes keys are read
 pub record MapOf : Type 1 where

@@ -73,9 +73,9 @@ abbrev pub any_lent : List Needs → Bool
 any_lent [] = false
 any_lent (n ∷ ns) = n.lent || any_lent ns
 
--- what these types need together, and memory for what is skipped
+-- what these types need together, and memory for what is skipped; the names of fields are copied
 abbrev pub struct_needs : List Needs → Needs
-struct_needs ns = record { lent = any_lent ns; memory = true; keys = false }
+struct_needs ns = record { lent = any_lent ns; memory = true; keys = false; copied = true }
 
 -- ---- what is kept of a field
 

@@ -15,7 +15,7 @@ use Rattle.bser_structs.proofs.object_or.ObjectOrDeserialize.deserialize.Goals a
 use Rattle.bser_structs.proofs.object_or.ObjectOrDeserialize.deserialize.Given as given
 
 abbrev needs : given.Over → Needs
-needs g = record { lent = g.O.Shape.needs.lent || g.T.Shape.needs.lent; memory = true; keys = false }
+needs g = record { lent = g.O.Shape.needs.lent || g.T.Shape.needs.lent; memory = true; keys = false; copied = true }
 
 pub returns-in_err-node-clause-refused : goal.returns-in_err-node-clause-refused
 returns-in_err-node-clause-refused g c =
