@@ -37,7 +37,7 @@ impl<R: DeRead> Deserializer<R> {
     /// of a row's field is [`Node::Key`]. Refused by [`Complaint::TooFewItems`] or
     /// [`Complaint::ValueOpen`] where nothing is due, and by
     /// [`DeInvalidStartByte`](bser_format::errors::Error::DeInvalidStartByte) where a byte is next
-    /// that may not stand there.
+    /// that may not stand there. Never refused for want of memory.
     #[inline(always)]
     pub fn node(&mut self) -> Answer<Node>
         ensures found { IfOk result
@@ -150,7 +150,8 @@ impl<R: DeRead> Deserializer<R> {
         }
     }
 
-    /// Reads a truth value. Another kind of value is [`Complaint::WrongType`].
+    /// Reads a truth value. Another kind of value is [`Complaint::WrongType`]. Never refused for
+    /// want of memory.
     #[inline(always)]
     pub fn read_bool(&mut self) -> Answer<bool>
         ensures found { IfOk result (Answers reads_bool (λ v c. c ≡ truth v)
@@ -171,7 +172,7 @@ impl<R: DeRead> Deserializer<R> {
 
     /// Reads an integer of any width. Another kind of value is [`Complaint::WrongType`].
     ///
-    /// It is refused as integers of any range are.
+    /// It is refused as integers of any range are, and never for want of memory.
     #[inline(always)]
     pub fn read_i64(&mut self) -> Answer<i64>
         ensures found { IfOk result (Answers (reads_signed 64) (λ v c. c ≡ number v)
@@ -215,7 +216,8 @@ impl<R: DeRead> Deserializer<R> {
         }
     }
 
-    /// Reads the 64 bits of a real. Another kind of value is [`Complaint::WrongType`].
+    /// Reads the 64 bits of a real. Another kind of value is [`Complaint::WrongType`]. Never
+    /// refused for want of memory.
     #[inline(always)]
     pub fn read_real_bits(&mut self) -> Answer<u64>
         ensures found { IfOk result (Answers reads_real (λ v c. c ≡ number (pos v))
@@ -234,7 +236,8 @@ impl<R: DeRead> Deserializer<R> {
         Ok(bits)
     }
 
-    /// Reads a null, or a skipped field. Another kind of value is [`Complaint::WrongType`].
+    /// Reads a null, or a skipped field. Another kind of value is [`Complaint::WrongType`]. Never
+    /// refused for want of memory.
     #[inline(always)]
     pub fn read_unit(&mut self) -> Answer<()>
         ensures found { IfOk result (Answers reads_unit (λ _ c. c ≡ one)
