@@ -1,8 +1,10 @@
 //! Reading whole messages.
-ghost use Rattle.std.specs.Prelude.{◌≡◌, ◌≢◌, ◌≤◌, [], IfOk, IfErr, OnErr};
+ghost use Rattle.std.specs.Prelude.{◌≡◌, ◌≢◌, ◌≤◌, [], Some, IfOk, IfErr, OnErr};
+ghost use Rattle.bser_read.specs.Window.{left};
 ghost use Rattle.bser_due.specs.Reading.{TakesNoMemory};
 ghost use Rattle.bser_deserializer.specs.View.{state, refusal_in};
 ghost use Rattle.bser_messages.specs.Messages.{
+  BeginWithHead,
   BeginsWith,
   TookMessage,
   ReadsBody,
@@ -29,11 +31,12 @@ use std::alloc::Global;
 ///
 /// Answers a value exactly where a front of `bytes` is a well-formed message whose tree, templates
 /// written out, the type reads as that value. Refused else by the name of the first fault in the
-/// order of reading, or for want of memory, and that only of a type that takes memory. The crate
-/// takes no allocator.
+/// order of reading, or for want of memory, and that only after the message's head and of a type
+/// that takes memory. The crate takes no allocator.
 pub fn from_slice<'de, T: Deserialize<&'de [u8]>>(alloc: Global, bytes: &'de [u8]) -> Result<T>
     ensures found { IfOk result (BeginsWith 128 T.reads T.holds bytes.now) }
     ensures refused { IfErr result (λ e. RefusesSlice 128 T.reads T.asks T.needs e bytes.now) }
+    ensures head { IfErr result (λ e. e ≡ Error.OutOfMemory → BeginWithHead (Some bytes.now)) }
 {
     from_slice_within(alloc, LEVELS, bytes)
 }
@@ -49,6 +52,7 @@ pub fn from_slice_within<'de, T: Deserialize<&'de [u8]>>(
     requires { limit ≤ 1024 }
     ensures found { IfOk result (BeginsWith limit T.reads T.holds bytes.now) }
     ensures refused { IfErr result (λ e. RefusesSlice limit T.reads T.asks T.needs e bytes.now) }
+    ensures head { IfErr result (λ e. e ≡ Error.OutOfMemory → BeginWithHead (Some bytes.now)) }
 {
     let mut from = Deserializer::unread(alloc, SliceRead::new(bytes));
     read_message(alloc, limit, &mut from)
@@ -59,15 +63,17 @@ pub fn from_slice_within<'de, T: Deserialize<&'de [u8]>>(
 /// Answers a value exactly where a front of the bytes left is a well-formed message whose tree,
 /// templates written out, the type reads as that value, want of memory and faults that the reader
 /// counts aside. Refused else by the name of the first fault in the order of reading, or for want
-/// of memory, and that only of a type that takes memory or reads bytes which are copied: never of
-/// `bool`, `()` or a number. After a refusal nothing is said of how far the reader went. The crate
-/// takes the reader by value, and no allocator.
+/// of memory, and that only after the message's head, and of a type that takes memory or reads bytes
+/// which are copied: never of `bool`, `()` or a number. After a refusal nothing is said of how far
+/// the reader went. The crate takes the reader by value, and no allocator.
 pub fn from_reader<S: Source, T: DeserializeOwned>(alloc: Global, reader: &mut S) -> Result<T>
     ensures found { IfOk result
         (TookMessage 128 T.reads T.holds (S.remaining reader.old) (S.remaining reader.new)) }
     ensures refused { IfErr result (λ e. RefusesReader 128 T.reads T.asks e
         (S.remaining reader.old) (S.failures reader.old) (S.failures reader.new)) }
     ensures memory { TakesNoMemory T.needs → IfErr result (λ e. e ≢ Error.OutOfMemory) }
+    ensures head { IfErr result (λ e. e ≡ Error.OutOfMemory
+        → BeginWithHead (S.remaining reader.old)) }
 {
     from_reader_within(alloc, LEVELS, reader)
 }
@@ -86,6 +92,8 @@ pub fn from_reader_within<S: Source, T: DeserializeOwned>(
     ensures refused { IfErr result (λ e. RefusesReader limit T.reads T.asks e
         (S.remaining reader.old) (S.failures reader.old) (S.failures reader.new)) }
     ensures memory { TakesNoMemory T.needs → IfErr result (λ e. e ≢ Error.OutOfMemory) }
+    ensures head { IfErr result (λ e. e ≡ Error.OutOfMemory
+        → BeginWithHead (S.remaining reader.old)) }
 {
     let mut from = Deserializer::unread(alloc, IoRead::new(reader));
     let answer = read_message(alloc, limit, &mut from);
@@ -112,6 +120,8 @@ where
     ensures refused { IfErr result (λ e. RefusesMessage limit T.reads T.asks T.needs e
         (state R.window R.Lent.kept from.old).source (state R.window R.Lent.kept from.new).source) }
     ensures memory { TakesNoMemory T.needs → IfErr result (λ e. e ≢ Error.OutOfMemory) }
+    ensures head { IfErr result (λ e. e ≡ Error.OutOfMemory
+        → BeginWithHead (left (state R.window R.Lent.kept from.old).source)) }
 {
     match read_body(alloc, limit, from) {
         Ok(value) => {
@@ -139,6 +149,8 @@ where
         (state R.window R.Lent.kept from.old).source (state R.window R.Lent.kept from.new).source) }
     ensures memory { TakesNoMemory T.needs
         → OnErr result (refusal_in from.new ≢ Error.OutOfMemory) }
+    ensures head { OnErr result (refusal_in from.new ≡ Error.OutOfMemory
+        → BeginWithHead (left (state R.window R.Lent.kept from.old).source)) }
 {
     from.read_head(limit)?;
     T::deserialize(alloc, from)

@@ -1,6 +1,6 @@
 -- A reader that is refused.
 use Rattle.std.proofs.Common.{rules, ap, ◌∙◌}
-use Rattle.bser_messages.proofs.Sources.{if_refused, fresh_itself, reader_refused, reader_counted}
+use Rattle.bser_messages.proofs.Sources.{if_refused, fresh_itself, reader_refused, reader_counted, reader_head}
 use Rattle.bser_messages.proofs.message.from_reader_within.Goals as goal
 
 pub returns-clause-refused : goal.returns-clause-refused
@@ -9,3 +9,8 @@ returns-clause-refused g c =
     if_refused c.read_message-answer.result _ _ (λ e u. (
     let r = reader_refused c.args.limit g.T.Shape.reads g.T.Shape.asks g.T.Shape.needs e _ _ (search rules) (fresh_itself _ _ _ _ fresh) u in
     reader_counted c.args.limit g.T.Shape.reads g.T.Shape.asks e _ _ _ _ _ _ (ap (λ w. w.beyond) fresh) (ap (λ w. w.failures) fresh) (search rules) r)) c.read_message-answer.ensures.refused
+
+pub returns-clause-head : goal.returns-clause-head
+returns-clause-head g c =
+    let fresh = c.unread-from.ensures.source ∙ c.new.ensures in
+    if_refused c.read_message-answer.result _ _ (λ e u memory. reader_head _ _ _ _ fresh (u memory)) c.read_message-answer.ensures.head
