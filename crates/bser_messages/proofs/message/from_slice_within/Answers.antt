@@ -1,5 +1,5 @@
 -- A slice that is refused.
-use Rattle.std.proofs.Common.{rules}
+use Rattle.std.proofs.Common.{rules, ◌∙◌}
 use Rattle.bser_messages.proofs.Sources.{if_refused, slice_refused, slice_head}
 use Rattle.bser_messages.proofs.message.from_slice_within.Goals as goal
 
@@ -9,4 +9,4 @@ returns-clause-refused g c =
 
 pub returns-clause-head : goal.returns-clause-head
 returns-clause-head g c =
-    if_refused c.read_message.result _ _ (λ e u memory. slice_head c.args.bytes.now _ (search rules) (u memory)) c.read_message.ensures.head
+    if_refused c.read_message.result _ _ (λ e u memory. slice_head c.args.bytes.now _ (c.unread-from.ensures.source ∙ c.new.ensures) (u memory)) c.read_message.ensures.head
