@@ -1,6 +1,7 @@
 //! Reading whole messages, with refusals that are described.
-ghost use Rattle.std.specs.Prelude.{◌≡◌, ◌≤◌, length, IfOk, IfErr, OnOk};
+ghost use Rattle.std.specs.Prelude.{◌≡◌, ◌≤◌, length, IfOk, IfErr, OnOk, ◌≢◌};
 ghost use Rattle.bser_format.specs.Errors.{error_of};
+ghost use Rattle.bser_due.specs.Reading.{TakesNoMemory};
 ghost use Rattle.bser_messages.specs.Messages.{BeginsWith, TookMessage, RefusesSlice, RefusesReader};
 ghost use Rattle.bser_describe.specs.Descriptions.{cause_of, place_of};
 
@@ -70,6 +71,7 @@ pub fn from_reader<S: Source, T: DeserializeOwned>(
     ensures refused { IfErr result (λ d. RefusesReader 128 T.reads T.asks (cause_of d)
         (S.remaining reader.old) (S.failures reader.old) (S.failures reader.new)) }
     ensures kept { OnOk result (S.failures reader.new ≡ S.failures reader.old) }
+    ensures memory { TakesNoMemory T.needs → IfErr result (λ d. cause_of d ≢ Error.OutOfMemory) }
 {
     from_reader_within(alloc, LEVELS, reader)
 }
@@ -88,6 +90,7 @@ pub fn from_reader_within<S: Source, T: DeserializeOwned>(
     ensures refused { IfErr result (λ d. RefusesReader limit T.reads T.asks (cause_of d)
         (S.remaining reader.old) (S.failures reader.old) (S.failures reader.new)) }
     ensures kept { OnOk result (S.failures reader.new ≡ S.failures reader.old) }
+    ensures memory { TakesNoMemory T.needs → IfErr result (λ d. cause_of d ≢ Error.OutOfMemory) }
 {
     let mut from = Deserializer::unread(alloc, IoRead::new(Counted::new(reader)));
     let answer = read_message(alloc, limit, &mut from);

@@ -2,7 +2,6 @@
 use Rattle.std.proofs.Common.{◌≡◌, ℕ, zero, suc, ◌+◌, ◌-◌, ◌≤◌, Bool, true, false, cond, ◌||◌, pos, List, [], ◌∷◌, ◌++◌, take, nat_eq, nat_lt, ◌<◌, length, refl, sym, ap, subst, ◌∙◌, append-nil, arith}
 use Rattle.std.proofs.lemmas.Bool.{eqb-true, ltb-true}
 use Rattle.bser_format.specs.Grammar.{Format, Bytes, SpellsCount, ◌then◌, Each, SpellsKey}
-use Rattle.bser_format.specs.Content.{Needs}
 use Rattle.bser_format.specs.Expected.{Due, nothing_due, node_due, key_due, field_due, name_due, row_due, WantedItems, nodes, rows_over, WantedPairs, entries_of_object, fields_of_row}
 use Rattle.bser_format.specs.declared.errors.Error.{Error}
 use Rattle.bser_format.specs.declared.errors.Error.TheVariants.{DeInvalidStartByte, DeRecursionLimitExceeded}
@@ -21,7 +20,7 @@ use Rattle.bser_bunser.specs.Names.{Names}
 use Rattle.bser_bunser.specs.Refusal.{Fails}
 use Rattle.bser_bunser.specs.Tagged.{TookInt}
 use Rattle.bser_due.specs.State.{State, refused}
-use Rattle.bser_due.specs.Reading.{RefusesFront, NamesBy, NamesDue, IsRefusal, bare, owned}
+use Rattle.bser_due.specs.Reading.{RefusesFront, NamesBy, NamesDue, IsRefusal, bare, owned, Needs}
 use Rattle.bser_due.specs.Dues.{IsValueDue}
 use Rattle.bser_due.specs.Parts.{CountedHead, ItemsHead, BeginsItems, BeginsPairs, ObjectHead}
 use Rattle.bser_due.specs.Access.{OpenItems, OpenPairs, OpensItems, OpensPairs, IsItemsHead, IsPairsHead}

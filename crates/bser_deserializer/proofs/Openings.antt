@@ -2,7 +2,6 @@
 use Rattle.std.proofs.Common.{◌≡◌, ℕ, zero, suc, ◌<◌, true, List, [], ◌∷◌, ◌++◌, drop, length, inl, inr, refl, sym, ap, subst, ◌∙◌, arith}
 use Rattle.std.specs.Prelude.{Result, Ok, Err, IfOk, OnErr}
 use Rattle.bser_format.specs.Grammar.{Format}
-use Rattle.bser_format.specs.Content.{Needs}
 use Rattle.bser_format.specs.Expected.{Due, nothing_due, node_due, key_due, field_due, name_due, row_due, WantedItems, nodes, rows_over, WantedPairs, entries_of_object, fields_of_row}
 use Rattle.bser_format.specs.declared.errors.Error.{Error}
 use Rattle.bser_format.specs.declared.errors.Error.TheVariants.{DeCustom, OutOfMemory}
@@ -20,7 +19,7 @@ use Rattle.bser_due.specs.declared.due.Due as code
 use Rattle.bser_due.specs.declared.due.Due.TheVariants as due
 use Rattle.bser_due.specs.State.{State, with_source, refused}
 use Rattle.bser_bunser.specs.Names.{Blame, RefusedAs}
-use Rattle.bser_due.specs.Reading.{RefusesFront, NamesBy, NamesDue, MayRefuse, OutsideBy, ExcusedBy, bare, owned, only_keys, refusing}
+use Rattle.bser_due.specs.Reading.{RefusesFront, NamesBy, NamesDue, MayRefuse, OutsideBy, ExcusedBy, bare, owned, only_keys, refusing, Needs}
 use Rattle.bser_due.specs.Parts.{BeginsItems}
 use Rattle.bser_due.specs.Access.{OpenItems, OpenPairs, OpensItems, OpensPairs, IsItemsHead, IsArrayHead, IsPairsHead, RefusesItems, inside_items, inside_pairs}
 use Rattle.bser_due.proofs.Clean.{clean_items, clean_pairs}

@@ -2,7 +2,7 @@
 use Rattle.std.proofs.Common.{◌≡◌, ℕ, zero, suc, ◌<◌, ◌≤◌, Bool, true, false, cond, List, [], ◌∷◌, ◌++◌, length, drop, get_or, Some, refl, sym, ap, subst, ◌∙◌, arith, inl, inr, ◌⊎◌, ◌||◌, nat_eq}
 use Rattle.std.proofs.lemmas.Bool.{eqb-true}
 use Rattle.bser_format.specs.Grammar.{Format}
-use Rattle.bser_format.specs.Content.{Meaning, Needs}
+use Rattle.bser_format.specs.Content.{Meaning}
 use Rattle.bser_format.specs.Expected.{Due, nothing_due, node_due, key_due, field_due, name_due, row_due}
 use Rattle.bser_format.specs.declared.errors.Error.{Error}
 use Rattle.bser_format.specs.declared.errors.Error.TheVariants.{DeInvalidStartByte, DeReaderError}
@@ -22,7 +22,7 @@ use Rattle.bser_due.specs.declared.due.Due as code
 use Rattle.bser_due.specs.declared.due.Due.TheVariants as due
 use Rattle.bser_due.specs.State.{State}
 use Rattle.bser_bunser.specs.Names.{RefusedAs}
-use Rattle.bser_due.specs.Reading.{OutsideBy, IsRefusal, Asking, NamesBy, NamesDue, RefusesFront, FillsReadably, Refuses, bare, refusing}
+use Rattle.bser_due.specs.Reading.{OutsideBy, IsRefusal, Asking, NamesBy, NamesDue, RefusesFront, FillsReadably, Refuses, bare, refusing, Needs}
 use Rattle.bser_due.proofs.Refusals.{names_bare, names_by_grown, names_by_more, no_failure, fails_closed, fails_before, with_needs, by_name}
 use Rattle.bser_due.proofs.Clean.{Clean, clean_asked}
 use Rattle.bser_deserializer.specs.View.{value_here}

@@ -1,5 +1,5 @@
 //! What is due.
-ghost use Rattle.std.specs.Prelude.{◌≡◌, true, false, Some, IfOk, OnErr, IfSome, IfNone, if◌then◌else◌};
+ghost use Rattle.std.specs.Prelude.{◌≡◌, ◌≢◌, true, false, Some, IfOk, OnErr, IfSome, IfNone, if◌then◌else◌};
 ghost use Rattle.bser_format.specs.Expected.{nothing_due, node_due, key_due, field_due, row_due};
 ghost use Rattle.bser_named.specs.Clauses.{after_a_refusal};
 ghost use Rattle.bser_named.specs.DueReaders as due_readers;
@@ -85,6 +85,7 @@ impl<R: DeRead> Cursor for Deserializer<R> {
             (value_here (state R.window R.Lent.kept self.old).opened
             (state R.window R.Lent.kept self.old).due) (refusal_in self.new)
             (state R.window R.Lent.kept self.old).source) }
+        ensures memory { OnErr result (refusal_in self.new ≢ Error.OutOfMemory) }
     {
         if !self.is_value_due() {
             return Err(self.refuse_no_value());
@@ -202,6 +203,7 @@ impl<R: DeRead> Deserializer<R> {
         ensures state { state R.window R.Lent.kept self.new
             ≡ refused (state R.window R.Lent.kept self.old) }
         ensures note { (note_in self.new).finding ≡ Some (Finding.Stray wanted tag) }
+        ensures memory { refusal_in self.new ≢ Error.OutOfMemory }
     {
         self.note.finding = Some(Finding::Stray { wanted, tag });
         let reason = self.stray(tag);
@@ -218,6 +220,7 @@ impl<R: DeRead> Deserializer<R> {
             (state R.window R.Lent.kept self.new).source }
         ensures names { NamesDue bare nothing_at (refusal_in self.new)
             (state R.window R.Lent.kept self.old) }
+        ensures memory { refusal_in self.new ≢ Error.OutOfMemory }
     {
         match self.due {
             Due::Key => match self.bunser.fill(1) {
@@ -239,6 +242,7 @@ impl<R: DeRead> Deserializer<R> {
             (due_readers.nothing_here (state R.window R.Lent.kept self.old).opened) }
         ensures state { state R.window R.Lent.kept self.new
             ≡ refused (state R.window R.Lent.kept self.old) }
+        ensures memory { refusal_in self.new ≢ Error.OutOfMemory }
     {
         if self.opened != 0 {
             self.complain(Complaint::ValueOpen)

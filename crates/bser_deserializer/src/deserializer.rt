@@ -115,6 +115,7 @@ impl<R: DeRead> Deserializer<R> {
             (state R.window R.Lent.kept self.new).source) }
         ensures names { OnErr result (Names named.head (refusal_in self.new)
             (state R.window R.Lent.kept self.old).source) }
+        ensures memory { OnErr result (refusal_in self.new ≢ Error.OutOfMemory) }
     {
         self.info = self.bunser.read_head()?;
         self.due = Due::Node;
@@ -146,6 +147,7 @@ impl<R: DeRead> Deserializer<R> {
             (complain complaint) }
         ensures state { state R.window R.Lent.kept self.new
             ≡ refused (state R.window R.Lent.kept self.old) }
+        ensures memory { refusal_in self.new ≢ Error.OutOfMemory }
     {
         if self.bunser.is_failed() {
             return self
@@ -180,6 +182,7 @@ impl<R: DeRead> Deserializer<R> {
         ensures err { OnErr result (IsAtEnd (state R.window R.Lent.kept self.now)
             → IsTrue (state R.window R.Lent.kept self.now).source.failed) }
         ensures name { IfErr result (λ e. e ≡ not_at_end (state R.window R.Lent.kept self.now)) }
+        ensures memory { IfErr result (λ e. e ≢ Error.OutOfMemory) }
     {
         if self.bunser.is_failed() {
             return Err(Error::de_reader_error(ReadCause::Failed));

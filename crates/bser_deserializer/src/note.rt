@@ -1,5 +1,5 @@
 //! What a refusal tells people beside its error.
-ghost use Rattle.std.specs.Prelude.{◌≡◌, ◌-◌, ◌^◌, min, pos, false, Some};
+ghost use Rattle.std.specs.Prelude.{◌≡◌, ◌≢◌, ◌-◌, ◌^◌, min, pos, false, Some};
 ghost use Rattle.bser_named.specs.Clauses.{after_a_refusal};
 ghost use Rattle.bser_named.specs.Named.{complain};
 ghost use Rattle.bser_due.specs.State.{refused};
@@ -7,7 +7,7 @@ ghost use Rattle.bser_deserializer.specs.View.{state, refusal_in, note_in};
 
 use crate::deserializer::Deserializer;
 use bser_bunser::refusal::{Answer, Refused};
-use bser_format::errors::{Complaint, EnumName};
+use bser_format::errors::{Complaint, EnumName, Error};
 use bser_read::read::DeRead;
 
 /// The name of a field, of which as many bytes are kept as of an enum's name.
@@ -104,6 +104,7 @@ impl<R: DeRead> Deserializer<R> {
             ≡ refused (state R.window R.Lent.kept self.old) }
         ensures note { (state R.window R.Lent.kept self.old).source.failed ≡ false
             → (note_in self.new).finding ≡ Some finding }
+        ensures memory { refusal_in self.new ≢ Error.OutOfMemory }
     {
         let failed = self.bunser.is_failed();
         let refused = self.complain(complaint);

@@ -1,5 +1,5 @@
 //! Reading scalars.
-ghost use Rattle.std.specs.Prelude.{◌≡◌, ℤ, Bool, pos, Some, IfOk, OnErr, MatchBool};
+ghost use Rattle.std.specs.Prelude.{◌≡◌, ◌≢◌, ℤ, Bool, pos, Some, IfOk, OnErr, MatchBool};
 ghost use Rattle.bser_format.specs.Content.{one, truth, number};
 ghost use Rattle.bser_format.specs.ReadsScalars.{reads_bool, reads_unit, reads_integer, reads_signed, reads_real};
 ghost use Rattle.bser_named.specs.DueReaders.{seen};
@@ -15,7 +15,7 @@ use crate::note::Wanted;
 use bser_bunser::prefix::{Look, Unexpected};
 use bser_bunser::refusal::Answer;
 pub use bser_due::node::Node;
-use bser_format::errors::Complaint;
+use bser_format::errors::{Complaint, Error};
 use bser_format::header::{
     BSER_FALSE, BSER_NULL, BSER_REAL, BSER_SKIP, BSER_TEMPLATE, BSER_TRUE, BSER_UTF8STRING,
 };
@@ -37,7 +37,7 @@ impl<R: DeRead> Deserializer<R> {
     /// of a row's field is [`Node::Key`]. Refused by [`Complaint::TooFewItems`] or
     /// [`Complaint::ValueOpen`] where nothing is due, and by
     /// [`DeInvalidStartByte`](bser_format::errors::Error::DeInvalidStartByte) where a byte is next
-    /// that may not stand there.
+    /// that may not stand there. Never refused for want of memory.
     #[inline(always)]
     pub fn node(&mut self) -> Answer<Node>
         ensures found { IfOk result
@@ -49,6 +49,7 @@ impl<R: DeRead> Deserializer<R> {
             (state R.window R.Lent.kept self.old).source)
             (refusal_in self.new) (state R.window R.Lent.kept self.old).source
             (state R.window R.Lent.kept self.new).source) }
+        ensures memory { OnErr result (refusal_in self.new ≢ Error.OutOfMemory) }
     {
         match self.due {
             Due::Node | Due::Field | Due::Key => {
@@ -76,6 +77,7 @@ impl<R: DeRead> Deserializer<R> {
             (state R.window R.Lent.kept self.old).source)
             (refusal_in self.new) (state R.window R.Lent.kept self.old).source
             (state R.window R.Lent.kept self.new).source) }
+        ensures memory { OnErr result (refusal_in self.new ≢ Error.OutOfMemory) }
     {
         if self.is_failed() {
             return Err(self.complain(Complaint::WrongType));
@@ -105,6 +107,7 @@ impl<R: DeRead> Deserializer<R> {
             (state R.window R.Lent.kept self.old).source)
             (refusal_in self.new) (state R.window R.Lent.kept self.old).source
             (state R.window R.Lent.kept self.new).source) }
+        ensures memory { OnErr result (refusal_in self.new ≢ Error.OutOfMemory) }
     {
         if !self.is_value_due() {
             return self.read_no_value();
@@ -135,6 +138,7 @@ impl<R: DeRead> Deserializer<R> {
             (state R.window R.Lent.kept self.old).source)
             (refusal_in self.new) (state R.window R.Lent.kept self.old).source
             (state R.window R.Lent.kept self.new).source) }
+        ensures memory { OnErr result (refusal_in self.new ≢ Error.OutOfMemory) }
     {
         match self.node()? {
             Node::Null => {
@@ -146,7 +150,8 @@ impl<R: DeRead> Deserializer<R> {
         }
     }
 
-    /// Reads a truth value. Another kind of value is [`Complaint::WrongType`].
+    /// Reads a truth value. Another kind of value is [`Complaint::WrongType`]. Never refused for
+    /// want of memory.
     #[inline(always)]
     pub fn read_bool(&mut self) -> Answer<bool>
         ensures found { IfOk result (Answers reads_bool (λ v c. c ≡ truth v)
@@ -154,6 +159,7 @@ impl<R: DeRead> Deserializer<R> {
         ensures refused { OnErr result (Refuses reads_bool (Some asking_bool) bare
             (refusal_in self.new)
             (state R.window R.Lent.kept self.old) (state R.window R.Lent.kept self.new)) }
+        ensures memory { OnErr result (refusal_in self.new ≢ Error.OutOfMemory) }
     {
         let tag = self.value_tag()?;
         if tag != BSER_TRUE && tag != BSER_FALSE {
@@ -166,7 +172,7 @@ impl<R: DeRead> Deserializer<R> {
 
     /// Reads an integer of any width. Another kind of value is [`Complaint::WrongType`].
     ///
-    /// It is refused as integers of any range are.
+    /// It is refused as integers of any range are, and never for want of memory.
     #[inline(always)]
     pub fn read_i64(&mut self) -> Answer<i64>
         ensures found { IfOk result (Answers (reads_signed 64) (λ v c. c ≡ number v)
@@ -174,6 +180,7 @@ impl<R: DeRead> Deserializer<R> {
         ensures refused { OnErr result ((fits : ℤ → Bool) → Refuses (reads_integer fits)
             (Some (asking_integer fits)) bare (refusal_in self.new)
             (state R.window R.Lent.kept self.old) (state R.window R.Lent.kept self.new)) }
+        ensures memory { OnErr result (refusal_in self.new ≢ Error.OutOfMemory) }
     {
         if !self.is_value_due() {
             return Err(self.refuse_no_value());
@@ -197,6 +204,7 @@ impl<R: DeRead> Deserializer<R> {
         ensures refused { OnErr result ((fits : ℤ → Bool) → Refuses (reads_integer fits)
             (Some (asking_integer fits)) bare (refusal_in self.new)
             (state R.window R.Lent.kept self.old) (state R.window R.Lent.kept self.new)) }
+        ensures memory { OnErr result (refusal_in self.new ≢ Error.OutOfMemory) }
     {
         match self.bunser.next_int()? {
             Look::Taken(number) => {
@@ -208,7 +216,8 @@ impl<R: DeRead> Deserializer<R> {
         }
     }
 
-    /// Reads the 64 bits of a real. Another kind of value is [`Complaint::WrongType`].
+    /// Reads the 64 bits of a real. Another kind of value is [`Complaint::WrongType`]. Never
+    /// refused for want of memory.
     #[inline(always)]
     pub fn read_real_bits(&mut self) -> Answer<u64>
         ensures found { IfOk result (Answers reads_real (λ v c. c ≡ number (pos v))
@@ -216,6 +225,7 @@ impl<R: DeRead> Deserializer<R> {
         ensures refused { OnErr result (Refuses reads_real (Some asking_real) bare
             (refusal_in self.new)
             (state R.window R.Lent.kept self.old) (state R.window R.Lent.kept self.new)) }
+        ensures memory { OnErr result (refusal_in self.new ≢ Error.OutOfMemory) }
     {
         let tag = self.value_tag()?;
         if tag != BSER_REAL {
@@ -226,7 +236,8 @@ impl<R: DeRead> Deserializer<R> {
         Ok(bits)
     }
 
-    /// Reads a null, or a skipped field. Another kind of value is [`Complaint::WrongType`].
+    /// Reads a null, or a skipped field. Another kind of value is [`Complaint::WrongType`]. Never
+    /// refused for want of memory.
     #[inline(always)]
     pub fn read_unit(&mut self) -> Answer<()>
         ensures found { IfOk result (Answers reads_unit (λ _ c. c ≡ one)
@@ -234,6 +245,7 @@ impl<R: DeRead> Deserializer<R> {
         ensures refused { OnErr result (Refuses reads_unit (Some asking_unit) bare
             (refusal_in self.new)
             (state R.window R.Lent.kept self.old) (state R.window R.Lent.kept self.new)) }
+        ensures memory { OnErr result (refusal_in self.new ≢ Error.OutOfMemory) }
     {
         let tag = self.value_tag()?;
         if !self.is_null_tag(tag) {

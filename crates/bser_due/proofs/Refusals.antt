@@ -2,7 +2,6 @@
 use Rattle.std.proofs.Common.{◌≡◌, ℕ, ◌+◌, ◌≤◌, true, ◌||◌, List, ◌++◌, length, length-append, Some, refl, sym, ap, subst, ◌∙◌, append_assoc, arith, inl, inr}
 use Rattle.std.proofs.lemmas.List.{append_cancel_left}
 use Rattle.bser_format.specs.Grammar.{Format}
-use Rattle.bser_format.specs.Content.{Needs}
 use Rattle.bser_format.specs.declared.errors.Error.{Error}
 use Rattle.bser_format.specs.declared.errors.Error.TheVariants.{DeCustom, DeReaderError, OutOfMemory}
 use Rattle.bser_format.specs.declared.errors.Message.TheVariants.{Fixed}
@@ -16,7 +15,7 @@ use Rattle.bser_read.proofs.Windows.{grown_none, left_took}
 use Rattle.bser_bunser.specs.Refusal.{Fails, failures_by}
 use Rattle.bser_bunser.specs.Names.{Blame, Excused, Outside, Names, RefusedAs}
 use Rattle.bser_bunser.proofs.Names.{left_before, left_untaken, outside_grown, outside_untaken, names_excuse}
-use Rattle.bser_due.specs.Reading.{OutsideBy, ExcusedBy, MayRefuse, NamesBy, RefusesFront, IsRefusal, bare, refusing}
+use Rattle.bser_due.specs.Reading.{OutsideBy, ExcusedBy, MayRefuse, NamesBy, RefusesFront, IsRefusal, bare, refusing, Needs}
 
 -- ---- reasons outside the bytes
 
@@ -178,6 +177,10 @@ fails_before n e a b c grown h = record {
   through = h.through ∙ grown.through;
   failures = h.failures ∙ ap (failures_by e) grown.failures;
 }
+
+-- a refusal by the bytes is no want of memory
+pub no_want : (e : Error) → IsRefusal e → e ≡ OutOfMemory → ⊥
+no_want e kind same = subst IsRefusal same kind
 
 -- a refusal by the bytes counts no failure
 pub no_failure : (n : ℕ) (e : Error) → IsRefusal e → failures_by e n ≡ n

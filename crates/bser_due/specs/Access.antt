@@ -1,7 +1,7 @@
 -- Open containers, and what the calls on them answer.
 use Rattle.std.specs.Prelude.{◌≡◌, ℕ, ◌-◌, ◌<◌, Bool, true, false, List, [], ◌∷◌, ◌++◌, Option, Some, None}
 use Rattle.bser_format.specs.Grammar.{Format}
-use Rattle.bser_format.specs.Content.{Content, Meaning, Needs}
+use Rattle.bser_format.specs.Content.{Content, Meaning}
 use Rattle.bser_source.specs.Device.{one_more}
 use Rattle.bser_read.specs.Window.{Window, Took}
 use Rattle.bser_format.specs.Expected.{nothing_due, WantedItems, nodes, rows_over, WantedPairs, entries_of_object, fields_of_row}
@@ -9,7 +9,7 @@ use Rattle.bser_format.specs.declared.errors.Error.{Error}
 use Rattle.bser_named.specs.DueReaders.{items_at, pairs_at}
 use Rattle.bser_named.specs.Clauses.{left_over, out_of_turn}
 use Rattle.bser_due.specs.State.{State, awaiting, refused}
-use Rattle.bser_due.specs.Reading.{Answers, Asking, Refuses, RefusesFront, NamesDue, bare, owned, only_keys}
+use Rattle.bser_due.specs.Reading.{Answers, Asking, Refuses, RefusesFront, NamesDue, bare, owned, only_keys, Needs}
 use Rattle.bser_due.specs.Parts.{BeginsItems, BeginsPairs, items_left, item_due, items_after, pairs_left, pair_key, pair_value, pairs_after}
 
 -- an open array: what it wants, and the levels and the number of open containers outside

@@ -1,8 +1,8 @@
 -- What a reading type answers.
-use Rattle.std.specs.Prelude.{◌≡◌, ◌⊎◌, ℕ, true, false, ◌||◌, List, ◌++◌, length, Option, Some, None}
+use Rattle.std.specs.Prelude.{◌≡◌, ◌⊎◌, ℕ, Bool, true, false, ◌||◌, List, ◌++◌, length, Option, Some, None}
 use Rattle.bser_format.specs.Tree.{Tree}
 use Rattle.bser_format.specs.Grammar.{Format}
-use Rattle.bser_format.specs.Content.{Content, Meaning, Needs}
+use Rattle.bser_format.specs.Content.{Content, Meaning}
 use Rattle.bser_format.specs.Expected.{Fills}
 use Rattle.bser_format.specs.declared.errors.Error.{Error}
 use Rattle.bser_format.specs.declared.errors.Error.TheVariants.{DeCustom, DeReaderError, OutOfMemory}
@@ -32,21 +32,36 @@ pub record Answers {A : Type 0} (reads : Meaning) (holds : A → Content → Typ
 
 -- ---- what reading may need
 
+-- what a type needs: whether a value may hold bytes that the source lends, whether reading a value may take memory, whether a refusal may, for a template's keys, and whether bytes are read that a source copies which lends none
+pub record Needs : Type 0 where
+  pub lent : Bool
+  pub memory : Bool
+  pub keys : Bool
+  pub copied : Bool
+
 -- reading holds nothing lent and takes no memory
 abbrev pub bare : Needs
-bare = record { lent = false; memory = false; keys = false }
+bare = record { lent = false; memory = false; keys = false; copied = false }
 
--- the same, but for the keys of a template that is refused
+-- the same, but for bytes that are copied
+abbrev pub copying : Needs
+copying = record { lent = false; memory = false; keys = false; copied = true }
+
+-- the same, and for the keys of a template that is refused
 abbrev pub only_keys : Needs
-only_keys = record { lent = false; memory = false; keys = true }
+only_keys = record { lent = false; memory = false; keys = true; copied = true }
 
 -- a value that owns its bytes
 abbrev pub owned : Needs
-owned = record { lent = false; memory = true; keys = false }
+owned = record { lent = false; memory = true; keys = false; copied = true }
 
 -- a value that holds lent bytes
 abbrev pub lending : Needs
-lending = record { lent = true; memory = false; keys = false }
+lending = record { lent = true; memory = false; keys = false; copied = true }
+
+-- no memory is taken: for no value, for no template's keys, and for no bytes that are copied
+abbrev pub TakesNoMemory : Needs → Type 0
+TakesNoMemory needs = needs.memory || needs.keys || needs.copied ≡ false
 
 -- what is needed where it is refused: memory for the keys of a template too
 abbrev pub refusing : Needs → Needs

@@ -1,11 +1,11 @@
 -- An item that has to be there.
 use Rattle.std.specs.Prelude.{◌≡◌, ◌⊎◌, Option}
-use Rattle.bser_format.specs.Content.{Meaning, Needs}
+use Rattle.bser_format.specs.Content.{Meaning}
 use Rattle.bser_format.specs.declared.errors.Error.{Error}
 use Rattle.bser_format.specs.declared.errors.Complaint.TheVariants.{TooFewItems}
 use Rattle.bser_named.specs.Named.{complain}
 use Rattle.bser_due.specs.State.{State, refused}
-use Rattle.bser_due.specs.Reading.{Asking}
+use Rattle.bser_due.specs.Reading.{Asking, Needs}
 use Rattle.bser_due.specs.Parts.{items_left}
 use Rattle.bser_due.specs.Access.{OpenItems, RefusesItem}
 

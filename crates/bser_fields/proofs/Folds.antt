@@ -3,7 +3,7 @@ use Rattle.std.proofs.Common.{◌≡◌, ℕ, zero, suc, ◌<◌, Bool, true, fa
 use Rattle.std.specs.Prelude.{if◌then◌else◌}
 use Rattle.std.specs.Str.{is_utf8}
 use Rattle.bser_format.specs.Tree.{Tree, null, boolean, integer, real, bytes, text, array, object, template, Entries, no_entries, entry, entries}
-use Rattle.bser_format.specs.Content.{Content, byte_list, Meaning, Needs}
+use Rattle.bser_format.specs.Content.{Content, byte_list, Meaning}
 use Rattle.bser_format.specs.ReadsScalars.{reads_string, utf8_of}
 use Rattle.bser_format.specs.Expected.{FillsPairs, WantedPairs, entries_of_object, fields_of_row}
 use Rattle.bser_format.specs.declared.errors.Error.{Error}
@@ -13,7 +13,7 @@ use Rattle.bser_named.proofs.Options.{chained, when_some}
 use Rattle.bser_read.specs.Window.{closed}
 use Rattle.bser_due.specs.Askings.{asking_string}
 use Rattle.bser_due.specs.State.{State, refused}
-use Rattle.bser_due.specs.Reading.{Answers, Asking, Refuses, IsRefusal, bare}
+use Rattle.bser_due.specs.Reading.{Answers, Asking, Refuses, IsRefusal, bare, Needs}
 use Rattle.bser_due.specs.Parts.{pairs_left, pairs_after}
 use Rattle.bser_due.specs.Access.{OpenPairs, OpensPairs, RefusesPairs, IsKey, NoEntry, RefusesKey, IsValue, RefusesValue, ClosesPairs, LeavesPairs}
 use Rattle.bser_due.specs.Fields.{field_of, HoldsField}

@@ -3,7 +3,7 @@ use Rattle.std.proofs.Common.{◌≡◌, ℕ, suc, List, [], ◌∷◌, Option, 
 use Rattle.std.proofs.lemmas.Bool.{or_left, or_right}
 use Rattle.std.specs.Option.{is_some}
 use Rattle.bser_format.specs.Tree.{Tree}
-use Rattle.bser_format.specs.Content.{Content, Meaning, Needs, each_some}
+use Rattle.bser_format.specs.Content.{Content, Meaning, each_some}
 use Rattle.bser_format.specs.ReadsAny.{reads_ignored}
 use Rattle.bser_format.specs.Expected.{Due}
 use Rattle.bser_format.specs.declared.errors.Error.{Error}
@@ -15,7 +15,7 @@ use Rattle.bser_named.specs.Asks.{Asks, value_at, value_by, asks_any}
 use Rattle.bser_named.specs.Asks as asks
 use Rattle.bser_named.specs.Clauses.{after_a_refusal}
 use Rattle.bser_due.specs.Askings.{asking_ignored}
-use Rattle.bser_due.specs.Reading.{Answers, Asking, FillsReadably, IsRefusal, NamesAsked, NamesBy, Refuses, owned}
+use Rattle.bser_due.specs.Reading.{Answers, Asking, FillsReadably, IsRefusal, NamesAsked, NamesBy, Refuses, owned, Needs}
 use Rattle.bser_due.specs.State.{State}
 use Rattle.bser_due.specs.declared.field.Field.TheVariants.{Unknown}
 use Rattle.bser_due.proofs.Refusals.{names_by_more, narrower, unfit_here}

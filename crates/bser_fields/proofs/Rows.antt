@@ -3,7 +3,7 @@ use Rattle.std.proofs.Common.{◌≡◌, ℕ, zero, suc, ◌+◌, ◌-◌, ◌�
 use Rattle.std.proofs.lemmas.List.{take_all}
 use Rattle.std.proofs.lemmas.Slice.Eq.{bytes_eq-Decides}
 use Rattle.std.specs.Str.{bytes_eq, is_utf8}
-use Rattle.bser_format.specs.Content.{Content, Needs}
+use Rattle.bser_format.specs.Content.{Content}
 use Rattle.bser_format.specs.Expected.{field_due, name_due}
 use Rattle.bser_format.specs.declared.errors.Error.{Error}
 use Rattle.bser_due.specs.Access.{OpensPairs, after_closing}
@@ -11,7 +11,7 @@ use Rattle.bser_due.specs.Dues.{name_at}
 use Rattle.bser_due.specs.Fields.{field_from, field_of}
 use Rattle.bser_due.specs.HoldsLists.{HoldsTuple}
 use Rattle.bser_due.specs.Parts.{wanted_pairs, pairs_left}
-use Rattle.bser_due.specs.Reading.{Answers, Asking, Refuses}
+use Rattle.bser_due.specs.Reading.{Answers, Asking, Refuses, Needs}
 use Rattle.bser_due.specs.State.{State, awaiting}
 use Rattle.bser_due.specs.declared.field.Field.{Field}
 use Rattle.bser_due.specs.declared.field.Field.TheVariants.{Known, Unknown}

@@ -4,7 +4,7 @@ use Rattle.std.specs.Prelude.{if◌then◌else◌}
 use Rattle.std.specs.Str.{is_utf8}
 use Rattle.bser_format.specs.Tree.{Tree, null, boolean, integer, real, bytes, text, array, object, template, Entries, no_entries, entry, entries}
 use Rattle.bser_format.specs.Expand.{key_tree}
-use Rattle.bser_format.specs.Content.{Content, one, byte_list, Meaning, Needs, each_some}
+use Rattle.bser_format.specs.Content.{Content, one, byte_list, Meaning, each_some}
 use Rattle.bser_format.specs.ReadsScalars.{reads_string, utf8_of}
 use Rattle.bser_format.specs.ReadsHolders.{list_of}
 use Rattle.bser_format.specs.Expected.{Fills, FillsPairs, WantedPairs, entries_of_object, fields_of_row, key_due, name_due}
@@ -20,7 +20,7 @@ use Rattle.bser_named.proofs.Steps.{Continues, first_read}
 use Rattle.bser_read.specs.Window.{Took}
 use Rattle.bser_due.specs.Askings.{asking_string}
 use Rattle.bser_due.specs.State.{State, awaiting, past, refused}
-use Rattle.bser_due.specs.Reading.{Answers, Asking, NamesAsked, Refuses, bare}
+use Rattle.bser_due.specs.Reading.{Answers, Asking, NamesAsked, Refuses, bare, Needs}
 use Rattle.bser_due.specs.Parts.{BeginsPairs, pairs_left, pair_key, pair_value, pairs_after}
 use Rattle.bser_due.specs.Access.{OpenPairs, OpensPairs, RefusesPairs, IsKey, IsValue, ClosesPairs, pairs_in}
 use Rattle.bser_due.specs.Fields.{field_of, HoldsField}

@@ -1,7 +1,7 @@
 -- One entry of a struct after another, and the end.
 use Rattle.std.proofs.Common.{◌≡◌, ℕ, zero, suc, ◌+◌, ◌-◌, ◌<◌, ◌≤◌, Bool, true, false, List, [], ◌∷◌, length, drop, Option, Some, None, option_map, refl, sym, ap, subst, ◌∙◌, arith}
 use Rattle.std.specs.Prelude.{Result, Ok, Err, IfOk, OnOk, OnErr}
-use Rattle.bser_format.specs.Content.{Content, Needs, each_some}
+use Rattle.bser_format.specs.Content.{Content, each_some}
 use Rattle.bser_format.specs.ReadsScalars.{reads_string}
 use Rattle.bser_format.specs.ReadsHolders.{list_of}
 use Rattle.bser_format.specs.Expected.{Due, WantedPairs, node_due, key_due, field_due, entries_of_object}
@@ -14,7 +14,7 @@ use Rattle.bser_due.specs.Askings.{asking_string}
 use Rattle.bser_due.specs.Fields.{HoldsField}
 use Rattle.bser_due.specs.HoldsLists.{HoldsTuple}
 use Rattle.bser_due.specs.Parts.{wanted_pairs, pairs_left, pair_key, pair_value, pairs_after}
-use Rattle.bser_due.specs.Reading.{Answers, Refuses, bare}
+use Rattle.bser_due.specs.Reading.{Answers, Refuses, bare, Needs}
 use Rattle.bser_due.specs.State.{State, awaiting, past, refused}
 use Rattle.bser_due.specs.declared.field.Field.{Field}
 use Rattle.bser_due.specs.declared.frames.MapHead.{MapHead}

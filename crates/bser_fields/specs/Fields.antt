@@ -2,7 +2,7 @@
 use Rattle.std.specs.Prelude.{◌≡◌, ℕ, true, List, [], ◌∷◌, Option, Some, None}
 use Rattle.std.specs.Str.{is_utf8}
 use Rattle.bser_format.specs.Tree.{Tree}
-use Rattle.bser_format.specs.Content.{Content, Meaning, Needs}
+use Rattle.bser_format.specs.Content.{Content, Meaning}
 use Rattle.bser_format.specs.Expected.{Fills, name_due}
 use Rattle.bser_format.specs.declared.errors.Error.{Error}
 use Rattle.bser_named.specs.Asks.{value_at, value_by}
@@ -10,7 +10,7 @@ use Rattle.bser_named.specs.Clauses.{left_over}
 use Rattle.bser_read.specs.Window.{Took}
 use Rattle.bser_due.specs.Dues.{name_at}
 use Rattle.bser_due.specs.Fields.{field_of}
-use Rattle.bser_due.specs.Reading.{Answers, Asking, NamesBy, Refuses, RefusesFront}
+use Rattle.bser_due.specs.Reading.{Answers, Asking, NamesBy, Refuses, RefusesFront, Needs}
 use Rattle.bser_due.specs.State.{State, past, refused}
 use Rattle.bser_due.specs.declared.field.Field.{Field}
 use Rattle.bser_types.specs.Slots.{StructField, FillsStep}

@@ -1,7 +1,7 @@
 -- Fields of a row that are read one after another.
 use Rattle.std.specs.Prelude.{◌≡◌, ◌≤◌, ◌+◌, ℕ, zero, suc, true, List, ◌∷◌, length, Option}
 use Rattle.std.specs.Str.{is_utf8}
-use Rattle.bser_format.specs.Content.{Needs}
+use Rattle.bser_due.specs.Reading.{Needs}
 use Rattle.bser_format.specs.Expected.{field_due, name_due}
 use Rattle.bser_format.specs.declared.errors.Error.{Error}
 use Rattle.bser_due.specs.Dues.{name_at}

@@ -1,9 +1,9 @@
 //! A field of a struct, and what was read of it.
 ghost use Rattle.std.specs.Prelude.{◌≡◌, Option, Some, option_map, IfOk, OnOk, OnErr};
-ghost use Rattle.bser_format.specs.Content.{Content, Needs};
+ghost use Rattle.bser_format.specs.Content.{Content};
 ghost use Rattle.bser_due.specs.Holds.{HoldsOption};
 ghost use Rattle.bser_named.specs.Clauses.{left_over};
-ghost use Rattle.bser_due.specs.Reading.{Asking};
+ghost use Rattle.bser_due.specs.Reading.{Asking, Needs};
 ghost use Rattle.bser_due.specs.State.{refused};
 ghost use Rattle.bser_deserializer.specs.View.{state, refusal_in};
 ghost use Rattle.bser_types.specs.Askings.{asking_option};

@@ -1,7 +1,8 @@
 //! The fields of a struct, one after another.
 ghost use Rattle.std.specs.Prelude.{◌≡◌, ◌<◌, ◌-◌, ◌^◌, ℕ, List, [], ◌∷◌, length, map, Some, true, false, IfOk, OnOk, OnErr, IfErr, IfSome};
 ghost use Rattle.std.specs.Str.{bytes_eq};
-ghost use Rattle.bser_format.specs.Content.{Content, Needs};
+ghost use Rattle.bser_format.specs.Content.{Content};
+ghost use Rattle.bser_due.specs.Reading.{Needs};
 ghost use Rattle.bser_due.specs.Fields.{field_of};
 ghost use Rattle.bser_deserializer.specs.View.{state, refusal_in};
 ghost use Rattle.bser_types.specs.Slots.{StructField, FinishesField, fill, fill_at, struct_needs, KeepsBoth, FinishesEach};

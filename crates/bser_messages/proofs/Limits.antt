@@ -1,7 +1,6 @@
 -- How far a source may take ahead has no part in what is left, nor in a refusal.
 use Rattle.std.proofs.Common.{ℕ, List, length, inl, inr}
 use Rattle.bser_format.specs.Grammar.{Format}
-use Rattle.bser_format.specs.Content.{Needs}
 use Rattle.bser_format.specs.declared.errors.Error.{Error}
 use Rattle.bser_format.specs.declared.errors.Error.TheVariants.{DeCustom, DeReaderError, OutOfMemory}
 use Rattle.bser_format.specs.declared.errors.Message.TheVariants.{Fixed}
@@ -11,7 +10,7 @@ use Rattle.bser_named.specs.Named as named
 use Rattle.bser_read.specs.Window.{Window, with_limit}
 use Rattle.bser_bunser.specs.Refusal.{Fails}
 use Rattle.bser_bunser.specs.Names.{Blame, MayBeLeft, RefusedAs}
-use Rattle.bser_due.specs.Reading.{OutsideBy, ExcusedBy, MayRefuse, NamesBy, RefusesFront, refusing}
+use Rattle.bser_due.specs.Reading.{OutsideBy, ExcusedBy, MayRefuse, NamesBy, RefusesFront, refusing, Needs}
 
 pub left_within : (l : ℕ) (s : Window) (b : List ℕ) → MayBeLeft s b → MayBeLeft (with_limit l s) b
 left_within l s b m = record { more = m.more; whole = m.whole; known = m.known }

@@ -7,7 +7,7 @@ use Rattle.std.proofs.lemmas.Int.{ints}
 use Rattle.bser_format.specs.Tree.{Tree}
 use Rattle.bser_format.specs.Expand.{expand}
 use Rattle.bser_format.specs.Expected.{Fills, FillsNode, nothing_due, node_due}
-use Rattle.bser_format.specs.Content.{Content, Meaning, Needs}
+use Rattle.bser_format.specs.Content.{Content, Meaning}
 use Rattle.bser_format.specs.declared.errors.Error.{Error}
 use Rattle.bser_format.proofs.Frames.{framed, parts}
 use Rattle.bser_format.proofs.Fronts.{one_value}
@@ -23,11 +23,11 @@ use Rattle.bser_bunser.specs.Names.{Names}
 use Rattle.bser_bunser.proofs.Names.{known_rest, left_now, left_untaken}
 use Rattle.bser_bunser.proofs.Readers.{head_there}
 use Rattle.bser_due.specs.State.{State, Begins, IsAtEnd}
-use Rattle.bser_due.specs.Reading.{Answers, Asking, NamesAsked, NamesBy, Refuses, FillsReadably, IsRefusal, bare}
+use Rattle.bser_due.specs.Reading.{Answers, Asking, NamesAsked, NamesBy, Refuses, FillsReadably, IsRefusal, bare, Needs}
 use Rattle.bser_due.proofs.Clean.{clean_head}
 use Rattle.bser_due.proofs.Refusals.{first_part, sequel, with_needs, by_name, names_any, names_bare, names_by_more, names_by_untaken, no_failure}
 use Rattle.bser_deserializer.specs.View.{not_at_end}
-use Rattle.bser_messages.specs.Messages.{ReadsMessage, ReadsBody, IsReadableMessage, NamesMessage, RefusesBody, RefusesMessage}
+use Rattle.bser_messages.specs.Messages.{ReadsMessage, ReadsBody, IsReadableMessage, NamesMessage, BeginWithHead, RefusesBody, RefusesMessage}
 use Rattle.bser_messages.proofs.Limits.{left_within, names_within, refuses_within}
 use Rattle.bser_messages.proofs.Ends.{head_length, head_bad, value_bad, end_bad, end_kind}
 
@@ -110,6 +110,16 @@ head_first : (n : ℕ) (reads : Meaning) (text : List ℕ) → IsReadableMessage
 head_first n reads text (c, r) =
     let p = parts n r.capabilities r.tree text r.message in
     (p.head, p.body, p.whole, (r.capabilities, length p.body, p.start))
+
+-- a head that was taken stands in front of what was left
+pub head_came : (n : ℕ) (a : Window) (s : State) → Begins n a s → BeginWithHead (left a)
+head_came n a s begins =
+    let head = begins.took in
+    record {
+      text = head.text;
+      head = (s.capabilities, head.size, head.head);
+      front = λ x known. (let r = left_took a (with_limit a.limit s.source) head.text x head.took known in (r.0, r.2));
+    }
 
 -- by the name of the head
 head_named : {R : Meaning} (n : ℕ) (needs : Needs) (asks : Option (Asking R)) (e : Error) (a : Window) → NamesBy needs named.head e a → NamesMessage n needs asks e a

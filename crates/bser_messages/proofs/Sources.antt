@@ -4,7 +4,7 @@ use Rattle.std.proofs.lemmas.List.{append-nil}
 use Rattle.std.proofs.lemmas.Bool.{ltb-false}
 use Rattle.std.specs.Prelude.{Result, Ok, Err, IfErr}
 use Rattle.std.specs.Borrow.{GName}
-use Rattle.bser_format.specs.Content.{Content, Meaning, Needs}
+use Rattle.bser_format.specs.Content.{Content, Meaning}
 use Rattle.bser_format.specs.Expected.{node_due}
 use Rattle.bser_format.specs.declared.errors.Error.{Error}
 use Rattle.bser_format.specs.declared.errors.Error.TheVariants.{DeCustom, DeReaderError, OutOfMemory}
@@ -18,8 +18,8 @@ use Rattle.bser_read.specs.Slice.{slice_fresh}
 use Rattle.bser_bunser.specs.Refusal.{failures_by}
 use Rattle.bser_bunser.specs.Names as bunser
 use Rattle.bser_bunser.specs.Names.{Agree, Blame, MayBeLeft, RefusedAs}
-use Rattle.bser_due.specs.Reading.{Asking, OutsideBy, ExcusedBy, MayRefuse, refusing}
-use Rattle.bser_messages.specs.Messages.{ReadsMessage, NamesMessage, RefusesMessage, IsMemory, NamesSlice, RefusesSlice, CountsFault, MayCome, IsReaderFault, IsOutside, NamesReader, RefusesReader}
+use Rattle.bser_due.specs.Reading.{Asking, OutsideBy, ExcusedBy, MayRefuse, refusing, Needs}
+use Rattle.bser_messages.specs.Messages.{ReadsMessage, NamesMessage, RefusesMessage, IsMemory, NamesSlice, RefusesSlice, CountsFault, MayCome, IsReaderFault, IsOutside, NamesReader, RefusesReader, BeginWithHead}
 
 -- ---- slices
 
@@ -70,6 +70,14 @@ slice_refused n reads asks needs e bytes a t fresh v =
       excuse = λ text rest c readable known. slice_excused needs (length text) e bytes (u.excuse text rest (c, readable) (ap Some (append-nil bytes ∙ known)));
       memory = slice_memory needs e bytes u.may;
     }
+
+-- a head in front of what is left of a slice is in front of the slice
+pub slice_head : (bytes : List ℕ) (a : Window) → a ≡ slice_fresh bytes → BeginWithHead (left a) → BeginWithHead (Some bytes)
+slice_head bytes a fresh h = record {
+  text = h.text;
+  head = h.head;
+  front = λ x known. h.front x (ap left fresh ∙ ap Some (append-nil bytes) ∙ known);
+}
 
 -- ---- readers
 
@@ -141,6 +149,14 @@ reader_refused n reads asks needs e a t owned fresh v =
       excuse = λ text rest c readable known. reader_excused needs (length text) e a.beyond a.failures t.failures a.through owned v.failures readable.message.short (u.excuse text rest (c, readable) (fresh_left a.beyond a.failures a.through (text ++ rest) known));
       counted = fault_counted e a.failures t.failures v.failures;
     }
+
+-- a head in front of what is left of a reader
+pub reader_head : (remaining : Option (List ℕ)) (failures : ℕ) (through : Option GName) (a : Window) → a ≡ reader_fresh remaining failures through → BeginWithHead (left a) → BeginWithHead remaining
+reader_head remaining failures through a fresh h = record {
+  text = h.text;
+  head = h.head;
+  front = λ x known. h.front x (ap left fresh ∙ fresh_left remaining failures through x known);
+}
 
 -- the same of a reader that is known to have as much left, and to have counted as much
 pub reader_counted : (n : ℕ) (reads : Meaning) (asks : Option (Asking reads)) (e : Error) (left seen : Option (List ℕ)) (a b before after : ℕ) → seen ≡ left → a ≡ before → b ≡ after → RefusesReader n reads asks e seen a b → RefusesReader n reads asks e left before after

@@ -4,7 +4,7 @@ use Rattle.std.specs.Io.KnownBytes.{Consumes}
 use Rattle.bser_format.specs.Tree.{Tree}
 use Rattle.bser_format.specs.Expand.{expand}
 use Rattle.bser_format.specs.Message.{IsMessage}
-use Rattle.bser_format.specs.Content.{Content, Meaning, Needs}
+use Rattle.bser_format.specs.Content.{Content, Meaning}
 use Rattle.bser_format.specs.Expected.{node_due}
 use Rattle.bser_format.specs.Grammar.{Format}
 use Rattle.bser_format.specs.declared.errors.Error.{Error}
@@ -14,9 +14,10 @@ use Rattle.bser_source.specs.Device.{Blamed}
 use Rattle.bser_named.specs.Named as named
 use Rattle.bser_read.specs.Window.{Window, Took, left, with_limit}
 use Rattle.bser_bunser.specs.Refusal.{failures_by}
+use Rattle.bser_bunser.specs.Tagged.{IsHead}
 use Rattle.bser_due.specs.State.{State, Begins}
 use Rattle.bser_bunser.specs.Names.{Agree}
-use Rattle.bser_due.specs.Reading.{Answers, Asking, ExcusedBy, MayRefuse, NamesBy, RefusesFront}
+use Rattle.bser_due.specs.Reading.{Answers, Asking, ExcusedBy, MayRefuse, NamesBy, RefusesFront, Needs}
 
 -- ---- what is read
 
@@ -62,6 +63,12 @@ pub record ReadsBody {A : Type 0} (n : ℕ) (reads : Meaning) (holds : A → Con
 -- the text is a message that reads
 abbrev pub IsReadableMessage : ℕ → Meaning → Format
 IsReadableMessage n reads text = (c : Content) × ReadsMessageAs n reads text c
+
+-- the bytes left, where they are known, begin with a message's head
+pub record BeginWithHead (left : Option (List ℕ)) : Type 0 where
+  pub text : List ℕ
+  pub head : IsHead text
+  pub front : (x : List ℕ) → left ≡ Some x → (rest : List ℕ) × (x ≡ text ++ rest)
 
 -- ---- how it is refused
 

@@ -1,7 +1,10 @@
 //! Reading whole messages.
-ghost use Rattle.std.specs.Prelude.{◌≡◌, ◌≤◌, [], IfOk, IfErr, OnOk, OnErr};
+ghost use Rattle.std.specs.Prelude.{◌≡◌, ◌≤◌, [], IfOk, IfErr, OnOk, OnErr, ◌≢◌, Some};
+ghost use Rattle.bser_read.specs.Window.{left};
+ghost use Rattle.bser_due.specs.Reading.{TakesNoMemory};
 ghost use Rattle.bser_deserializer.specs.View.{state, refusal_in};
 ghost use Rattle.bser_messages.specs.Messages.{
+  BeginWithHead,
   BeginsWith,
   TookMessage,
   ReadsBody,
@@ -14,7 +17,7 @@ ghost use Rattle.bser_messages.specs.Messages.{
 
 use bser_bunser::refusal::{Answer, Refused};
 use bser_deserializer::deserializer::{Deserializer, LEVELS};
-use bser_format::errors::Result;
+use bser_format::errors::{Error, Result};
 use bser_read::io_read::IoRead;
 use bser_read::read::DeRead;
 use bser_read::slice_read::SliceRead;
@@ -28,11 +31,12 @@ use std::alloc::Global;
 ///
 /// Answers a value exactly where a front of `bytes` is a well-formed message whose tree, templates
 /// written out, the type reads as that value. Refused else by the name of the first fault in the
-/// order of reading, or for want of memory, and that only of a type that takes memory. The crate
-/// takes no allocator.
+/// order of reading, or for want of memory, and that only after the message's head and of a type
+/// that takes memory. The crate takes no allocator.
 pub fn from_slice<'de, T: Deserialize<&'de [u8]>>(alloc: Global, bytes: &'de [u8]) -> Result<T>
     ensures found { IfOk result (BeginsWith 128 T.reads T.holds bytes.now) }
     ensures refused { IfErr result (λ e. RefusesSlice 128 T.reads T.asks T.needs e bytes.now) }
+    ensures head { IfErr result (λ e. e ≡ Error.OutOfMemory → BeginWithHead (Some bytes.now)) }
 {
     from_slice_within(alloc, LEVELS, bytes)
 }
@@ -48,6 +52,7 @@ pub fn from_slice_within<'de, T: Deserialize<&'de [u8]>>(
     requires { limit ≤ 1024 }
     ensures found { IfOk result (BeginsWith limit T.reads T.holds bytes.now) }
     ensures refused { IfErr result (λ e. RefusesSlice limit T.reads T.asks T.needs e bytes.now) }
+    ensures head { IfErr result (λ e. e ≡ Error.OutOfMemory → BeginWithHead (Some bytes.now)) }
 {
     let mut from = Deserializer::unread(alloc, SliceRead::new(bytes));
     read_message(alloc, limit, &mut from)
@@ -57,15 +62,19 @@ pub fn from_slice_within<'de, T: Deserialize<&'de [u8]>>(
 ///
 /// Answers a value exactly where a front of the bytes left is a well-formed message whose tree,
 /// templates written out, the type reads as that value, want of memory and faults that the reader
-/// counts aside. Refused else by the name of the first fault in the order of reading. After a
-/// refusal nothing is said of how far the reader went. The crate takes the reader by value, and no
-/// allocator.
+/// counts aside. Refused else by the name of the first fault in the order of reading, or for want
+/// of memory, and that only after the message's head, and of a type that takes memory or reads bytes
+/// which are copied: never of `bool`, `()` or a number. After a refusal nothing is said of how far
+/// the reader went. The crate takes the reader by value, and no allocator.
 pub fn from_reader<S: Source, T: DeserializeOwned>(alloc: Global, reader: &mut S) -> Result<T>
     ensures found { IfOk result
         (TookMessage 128 T.reads T.holds (S.remaining reader.old) (S.remaining reader.new)) }
     ensures refused { IfErr result (λ e. RefusesReader 128 T.reads T.asks e
         (S.remaining reader.old) (S.failures reader.old) (S.failures reader.new)) }
     ensures kept { OnOk result (S.failures reader.new ≡ S.failures reader.old) }
+    ensures memory { TakesNoMemory T.needs → IfErr result (λ e. e ≢ Error.OutOfMemory) }
+    ensures head { IfErr result (λ e. e ≡ Error.OutOfMemory
+        → BeginWithHead (S.remaining reader.old)) }
 {
     from_reader_within(alloc, LEVELS, reader)
 }
@@ -84,6 +93,9 @@ pub fn from_reader_within<S: Source, T: DeserializeOwned>(
     ensures refused { IfErr result (λ e. RefusesReader limit T.reads T.asks e
         (S.remaining reader.old) (S.failures reader.old) (S.failures reader.new)) }
     ensures kept { OnOk result (S.failures reader.new ≡ S.failures reader.old) }
+    ensures memory { TakesNoMemory T.needs → IfErr result (λ e. e ≢ Error.OutOfMemory) }
+    ensures head { IfErr result (λ e. e ≡ Error.OutOfMemory
+        → BeginWithHead (S.remaining reader.old)) }
 {
     let mut from = Deserializer::unread(alloc, IoRead::new(reader));
     let answer = read_message(alloc, limit, &mut from);
@@ -109,6 +121,9 @@ where
         (state R.window R.Lent.kept from.old).source (state R.window R.Lent.kept from.new).source) }
     ensures refused { IfErr result (λ e. RefusesMessage limit T.reads T.asks T.needs e
         (state R.window R.Lent.kept from.old).source (state R.window R.Lent.kept from.new).source) }
+    ensures memory { TakesNoMemory T.needs → IfErr result (λ e. e ≢ Error.OutOfMemory) }
+    ensures head { IfErr result (λ e. e ≡ Error.OutOfMemory
+        → BeginWithHead (left (state R.window R.Lent.kept from.old).source)) }
 {
     match read_body(alloc, limit, from) {
         Ok(value) => {
@@ -134,6 +149,10 @@ where
         (state R.window R.Lent.kept from.old).source (state R.window R.Lent.kept from.new)) }
     ensures refused { OnErr result (RefusesBody limit T.reads T.asks T.needs (refusal_in from.new)
         (state R.window R.Lent.kept from.old).source (state R.window R.Lent.kept from.new).source) }
+    ensures memory { TakesNoMemory T.needs
+        → OnErr result (refusal_in from.new ≢ Error.OutOfMemory) }
+    ensures head { OnErr result (refusal_in from.new ≡ Error.OutOfMemory
+        → BeginWithHead (left (state R.window R.Lent.kept from.old).source)) }
 {
     from.read_head(limit)?;
     T::deserialize(alloc, from)

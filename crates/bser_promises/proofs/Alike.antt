@@ -4,7 +4,7 @@ use Rattle.std.specs.Prelude.{IsOk, IfOk, IfErr}
 use Rattle.std.specs.Io.KnownBytes.{Consumes}
 use Rattle.std.proofs.lemmas.Option.{same_Some}
 use Rattle.bser_format.specs.Tree.{Tree}
-use Rattle.bser_format.specs.Content.{Content, Meaning, Needs}
+use Rattle.bser_format.specs.Content.{Content, Meaning}
 use Rattle.bser_format.specs.Expand.{expand}
 use Rattle.bser_format.specs.Expected.{node_due}
 use Rattle.bser_format.specs.declared.errors.Error.{Error}
@@ -12,7 +12,7 @@ use Rattle.bser_format.specs.declared.errors.Error.TheVariants.{OutOfMemory}
 use Rattle.bser_format.proofs.Laws.{one_message}
 use Rattle.bser_named.specs.Named as named
 use Rattle.serde_bser.specs.Messages.{ReadsMessageAs, BeginsWith, TookMessage, RefusesSlice, RefusesReader, NamesSlice, NamesReader, IsMemory, IsReaderFault, IsOutside}
-use Rattle.serde_bser.specs.Reading.{Asking}
+use Rattle.serde_bser.specs.Reading.{Asking, Needs}
 use Rattle.bser_promises.specs.Agreement.{ReadAlike, SameName}
 
 -- what known bytes have left is known

@@ -7,7 +7,7 @@ use Rattle.std.proofs.lemmas.List.{append_cancel_left}
 use Rattle.std.proofs.lemmas.Option.{same_Some}
 use Rattle.bser_format.specs.Tree.{Tree}
 use Rattle.bser_format.specs.Expand.{expand}
-use Rattle.bser_format.specs.Content.{Content, value, Needs}
+use Rattle.bser_format.specs.Content.{Content, value}
 use Rattle.bser_format.specs.Normal.{normal}
 use Rattle.bser_format.specs.ReadsAny.{reads_value}
 use Rattle.bser_format.specs.Measures.{depth}
@@ -26,7 +26,7 @@ use Rattle.bser_ser.specs.Message.{IsUnmeasured, message_of}
 use Rattle.bser_value.specs.declared.value.Value.{Value}
 use Rattle.serde_bser.specs.ValueView.{tree_of}
 use Rattle.serde_bser.specs.Messages.{ReadsMessageAs, BeginsWith, TookMessage, RefusesSlice, RefusesReader, IsReaderFault}
-use Rattle.serde_bser.specs.Reading.{Asking}
+use Rattle.serde_bser.specs.Reading.{Asking, Needs}
 use Rattle.bser_promises.specs.Returned.{IsNotReturned, IsNotReturnedByReader, IsUnread, IsWrittenFor, TookOne}
 
 -- the value that a `Value` holds

@@ -7,14 +7,14 @@ use Rattle.bser_format.specs.Canonical.{canonical_message}
 use Rattle.bser_format.specs.Compact.{compact_message}
 use Rattle.bser_format.specs.declared.errors.Error.{Error}
 use Rattle.bser_format.specs.Expand.{expand, IsTemplateFree}
-use Rattle.bser_format.specs.Content.{Content, value, Needs}
+use Rattle.bser_format.specs.Content.{Content, value}
 use Rattle.bser_format.specs.Normal.{normal}
 use Rattle.bser_format.specs.ReadsAny.{reads_value}
 use Rattle.bser_format.proofs.Bounds.{least_message, value_nodes, value_depth, value_body, value_fits}
 use Rattle.bser_format.proofs.LeastCompact.{least_compact}
 use Rattle.bser_ser.specs.Message.{message_of, IsUnmeasured}
 use Rattle.bser_value.specs.declared.value.Value.{Value}
-use Rattle.serde_bser.specs.Reading.{Asking}
+use Rattle.serde_bser.specs.Reading.{Asking, Needs}
 use Rattle.serde_bser.specs.ValueView.{tree_of, HoldsValue}
 use Rattle.serde_bser.specs.Messages.{BeginsWith}
 use Rattle.bser_promises.specs.Bounds.{IsBoundedByBody}

@@ -2,13 +2,13 @@
 use Rattle.std.specs.Prelude.{◌≡◌, ◌⊎◌, ℕ, ◌≤◌, List, ◌++◌, length, Option, Some}
 use Rattle.bser_format.specs.Tree.{Tree}
 use Rattle.bser_format.specs.Message.{IsMessage}
-use Rattle.bser_format.specs.Content.{Meaning, Needs}
+use Rattle.bser_format.specs.Content.{Meaning}
 use Rattle.bser_format.specs.declared.errors.Error.{Error}
 use Rattle.bser_ser.specs.Message.{IsUnmeasured}
 use Rattle.bser_value.specs.declared.value.Value.{Value}
 use Rattle.serde_bser.specs.Laws.{ReadsAs}
 use Rattle.serde_bser.specs.Messages.{BeginsWith, RefusesSlice}
-use Rattle.serde_bser.specs.Reading.{Asking}
+use Rattle.serde_bser.specs.Reading.{Asking, Needs}
 use Rattle.serde_bser.specs.ValueView.{HoldsValue, tree_of}
 
 -- any tree

@@ -1,6 +1,7 @@
 -- What an answer of Watchman is read from, and what it holds.
 use Rattle.std.specs.Prelude.{[], ◌∷◌, codes, string_bytes}
-use Rattle.bser_format.specs.Content.{Content, Meaning, Needs}
+use Rattle.bser_format.specs.Content.{Content, Meaning}
+use Rattle.bser_due.specs.Reading.{Needs}
 use Rattle.bser_format.specs.ReadsHolders.{reads_vec}
 use Rattle.bser_format.specs.ReadsScalars.{reads_bool, reads_signed, reads_string, reads_unsigned}
 use Rattle.serde_bser.specs.Holds.{HoldsOption, HoldsNumber, HoldsSize, HoldsTruth}

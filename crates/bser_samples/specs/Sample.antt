@@ -8,8 +8,8 @@ use Rattle.sha2.specs.Sha256.{sha256}
 use Rattle.bser_format.specs.Tree.{Tree}
 use Rattle.bser_format.specs.Canonical.{canonical_message}
 use Rattle.bser_format.specs.Compact.{compact_message}
-use Rattle.bser_format.specs.Content.{Meaning, Needs}
-use Rattle.serde_bser.specs.Reading.{Asking}
+use Rattle.bser_format.specs.Content.{Meaning}
+use Rattle.serde_bser.specs.Reading.{Asking, Needs}
 use Rattle.serde_bser.specs.ValueView.{tree_of}
 use Rattle.bser_value.specs.declared.value.Value.{Value}
 use Rattle.bser_vectors.specs.Notation.{notation}

@@ -3,7 +3,7 @@ use Rattle.std.proofs.Common.{◌≡◌, ℕ, ◌+◌, ◌≤◌, ◌<◌, ◌^�
 use Rattle.std.proofs.lemmas.List.{nil_from_length}
 use Rattle.std.specs.Borrow.{GName}
 use Rattle.std.specs.Io.KnownBytes.{IsAtEnd}
-use Rattle.bser_format.specs.Content.{Meaning, Needs}
+use Rattle.bser_format.specs.Content.{Meaning}
 use Rattle.bser_format.specs.Errors.{error_of}
 use Rattle.bser_format.specs.declared.errors.Error.{Error}
 use Rattle.bser_format.specs.declared.errors.Error.TheVariants.{DeReaderError}
@@ -13,7 +13,7 @@ use Rattle.bser_source.specs.Device.{Blamed}
 use Rattle.bser_read.specs.Refusal.{Refused}
 use Rattle.bser_read.specs.Window.{Window, Filled, left}
 use Rattle.bser_read.proofs.Windows.{left_grown, hand_first}
-use Rattle.bser_due.specs.Reading.{Asking}
+use Rattle.bser_due.specs.Reading.{Asking, Needs}
 use Rattle.bser_messages.specs.Messages.{NamesReader}
 use Rattle.bser_messages.proofs.Sources.{reader_fresh, blamed_more, fresh_itself, fresh_left}
 use Rattle.bser_streams.specs.Limited.{RefusesWithin}

@@ -2,12 +2,12 @@
 use Rattle.std.proofs.Common.{◌≡◌, ℕ, ◌+◌, ◌-◌, ◌≤◌, List, [], ◌++◌, ◌⊎◌, Option, Some, length, take, drop, length-append, append-nil, refl, sym, ap, subst, ◌∙◌, arith, inl, inr}
 use Rattle.std.proofs.Math.Seq.{drop-append_seam, take-length}
 use Rattle.std.proofs.lemmas.List.{drop-drop, length-drop}
-use Rattle.bser_format.specs.Content.{Content, Meaning, Needs}
+use Rattle.bser_format.specs.Content.{Content, Meaning}
 use Rattle.bser_format.specs.declared.errors.Error.{Error}
 use Rattle.bser_read.specs.Window.{Window, with_limit}
 use Rattle.bser_read.specs.Slice.{slice_fresh}
 use Rattle.bser_read.proofs.Windows.{left_took}
-use Rattle.bser_due.specs.Reading.{Asking, ExcusedBy, bare}
+use Rattle.bser_due.specs.Reading.{Asking, ExcusedBy, bare, Needs}
 use Rattle.bser_messages.proofs.Sources.{slice_excused, slice_refused}
 use Rattle.bser_streams.specs.Limited.{BeginsWithin, TookWithin, ReadsWithin, RefusesWithin, RefusesSliceWithin}
 

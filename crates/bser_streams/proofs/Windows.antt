@@ -2,7 +2,7 @@
 use Rattle.std.proofs.Common.{◌≡◌, ℕ, ◌≤◌, ◌<◌, List, [], ◌++◌, ◌⊎◌, Option, None, Some, length, append-nil, refl, sym, ap, ◌∙◌, arith, inl, inr}
 use Rattle.std.specs.Prelude.{pos, IsTrue}
 use Rattle.std.proofs.lemmas.Int.{ints}
-use Rattle.bser_format.specs.Content.{Content, Meaning, Needs}
+use Rattle.bser_format.specs.Content.{Content, Meaning}
 use Rattle.bser_format.specs.declared.errors.Error.{Error}
 use Rattle.bser_format.specs.declared.errors.Error.TheVariants.{DeTooLong}
 use Rattle.bser_format.specs.Message.{Head}
@@ -15,7 +15,7 @@ use Rattle.bser_bunser.specs.Refusal.{Fails, failures_by}
 use Rattle.bser_bunser.specs.Tagged.{IsHead}
 use Rattle.bser_bunser.proofs.Readers.{head_there}
 use Rattle.bser_due.specs.State.{State, Begins, IsAtEnd, refused}
-use Rattle.bser_due.specs.Reading.{Answers, Asking, ExcusedBy, MayRefuse, Refuses, bare, refusing}
+use Rattle.bser_due.specs.Reading.{Answers, Asking, ExcusedBy, MayRefuse, Refuses, bare, refusing, Needs}
 use Rattle.bser_due.proofs.Clean.{clean_head}
 use Rattle.bser_due.proofs.Refusals.{by_name, excused_before, names_any, names_by_grown}
 use Rattle.bser_deserializer.specs.View.{not_at_end}

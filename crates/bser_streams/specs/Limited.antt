@@ -1,12 +1,12 @@
 -- What a message is read as under limits: of n levels, and of m bytes of its body.
 use Rattle.std.specs.Prelude.{◌≡◌, ◌⊎◌, ◌≤◌, ◌<◌, ℕ, List, ◌++◌, length, Option, Some}
 use Rattle.std.specs.Io.KnownBytes.{Consumes}
-use Rattle.bser_format.specs.Content.{Content, Meaning, Needs}
+use Rattle.bser_format.specs.Content.{Content, Meaning}
 use Rattle.bser_format.specs.Message.{Head}
 use Rattle.bser_format.specs.declared.errors.Error.{Error}
 use Rattle.bser_format.specs.declared.errors.Error.TheVariants.{DeTooLong}
 use Rattle.bser_read.specs.Window.{Window, Took, closed, left, with_limit}
-use Rattle.bser_due.specs.Reading.{Asking, ExcusedBy, bare}
+use Rattle.bser_due.specs.Reading.{Asking, ExcusedBy, bare, Needs}
 use Rattle.bser_due.specs.State.{State}
 use Rattle.bser_messages.specs.Messages.{BeginsWith, TookMessage, ReadsMessage, ReadsBody, RefusesBody, RefusesMessage, RefusesSlice, RefusesReader, IsReaderFault}
 

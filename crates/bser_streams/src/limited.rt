@@ -1,5 +1,6 @@
 //! Reading whole messages under limits of levels and of bytes.
-ghost use Rattle.std.specs.Prelude.{◌≡◌, ◌≤◌, [], length, drop, Some, IfOk, IfErr, OnErr};
+ghost use Rattle.std.specs.Prelude.{◌≡◌, ◌≢◌, ◌≤◌, [], length, drop, Some, IfOk, IfErr, OnErr};
+ghost use Rattle.bser_due.specs.Reading.{TakesNoMemory};
 ghost use Rattle.bser_deserializer.specs.View.{state, refusal_in};
 ghost use Rattle.bser_streams.specs.Limited.{
   BeginsWithin,
@@ -76,6 +77,7 @@ where
     ensures refused { IfErr result (λ e. RefusesWithin limits.levels limits.bytes
         T.reads T.asks T.needs e
         (state R.window R.Lent.kept from.old).source (state R.window R.Lent.kept from.new).source) }
+    ensures memory { TakesNoMemory T.needs → IfErr result (λ e. e ≢ Error.OutOfMemory) }
 {
     match read_body(alloc, limits, from) {
         Ok(value) => {
@@ -102,6 +104,8 @@ where
     ensures refused { OnErr result (RefusesBodyWithin limits.levels limits.bytes
         T.reads T.asks T.needs (refusal_in from.new)
         (state R.window R.Lent.kept from.old).source (state R.window R.Lent.kept from.new).source) }
+    ensures memory { TakesNoMemory T.needs
+        → OnErr result (refusal_in from.new ≢ Error.OutOfMemory) }
 {
     from.read_head(limits.levels)?;
     let announced = from.body_length() as usize;

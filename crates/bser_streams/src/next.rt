@@ -1,5 +1,6 @@
 //! The next message of a reader, or the end of its stream.
-ghost use Rattle.std.specs.Prelude.{◌≡◌, ◌≤◌, ◌^◌, ◌-◌, IfOk, IfErr, OnOk};
+ghost use Rattle.std.specs.Prelude.{◌≡◌, ◌≤◌, ◌^◌, ◌-◌, IfOk, IfErr, OnOk, ◌≢◌};
+ghost use Rattle.bser_due.specs.Reading.{TakesNoMemory};
 ghost use Rattle.bser_streams.specs.Limited.{TookWithin, RefusesReaderWithin};
 ghost use Rattle.bser_streams.specs.Streams.{IsNext, RefusesNext};
 
@@ -28,6 +29,7 @@ pub fn next_message<S: Source, T: DeserializeOwned>(
         (S.remaining reader.old) (S.remaining reader.new)
         (S.failures reader.old) (S.failures reader.new)) }
     ensures kept { OnOk result (S.failures reader.new ≡ S.failures reader.old) }
+    ensures memory { TakesNoMemory T.needs → IfErr result (λ e. e ≢ Error.OutOfMemory) }
 {
     next_message_limited(alloc, Limits::new(), reader)
 }
@@ -49,6 +51,7 @@ pub fn next_message_limited<S: Source, T: DeserializeOwned>(
         (S.remaining reader.old) (S.remaining reader.new)
         (S.failures reader.old) (S.failures reader.new)) }
     ensures kept { OnOk result (S.failures reader.new ≡ S.failures reader.old) }
+    ensures memory { TakesNoMemory T.needs → IfErr result (λ e. e ≢ Error.OutOfMemory) }
 {
     let mut read = IoRead::new(reader);
     match read.peek() {
@@ -89,6 +92,7 @@ pub fn from_reader_limited<S: Source, T: DeserializeOwned>(
         (S.remaining reader.old) (S.remaining reader.new)
         (S.failures reader.old) (S.failures reader.new)) }
     ensures kept { OnOk result (S.failures reader.new ≡ S.failures reader.old) }
+    ensures memory { TakesNoMemory T.needs → IfErr result (λ e. e ≢ Error.OutOfMemory) }
 {
     let mut from = Deserializer::unread(alloc, IoRead::new(reader));
     let answer = read_within(alloc, limits, &mut from);

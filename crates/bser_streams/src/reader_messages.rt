@@ -1,5 +1,6 @@
 //! The messages of a reader, one after the other.
-ghost use Rattle.std.specs.Prelude.{◌≡◌, ◌≤◌, ◌^◌, ◌-◌, true, false, IfOk, IfErr, OnOk, OnErr};
+ghost use Rattle.std.specs.Prelude.{◌≡◌, ◌≢◌, ◌≤◌, ◌^◌, ◌-◌, true, false, IfOk, IfErr, OnOk, OnErr};
+ghost use Rattle.bser_due.specs.Reading.{TakesNoMemory};
 ghost use Rattle.bser_streams.specs.Streams.{IsNext, RefusesNext, counts_message};
 
 use crate::limits::Limits;
@@ -77,6 +78,7 @@ impl<S: Source> ReaderMessages<S> {
         ensures failed { OnErr result (reader_failed self.new ≡ true) }
         ensures stays { OnErr result (reader_taken self.new ≡ reader_taken self.old) }
         ensures limits { reader_limits self.new ≡ reader_limits self.old }
+        ensures memory { TakesNoMemory T.needs → IfErr result (λ e. e ≢ Error.OutOfMemory) }
     {
         if self.failed {
             return Err(Error::de_reader_error(ReadCause::Failed));

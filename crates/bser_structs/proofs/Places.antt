@@ -1,11 +1,11 @@
 -- The variants of an enum, read by the place of the name.
 use Rattle.std.proofs.Common.{◌≡◌, ◌<◌, ◌+◌, ℕ, zero, suc, Bool, true, false, List, [], ◌∷◌, length, Option, Some, None, refl, sym, ap, subst, arith}
 use Rattle.std.specs.Prelude.{◌||◌}
-use Rattle.bser_format.specs.Content.{Content, variant, Meaning, Needs}
+use Rattle.bser_format.specs.Content.{Content, variant, Meaning}
 use Rattle.bser_format.specs.Enums.{Payload, unit, holds, reads_enum}
 use Rattle.bser_format.specs.declared.errors.Error.{Error}
 use Rattle.bser_due.specs.Access.{after_closing}
-use Rattle.bser_due.specs.Reading.{Answers, Asking, Refuses}
+use Rattle.bser_due.specs.Reading.{Answers, Asking, Refuses, Needs}
 use Rattle.bser_due.specs.State.{State, awaiting}
 use Rattle.bser_due.specs.declared.frames.MapHead.{MapHead}
 use Rattle.bser_types.specs.Slots.{any_lent, struct_needs}

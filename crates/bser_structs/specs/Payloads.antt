@@ -1,6 +1,7 @@
 -- What the payload of a variant is read as, in a list over the variants.
 use Rattle.std.specs.Prelude.{ℕ, zero, suc, List, [], ◌∷◌, None}
-use Rattle.bser_format.specs.Content.{Content, one, Needs}
+use Rattle.bser_format.specs.Content.{Content, one}
+use Rattle.bser_due.specs.Reading.{Needs}
 use Rattle.bser_format.specs.Enums.{Payload, unit, holds}
 use Rattle.bser_format.specs.declared.errors.Error.{Error}
 use Rattle.bser_due.specs.State.{State}

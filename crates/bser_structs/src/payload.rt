@@ -1,9 +1,9 @@
 //! The payload of a variant, as it is read.
 ghost use Rattle.std.specs.Prelude.{◌≡◌, map, IfOk, OnErr};
-ghost use Rattle.bser_format.specs.Content.{Content, one, Needs};
+ghost use Rattle.bser_format.specs.Content.{Content, one};
 ghost use Rattle.bser_format.specs.Enums.{Payload, unit, holds};
 ghost use Rattle.bser_due.specs.HoldsLists.{HoldsTuple};
-ghost use Rattle.bser_due.specs.Reading.{bare};
+ghost use Rattle.bser_due.specs.Reading.{bare, Needs};
 ghost use Rattle.bser_deserializer.specs.View.{state, refusal_in};
 ghost use Rattle.bser_types.specs.Slots.{reads_struct, struct_needs};
 ghost use Rattle.bser_variants.specs.EnumAccess.{enum_head};

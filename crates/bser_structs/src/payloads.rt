@@ -1,6 +1,7 @@
 //! The payloads of an enum's variants, one after another.
 ghost use Rattle.std.specs.Prelude.{◌<◌, ◌+◌, ℕ, List, [], ◌∷◌, length, IfOk, OnErr};
-ghost use Rattle.bser_format.specs.Content.{Content, variant, Needs};
+ghost use Rattle.bser_format.specs.Content.{Content, variant};
+ghost use Rattle.bser_due.specs.Reading.{Needs};
 ghost use Rattle.bser_format.specs.Enums.{Payload};
 ghost use Rattle.bser_deserializer.specs.View.{state, refusal_in};
 ghost use Rattle.bser_variants.specs.EnumAccess.{enum_head};

@@ -1,9 +1,9 @@
 -- That reading a message as a type answers as a text says.
 use Rattle.std.specs.Prelude.{◌≡◌, ℕ, List, Option, Result, Ok, Err, MatchResult, IsOk}
-use Rattle.bser_format.specs.Content.{Content, Meaning, Needs}
+use Rattle.bser_format.specs.Content.{Content, Meaning}
 use Rattle.bser_format.specs.declared.errors.Error.{Error}
 use Rattle.serde_bser.specs.Messages.{BeginsWith, RefusesSlice}
-use Rattle.serde_bser.specs.Reading.{Asking}
+use Rattle.serde_bser.specs.Reading.{Asking, Needs}
 use Rattle.bser_vectors.specs.Notation.{refusal_code}
 use Rattle.bser_vectors.specs.Ways.{GivenOfReader}
 

@@ -3,7 +3,7 @@ use Rattle.std.proofs.Common.{◌≡◌, ℕ, zero, suc, ◌-◌, ◌<◌, true,
 use Rattle.std.proofs.lemmas.List.{append-nil}
 use Rattle.bser_format.specs.Tree.{Tree, array, Items, no_items, item, items}
 use Rattle.bser_format.specs.Grammar.{Format}
-use Rattle.bser_format.specs.Content.{Content, Meaning, Needs}
+use Rattle.bser_format.specs.Content.{Content, Meaning}
 use Rattle.bser_format.specs.Expected.{Fills, FillsItems, WantedItems, nodes, rows_over}
 use Rattle.bser_format.specs.declared.errors.Error.{Error}
 use Rattle.bser_format.specs.declared.errors.Complaint.TheVariants as complaints
@@ -14,7 +14,7 @@ use Rattle.bser_named.specs.Clauses.{left_over}
 use Rattle.bser_read.specs.Window.{Window, Took}
 use Rattle.bser_read.proofs.Windows.{took_then, left_took}
 use Rattle.bser_due.specs.State.{State, past, refused, awaiting}
-use Rattle.bser_due.specs.Reading.{Answers, Asking, NamesAsked, NamesBy, NamesDue, Refuses, RefusesFront, FillsReadably, IsRefusal, owned}
+use Rattle.bser_due.specs.Reading.{Answers, Asking, NamesAsked, NamesBy, NamesDue, Refuses, RefusesFront, FillsReadably, IsRefusal, owned, Needs}
 use Rattle.bser_due.specs.Required.{LacksItem}
 use Rattle.bser_due.specs.Parts.{items_left, item_due, items_after}
 use Rattle.bser_due.specs.Access.{OpenItems, OpensItems, IsItemsHead, RefusesItems, inside_items, IsNextItem, RefusesItem, ClosesItems, KeysOutside, LeavesItems, after_closing}

@@ -16,7 +16,7 @@ use Rattle.bser_named.specs.TypeLaws.{Passes}
 use Rattle.bser_named.proofs.Dues.{passes_by}
 use Rattle.bser_named.proofs.Strings.{texts_handled}
 use Rattle.bser_due.specs.State.{State, refused}
-use Rattle.bser_due.specs.Reading.{Answers, Refuses, IsRefusal, bare}
+use Rattle.bser_due.specs.Reading.{Answers, Refuses, IsRefusal, bare, copying}
 use Rattle.bser_due.specs.Askings.{asking_string, asking_char}
 use Rattle.bser_due.proofs.Clean.{Clean, clean_texts, clean_give, clean_refuse}
 use Rattle.bser_deserializer.proofs.Tags.{asking_refused}
@@ -41,9 +41,9 @@ text_first (reads s y) e h = absurd cc
 text_first (refuses f) e h = h
 
 -- what refuses a text refuses a character
-pub char_refused : (e : Error) (a b : State) → Refuses reads_string (Some asking_string) bare e a b → Refuses reads_char (Some asking_char) bare e a b
+pub char_refused : (e : Error) (a b : State) → Refuses reads_string (Some asking_string) bare e a b → Refuses reads_char (Some asking_char) copying e a b
 char_refused e a b u =
-    asking_refused bare reads_char asking_char (asks_string a.opened a.levels a.due) e a b (λ f x p. text_first (asked text_at a.opened a.due x) f p)
+    asking_refused copying reads_char asking_char (asks_string a.opened a.levels a.due) e a b (λ f x p. text_first (asked text_at a.opened a.due x) f p)
     (clean_chars a.opened a.levels a.due) u.fails u.names
 
 -- ---- a text that is not one character
@@ -99,9 +99,9 @@ text_read u c s e held none = at (utf8_of u) (e ∙ ap Some held)
 
 -- a text that was read, and is not one character
 pub not_one_char : {A : Type 0} (held : A → List ℕ) (e : Error) (a b d : State) (v : A) → Answers reads_string (λ w c. c ≡ byte_list (held w)) a b v → one_char (chars (held v)) ≡ None
-    → e ≡ after_a_refusal b.source.failed wrong_type → d ≡ refused b → Refuses reads_char (Some asking_char) bare e a d
+    → e ≡ after_a_refusal b.source.failed wrong_type → d ≡ refused b → Refuses reads_char (Some asking_char) copying e a d
 not_one_char held e a b d v h none reason state =
-    taken_refused bare reads_char asking_char a b d h.text e wrong_type (clean_chars a.opened a.levels a.due) h.took reason (ap (λ (t : State). t.source) state)
+    taken_refused copying reads_char asking_char a b d h.text e wrong_type (clean_chars a.opened a.levels a.due) h.took reason (ap (λ (t : State). t.source) state)
     (λ x. others_asked (asked text_at a.opened a.due (h.text ++ x)) x (others_pass a.opened a.levels a.due h.tree one h.text x h.filled (text_read h.tree h.content (held v) h.read h.held none)))
 
 -- ---- the characters of a text

@@ -6,14 +6,14 @@ use Rattle.std.specs.Str.{is_utf8}
 use Rattle.bser_format.specs.Tree.{Tree, null, boolean, integer, real, bytes, text, array, object, template}
 use Rattle.bser_format.specs.Expand.{expand, key_tree}
 use Rattle.bser_format.specs.Grammar.{Spells, SpellsString, int8, int16, int32, int64, IntSize, int_bytes}
-use Rattle.bser_format.specs.Content.{Content, Meaning, Needs}
+use Rattle.bser_format.specs.Content.{Content, Meaning}
 use Rattle.bser_format.specs.Expected.{Due, Fills, nothing_due, node_due, key_due, field_due, name_due, row_due}
 use Rattle.bser_format.specs.declared.errors.Error.{Error}
 use Rattle.bser_named.specs.Named.{Reader, reads, and_then, next}
 use Rattle.bser_named.specs.DueReaders.{Seen, tag, name, row, value_tag, key_tag, seen, is_key_tag}
 use Rattle.bser_due.specs.State.{State}
 use Rattle.bser_due.specs.Nodes.{node_at, tag_node, BeginsNode, SeesNode}
-use Rattle.bser_due.specs.Reading.{Answers, Asking, RefusesFront, Refuses, NamesBy, bare}
+use Rattle.bser_due.specs.Reading.{Answers, Asking, RefusesFront, Refuses, NamesBy, bare, Needs}
 use Rattle.bser_due.specs.declared.node.Node.{Node}
 use Rattle.bser_due.specs.declared.node.Node.TheVariants as kinds
 use Rattle.bser_types.specs.Choices.{reads_object_or}

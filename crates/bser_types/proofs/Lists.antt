@@ -3,7 +3,7 @@ use Rattle.std.proofs.Common.{◌≡◌, ℕ, zero, suc, ◌-◌, true, false, L
 use Rattle.std.proofs.lemmas.List.{append-nil}
 use Rattle.std.specs.Prelude.{option_map, option_and_then}
 use Rattle.bser_format.specs.Tree.{Tree, null, boolean, integer, real, bytes, text, array, object, template, Items}
-use Rattle.bser_format.specs.Content.{Content, Meaning, Needs, each_some}
+use Rattle.bser_format.specs.Content.{Content, Meaning, each_some}
 use Rattle.bser_format.specs.Expected.{Fills, node_due, row_due, WantedItems, nodes, rows_over}
 use Rattle.bser_format.specs.ReadsHolders.{list_of, reads_vec}
 use Rattle.bser_format.specs.declared.errors.Error.{Error}
@@ -13,7 +13,7 @@ use Rattle.bser_named.specs.Asks.{Asks, all, items_asked}
 use Rattle.bser_named.proofs.Steps as steps
 use Rattle.bser_named.proofs.Steps.{Continues, first_read, part_read}
 use Rattle.bser_due.specs.State.{State, awaiting}
-use Rattle.bser_due.specs.Reading.{Answers, Asking, Refuses}
+use Rattle.bser_due.specs.Reading.{Answers, Asking, Refuses, Needs}
 use Rattle.bser_due.specs.Required.{RefusesRequired}
 use Rattle.bser_due.specs.Parts.{BeginsItems, items_left, item_due, items_after}
 use Rattle.bser_due.specs.Access.{OpenItems, OpensItems, RefusesItems, IsNextItem, ClosesItems, inside_items}
@@ -155,7 +155,7 @@ items_end T tells holds items_of o z u v h closes =
 
 -- what a list needs of its items' needs
 abbrev pub with_memory : Needs → Needs
-with_memory needs = record { lent = needs.lent; memory = true; keys = false }
+with_memory needs = record { lent = needs.lent; memory = true; keys = false; copied = true }
 
 -- how a list is refused
 abbrev pub RefusesList : (T : Meaning) → Option (Asking T) → Needs → Error → State → State → Type 0

@@ -1,7 +1,7 @@
 -- A look at the kind of what is due, and then a call that reads it.
 use Rattle.std.proofs.Common.{◌≡◌, ℕ, ◌≤◌, Bool, true, false, cond, List, [], ◌∷◌, ◌++◌, length, drop, Option, Some, None, refl, sym, ap, subst, ◌∙◌, arith, inl, inr}
 use Rattle.bser_format.specs.Tree.{Tree}
-use Rattle.bser_format.specs.Content.{Content, Meaning, Needs}
+use Rattle.bser_format.specs.Content.{Content, Meaning}
 use Rattle.bser_format.specs.Expected.{Due, Fills, nothing_due, node_due, key_due, field_due, name_due, row_due}
 use Rattle.bser_format.specs.declared.errors.Error.{Error}
 use Rattle.bser_format.specs.declared.errors.Error.TheVariants.{DeInvalidStartByte}
@@ -15,7 +15,7 @@ use Rattle.bser_read.proofs.Windows.{grown_none, grown_later, took_grown, left_g
 use Rattle.bser_due.specs.Dues.{IsTagged}
 use Rattle.bser_due.specs.State.{State, past}
 use Rattle.bser_due.specs.Nodes.{node_at, BeginsNode, Stands, SeesNode}
-use Rattle.bser_due.specs.Reading.{Answers, Asking, NamesAsked, RefusesFront, FillsReadably, Refuses, MayRefuse, NamesBy, bare, refusing}
+use Rattle.bser_due.specs.Reading.{Answers, Asking, NamesAsked, RefusesFront, FillsReadably, Refuses, MayRefuse, NamesBy, bare, refusing, Needs}
 use Rattle.bser_due.specs.declared.node.Node.{Node}
 use Rattle.bser_due.proofs.Refusals.{fails_before, excused_bare, excused_before, names_bare, names_by_grown, named_excuse}
 use Rattle.bser_deserializer.proofs.Nodes.{node_passes}

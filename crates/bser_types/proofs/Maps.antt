@@ -8,7 +8,7 @@ use Rattle.std.specs.Ordering.{match_ordering, is_eq}
 use Rattle.std.specs.BTreeMap.{insert_entry}
 use Rattle.bser_format.specs.Tree.{Tree, null, boolean, integer, real, bytes, text, array, object, template, Entries}
 use Rattle.bser_format.specs.Expand.{key_tree}
-use Rattle.bser_format.specs.Content.{Content, byte_list, pair, Meaning, Needs, each_some}
+use Rattle.bser_format.specs.Content.{Content, byte_list, pair, Meaning, each_some}
 use Rattle.bser_format.specs.Expected.{Fills, WantedPairs, node_due, key_due, field_due, name_due, entries_of_object, fields_of_row}
 use Rattle.bser_format.specs.ReadsHolders.{reads_map, reads_entry, list_of}
 use Rattle.bser_format.specs.declared.errors.Error.{Error}
@@ -21,7 +21,7 @@ use Rattle.bser_named.proofs.Steps as steps
 use Rattle.bser_named.proofs.Steps.{Continues, first_read}
 use Rattle.bser_read.specs.Window.{closed}
 use Rattle.bser_due.specs.State.{State, awaiting}
-use Rattle.bser_due.specs.Reading.{Answers, Asking, Refuses}
+use Rattle.bser_due.specs.Reading.{Answers, Asking, Refuses, Needs}
 use Rattle.bser_due.specs.Parts.{BeginsPairs, pairs_left, pair_key, pair_value, pairs_after}
 use Rattle.bser_due.specs.Access.{OpenPairs, OpensPairs, RefusesPairs, NoEntry, IsEntry, ClosesPairs}
 use Rattle.bser_due.specs.HoldsMaps.{HoldsEntries}
@@ -205,7 +205,7 @@ fewer (fields_of_row (k ∷ ks)) h = omega arith
 
 -- what a map of these keys and values needs
 abbrev pub map_needs : Needs → Needs → Needs
-map_needs key some = record { lent = key.lent || some.lent; memory = true; keys = false }
+map_needs key some = record { lent = key.lent || some.lent; memory = true; keys = false; copied = true }
 
 -- the types of a map's keys and of its values, what they ask for, and by which bytes keys are read
 pub record MapOf : Type 1 where

@@ -1,7 +1,7 @@
 -- What names the refusals of a type that is read in steps: what was taken is passed over, and the refusal of what is left is that of the whole.
 use Rattle.std.proofs.Common.{◌≡◌, ℕ, suc, true, ◌||◌, List, ◌++◌, Option, Some, None, inl, inr, sym, ap, ◌∙◌}
 use Rattle.bser_format.specs.Tree.{Tree}
-use Rattle.bser_format.specs.Content.{Content, Meaning, Needs}
+use Rattle.bser_format.specs.Content.{Content, Meaning}
 use Rattle.bser_format.specs.Expected.{Due, Fills}
 use Rattle.bser_format.specs.declared.errors.Error.{Error}
 use Rattle.bser_source.specs.Device.{one_more}
@@ -13,7 +13,7 @@ use Rattle.bser_read.specs.Window.{Window, Took}
 use Rattle.bser_bunser.specs.Names.{RefusedAs}
 use Rattle.bser_bunser.proofs.Names.{left_now, left_untaken, known_rest}
 use Rattle.bser_due.specs.State.{State}
-use Rattle.bser_due.specs.Reading.{Asking, NamesAsked, NamesBy, refusing}
+use Rattle.bser_due.specs.Reading.{Asking, NamesAsked, NamesBy, refusing, Needs}
 use Rattle.bser_due.proofs.Refusals.{names_by_untaken, names_by_more}
 use Rattle.bser_types.specs.Askings.{counted}
 use Rattle.bser_types.proofs.Taken.{wider_outside}

@@ -4,7 +4,7 @@ use Rattle.std.proofs.lemmas.List.{append-nil}
 use Rattle.bser_format.specs.Tree.{Tree, object, Entries, no_entries, entry, entries}
 use Rattle.bser_format.specs.Grammar.{Format, ◌then◌}
 use Rattle.bser_format.specs.Expand.{key_tree}
-use Rattle.bser_format.specs.Content.{Content, Meaning, Needs}
+use Rattle.bser_format.specs.Content.{Content, Meaning}
 use Rattle.bser_format.specs.Expected.{Due, Fills, FillsPairs, WantedPairs, entries_of_object, fields_of_row}
 use Rattle.bser_format.specs.declared.errors.Error.{Error}
 use Rattle.bser_format.specs.declared.errors.Error.TheVariants.{OutOfMemory}
@@ -15,7 +15,7 @@ use Rattle.bser_named.specs.Asks.{inside}
 use Rattle.bser_read.specs.Window.{Window, Took, closed}
 use Rattle.bser_read.proofs.Windows.{took_then}
 use Rattle.bser_due.specs.State.{State, past, awaiting}
-use Rattle.bser_due.specs.Reading.{Answers, Asking, NamesAsked, NamesBy, Refuses, RefusesFront, FillsReadably, bare}
+use Rattle.bser_due.specs.Reading.{Answers, Asking, NamesAsked, NamesBy, Refuses, RefusesFront, FillsReadably, bare, Needs}
 use Rattle.bser_due.specs.Parts.{pairs_left, pair_key, pair_value, pairs_after}
 use Rattle.bser_due.specs.Access.{OpenPairs, OpensPairs, IsPairsHead, RefusesPairs, inside_pairs, IsKey, NoEntry, RefusesKey, IsValue, RefusesValue, ClosesPairs, after_closing}
 use Rattle.bser_due.proofs.Refusals.{first_part, sequel, with_needs, names_bare}

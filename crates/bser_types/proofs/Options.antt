@@ -3,7 +3,7 @@ use Rattle.std.proofs.Common.{◌≡◌, ℕ, Bool, true, false, Option, Some, N
 use Rattle.std.specs.Prelude.{option_map}
 use Rattle.std.proofs.lemmas.Bool.{eqb-true}
 use Rattle.bser_format.specs.Tree.{Tree, null, boolean, integer, real, bytes, text, array, object, template}
-use Rattle.bser_format.specs.Content.{Content, just, Meaning, Needs}
+use Rattle.bser_format.specs.Content.{Content, just, Meaning}
 use Rattle.bser_format.specs.Expected.{Due, nothing_due, node_due, key_due, field_due, name_due, row_due}
 use Rattle.bser_format.specs.ReadsHolders.{reads_option}
 use Rattle.bser_format.specs.declared.errors.Error.{Error}
@@ -12,7 +12,7 @@ use Rattle.bser_named.specs.Asks.{is_null, by_sight, asks_unit}
 use Rattle.bser_named.proofs.Sights.{null_tree, way}
 use Rattle.bser_due.specs.State.{State}
 use Rattle.bser_due.specs.Nodes.{node_at, tag_node, key_node, field_node, BeginsNode, IsOther}
-use Rattle.bser_due.specs.Reading.{Answers, Asking, RefusesFront, Refuses, NamesBy, bare}
+use Rattle.bser_due.specs.Reading.{Answers, Asking, RefusesFront, Refuses, NamesBy, bare, Needs}
 use Rattle.bser_due.specs.Holds.{HoldsOption}
 use Rattle.bser_due.specs.declared.node.Node.{Node}
 use Rattle.bser_due.specs.declared.node.Node.TheVariants as kinds

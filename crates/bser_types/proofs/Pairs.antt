@@ -1,6 +1,6 @@
 -- What the calls on an open object make of a key's and a value's answers.
 use Rattle.std.proofs.Common.{subst, ◌≡◌, ℕ, zero, suc, ◌+◌, ◌-◌, ◌<◌, Bool, true, false, List, [], ◌∷◌, drop, Option, refl, ap, ◌∙◌, arith}
-use Rattle.bser_format.specs.Content.{Meaning, Needs}
+use Rattle.bser_format.specs.Content.{Meaning}
 use Rattle.bser_format.specs.Expected.{WantedPairs, entries_of_object, fields_of_row, node_due, key_due, field_due}
 use Rattle.bser_format.specs.Expected as expected
 use Rattle.bser_format.specs.declared.errors.Error.{Error}
@@ -10,7 +10,7 @@ use Rattle.bser_due.specs.State.{State, awaiting}
 use Rattle.bser_due.specs.Parts.{wanted_pairs, pairs_left, pair_key, pair_value, pairs_after}
 use Rattle.bser_due.specs.Dues.{name_at}
 use Rattle.bser_due.specs.Access.{OpenPairs, pairs_in, AwaitsKey, OutOfTurn, RefusesKey, RefusesValue}
-use Rattle.bser_due.specs.Reading.{Asking, Refuses}
+use Rattle.bser_due.specs.Reading.{Asking, Refuses, Needs}
 use Rattle.bser_types.proofs.Taken.{failed_before}
 
 -- ---- what is due

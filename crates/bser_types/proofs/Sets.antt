@@ -3,12 +3,12 @@ use Rattle.std.proofs.Common.{◌≡◌, ℕ, List, [], ◌∷◌, ◌++◌, ◌
 use Rattle.std.specs.Prelude.{Option}
 use Rattle.std.specs.declared.cmp.Ordering.{Ordering}
 use Rattle.std.specs.BTreeSet.{insert_key}
-use Rattle.bser_format.specs.Content.{Content, Meaning, Needs}
+use Rattle.bser_format.specs.Content.{Content, Meaning}
 use Rattle.bser_format.specs.ReadsHolders.{reads_vec}
 use Rattle.bser_format.specs.declared.errors.Error.{Error}
 use Rattle.bser_due.specs.State.{State}
 use Rattle.bser_due.specs.Parts.{items_left}
-use Rattle.bser_due.specs.Reading.{Answers, Asking}
+use Rattle.bser_due.specs.Reading.{Answers, Asking, Needs}
 use Rattle.bser_due.specs.Required.{RefusesRequired}
 use Rattle.bser_due.specs.Access.{OpenItems, OpensItems, IsNextItem, ClosesItems}
 use Rattle.bser_types.specs.HoldsSets.{HoldsSet, insert_all}

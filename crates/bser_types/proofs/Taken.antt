@@ -1,7 +1,7 @@
 -- Refusals of a type that are told by what stands before them.
 use Rattle.std.proofs.Common.{◌≡◌, ℕ, true, List, [], ◌++◌, length, Option, Some, None, ap, sym, subst, ◌∙◌, refl, inl, inr, ◌||◌}
 use Rattle.bser_format.specs.Grammar.{Format}
-use Rattle.bser_format.specs.Content.{Meaning, Needs}
+use Rattle.bser_format.specs.Content.{Meaning}
 use Rattle.bser_format.specs.declared.errors.Error.{Error}
 use Rattle.bser_format.specs.declared.errors.Error.TheVariants.{DeReaderError, DeCustom, OutOfMemory}
 use Rattle.bser_format.specs.declared.errors.Message.TheVariants.{Fixed}
@@ -14,7 +14,7 @@ use Rattle.bser_bunser.specs.Refusal.{Fails, failures_by}
 use Rattle.bser_bunser.proofs.Names.{known_rest, left_now, left_untaken}
 use Rattle.bser_due.specs.State.{State}
 use Rattle.bser_bunser.specs.Names.{Blame, RefusedAs}
-use Rattle.bser_due.specs.Reading.{Asking, ExcusedBy, MayRefuse, NamesAsked, OutsideBy, Refuses, RefusesFront, refusing}
+use Rattle.bser_due.specs.Reading.{Asking, ExcusedBy, MayRefuse, NamesAsked, OutsideBy, Refuses, RefusesFront, refusing, Needs}
 use Rattle.bser_due.proofs.Clean.{Clean}
 use Rattle.bser_due.proofs.Refusals.{excused_refusing, fails_untaken, fails_closed, no_failure}
 use Rattle.bser_deserializer.proofs.Tags.{asking_refused}

@@ -4,7 +4,7 @@ use Rattle.std.proofs.lemmas.Bool.{or_left, or_right}
 use Rattle.std.proofs.lemmas.List.{append-nil}
 use Rattle.std.specs.Prelude.{option_map}
 use Rattle.bser_format.specs.Tree.{Tree, null, boolean, integer, real, bytes, text, array, object, template, Items, items}
-use Rattle.bser_format.specs.Content.{Content, Meaning, Needs}
+use Rattle.bser_format.specs.Content.{Content, Meaning}
 use Rattle.bser_format.specs.Grammar.{Each}
 use Rattle.bser_format.specs.Expected.{Fills, node_due, row_due, WantedItems, nodes, rows_over}
 use Rattle.bser_format.specs.ReadsHolders.{list_of, reads_each, reads_tuple}
@@ -16,7 +16,7 @@ use Rattle.bser_named.specs.Asks.{Asks, parts_asked, tuple_asked}
 use Rattle.bser_named.proofs.Steps as steps
 use Rattle.bser_named.proofs.Steps.{Continues, first_read}
 use Rattle.bser_due.specs.State.{State, awaiting}
-use Rattle.bser_due.specs.Reading.{Answers, Asking, Refuses, FillsReadably, only_keys}
+use Rattle.bser_due.specs.Reading.{Answers, Asking, Refuses, FillsReadably, only_keys, Needs}
 use Rattle.bser_due.specs.Required.{RefusesRequired}
 use Rattle.bser_due.specs.Parts.{BeginsItems, items_left, item_due, items_after}
 use Rattle.bser_due.specs.Access.{OpenItems, OpensItems, IsArrayHead, RefusesItems, IsNextItem, ClosesItems, LeavesItems, inside_items}

@@ -2,7 +2,8 @@
 use Rattle.std.specs.Prelude.{ℕ, true, List, [], ◌∷◌, Option, Some, None, option_and_then, if◌then◌else◌}
 use Rattle.std.specs.Str.{is_utf8}
 use Rattle.bser_format.specs.Tree.{Tree, object, entries}
-use Rattle.bser_format.specs.Content.{Content, Meaning, Needs}
+use Rattle.bser_format.specs.Content.{Content, Meaning}
+use Rattle.bser_due.specs.Reading.{Needs}
 use Rattle.bser_due.specs.Fields.{field_of}
 use Rattle.bser_due.specs.declared.field.Field.{Field}
 
@@ -33,6 +34,6 @@ abbrev pub read_once : Meaning → Option Content → Tree → Option (Option Co
 read_once T None t = option_and_then (λ c. Some (Some c)) (T t)
 read_once T (Some c) t = None
 
--- what two types need together
+-- what two types need together, and the names of fields, which are copied
 abbrev pub either : Needs → Needs → Needs
-either a b = record { lent = if a.lent then true else b.lent; memory = if a.memory then true else b.memory; keys = if a.keys then true else b.keys }
+either a b = record { lent = if a.lent then true else b.lent; memory = if a.memory then true else b.memory; keys = if a.keys then true else b.keys; copied = true }

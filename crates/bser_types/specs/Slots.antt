@@ -1,7 +1,7 @@
 -- Structs, of which each field is read at most once.
 use Rattle.std.specs.Prelude.{◌≡◌, ℕ, zero, suc, ◌||◌, Bool, false, true, List, [], ◌∷◌, Option, Some, None, option_map, if◌then◌else◌}
 use Rattle.bser_format.specs.Tree.{Tree}
-use Rattle.bser_format.specs.Content.{Content, nothing, Meaning, Needs, each_some}
+use Rattle.bser_format.specs.Content.{Content, nothing, Meaning, each_some}
 use Rattle.bser_format.specs.ReadsHolders.{reads_option, list_of}
 use Rattle.bser_format.specs.ReadsAny.{reads_ignored}
 use Rattle.bser_format.specs.Expected.{Fills}
@@ -9,7 +9,7 @@ use Rattle.bser_named.specs.Clauses.{left_over, out_of_turn}
 use Rattle.bser_read.specs.Window.{closed}
 use Rattle.bser_format.specs.declared.errors.Error.{Error}
 use Rattle.bser_due.specs.State.{State}
-use Rattle.bser_due.specs.Reading.{Asking}
+use Rattle.bser_due.specs.Reading.{Asking, Needs}
 use Rattle.bser_due.specs.Access.{OpenPairs, IsValue, RefusesValue}
 use Rattle.bser_types.specs.Fold.{struct_of, read_once}
 use Rattle.bser_due.specs.HoldsLists.{HoldsEach}
@@ -73,9 +73,9 @@ abbrev pub any_lent : List Needs → Bool
 any_lent [] = false
 any_lent (n ∷ ns) = n.lent || any_lent ns
 
--- what these types need together, and memory for what is skipped
+-- what these types need together, and memory for what is skipped; the names of fields are copied
 abbrev pub struct_needs : List Needs → Needs
-struct_needs ns = record { lent = any_lent ns; memory = true; keys = false }
+struct_needs ns = record { lent = any_lent ns; memory = true; keys = false; copied = true }
 
 -- ---- what is kept of a field
 

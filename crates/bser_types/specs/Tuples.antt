@@ -1,6 +1,7 @@
 -- What a tuple needs, by its parts.
 use Rattle.std.specs.Prelude.{Bool, true, false, ◌||◌, List, [], ◌∷◌, Option, Some, None}
-use Rattle.bser_format.specs.Content.{Meaning, Needs, ReadsNoObject}
+use Rattle.bser_format.specs.Content.{Meaning, ReadsNoObject}
+use Rattle.bser_due.specs.Reading.{Needs}
 use Rattle.bser_types.specs.Slots.{any_lent}
 
 -- of each type that it reads no object, where that is known
@@ -19,6 +20,6 @@ abbrev pub any_memory : List Needs → Bool
 any_memory [] = false
 any_memory (n ∷ ns) = n.memory || any_memory ns
 
--- what its parts need, and memory for the keys of a template; where no template is read, that is memory for refusals alone
+-- what its parts need, and memory for the keys of a template, which are copied; where no template is read, that is memory for refusals alone
 abbrev pub tuple_needs : List Needs → (Ts : List Meaning) → Plain Ts → Needs
-tuple_needs ns Ts ps = record { lent = any_lent ns; memory = any_memory ns || may_read_rows Ts ps; keys = true }
+tuple_needs ns Ts ps = record { lent = any_lent ns; memory = any_memory ns || may_read_rows Ts ps; keys = true; copied = true }

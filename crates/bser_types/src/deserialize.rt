@@ -1,11 +1,12 @@
 //! Types that are read.
-ghost use Rattle.std.specs.Prelude.{◌≡◌, false, Option, IfOk, OnErr};
-ghost use Rattle.bser_format.specs.Content.{Content, Meaning, Needs, ReadsNoObject};
-ghost use Rattle.bser_due.specs.Reading.{Answers, Asking, Refuses};
+ghost use Rattle.std.specs.Prelude.{◌≡◌, ◌≢◌, false, Option, IfOk, OnErr};
+ghost use Rattle.bser_format.specs.Content.{Content, Meaning, ReadsNoObject};
+ghost use Rattle.bser_due.specs.Reading.{Answers, Asking, Needs, Refuses, TakesNoMemory};
 ghost use Rattle.bser_deserializer.specs.View.{state, refusal_in};
 
 use bser_bunser::refusal::Answer;
 use bser_deserializer::deserializer::Deserializer;
+use bser_format::errors::Error;
 use bser_read::read::DeRead;
 use bser_source::read::{LendsText, NoLoan};
 use std::alloc::Global;
@@ -20,8 +21,8 @@ pub trait Shape {
     // what a value holds
     ghost holds: { Self → Content → Type 0 };
 
-    // whether a value may hold lent bytes, whether reading one may take memory, and whether a
-    // refusal may
+    // whether a value may hold lent bytes, whether reading one may take memory, whether a refusal
+    // may, and whether bytes are read that a source copies
     ghost needs: { Needs };
 
     // what names its refusals, where the type tells of names
@@ -39,8 +40,9 @@ pub trait Deserialize<L: LendsText>: Shape + Drop {
     /// Reads what is due, a value as a rule, and answers by the type's meaning: exactly where a
     /// front of the bytes left spells a tree that the type reads, and then it takes that front.
     ///
-    /// Refused otherwise, and for want of memory, a reader's fault, or, for a type that holds lent
-    /// bytes over a source that copies, [`Complaint::BorrowedFromCopying`].
+    /// Refused otherwise, and for a reader's fault, or, for a type that holds lent bytes over a
+    /// source that copies, [`Complaint::BorrowedFromCopying`]. For want of memory only a type is
+    /// refused that takes some, or that reads bytes which are copied.
     ///
     /// [`Complaint::BorrowedFromCopying`]: bser_format::errors::Complaint::BorrowedFromCopying
     fn deserialize<R: DeRead<Lent = L>>(alloc: Global, from: &mut Deserializer<R>) -> Answer<Self>
@@ -48,7 +50,9 @@ pub trait Deserialize<L: LendsText>: Shape + Drop {
             (state R.window L.kept from.old) (state R.window L.kept from.new)) }
         ensures refused { OnErr result (Refuses Self.reads Self.asks Self.needs
             (refusal_in from.new)
-            (state R.window L.kept from.old) (state R.window L.kept from.new)) };
+            (state R.window L.kept from.old) (state R.window L.kept from.new)) }
+        ensures memory { TakesNoMemory Self.needs
+            → OnErr result (refusal_in from.new ≢ Error.OutOfMemory) };
 }
 
 /// A meaning whose values hold nothing that is lent.

@@ -2,7 +2,7 @@
 use Rattle.std.proofs.Common.{◌≡◌, ◌-◌, ℕ, zero, suc, pos, Bool, true, false, cond, List, ◌∷◌, ◌++◌, Some, None, append_assoc, refl, sym, ap, subst, ◌∙◌, inl, inr, arith}
 use Rattle.bser_format.specs.Tree.{Tree}
 use Rattle.bser_format.specs.Grammar.{SpellsCount}
-use Rattle.bser_format.specs.Content.{Content, number, Needs}
+use Rattle.bser_format.specs.Content.{Content, number}
 use Rattle.bser_format.specs.Expected.{Due, Fills, nothing_due, node_due, key_due, field_due, name_due, row_due, WantedPairs, entries_of_object, fields_of_row}
 use Rattle.bser_format.specs.declared.errors.Error.{Error}
 use Rattle.bser_format.specs.declared.errors.name.EnumName.{EnumName}
@@ -14,7 +14,7 @@ use Rattle.bser_read.proofs.Windows.{took_then}
 use Rattle.bser_due.specs.Access.{OpenPairs, inside_pairs}
 use Rattle.bser_due.specs.Dues.{IsValueDue}
 use Rattle.bser_due.specs.Parts.{BeginsPairs, ObjectHead, pairs_left, pair_key, pair_value}
-use Rattle.bser_due.specs.Reading.{Answers, NamesBy}
+use Rattle.bser_due.specs.Reading.{Answers, NamesBy, Needs}
 use Rattle.bser_due.specs.State.{State}
 use Rattle.bser_due.proofs.Refusals.{names_by_more, names_by_untaken}
 use Rattle.bser_deserializer.proofs.Containers.{tagged}

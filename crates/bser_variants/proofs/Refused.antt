@@ -7,7 +7,6 @@ use Rattle.std.proofs.lemmas.Bool.{ltb-true, ltb-false}
 use Rattle.std.proofs.lemmas.Str.{IsUtf8-nil}
 use Rattle.bser_format.specs.Expected.{Due, nothing_due, node_due, key_due, field_due, name_due, row_due, WantedPairs, entries_of_object, fields_of_row}
 use Rattle.bser_format.specs.Plain.{is_positive}
-use Rattle.bser_format.specs.Content.{Needs}
 use Rattle.bser_format.specs.declared.errors.Error.{Error}
 use Rattle.bser_format.specs.declared.errors.Error.TheVariants.{DeInvalidStartByte, DeRecursionLimitExceeded}
 use Rattle.bser_format.specs.declared.errors.Kind.TheVariants as kinds
@@ -23,7 +22,7 @@ use Rattle.bser_bunser.specs.Refusal.{Fails}
 use Rattle.bser_due.specs.Access.{OpenPairs, OpensPairs, RefusesPairs}
 use Rattle.bser_due.specs.Dues.{IsValueDue, due_of, name_at}
 use Rattle.bser_due.specs.Parts.{BeginsPairs}
-use Rattle.bser_due.specs.Reading.{NamesBy, bare}
+use Rattle.bser_due.specs.Reading.{NamesBy, bare, Needs}
 use Rattle.bser_due.specs.State.{State, with_source}
 use Rattle.bser_due.specs.declared.due.Due as code
 use Rattle.bser_due.specs.declared.due.Due.TheVariants as due

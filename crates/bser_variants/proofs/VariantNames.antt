@@ -4,7 +4,7 @@ use Rattle.std.proofs.lemmas.Option.{some_pair_parts}
 use Rattle.std.specs.Prelude.{if◌then◌else◌}
 use Rattle.std.specs.Str.{is_utf8, bytes_eq}
 use Rattle.bser_format.specs.Tree.{Tree, null, boolean, integer, real, bytes, text, array, object, template}
-use Rattle.bser_format.specs.Content.{Content, one, number, variant, Meaning, Needs}
+use Rattle.bser_format.specs.Content.{Content, one, number, variant, Meaning}
 use Rattle.bser_format.specs.Enums.{Payload, unit, holds, named, by_name, reads_enum}
 use Rattle.bser_format.specs.Expand.{key_tree}
 use Rattle.bser_format.specs.ReadsScalars.{utf8_of}
@@ -12,7 +12,7 @@ use Rattle.bser_format.specs.declared.errors.Error.{Error}
 use Rattle.bser_due.specs.State.{State}
 use Rattle.bser_named.specs.Clauses.{after_a_refusal}
 use Rattle.bser_named.specs.DueReaders.{wrong_type}
-use Rattle.bser_due.specs.Reading.{Answers, Refuses, FillsReadably, IsRefusal}
+use Rattle.bser_due.specs.Reading.{Answers, Refuses, FillsReadably, IsRefusal, Needs}
 use Rattle.bser_due.specs.Fields.{field_from, field_of}
 use Rattle.bser_variants.specs.Variants.{known_place, reads_place, HoldsPlace, LacksPayload}
 use Rattle.bser_due.specs.declared.field.Field.{Field}

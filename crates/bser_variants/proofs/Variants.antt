@@ -5,7 +5,7 @@ use Rattle.std.specs.Prelude.{if◌then◌else◌}
 use Rattle.std.specs.Str.{is_utf8}
 use Rattle.bser_format.specs.Tree.{Tree, null, boolean, integer, real, bytes, text, array, object, template, Entries, no_entries, entry, entries}
 use Rattle.bser_format.specs.Grammar.{Format}
-use Rattle.bser_format.specs.Content.{Content, one, number, variant, Meaning, Needs}
+use Rattle.bser_format.specs.Content.{Content, one, number, variant, Meaning}
 use Rattle.bser_format.specs.Enums.{Payload, unit, holds, named, by_name, by_entry, reads_enum}
 use Rattle.bser_format.specs.Expand.{key_tree}
 use Rattle.bser_format.specs.Expected.{Due, Fills, FillsPairs, nothing_due, node_due, key_due, field_due, name_due, row_due, WantedPairs, entries_of_object, fields_of_row}
@@ -18,7 +18,7 @@ use Rattle.bser_read.proofs.Windows.{left_took}
 use Rattle.bser_due.specs.Askings.{asking_unit}
 use Rattle.bser_due.specs.Dues.{IsValueDue}
 use Rattle.bser_due.specs.State.{State, awaiting}
-use Rattle.bser_due.specs.Reading.{Answers, Asking, NamesAsked, Refuses, FillsReadably, bare}
+use Rattle.bser_due.specs.Reading.{Answers, Asking, NamesAsked, Refuses, FillsReadably, bare, Needs}
 use Rattle.bser_due.specs.Parts.{BeginsPairs, ObjectHead, pairs_left, pair_key, pair_value, pairs_after}
 use Rattle.bser_due.specs.Access.{OpenPairs, IsKey, IsValue, ClosesPairs, pairs_in, after_closing}
 use Rattle.bser_due.specs.Fields.{field_of}

@@ -1,11 +1,10 @@
 -- What the calls on an enum refuse, its type refuses by the same name.
 use Rattle.std.specs.Prelude.{◌≡◌, ℕ, suc, Some}
-use Rattle.bser_format.specs.Content.{Needs}
 use Rattle.bser_format.specs.declared.errors.Error.{Error}
 use Rattle.bser_format.specs.declared.errors.name.EnumName.{EnumName}
 use Rattle.bser_named.specs.DueReaders.{variant_due}
 use Rattle.bser_named.specs.Asks.{Asks, Payloads, labels, payload, payload_asked, asks_enum}
-use Rattle.bser_due.specs.Reading.{Answers, NamesBy}
+use Rattle.bser_due.specs.Reading.{Answers, NamesBy, Needs}
 use Rattle.bser_due.specs.State.{State}
 use Rattle.bser_variants.specs.Variants.{reads_place, HoldsPlace, LacksPayload, OpenVariant, OpensEntry}
 

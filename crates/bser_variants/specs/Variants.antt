@@ -1,7 +1,7 @@
 -- Enums that are read: the name of a variant, and then its payload.
 use Rattle.std.specs.Prelude.{◌≡◌, ℕ, pos, Bool, true, false, List, Option, Some, None, option_and_then, ◌⊎◌}
 use Rattle.bser_format.specs.Grammar.{Format, ◌then◌}
-use Rattle.bser_format.specs.Content.{Content, one, number, variant, Meaning, Needs}
+use Rattle.bser_format.specs.Content.{Content, one, number, variant, Meaning}
 use Rattle.bser_format.specs.Expected.{Due, node_due, field_due, WantedPairs}
 use Rattle.bser_format.specs.ReadsScalars.{utf8_of, reads_unit}
 use Rattle.bser_format.specs.declared.errors.Error.{Error}
@@ -11,7 +11,7 @@ use Rattle.bser_due.specs.Access.{OpenItems, OpensItems, RefusesItems, OpenPairs
 use Rattle.bser_due.specs.Askings.{asking_unit}
 use Rattle.bser_due.specs.Fields.{field_of}
 use Rattle.bser_due.specs.Parts.{BeginsPairs, pairs_left, pair_key, pair_value}
-use Rattle.bser_due.specs.Reading.{Answers, Asking, Refuses, RefusesFront, FillsReadably, bare}
+use Rattle.bser_due.specs.Reading.{Answers, Asking, Refuses, RefusesFront, FillsReadably, bare, Needs}
 use Rattle.bser_due.specs.State.{State, awaiting, refused}
 use Rattle.bser_due.specs.declared.field.Field.{Field}
 use Rattle.bser_due.specs.declared.field.Field.TheVariants.{Known, Unknown}

@@ -25,7 +25,7 @@ impl<T: Shape, const N: usize> Shape for [T; N] {
 
     ghost holds = { HoldsList T.holds };
 
-    ghost needs = { record { lent = T.needs.lent; memory = true; keys = false } };
+    ghost needs = { record { lent = T.needs.lent; memory = true; keys = false; copied = true } };
 
     ghost asks = { asking_array N T.asks };
 

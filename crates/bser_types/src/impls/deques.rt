@@ -23,7 +23,7 @@ impl<T: Shape> Shape for VecDeque<T> {
 
     ghost holds = { λ q c. HoldsList T.holds q.items c };
 
-    ghost needs = { record { lent = T.needs.lent; memory = true; keys = false } };
+    ghost needs = { record { lent = T.needs.lent; memory = true; keys = false; copied = true } };
 
     ghost asks = { option_map asking_vec T.asks };
 

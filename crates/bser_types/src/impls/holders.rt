@@ -51,7 +51,12 @@ impl<T: Shape> Shape for Box<T> {
 
     ghost holds = { HoldsBox T.holds };
 
-    ghost needs = { record { lent = T.needs.lent; memory = true; keys = false } };
+    ghost needs = { record {
+      lent = T.needs.lent;
+      memory = true;
+      keys = false;
+      copied = T.needs.copied;
+    } };
 
     ghost asks = { T.asks };
 

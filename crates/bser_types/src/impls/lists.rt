@@ -21,7 +21,7 @@ impl<T: Shape> Shape for Vec<T> {
 
     ghost holds = { λ v c. HoldsList T.holds v.items c };
 
-    ghost needs = { record { lent = T.needs.lent; memory = true; keys = false } };
+    ghost needs = { record { lent = T.needs.lent; memory = true; keys = false; copied = true } };
 
     ghost asks = { option_map asking_vec T.asks };
 

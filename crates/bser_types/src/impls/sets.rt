@@ -23,7 +23,7 @@ impl<T: Shape + Ord> Shape for BTreeSet<T> {
 
     ghost holds = { λ s. HoldsSet T.cmp T.holds s.keys };
 
-    ghost needs = { record { lent = T.needs.lent; memory = true; keys = false } };
+    ghost needs = { record { lent = T.needs.lent; memory = true; keys = false; copied = true } };
 
     ghost asks = { option_map asking_vec T.asks };
 

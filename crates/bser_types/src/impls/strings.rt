@@ -4,7 +4,7 @@ ghost use Rattle.std.specs.Cow.{cow_str_bytes};
 ghost use Rattle.bser_format.specs.ReadsScalars.{reads_slice, reads_string, reads_byte_string, reads_char, one_char};
 ghost use Rattle.bser_due.specs.HoldsTexts.{HoldsBytes, HoldsChar, char_content};
 ghost use Rattle.bser_due.specs.Askings.{asking_bytes, asking_string, asking_char};
-ghost use Rattle.bser_due.specs.Reading.{bare, owned, lending};
+ghost use Rattle.bser_due.specs.Reading.{copying, owned, lending};
 ghost use Rattle.bser_types.specs.Askings.{asking_byte_string};
 
 use crate::deserialize::{Deserialize, OwnedShape, Shape};
@@ -181,7 +181,7 @@ impl Shape for char {
 
     ghost holds = { HoldsChar };
 
-    ghost needs = { bare };
+    ghost needs = { copying };
 
     ghost asks = { Some asking_char };
 

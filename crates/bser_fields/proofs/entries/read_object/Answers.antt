@@ -1,6 +1,6 @@
 use Rattle.std.proofs.Common.{◌≡◌, ◌<◌, List, ℕ, map, Option, arith}
 use Rattle.std.proofs.lemmas.Result.{err_from_is_err_and}
-use Rattle.bser_format.specs.Content.{Needs}
+use Rattle.bser_due.specs.Reading.{Needs}
 use Rattle.bser_due.specs.State.{State}
 use Rattle.bser_due.specs.declared.frames.MapHead.{MapHead}
 use Rattle.bser_deserializer.specs.View.{state, refusal_in}

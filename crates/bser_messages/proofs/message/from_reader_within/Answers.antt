@@ -1,7 +1,7 @@
 -- A reader whose message was read, and one that is refused.
 use Rattle.std.proofs.Common.{rules, ap, ◌∙◌}
 use Rattle.bser_deserializer.proofs.Openings.{if_ok}
-use Rattle.bser_messages.proofs.Sources.{if_refused, fresh_itself, reader_refused, reader_counted, none_counted}
+use Rattle.bser_messages.proofs.Sources.{if_refused, fresh_itself, reader_refused, reader_counted, none_counted, reader_head}
 use Rattle.bser_messages.proofs.message.from_reader_within.Goals as goal
 
 pub returns-clause-refused : goal.returns-clause-refused
@@ -15,3 +15,8 @@ pub returns-clause-kept : goal.returns-clause-kept
 returns-clause-kept g c =
     let fresh = c.unread-from.ensures.source ∙ c.new.ensures in
     if_ok _ _ c.read_message-answer.result (λ v u. none_counted c.args.limit g.T.Shape.reads g.T.Shape.holds v _ _ _ _ (ap (λ w. w.failures) fresh) (search rules) u) c.read_message-answer.ensures.found
+
+pub returns-clause-head : goal.returns-clause-head
+returns-clause-head g c =
+    let fresh = c.unread-from.ensures.source ∙ c.new.ensures in
+    if_refused c.read_message-answer.result _ _ (λ e u memory. reader_head _ _ _ _ fresh (u memory)) c.read_message-answer.ensures.head

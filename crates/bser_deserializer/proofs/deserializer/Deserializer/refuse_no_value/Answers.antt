@@ -24,6 +24,7 @@ returns-in_default g c =
       err = complained_fails wrong_type _ s.source _ tt c.complain.ensures.reason (ap (λ (z : State). z.source) c.complain.ensures.state);
       names = complained_names bare (asked nothing_at s.opened s.due) wrong_type _ s.source c.complain.ensures.reason
           (λ x. untagged_asked s.opened ks c.args.self.now.place c.args.self.now.due x c.requires c.in_default.not-Key some);
+      memory = c.complain.ensures.memory;
     }
 
 pub returns-in_default-2 : goal.returns-in_default-2
@@ -35,4 +36,5 @@ returns-in_default-2 g c =
           (ap (λ (z : State). z.source) c.refuse_nothing_due.ensures.state);
       names = complained_names bare (asked nothing_at s.opened s.due) (nothing_here s.opened) _ s.source c.refuse_nothing_due.ensures.reason
           (λ x. ap (λ d. asked nothing_at s.opened d x) none);
+      memory = c.refuse_nothing_due.ensures.memory;
     }

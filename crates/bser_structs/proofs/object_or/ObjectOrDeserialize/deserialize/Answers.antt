@@ -2,7 +2,7 @@
 use Rattle.std.proofs.Common.{◌||◌, true, false, refl, subst}
 use Rattle.std.proofs.lemmas.Bool.{or_left, or_right}
 use Rattle.std.proofs.lemmas.Result.{err_from_is_err_and}
-use Rattle.bser_format.specs.Content.{Needs}
+use Rattle.bser_due.specs.Reading.{Needs}
 use Rattle.bser_due.specs.State.{State}
 use Rattle.bser_due.specs.Nodes.{SeesNode}
 use Rattle.bser_due.specs.declared.node.Node.TheVariants as kinds
@@ -15,7 +15,7 @@ use Rattle.bser_structs.proofs.object_or.ObjectOrDeserialize.deserialize.Goals a
 use Rattle.bser_structs.proofs.object_or.ObjectOrDeserialize.deserialize.Given as given
 
 abbrev needs : given.Over → Needs
-needs g = record { lent = g.O.Shape.needs.lent || g.T.Shape.needs.lent; memory = true; keys = false }
+needs g = record { lent = g.O.Shape.needs.lent || g.T.Shape.needs.lent; memory = true; keys = false; copied = true }
 
 pub returns-in_err-node-clause-refused : goal.returns-in_err-node-clause-refused
 returns-in_err-node-clause-refused g c =

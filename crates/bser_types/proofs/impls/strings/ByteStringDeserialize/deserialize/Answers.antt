@@ -42,4 +42,5 @@ returns-in_default g c =
     record {
       found = if_ok _ _ c.read_byte_string.result (λ v a. string_answers s mid z _ v sees a) c.read_byte_string.ensures.found;
       refused = if_err _ _ c.read_byte_string.result (λ u. string_refused s mid z _ _ sees c.in_default.not-Array u) c.read_byte_string.ensures.refused;
+      memory = λ none. absurd cc;
     }
