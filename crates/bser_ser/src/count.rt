@@ -1,5 +1,5 @@
 //! A writer that counts.
-ghost use Rattle.std.specs.Prelude.{◌≡◌, Ok, length, true};
+ghost use Rattle.std.specs.Prelude.{◌≡◌, Ok, length};
 ghost use Rattle.bser_source.specs.Device.{counts_to};
 ghost use Rattle.bser_source.specs.Sinks.{counts_to-none, counts_to-both};
 ghost use Rattle.bser_ser.specs.Sent.{count_of};
@@ -58,9 +58,7 @@ impl Sink for CountWrite {
         Ok(bytes.len())
     }
 
-    fn take_at_once(&mut self, front: &[u8], back: &[u8]) -> bool
-        ensures taken { result ≡ true }
-    {
+    fn take_at_once(&mut self, front: &[u8], back: &[u8]) -> bool {
         self.count = self
             .count
             .saturating_add(front.len())
