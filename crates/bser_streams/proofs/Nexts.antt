@@ -6,7 +6,7 @@ use Rattle.std.specs.Io.KnownBytes.{IsAtEnd}
 use Rattle.bser_format.specs.Content.{Meaning}
 use Rattle.bser_format.specs.Errors.{error_of}
 use Rattle.bser_format.specs.declared.errors.Error.{Error}
-use Rattle.bser_format.specs.declared.errors.Error.TheVariants.{DeReaderError}
+use Rattle.bser_format.specs.declared.errors.Error.TheVariants.{DeReaderError, OutOfMemory}
 use Rattle.bser_format.specs.declared.errors.ReadCause.{ReadCause}
 use Rattle.bser_format.specs.declared.errors.ReadCause.TheVariants.{Eof, Utf8, Reader, Memory, Failed}
 use Rattle.bser_source.specs.Device.{Blamed}
@@ -62,6 +62,14 @@ pub reader_fails : (n m : ℕ) (reads : Meaning) (asks : Option (Asking reads)) 
     → RefusesNext n m reads asks (error_of cause) remaining new failures after
 reader_fails n m reads asks cause remaining new failures after through a b fresh same some memory r =
     subst (RefusesNext n m reads asks (error_of cause) remaining new failures) same (first_fails n m reads asks cause remaining new failures through b some memory (subst (λ w. Refused cause w b 1) fresh r))
+
+-- another cause than want of memory is not told as one
+pub no_want : (cause : ReadCause) → (cause ≡ Memory → ⊥) → error_of cause ≡ OutOfMemory → ⊥
+no_want Eof other e = cc
+no_want Utf8 other e = cc
+no_want (Reader fault) other e = cc
+no_want Memory other e = other refl
+no_want Failed other e = cc
 
 -- ---- a byte is left
 

@@ -34,8 +34,12 @@ impl<O: Shape, T: Shape> Shape for ObjectOr<O, T> {
 
     ghost holds = { HoldsObjectOr O.holds T.holds };
 
-    ghost needs = { record { lent = O.needs.lent || T.needs.lent; memory = true; keys = false;
-        copied = true } };
+    ghost needs = { record {
+      lent = O.needs.lent || T.needs.lent;
+      memory = true;
+      keys = false;
+      copied = true;
+    } };
 
     ghost asks = { None };
 

@@ -3,7 +3,7 @@ use Rattle.std.proofs.Common.{rules, ap}
 use Rattle.bser_messages.proofs.Sources.{none_counted}
 use Rattle.bser_streams.proofs.Windows.{read_before}
 use Rattle.bser_streams.proofs.Readers.{reader_took, took_known}
-use Rattle.bser_streams.proofs.Nexts.{next_known, next_refused, reader_fails}
+use Rattle.bser_streams.proofs.Nexts.{next_known, next_refused, reader_fails, no_want}
 use Rattle.bser_streams.proofs.next.next_message_limited.Goals as goal
 
 pub returns-in-Ok-answer-clause-found : goal.returns-in-Ok-answer-clause-found
@@ -33,4 +33,5 @@ returns-in_default g c = record {
   found = tt;
   kept = tt;
   refused = rw c.de_reader_error.ensures (reader_fails c.args.limits.levels c.args.limits.bytes g.T.Shape.reads g.T.Shape.asks c.in-Err.cause _ _ _ _ _ _ _ c.new-read.ensures (search rules) c.in_default.not-Eof c.in-Err.ensures.memory c.in-Err.ensures.err);
+  memory = λ none. rw c.de_reader_error.ensures (no_want c.in-Err.cause c.in-Err.ensures.memory);
 }

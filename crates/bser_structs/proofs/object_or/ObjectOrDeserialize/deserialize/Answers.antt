@@ -55,6 +55,7 @@ returns-in_err-other-in_default g c =
       found = tt;
       refused = other_refused g.O.Shape.reads g.T.Shape.reads g.T.Shape.asks (needs g) s mid z _ _ sees c.in_default.not-Object
           (wider_type g.T.Shape.reads g.T.Shape.asks own (needs g) _ mid z (λ l. or_right g.O.Shape.needs.lent own.lent l) (λ m. refl) (λ t. refl) c.in_err-other-in_default.ensures.refused);
+      memory = λ none. absurd cc;
     })
 
 pub returns-in_ok-other-in_default : goal.returns-in_ok-other-in_default
@@ -66,4 +67,5 @@ returns-in_ok-other-in_default g c =
     record {
       found = other_answers g.O.Shape.reads g.T.Shape.reads g.T.Shape.holds (HoldsObjectOr g.O.Shape.holds g.T.Shape.holds) s mid z _ c.in_ok-other-in_default.other (Other c.in_ok-other-in_default.other) sees c.in_default.not-Object (λ k held. held) c.in_ok-other-in_default.ensures.found;
       refused = tt;
+      memory = λ none. tt;
     }
