@@ -178,10 +178,6 @@ fails_before n e a b c grown h = record {
   failures = h.failures ∙ ap (failures_by e) grown.failures;
 }
 
--- a refusal by the bytes is no want of memory
-pub no_want : (e : Error) → IsRefusal e → e ≡ OutOfMemory → ⊥
-no_want e kind same = subst IsRefusal same kind
-
 -- a refusal by the bytes counts no failure
 pub no_failure : (n : ℕ) (e : Error) → IsRefusal e → failures_by e n ≡ n
 no_failure n OutOfMemory h = refl

@@ -37,9 +37,3 @@ each_some f (x ∷ xs) = option_and_then (λ y. option_map (λ ys. y ∷ ys) (ea
 -- no object is read
 abbrev pub ReadsNoObject : Meaning → Type 0
 ReadsNoObject reads = (es : Entries) → reads (object es) ≡ None
-
--- what a type needs: whether a value may hold bytes that the source lends, whether reading a value may take memory, and whether a refusal may, for a template's keys
-pub record Needs : Type 0 where
-  pub lent : Bool
-  pub memory : Bool
-  pub keys : Bool

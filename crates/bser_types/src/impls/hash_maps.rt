@@ -26,7 +26,12 @@ impl<K: MapKey, V: Shape> Shape for HashMap<K, V> {
 
     ghost holds = { λ m. HoldsHashMap K.name V.holds m.entries };
 
-    ghost needs = { record { lent = K.needs.lent || V.needs.lent; memory = true; keys = false; copied = true } };
+    ghost needs = { record {
+      lent = K.needs.lent || V.needs.lent;
+      memory = true;
+      keys = false;
+      copied = true;
+    } };
 
     ghost asks = { asking_map K.asks V.asks };
 

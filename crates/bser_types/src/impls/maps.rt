@@ -23,7 +23,12 @@ impl<K: MapKey, V: Shape> Shape for BTreeMap<K, V> {
 
     ghost holds = { λ m. HoldsMap K.name V.holds m.entries };
 
-    ghost needs = { record { lent = K.needs.lent || V.needs.lent; memory = true; keys = false; copied = true } };
+    ghost needs = { record {
+      lent = K.needs.lent || V.needs.lent;
+      memory = true;
+      keys = false;
+      copied = true;
+    } };
 
     ghost asks = { asking_map K.asks V.asks };
 
