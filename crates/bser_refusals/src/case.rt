@@ -1,0 +1,56 @@
+//! One case of the list.
+use anyhow::{Context, Result};
+use serde_bser::describe::Description;
+use std::alloc::Global;
+
+/// A refused message, and what the list says of it.
+#[derive(Drop)]
+pub struct Case<'a> {
+    /// What the case shows.
+    pub name: &'a str,
+    /// The name of the type that it is read as.
+    pub kind: &'a str,
+    /// The message.
+    pub message: Vec<u8>,
+    told: &'a str,
+    field: &'a str,
+    first: usize,
+    last: usize,
+}
+
+impl<'a> Case<'a> {
+    /// Takes a line apart at its tabs.
+    pub fn parse(alloc: Global, line: &'a str) -> Result<Self> {
+        let (name, rest) = cut(line)?;
+        let (kind, rest) = cut(rest)?;
+        let (message, rest) = cut(rest)?;
+        let (told, rest) = cut(rest)?;
+        let (field, rest) = cut(rest)?;
+        let (first, last) = cut(rest)?;
+        Ok(Case {
+            name,
+            kind,
+            message: hex::decode(alloc, message)?,
+            told,
+            field,
+            first: first.parse::<usize>()?,
+            last: last.parse::<usize>()?,
+        })
+    }
+
+    /// Whether the description says what it has to: the words, or those behind an `or`, the field,
+    /// and the place.
+    pub fn is_told(&self, text: &str, refusal: &Description) -> bool {
+        let words = match self.told.split_once(", or ") {
+            Some((first, second)) => text.contains(first) || text.contains(second),
+            None => text.contains(self.told),
+        };
+        let field = refusal.field().unwrap_or("-") == self.field;
+        words && field && self.first <= refusal.place() && refusal.place() <= self.last
+    }
+}
+
+/// The first column, and the others.
+fn cut(columns: &str) -> Result<(&str, &str)> {
+    columns.split_once('\t').context("too few columns")
+}

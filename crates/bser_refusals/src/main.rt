@@ -1,0 +1,100 @@
+//! Compares the descriptions of refusals with a list of messages and of what has to be told of each,
+//! and prints them.
+//!
+//! The file `errors.tsv` has a line for each message: what it shows, the type that it is read as, the
+//! message in hexadecimal digits, the words that have to be told, the field that has to be named, or
+//! `-`, and the first and the last place that may be told. The first line is the columns' names. The
+//! file `wrong-errors.tsv` has such lines of which each is wrong.
+#![tactic(auto)]
+
+mod answer;
+mod case;
+
+use crate::answer::Answer;
+use crate::case::Case;
+use anyhow::{Context, Result};
+use bser_vectors::devices::{Plan, PlannedReader};
+use serde_bser::de::{Deserialize, DeserializeOwned};
+use serde_bser::describe;
+use serde_bser::describe::Description;
+use serde_bser::device::Watched;
+use serde_bser::value::Value;
+use std::alloc::Global;
+use std::fs;
+
+/// How many bytes a reader gives at a call; 0 is a slice.
+const PIECES: [usize; 4] = [0, 1, 7, 4096];
+
+fn main(rt: HostRuntime) -> Result<()> {
+    compare(&rt, "errors.tsv")?;
+    compare(&rt, "wrong-errors.tsv")?;
+    read_number(&rt)
+}
+
+/// Reads a message whose number is 300 by each call, and as a type that does not hold it.
+fn read_number(rt: &HostRuntime) -> Result<()> {
+    let message = b"\x00\x02\x00\x00\x00\x00\x03\x03\x04\x2c\x01".as_slice();
+    let alloc = rt.alloc();
+    let mut reader = Watched::new(PlannedReader::new(message, Plan::pieces(1)));
+    let mut again = Watched::new(PlannedReader::new(message, Plan::pieces(1)));
+    let numbers = [
+        describe::from_slice::<i64>(alloc, message).ok(),
+        describe::from_slice_within::<i64>(alloc, 0, message).ok(),
+        describe::from_reader::<_, i64>(alloc, &mut reader).ok(),
+        describe::from_reader_within::<_, i64>(alloc, 0, &mut again).ok(),
+    ];
+    println!(rt; "{numbers:?}")?;
+    let refusal = describe::from_slice::<i8>(alloc, message)
+        .err()
+        .context("300 is no i8")?;
+    println!(rt; "{:?}, {}", refusal.finding(), refusal.cause())?;
+    println!(rt; "{}", refusal.into_cause())?;
+    Ok(())
+}
+
+/// Reads each message of the list, and prints how it is refused.
+fn compare(rt: &HostRuntime, file: &str) -> Result<()> {
+    let text = fs::read_to_string(rt, file)?;
+    let mut cases = 0u64;
+    let mut wrong = 0u64;
+    for line in text.as_str().lines().skip(1) {
+        cases = cases.saturating_add(1);
+        let case = Case::parse(rt.alloc(), line)?;
+        let told = refusal(rt.alloc(), &case, 0)?.to_string(rt.alloc())?;
+        println!(rt; "{}: {told}", case.name)?;
+        for pieces in PIECES {
+            let refusal = refusal(rt.alloc(), &case, pieces)?;
+            let text = refusal.to_string(rt.alloc())?;
+            if text != told || !case.is_told(text.as_str(), &refusal) {
+                wrong = wrong.saturating_add(1);
+                println!(rt; "  wrong in pieces of {pieces}: {text}")?;
+            }
+        }
+    }
+    println!(rt; "{cases} messages, {wrong} wrong descriptions")?;
+    Ok(())
+}
+
+/// How the case's message is refused as its type.
+fn refusal(alloc: Global, case: &Case<'_>, pieces: usize) -> Result<Description> {
+    match case.kind {
+        "Value" => refusal_of::<Value>(alloc, &case.message, pieces),
+        "Answer" => refusal_of::<Answer>(alloc, &case.message, pieces),
+        _ => None,
+    }
+    .context("a message that is accepted, or no such type")
+}
+
+/// How the message is refused as this type, read from a slice or from a reader of so many bytes a
+/// call.
+fn refusal_of<'a, T: Deserialize<&'a [u8]> + DeserializeOwned>(
+    alloc: Global,
+    message: &'a [u8],
+    pieces: usize,
+) -> Option<Description> {
+    if pieces == 0 {
+        return describe::from_slice::<T>(alloc, message).err();
+    }
+    let mut reader = Watched::new(PlannedReader::new(message, Plan::pieces(pieces)));
+    describe::from_reader::<_, T>(alloc, &mut reader).err()
+}
