@@ -1,11 +1,9 @@
 //! The structs as which an answer of Watchman is read.
-ghost use Rattle.std.specs.Prelude.{refl, [], ◌∷◌, None};
-ghost use Rattle.serde_bser.specs.Reading.{owned};
-ghost use Rattle.serde_bser.specs.Slots.{struct_needs};
-ghost use Rattle.bser_refusals.specs.Answers.{reads_file, HoldsFile, file_needs, reads_answer, HoldsAnswer};
+ghost use Rattle.std.specs.Prelude.{codes, [], ◌∷◌, None, refl};
+ghost use Rattle.bser_structs.specs.Fields.{required, optional, reads_fields, HoldsFields, fields_needs, asking_fields};
 
 use serde_bser::de;
-use serde_bser::de::{Deserializer, Optional, Required};
+use serde_bser::de::Deserializer;
 use serde_bser::prelude::*;
 use std::alloc::Global;
 
@@ -14,19 +12,28 @@ use std::alloc::Global;
 pub struct File {
     pub name: String,
     pub size: u64,
-    pub mtime_ms: i64,
+    pub mtime_ms: Option<i64>,
     pub exists: bool,
     pub mode: Option<i32>,
 }
 
+impl Fields for File {
+    ghost fields = { required (codes "name") (λ v. v.name) ⟦<String as ReadOnly>⟧.coding
+        ∷ required (codes "size") (λ v. v.size) ⟦<u64 as ReadOnly>⟧.coding
+        ∷ optional (codes "mtime_ms") (λ v. v.mtime_ms) ⟦<i64 as ReadOnly>⟧.coding
+        ∷ required (codes "exists") (λ v. v.exists) ⟦<bool as ReadOnly>⟧.coding
+        ∷ optional (codes "mode") (λ v. v.mode) ⟦<i32 as ReadOnly>⟧.coding
+        ∷ [] };
+}
+
 impl Shape for File {
-    ghost reads = { reads_file };
+    ghost reads = { reads_fields ⟦<File as Fields>⟧.fields };
 
-    ghost holds = { HoldsFile };
+    ghost holds = { HoldsFields ⟦<File as Fields>⟧.fields };
 
-    ghost needs = { file_needs };
+    ghost needs = { fields_needs ⟦<File as Fields>⟧.fields };
 
-    ghost asks = { None };
+    ghost asks = { asking_fields ⟦<File as Fields>⟧.fields };
 
     ghost plain = { None };
 }
@@ -36,22 +43,17 @@ impl<L: LendsText> Deserialize<L> for File {
         alloc: Global,
         from: &mut Deserializer<R>,
     ) -> de::Answer<File> {
-        let (name, (size, (mtime_ms, (exists, (mode, ()))))) = from.read_fields::<
-            (
-                Required<String>,
-                (
-                    Required<u64>,
-                    (Required<i64>, (Required<bool>, (Optional<i32>, ()))),
-                ),
-            ),
-        >(alloc, &["name", "size", "mtime_ms", "exists", "mode"])?;
-        Ok(File {
-            name,
-            size,
-            mtime_ms,
-            exists,
-            mode,
-        })
+        read_struct!(
+            alloc,
+            from,
+            File {
+                name: Required("name"),
+                size: Required("size"),
+                mtime_ms: Optional("mtime_ms"),
+                exists: Required("exists"),
+                mode: Optional("mode"),
+            }
+        )
     }
 }
 
@@ -66,14 +68,20 @@ pub struct Answer {
     pub files: Vec<File>,
 }
 
+impl Fields for Answer {
+    ghost fields = { required (codes "clock") (λ v. v.clock) ⟦<String as ReadOnly>⟧.coding
+        ∷ required (codes "files") (λ v. v.files) ⟦<Vec<File> as ReadOnly>⟧.coding
+        ∷ [] };
+}
+
 impl Shape for Answer {
-    ghost reads = { reads_answer };
+    ghost reads = { reads_fields ⟦<Answer as Fields>⟧.fields };
 
-    ghost holds = { HoldsAnswer };
+    ghost holds = { HoldsFields ⟦<Answer as Fields>⟧.fields };
 
-    ghost needs = { struct_needs (owned ∷ file_needs ∷ []) };
+    ghost needs = { fields_needs ⟦<Answer as Fields>⟧.fields };
 
-    ghost asks = { None };
+    ghost asks = { asking_fields ⟦<Answer as Fields>⟧.fields };
 
     ghost plain = { None };
 }
@@ -83,10 +91,14 @@ impl<L: LendsText> Deserialize<L> for Answer {
         alloc: Global,
         from: &mut Deserializer<R>,
     ) -> de::Answer<Answer> {
-        let (clock, (files, ())) = from.read_fields::<
-            (Required<String>, (Required<Vec<File>>, ())),
-        >(alloc, &["clock", "files"])?;
-        Ok(Answer { clock, files })
+        read_struct!(
+            alloc,
+            from,
+            Answer {
+                clock: Required("clock"),
+                files: Required("files"),
+            }
+        )
     }
 }
 
