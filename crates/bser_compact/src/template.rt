@@ -1,6 +1,6 @@
 //! Which arrays are templates, and the heads of templates.
 ghost use Rattle.std.specs.Prelude.{◌≡◌, ◌<◌, ◌^◌, OnOk, OnErr, option_map};
-ghost use Rattle.bser_format.specs.Compact.{same_keys};
+ghost use Rattle.bser_written.specs.Compact.{same_keys};
 ghost use Rattle.bser_ser.specs.Sent.{Sent};
 ghost use Rattle.bser_compact.specs.Texts.{Breaks, has_keys, head_text, names_of, template_names};
 

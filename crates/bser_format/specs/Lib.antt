@@ -13,14 +13,8 @@ pub mod ReadsHolders
 pub mod ReadsAny
 pub mod Expected
 pub mod Enums
-pub mod Compact
-pub mod Pieces
-pub mod Written
-pub mod ValueTree
-pub mod WrittenOut
 pub mod HeaderBytes
 pub mod EnumName
 pub mod Errors
 pub mod Escaped
 pub mod ByteStrings
-pub mod SameTree

@@ -1,7 +1,7 @@
 -- The entries of an object, as which the fields of a struct are written.
 use Rattle.std.specs.Prelude.{◌≡◌, ℕ, ◌≤◌, ◌^◌, List, [], ◌∷◌, length, Option, Some, None, ◌⊎◌}
 use Rattle.bser_format.specs.Tree.{Tree}
-use Rattle.bser_format.specs.Written.{struct_tree, within_i64}
+use Rattle.bser_written.specs.Written.{struct_tree, within_i64}
 use Rattle.bser_ser.specs.Ends.{field_text, then}
 
 -- the text of all entries, where each has one

@@ -1,6 +1,6 @@
 //! Writing a `Value`.
 ghost use Rattle.std.specs.Prelude.{Some, OnOk, OnErr, IfErr, string_bytes};
-ghost use Rattle.bser_format.specs.Written.{array_tree, object_tree};
+ghost use Rattle.bser_written.specs.Written.{array_tree, object_tree};
 ghost use Rattle.bser_ser.specs.Ends.{Ends, Stops, text_of};
 ghost use Rattle.bser_ser.specs.Sent.{refusal_of};
 ghost use Rattle.bser_value.specs.ValueView.{tree_of};

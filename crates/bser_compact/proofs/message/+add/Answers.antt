@@ -2,8 +2,8 @@
 use Rattle.std.proofs.Common.{rules, arith, ◌≡◌, [], ◌++◌, sym, subst, refl, ap, ◌∙◌, Some, string_bytes, append-nil}
 use Rattle.std.proofs.lemmas.Result.{err_from_is_err_and, on_ok_weaker, on_err_weaker}
 use Rattle.bser_format.specs.Canonical.{canonical_key, canonical_items, canonical_entries, canonical_fields}
-use Rattle.bser_format.specs.Compact.{values, fold_items, fold_entries}
-use Rattle.bser_format.specs.Pieces.{array_head, object_head}
+use Rattle.bser_written.specs.Compact.{values, fold_items, fold_entries}
+use Rattle.bser_written.specs.Pieces.{array_head, object_head}
 use Rattle.bser_source.proofs.Lists.{item_here}
 use Rattle.bser_ser.specs.Sent.{refusal_of}
 use Rattle.bser_ser.proofs.Sends.{Sent-both, Sent-none}

@@ -1,5 +1,5 @@
 use Rattle.std.proofs.Common.{length, drop}
-use Rattle.bser_format.specs.Pieces.{array_head}
+use Rattle.bser_written.specs.Pieces.{array_head}
 use Rattle.bser_ser.proofs.Ends.{UpTo}
 use Rattle.bser_ser.proofs.Texts.{item_text}
 use Rattle.bser_ser.proofs.holders.RefSliceSerialize.serialize.Given as goal

@@ -1,7 +1,7 @@
 use Rattle.std.proofs.Common.{length}
 use Rattle.std.proofs.lemmas.List.{drop_all}
 use Rattle.std.proofs.lemmas.Result.{err_from_is_err_and}
-use Rattle.bser_format.specs.Pieces.{array_head}
+use Rattle.bser_written.specs.Pieces.{array_head}
 use Rattle.bser_source.proofs.Lists.{item_here}
 use Rattle.bser_ser.proofs.Ends.{UpTo-more}
 use Rattle.bser_ser.proofs.Texts.{item_text, Ends-array, Stops-array}

@@ -1,6 +1,6 @@
 use Rattle.std.proofs.Common.{length, subst, ◌∙◌}
 use Rattle.std.proofs.lemmas.Result.{err_from_is_err_and}
-use Rattle.bser_format.specs.Pieces.{array_head}
+use Rattle.bser_written.specs.Pieces.{array_head}
 use Rattle.bser_ser.specs.Sent.{Sent}
 use Rattle.bser_ser.proofs.Ends.{UpTo-start, UpTo-more}
 use Rattle.bser_ser.proofs.Texts.{item_text, Ends-array, Stops-array}

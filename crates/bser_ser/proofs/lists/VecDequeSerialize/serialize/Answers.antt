@@ -1,6 +1,6 @@
 use Rattle.std.proofs.Common.{◌≡◌, List, [], ◌∷◌, length, refl}
 use Rattle.std.proofs.lemmas.Result.{err_from_is_err_and}
-use Rattle.bser_format.specs.Pieces.{array_head}
+use Rattle.bser_written.specs.Pieces.{array_head}
 use Rattle.bser_ser.proofs.Ends.{UpTo-more}
 use Rattle.bser_ser.proofs.Texts.{item_text, Ends-array, Stops-array}
 use Rattle.bser_ser.proofs.lists.VecDequeSerialize.serialize.Goals as goal

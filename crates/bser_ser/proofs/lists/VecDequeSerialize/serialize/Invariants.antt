@@ -1,6 +1,6 @@
 use Rattle.std.proofs.Common.{length}
 use Rattle.std.specs.VecDeque.Iter.{deque_iter_rest}
-use Rattle.bser_format.specs.Pieces.{array_head}
+use Rattle.bser_written.specs.Pieces.{array_head}
 use Rattle.bser_ser.proofs.Ends.{UpTo}
 use Rattle.bser_ser.proofs.Texts.{item_text}
 use Rattle.bser_ser.proofs.lists.VecDequeSerialize.serialize.Given as goal

@@ -1,6 +1,6 @@
 use Rattle.std.proofs.Common.{length}
-use Rattle.bser_format.specs.Written.{plain_bytes}
-use Rattle.bser_format.specs.Pieces.{object_head}
+use Rattle.bser_written.specs.Written.{plain_bytes}
+use Rattle.bser_written.specs.Pieces.{object_head}
 use Rattle.bser_ser.proofs.Ends.{UpTo}
 use Rattle.bser_ser.proofs.Texts.{entry_text}
 use Rattle.bser_ser.proofs.maps.BTreeMapByteStringSerialize.serialize.Given as goal

@@ -1,5 +1,5 @@
 use Rattle.std.proofs.Common.{length, string_bytes}
-use Rattle.bser_format.specs.Pieces.{object_head}
+use Rattle.bser_written.specs.Pieces.{object_head}
 use Rattle.bser_ser.proofs.Ends.{UpTo}
 use Rattle.bser_ser.proofs.Texts.{entry_text}
 use Rattle.bser_ser.proofs.maps.BTreeMapStringSerialize.serialize.Given as goal

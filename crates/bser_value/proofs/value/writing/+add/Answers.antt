@@ -3,7 +3,7 @@ use Rattle.std.proofs.Common.{rules, length, sym, subst, Option, Some, OnOk, OnE
 use Rattle.std.proofs.lemmas.List.{drop_all}
 use Rattle.std.proofs.lemmas.Result.{err_from_is_err_and}
 use Rattle.bser_format.specs.Tree.{Tree}
-use Rattle.bser_format.specs.Pieces.{array_head, object_head}
+use Rattle.bser_written.specs.Pieces.{array_head, object_head}
 use Rattle.bser_format.specs.Canonical.{canonical_key}
 use Rattle.bser_ser.specs.Ends.{Ends, Stops, text_of}
 use Rattle.bser_ser.specs.Sent.{refusal_of}

@@ -1,8 +1,8 @@
 use Rattle.std.proofs.Common.{List, ℕ, [], ◌∷◌, Option, Some, codes, encode_utf8}
 use Rattle.std.proofs.lemmas.Result.{err_from_is_err_and, MatchResult-weaker}
 use Rattle.bser_format.specs.Tree.{Tree, text, bytes, null, integer}
-use Rattle.bser_format.specs.Pieces.{tuple_variant_head, struct_variant_head}
-use Rattle.bser_format.specs.Written.{part_tree, plain_bytes, tuple_tree, struct_tree, variant_tree, unsigned_tree}
+use Rattle.bser_written.specs.Pieces.{tuple_variant_head, struct_variant_head}
+use Rattle.bser_written.specs.Written.{part_tree, plain_bytes, tuple_tree, struct_tree, variant_tree, unsigned_tree}
 use Rattle.bser_ser.proofs.Structs.{payload_ends, payload_stops, tuple_variant_text, struct_variant_text, walk_start, walk_more, walk_all, walk_stop, field_ends, field_stops_at_key, field_stops}
 use Rattle.bser_ser.proofs.Texts.{item_text, entry_text}
 use Rattle.bser_ser_tests.proofs.tests.writing.types.TestEnumSerialize.serialize.Goals as goal

@@ -6,13 +6,13 @@ use Rattle.bser_format.specs.Message.{IsMessage}
 use Rattle.bser_format.specs.Expand.{expand}
 use Rattle.bser_format.specs.Normal.{normal}
 use Rattle.bser_format.specs.Measures.{depth}
-use Rattle.bser_format.specs.Compact.{fold_templates, compact_body, compact_message}
-use Rattle.bser_format.specs.ValueTree.{IsValueTree}
+use Rattle.bser_written.specs.Compact.{fold_templates, compact_body, compact_message}
+use Rattle.bser_written.specs.ValueTree.{IsValueTree}
 use Rattle.bser_format.proofs.Laws.{one_message}
-use Rattle.bser_format.proofs.Back.{canon_message, normal_settled}
-use Rattle.bser_format.proofs.Fits.{body_fits, equal_trees}
-use Rattle.bser_format.proofs.Folded.{folded_stands, folded_reads, folded_depth}
-use Rattle.bser_format.proofs.FoldedFits.{short_writable}
+use Rattle.bser_written.proofs.Back.{canon_message, normal_settled}
+use Rattle.bser_written.proofs.Fits.{body_fits, equal_trees}
+use Rattle.bser_written.proofs.Folded.{folded_stands, folded_reads, folded_depth}
+use Rattle.bser_written.proofs.FoldedFits.{short_writable}
 
 pub compact_is_message : (n : ℕ) (t : Tree) → IsValueTree t → depth t ≤ n → length (compact_message t) < 2 ^ 63 → IsMessage n 0 (fold_templates t) (compact_message t)
 compact_is_message n t h l short = canon_message n (fold_templates t) (short_writable t h (body_fits (fold_templates t) short)) (omega (arith, l, folded_depth t)) short

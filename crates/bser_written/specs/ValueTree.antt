@@ -5,7 +5,7 @@ use Rattle.std.specs.Ordering.{nat_cmp}
 use Rattle.std.specs.Cmp.Lexicographic.{slice_cmp}
 use Rattle.std.specs.List.Sorted.{IsStrictlySortedBy}
 use Rattle.bser_format.specs.Tree.{Tree, null, boolean, integer, real, bytes, text, array, object, template, Items, no_items, item, Entries, no_entries, entry}
-use Rattle.bser_format.specs.Compact.{keys}
+use Rattle.bser_written.specs.Compact.{keys}
 
 -- no template, numbers in their ranges, texts in UTF-8, and each object has its keys once, in rising order, in UTF-8
 abbrev mutual

@@ -4,10 +4,10 @@ use Rattle.bser_format.specs.Tree.{Tree, null, boolean, integer, real, bytes, te
 use Rattle.bser_format.specs.Expand.{expand, expand_items, expand_entries, expand_rows, expand_fields}
 use Rattle.bser_format.specs.Normal.{normal}
 use Rattle.bser_format.specs.Measures.{depth, items_depth, entries_depth, rows_depth, fields_depth}
-use Rattle.bser_format.specs.Compact.{keys, values, as_template, fold_templates, fold_items, fold_entries}
-use Rattle.bser_format.specs.ValueTree.{IsValueTree}
-use Rattle.bser_format.proofs.Fits.{value_reads_as_itself}
-use Rattle.bser_format.proofs.TemplateRows.{AreRows, as_template_cases}
+use Rattle.bser_written.specs.Compact.{keys, values, as_template, fold_templates, fold_items, fold_entries}
+use Rattle.bser_written.specs.ValueTree.{IsValueTree}
+use Rattle.bser_written.proofs.Fits.{value_reads_as_itself}
+use Rattle.bser_written.proofs.TemplateRows.{AreRows, as_template_cases}
 
 -- ---- what it stands for
 

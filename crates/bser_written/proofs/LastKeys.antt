@@ -6,9 +6,9 @@ use Rattle.std.specs.Map.{keys_of}
 use Rattle.bser_format.specs.Tree.{Tree, null, entries_of}
 use Rattle.bser_format.specs.Normal.{last_entries}
 use Rattle.bser_format.specs.Canonical.{canonical_entries}
-use Rattle.bser_format.specs.Compact.{fold_templates, fold_entries, compact_body}
-use Rattle.bser_format.proofs.Least.{weigh, key_size, put, put_all, puts_lighter, least_count_grows}
-use Rattle.bser_format.proofs.Lengths.{names, head_size, length-entry}
+use Rattle.bser_written.specs.Compact.{fold_templates, fold_entries, compact_body}
+use Rattle.bser_written.proofs.Least.{weigh, key_size, put, put_all, puts_lighter, least_count_grows}
+use Rattle.bser_written.proofs.Lengths.{names, head_size, length-entry}
 
 -- ---- entries
 

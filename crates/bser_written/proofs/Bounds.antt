@@ -8,14 +8,14 @@ use Rattle.bser_format.specs.Expand.{expand, IsTemplateFree}
 use Rattle.bser_format.specs.Normal.{normal}
 use Rattle.bser_format.specs.Measures.{depth, nodes}
 use Rattle.bser_format.specs.Canonical.{canonical_body, canonical_message}
-use Rattle.bser_format.specs.WrittenOut.{written_out, row_objects}
+use Rattle.bser_written.specs.WrittenOut.{written_out, row_objects}
 use Rattle.bser_format.proofs.Fronts.{one_value}
-use Rattle.bser_format.proofs.Sizes.{nodes_below}
-use Rattle.bser_format.proofs.Squares.{depth_below, text_squared}
-use Rattle.bser_format.proofs.Least.{text_least}
-use Rattle.bser_format.proofs.Lengths.{message_least}
-use Rattle.bser_format.proofs.Values.{normal_within, expand_free}
-use Rattle.bser_format.proofs.Written.{written_out_spelled}
+use Rattle.bser_written.proofs.Sizes.{nodes_below}
+use Rattle.bser_written.proofs.Squares.{depth_below, text_squared}
+use Rattle.bser_written.proofs.Least.{text_least}
+use Rattle.bser_written.proofs.Lengths.{message_least}
+use Rattle.bser_written.proofs.Values.{normal_within, expand_free}
+use Rattle.bser_written.proofs.Written.{written_out_spelled}
 
 pub least_message : (n c : ℕ) (u v : Tree) (b : List ℕ) → IsMessage n c u b → IsTemplateFree u → normal (expand u) ≡ Some v → length (canonical_message v) ≤ length b
 least_message n c u v b m free e = message_least n c v u b m (text_least n u m.body v m.value (ap normal (sym (expand_free u free)) ∙ e))

@@ -16,10 +16,10 @@ use Rattle.bser_format.specs.Message.{IsMessage}
 use Rattle.bser_format.specs.Expand.{expand, expand_items, expand_entries, expand_rows, expand_fields, key_tree}
 use Rattle.bser_format.specs.Expected.{Due, nothing_due, node_due, key_due, field_due, name_due, row_due, FillsNode, Fills}
 use Rattle.bser_format.specs.Normal.{last_entries, normal, normal_items, normal_entries}
-use Rattle.bser_format.specs.Compact.{keys}
-use Rattle.bser_format.specs.ValueTree.{IsValueTree, ItemsAreValueTrees, EntriesAreValueTrees}
+use Rattle.bser_written.specs.Compact.{keys}
+use Rattle.bser_written.specs.ValueTree.{IsValueTree, ItemsAreValueTrees, EntriesAreValueTrees}
 use Rattle.bser_format.proofs.Entries.{cmp, keys_rise}
-use Rattle.bser_format.proofs.Least.{map_some, then_some, guard_some, put, put_all}
+use Rattle.bser_written.proofs.Least.{map_some, then_some, guard_some, put, put_all}
 
 pub integer_fits : (v : ℤ) (b : List ℕ) → SpellsInteger v b → FitsSigned w64 v
 integer_fits v b h = at h.size h.fits

@@ -17,8 +17,8 @@ use Rattle.bser_format.specs.Normal.{last_entries, normal, normal_items, normal_
 use Rattle.bser_format.specs.Canonical.{least_count, canonical_body, IsWritable, canonical_message}
 use Rattle.bser_format.specs.Measures.{depth}
 use Rattle.bser_format.specs.Message.{IsMessage}
-use Rattle.bser_format.specs.Compact.{keys}
-use Rattle.bser_format.specs.ValueTree.{IsValueTree, ItemsAreValueTrees, EntriesAreValueTrees}
+use Rattle.bser_written.specs.Compact.{keys}
+use Rattle.bser_written.specs.ValueTree.{IsValueTree, ItemsAreValueTrees, EntriesAreValueTrees}
 use Rattle.bser_format.proofs.Canon.{joined, count_spelled, text_spelled}
 use Rattle.bser_format.proofs.Fronts.{entries_back}
 

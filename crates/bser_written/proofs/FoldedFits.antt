@@ -4,11 +4,11 @@ use Rattle.std.proofs.lemmas.List.{length-append}
 use Rattle.std.specs.List.{AllByRecursion}
 use Rattle.bser_format.specs.Tree.{Tree, null, boolean, integer, real, bytes, text, array, object, template, Items, no_items, item, Entries, no_entries, entry, Rows, no_rows, row, items, entries}
 use Rattle.bser_format.specs.Canonical.{least_count, canonical_body, canonical_items, canonical_entries, canonical_rows, canonical_fields, IsCount, IsWritableText, IsWritable, ItemsAreWritable, EntriesAreWritable, RowsAreWritable, FieldsAreWritable}
-use Rattle.bser_format.specs.Compact.{keys, values, as_template, fold_templates, fold_items, fold_entries}
-use Rattle.bser_format.specs.ValueTree.{IsValueTree, ItemsAreValueTrees, EntriesAreValueTrees}
-use Rattle.bser_format.proofs.Fits.{writable}
-use Rattle.bser_format.proofs.TemplateRows.{AreRows, as_template_cases, rows_even, rows_length, keys_length}
-use Rattle.bser_format.proofs.Lengths.{head_size, key_long, length-item, length-entry, length-row, length-array, length-template, object_row, items_few, entries_few, values_few}
+use Rattle.bser_written.specs.Compact.{keys, values, as_template, fold_templates, fold_items, fold_entries}
+use Rattle.bser_written.specs.ValueTree.{IsValueTree, ItemsAreValueTrees, EntriesAreValueTrees}
+use Rattle.bser_written.proofs.Fits.{writable}
+use Rattle.bser_written.proofs.TemplateRows.{AreRows, as_template_cases, rows_even, rows_length, keys_length}
+use Rattle.bser_written.proofs.Lengths.{head_size, key_long, length-item, length-entry, length-row, length-array, length-template, object_row, items_few, entries_few, values_few}
 
 -- ---- an array of items that can be written
 

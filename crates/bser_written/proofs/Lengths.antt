@@ -7,11 +7,11 @@ use Rattle.bser_format.specs.Tree.{Tree, null, boolean, integer, real, bytes, te
 use Rattle.bser_format.specs.Grammar.{Each, SpellsKey}
 use Rattle.bser_format.specs.Message.{IsMessage}
 use Rattle.bser_format.specs.Canonical.{least_integer, least_size, least_count, canonical_text, canonical_key, canonical_body, canonical_items, canonical_entries, canonical_rows, canonical_fields, canonical_message}
-use Rattle.bser_format.specs.Compact.{keys, values}
+use Rattle.bser_written.specs.Compact.{keys, values}
 use Rattle.bser_format.proofs.Canon.{least_integer_least, length-int_bytes}
-use Rattle.bser_format.proofs.Least.{length-key, key_least, least_count_grows}
-use Rattle.bser_format.proofs.Sizes.{length_then}
-use Rattle.bser_format.proofs.TemplateRows.{keys_length}
+use Rattle.bser_written.proofs.Least.{length-key, key_least, least_count_grows}
+use Rattle.bser_written.proofs.Sizes.{length_then}
+use Rattle.bser_written.proofs.TemplateRows.{keys_length}
 
 -- ---- keys
 

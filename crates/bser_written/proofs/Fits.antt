@@ -11,12 +11,12 @@ use Rattle.bser_format.specs.Canonical.{least_count, canonical_body, canonical_i
 use Rattle.bser_format.specs.Measures.{depth}
 use Rattle.bser_format.specs.Message.{IsMessage}
 use Rattle.bser_format.specs.Plain.{parts}
-use Rattle.bser_format.specs.ValueTree.{IsValueTree, ItemsAreValueTrees, EntriesAreValueTrees}
+use Rattle.bser_written.specs.ValueTree.{IsValueTree, ItemsAreValueTrees, EntriesAreValueTrees}
 use Rattle.bser_format.proofs.Canon.{joined, count_spelled, text_spelled}
-use Rattle.bser_format.proofs.Lengths.{length-entry, key_long, items_few, entries_few, length-message}
+use Rattle.bser_written.proofs.Lengths.{length-entry, key_long, items_few, entries_few, length-message}
 use Rattle.bser_format.proofs.Fronts.{one_value}
 use Rattle.bser_format.proofs.Laws.{Frame, parts_reads, one_message}
-use Rattle.bser_format.proofs.Back.{canon_message, normal_settled}
+use Rattle.bser_written.proofs.Back.{canon_message, normal_settled}
 
 -- ---- counts
 

@@ -8,7 +8,7 @@ use Rattle.bser_format.specs.Tree.{Tree, null, boolean, integer, real, bytes, te
 use Rattle.bser_format.specs.Expand.{expand, expand_items, expand_entries, IsTemplateFree, ItemsAreTemplateFree, EntriesAreTemplateFree}
 use Rattle.bser_format.specs.Normal.{last_entries, normal, normal_items, normal_entries}
 use Rattle.bser_format.specs.Measures.{depth, items_depth, entries_depth, nodes, items_nodes, entries_nodes}
-use Rattle.bser_format.proofs.Least.{map_some, then_some, guard_some, put, put_all}
+use Rattle.bser_written.proofs.Least.{map_some, then_some, guard_some, put, put_all}
 
 -- ---- entries
 

@@ -5,7 +5,7 @@ use Rattle.bser_format.specs.Tree.{Tree, null, array, object, template, item, en
 use Rattle.bser_format.specs.Grammar.{IntSize, int8, int16, int32, int64, width_of, Each, SpellsCount, SpellsString, SpellsKey, SpellsEntry, SpellsField, IsTemplate, Spells}
 use Rattle.bser_format.specs.Expand.{expand, expand_items, expand_rows, expand_fields, expand_entries}
 use Rattle.bser_format.specs.Canonical.{least_count, IsCount}
-use Rattle.bser_format.specs.WrittenOut.{own_bytes, row_out, rows_out, written_out, row_entries, row_items, row_objects}
+use Rattle.bser_written.specs.WrittenOut.{own_bytes, row_out, rows_out, written_out, row_entries, row_items, row_objects}
 use Rattle.bser_format.proofs.Canon.{joined, tagged, count_spelled}
 
 -- ---- the same expansion

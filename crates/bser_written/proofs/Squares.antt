@@ -11,9 +11,9 @@ use Rattle.bser_format.specs.Normal.{normal, normal_items, normal_entries, last_
 use Rattle.bser_format.specs.Canonical.{least_count, canonical_key, canonical_body, canonical_items, canonical_entries}
 use Rattle.bser_format.specs.Measures.{depth, items_depth, entries_depth}
 use Rattle.bser_format.proofs.Canon.{least_integer_least}
-use Rattle.bser_format.proofs.Sizes.{length_then, nodes_below}
-use Rattle.bser_format.proofs.Least.{map_some, then_some, guard_some, least_count_grows, bytes_least, utf8_least, key_least, key_size, body_size, weight, weight_is, length-entries_of, puts_lighter}
-use Rattle.bser_format.proofs.Lengths.{names, keys_least, head_size}
+use Rattle.bser_written.proofs.Sizes.{length_then, nodes_below}
+use Rattle.bser_written.proofs.Least.{map_some, then_some, guard_some, least_count_grows, bytes_least, utf8_least, key_least, key_size, body_size, weight, weight_is, length-entries_of, puts_lighter}
+use Rattle.bser_written.proofs.Lengths.{names, keys_least, head_size}
 
 -- ---- depth
 

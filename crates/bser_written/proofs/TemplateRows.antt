@@ -6,8 +6,8 @@ use Rattle.std.proofs.lemmas.Bool.{and_parts, and_from}
 use Rattle.std.proofs.lemmas.Slice.Eq.{bytes_eq-Decides}
 use Rattle.std.specs.List.{AllByRecursion}
 use Rattle.bser_format.specs.Tree.{Tree, array, object, template, Items, no_items, item, Entries, no_entries, entry, Rows, no_rows, row, items, entries, fields, rows}
-use Rattle.bser_format.specs.Compact.{keys, values, same_keys, rows_with, as_template}
-use Rattle.bser_format.proofs.Least.{map_some, guard_some}
+use Rattle.bser_written.specs.Compact.{keys, values, same_keys, rows_with, as_template}
+use Rattle.bser_written.proofs.Least.{map_some, guard_some}
 
 -- ---- equal lists of keys
 

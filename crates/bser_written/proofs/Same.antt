@@ -4,7 +4,7 @@ use Rattle.std.specs.Bool.{Decides}
 use Rattle.std.specs.Cmp.Lexicographic.{pointwise, pointwise_decides, bytes_decides}
 use Rattle.std.specs.Cmp.{IsEquivalence, IsPartialEquivalence, partial_equiv_from_equiv, booleans_Decides, signed_Decides, unsigned_Decides, decided, first_so, second_so}
 use Rattle.bser_format.specs.Tree.{Tree, null, boolean, integer, real, bytes, text, array, object, template, Items, no_items, item, Entries, no_entries, entry, Rows, no_rows, row, Fields, no_fields, skip, field}
-use Rattle.bser_format.specs.SameTree.{same_bytes, same_tree, same_items, same_entries, same_rows, same_fields}
+use Rattle.bser_written.specs.SameTree.{same_bytes, same_tree, same_items, same_entries, same_rows, same_fields}
 
 mutual
   tree_from_same : (a b : Tree) → same_tree a b ≡ true → a ≡ b

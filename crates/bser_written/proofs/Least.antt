@@ -13,7 +13,7 @@ use Rattle.bser_format.specs.Grammar.{Format, Each, SpellsBytes, SpellsText, Spe
 use Rattle.bser_format.specs.Canonical.{least_integer, is_within, first_size, least_size, least_count, canonical_bytes, canonical_text, canonical_key, canonical_body, canonical_items, canonical_entries}
 use Rattle.bser_format.specs.Normal.{last_entries, normal, normal_items, normal_entries}
 use Rattle.bser_format.proofs.Canon.{least_integer_least, length-int_bytes}
-use Rattle.bser_format.proofs.Sizes.{length_then}
+use Rattle.bser_written.proofs.Sizes.{length_then}
 
 -- ---- options
 

@@ -3,10 +3,10 @@ use Rattle.std.proofs.Common.{◌≡◌, ℕ, ◌+◌, ◌≤◌, List, ◌∷�
 use Rattle.std.specs.Prelude.{unwrap_or, option_map}
 use Rattle.bser_format.specs.Tree.{Tree, null, boolean, integer, real, bytes, text, array, object, template, Items, no_items, item, Entries, no_entries, entry, Rows, no_rows, row, items, rows}
 use Rattle.bser_format.specs.Canonical.{least_count, canonical_body, canonical_items, canonical_entries, canonical_rows}
-use Rattle.bser_format.specs.Compact.{keys, rows_with, as_template, fold_templates, fold_items, fold_entries}
-use Rattle.bser_format.proofs.TemplateRows.{AreRows, as_template_cases, rows_taken, rows_length}
-use Rattle.bser_format.proofs.Lengths.{head_size, length-item, length-entry, length-row, length-array, length-pairs, length-template, object_row}
-use Rattle.bser_format.proofs.FoldedFits.{items_stay, entries_stay}
+use Rattle.bser_written.specs.Compact.{keys, rows_with, as_template, fold_templates, fold_items, fold_entries}
+use Rattle.bser_written.proofs.TemplateRows.{AreRows, as_template_cases, rows_taken, rows_length}
+use Rattle.bser_written.proofs.Lengths.{head_size, length-item, length-entry, length-row, length-array, length-pairs, length-template, object_row}
+use Rattle.bser_written.proofs.FoldedFits.{items_stay, entries_stay}
 
 rows_sum : (ks : List (List ℕ)) (ts : Items) (rs : Rows) → AreRows ks ts rs → length (canonical_rows rs) ≤ length (canonical_items ts)
 rows_sum ks no_items no_rows made = omega arith

@@ -5,10 +5,10 @@ use Rattle.bser_format.specs.Message.{IsMessage}
 use Rattle.bser_format.specs.Expand.{expand, IsTemplateFree, ItemsAreTemplateFree, EntriesAreTemplateFree}
 use Rattle.bser_format.specs.Canonical.{canonical_message, IsWritable}
 use Rattle.bser_format.specs.Measures.{depth}
-use Rattle.bser_format.specs.ValueTree.{IsValueTree, ItemsAreValueTrees, EntriesAreValueTrees}
-use Rattle.bser_format.proofs.Back.{canon_message}
+use Rattle.bser_written.specs.ValueTree.{IsValueTree, ItemsAreValueTrees, EntriesAreValueTrees}
+use Rattle.bser_written.proofs.Back.{canon_message}
 use Rattle.bser_format.proofs.Laws.{one_message}
-use Rattle.bser_format.proofs.Values.{expand_free}
+use Rattle.bser_written.proofs.Values.{expand_free}
 
 pub written_front : (n c : ℕ) (t u : Tree) (a x y : List ℕ) → IsWritable t → depth t ≤ n → length (canonical_message t) < 2 ^ 63 → IsMessage n c u a → canonical_message t ++ x ≡ a ++ y → (canonical_message t ≡ a) × (0 ≡ c) × (t ≡ u)
 written_front n c t u a x y h l short m e = one_message n 0 c (canonical_message t) a x y t u (canon_message n t h l short) m e

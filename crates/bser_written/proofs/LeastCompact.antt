@@ -10,15 +10,15 @@ use Rattle.bser_format.specs.Message.{IsMessage}
 use Rattle.bser_format.specs.Expand.{expand, expand_items, expand_entries, expand_rows, expand_fields}
 use Rattle.bser_format.specs.Normal.{last_entries, normal, normal_items, normal_entries}
 use Rattle.bser_format.specs.Canonical.{least_count, canonical_body, canonical_items, canonical_rows, canonical_fields, canonical_message}
-use Rattle.bser_format.specs.Compact.{keys, values, as_template, fold_templates, fold_items, fold_entries, compact_body, compact_message}
+use Rattle.bser_written.specs.Compact.{keys, values, as_template, fold_templates, fold_items, fold_entries, compact_body, compact_message}
 use Rattle.bser_format.proofs.Canon.{least_integer_least}
-use Rattle.bser_format.proofs.Sizes.{length_then}
-use Rattle.bser_format.proofs.Least.{map_some, then_some, guard_some, least_count_grows, bytes_least, utf8_least, key_least, weigh, key_size, length-entries_of, puts_lighter}
-use Rattle.bser_format.proofs.TemplateRows.{AreRows}
-use Rattle.bser_format.proofs.Lengths.{keys_least, length-item, length-row, length-field, length-array, length-pairs, length-message, message_least}
-use Rattle.bser_format.proofs.FoldedFits.{items_stay, entries_stay}
-use Rattle.bser_format.proofs.Shorter.{template_shorter, rows_bound, folded_shorter}
-use Rattle.bser_format.proofs.LastKeys.{compact_size, load, folded_length, last_keys, same_last_keys, fewer_keys, one_key, head_grows}
+use Rattle.bser_written.proofs.Sizes.{length_then}
+use Rattle.bser_written.proofs.Least.{map_some, then_some, guard_some, least_count_grows, bytes_least, utf8_least, key_least, weigh, key_size, length-entries_of, puts_lighter}
+use Rattle.bser_written.proofs.TemplateRows.{AreRows}
+use Rattle.bser_written.proofs.Lengths.{keys_least, length-item, length-row, length-field, length-array, length-pairs, length-message, message_least}
+use Rattle.bser_written.proofs.FoldedFits.{items_stay, entries_stay}
+use Rattle.bser_written.proofs.Shorter.{template_shorter, rows_bound, folded_shorter}
+use Rattle.bser_written.proofs.LastKeys.{compact_size, load, folded_length, last_keys, same_last_keys, fewer_keys, one_key, head_grows}
 
 -- ---- values
 
