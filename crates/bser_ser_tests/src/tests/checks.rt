@@ -1,0 +1,65 @@
+//! What the tests of all modules check: texts, bytes and refusals.
+use bser_format::errors::Error;
+use bser_ser::Serialize;
+use bser_ser::message::serialize;
+use bser_source::device::Watched;
+use std::alloc::Global;
+use std::fmt::Display;
+use std::process::Abort;
+use std::test::Fail;
+
+pub type Tested = std::result::Result<(), Fail>;
+
+/// The texts are the same.
+pub fn check_same(rt: &impl Abort, found: &str, expected: &str) {
+    assert_eq!(rt; found, expected);
+}
+
+/// The bytes are the same.
+pub fn check_bytes(rt: &impl Abort, found: &[u8], expected: &[u8]) {
+    assert_eq!(rt; found, expected);
+}
+
+/// The value is printed as this text.
+pub fn check_text<T: Display + Drop>(
+    rt: &impl Abort,
+    alloc: Global,
+    printed: T,
+    text: &str,
+) -> Tested {
+    let found = format!(in alloc; "{printed}")?;
+    check_same(rt, found.as_str(), text);
+    Ok(())
+}
+
+/// The answer is a refusal with this text.
+pub fn check_refused<T: Drop>(
+    rt: &impl Abort,
+    alloc: Global,
+    answer: std::result::Result<T, Error>,
+    text: &str,
+) -> Tested {
+    match answer {
+        Ok(_) => Err("not refused".into()),
+        Err(error) => check_text(rt, alloc, error, text),
+    }
+}
+
+/// A message in memory.
+pub fn message<T: Serialize>(alloc: Global, value: &T) -> std::result::Result<Vec<u8>, Error> {
+    match serialize(alloc, Watched::new(Vec::new(alloc)), value) {
+        Ok(writer) => Ok(writer.into_inner()),
+        Err((_, error)) => Err(error),
+    }
+}
+
+/// The value is written as a message of these bytes.
+pub fn check_written<T: Serialize + Drop>(
+    rt: &impl Abort,
+    alloc: Global,
+    value: T,
+    expected: &[u8],
+) -> Tested {
+    check_bytes(rt, message(alloc, &value)?.as_slice(), expected);
+    Ok(())
+}
