@@ -1,5 +1,5 @@
 //! Byte strings: their texts, conversions, order and hashes.
-use super::checks::{Tested, check_bytes, check_same, check_text};
+use super::checks::{check_bytes, check_string};
 use bser_format::bytestring::ByteString;
 use std::alloc::{AllocError, Global};
 use std::collections::{BTreeMap, HashMap};
@@ -17,16 +17,15 @@ fn check_texts(
     escaped: &str,
     shown: &str,
     debugged: &str,
-) -> Tested {
+) -> Result<(), AllocError> {
     let value = byte_string(alloc, bytes)?;
-    check_same(rt, value.as_escaped_string(alloc)?.as_str(), escaped);
-    check_text(rt, alloc, &value, shown)?;
-    check_same(rt, format!(in alloc; "{value:?}")?.as_str(), debugged);
-    Ok(())
+    check_string(rt, value.as_escaped_string(alloc), escaped)?;
+    check_string(rt, format!(in alloc; "{value}"), shown)?;
+    check_string(rt, format!(in alloc; "{value:?}"), debugged)
 }
 
 #[test]
-fn texts(rt: HostRuntime) -> Tested {
+fn texts(rt: HostRuntime) -> Result<(), AllocError> {
     let alloc = rt.alloc();
     check_texts(&rt, alloc, b"", "", "\"\"", "\"\"")?;
     check_texts(
@@ -82,6 +81,14 @@ fn texts(rt: HostRuntime) -> Tested {
     )
 }
 
+/// The answer is this text, or these bytes as they were.
+fn is_answer(answer: &Result<String, ByteString>, expected: Result<&str, &[u8]>) -> bool {
+    match answer {
+        Ok(text) => expected == Ok(text.as_str()),
+        Err(same) => expected == Err(same.as_bytes()),
+    }
+}
+
 /// The bytes become this text, or are handed back as they are.
 fn check_into_string(
     rt: &impl Abort,
@@ -90,11 +97,7 @@ fn check_into_string(
     expected: Result<&str, &[u8]>,
 ) -> Result<(), AllocError> {
     let answer = byte_string(alloc, bytes)?.into_string();
-    let found = match &answer {
-        Ok(text) => Ok(text.as_str()),
-        Err(same) => Err(same.as_bytes()),
-    };
-    assert_eq!(rt; found, expected);
+    assert!(rt; is_answer(&answer, expected), "not {expected:?}");
     Ok(())
 }
 
@@ -124,22 +127,44 @@ fn conversions(rt: HostRuntime) -> Result<(), AllocError> {
     check_copies(&rt, alloc, &copied, &owned, b"game")
 }
 
-/// The lesser one stands before the greater one in a sorted map.
+/// A sorted map with copies of these keys.
+fn sorted(
+    alloc: Global,
+    entries: &[(&ByteString, i32)],
+) -> Result<BTreeMap<ByteString, i32>, AllocError> {
+    let mut map = BTreeMap::new(alloc);
+    for (key, value) in entries {
+        map.insert(key.try_clone(alloc)?, *value)?;
+    }
+    Ok(map)
+}
+
+/// A hashed map with copies of these keys.
+fn hashed(
+    alloc: Global,
+    entries: &[(&ByteString, i32)],
+) -> Result<HashMap<ByteString, i32>, AllocError> {
+    let mut map = HashMap::new(alloc);
+    for (key, value) in entries {
+        map.insert(key.try_clone(alloc)?, *value)?;
+    }
+    Ok(map)
+}
+
+/// A sorted map finds its keys, and has the lesser one first.
 fn check_sorted(
     rt: &impl Abort,
     alloc: Global,
     low: &ByteString,
     high: &ByteString,
 ) -> Result<(), AllocError> {
-    let mut sorted = BTreeMap::new(alloc);
-    sorted.insert(high.try_clone(alloc)?, 2)?;
-    sorted.insert(low.try_clone(alloc)?, 1)?;
-    assert_eq!(rt; sorted.get(high).copied(), Some(2));
-    assert_eq!(rt; sorted.keys().next(), Some(low));
+    let map = sorted(alloc, &[(high, 2), (low, 1)])?;
+    assert!(rt; map.get(high) == Some(&2));
+    assert!(rt; map.keys().next() == Some(low));
     Ok(())
 }
 
-/// A hashed map finds a key that it has, and no other.
+/// A hashed map finds its keys, and no other.
 fn check_hashed(
     rt: &impl Abort,
     alloc: Global,
@@ -147,12 +172,17 @@ fn check_hashed(
     high: &ByteString,
     other: &ByteString,
 ) -> Result<(), AllocError> {
-    let mut hashed = HashMap::new(alloc);
-    hashed.insert(high.try_clone(alloc)?, 2)?;
-    hashed.insert(low.try_clone(alloc)?, 1)?;
-    assert_eq!(rt; hashed.get(low).copied(), Some(1));
-    assert!(rt; hashed.get(other).is_none());
+    let map = hashed(alloc, &[(high, 2), (low, 1)])?;
+    assert!(rt; map.get(low) == Some(&1));
+    assert!(rt; map.get(other).is_none());
     Ok(())
+}
+
+/// The three rise: a beginning stands before what it begins.
+fn check_order(rt: &impl Abort, short: &ByteString, low: &ByteString, high: &ByteString) {
+    assert!(rt; low < high);
+    assert!(rt; short < low);
+    assert!(rt; low != high);
 }
 
 #[test]
@@ -161,9 +191,7 @@ fn order_and_maps(rt: HostRuntime) -> Result<(), AllocError> {
     let low = byte_string(alloc, b"a\x7f")?;
     let high = byte_string(alloc, b"a\xff")?;
     let short = byte_string(alloc, b"a")?;
-    assert!(rt; low < high);
-    assert!(rt; short < low);
-    assert!(rt; low != high);
+    check_order(&rt, &short, &low, &high);
     check_sorted(&rt, alloc, &low, &high)?;
     check_hashed(&rt, alloc, &low, &high, &short)
 }

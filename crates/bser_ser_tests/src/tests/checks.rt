@@ -1,9 +1,9 @@
-//! What the tests of all modules check: texts, bytes and refusals.
+//! What the tests of all modules check: texts, bytes, messages and refusals.
 use bser_format::errors::Error;
 use bser_ser::Serialize;
 use bser_ser::message::serialize;
 use bser_source::device::Watched;
-use std::alloc::Global;
+use std::alloc::{AllocError, Global};
 use std::fmt::Display;
 use std::process::Abort;
 use std::test::Fail;
@@ -11,7 +11,7 @@ use std::test::Fail;
 pub type Tested = std::result::Result<(), Fail>;
 
 /// The texts are the same.
-pub fn check_same(rt: &impl Abort, found: &str, expected: &str) {
+fn check_same(rt: &impl Abort, found: &str, expected: &str) {
     assert_eq!(rt; found, expected);
 }
 
@@ -20,16 +20,24 @@ pub fn check_bytes(rt: &impl Abort, found: &[u8], expected: &[u8]) {
     assert_eq!(rt; found, expected);
 }
 
+/// The string was made, and is this text.
+pub fn check_string(
+    rt: &impl Abort,
+    made: std::result::Result<String, AllocError>,
+    text: &str,
+) -> std::result::Result<(), AllocError> {
+    check_same(rt, made?.as_str(), text);
+    Ok(())
+}
+
 /// The value is printed as this text.
 pub fn check_text<T: Display + Drop>(
     rt: &impl Abort,
     alloc: Global,
     printed: T,
     text: &str,
-) -> Tested {
-    let found = format!(in alloc; "{printed}")?;
-    check_same(rt, found.as_str(), text);
-    Ok(())
+) -> std::result::Result<(), AllocError> {
+    check_string(rt, format!(in alloc; "{printed}"), text)
 }
 
 /// The answer is a refusal with this text.
@@ -41,7 +49,7 @@ pub fn check_refused<T: Drop>(
 ) -> Tested {
     match answer {
         Ok(_) => Err("not refused".into()),
-        Err(error) => check_text(rt, alloc, error, text),
+        Err(error) => Ok(check_text(rt, alloc, error, text)?),
     }
 }
 

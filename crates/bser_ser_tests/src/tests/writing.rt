@@ -118,7 +118,7 @@ fn check_flush_stops(rt: &impl Abort, out: &mut Planning, kind: ErrorKind) -> Te
     Ok(())
 }
 
-/// Finishing stops with a fault that is of no kind of its own, and hands the serializer back.
+/// Finishing stops with a fault of kind `Other`, and hands the serializer back.
 fn stopped(rt: &impl Abort, out: Planning) -> std::result::Result<Planning, Fail> {
     let (out, fault) = out.try_finish().err().ok_or("no fault")?;
     assert_eq!(rt; fault.kind(), ErrorKind::Other);
@@ -173,9 +173,14 @@ fn what_was_taken_before_a_fault_stays_taken(rt: HostRuntime) -> Tested {
     Ok(())
 }
 
+/// A serializer into memory.
+fn in_memory(alloc: Global) -> Serializer<Watched<Vec<u8>>> {
+    Serializer::new(alloc, Watched::new(Vec::new(alloc)))
+}
+
 /// After a byte string of 4094 bytes and so many nulls, this many bytes were sent.
 fn check_sent_after(rt: &impl Abort, alloc: Global, nulls: usize, sent: usize) -> Tested {
-    let mut out = Serializer::new(alloc, Watched::new(Vec::new(alloc)));
+    let mut out = in_memory(alloc);
     out.put_bytes(&[0; 4090])?;
     for _ in 0..nulls {
         out.put_null()?;
@@ -188,11 +193,6 @@ fn check_sent_after(rt: &impl Abort, alloc: Global, nulls: usize, sent: usize) -
 fn sends_before_a_put_when_much_is_pending(rt: HostRuntime) -> Tested {
     check_sent_after(&rt, rt.alloc(), 3, 0)?;
     check_sent_after(&rt, rt.alloc(), 4, 4097)
-}
-
-/// A serializer into memory.
-fn in_memory(alloc: Global) -> Serializer<Watched<Vec<u8>>> {
-    Serializer::new(alloc, Watched::new(Vec::new(alloc)))
 }
 
 /// What was put is these bytes.
