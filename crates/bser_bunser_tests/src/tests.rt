@@ -5,10 +5,15 @@ mod refusals;
 mod sources;
 mod text;
 
+use bser_bunser::bunser::PduInfo;
 use bser_read::io_read::IoRead;
 use bser_source::device::Watched;
+use bser_source::read::{Lending, Reference};
+use std::alloc::Global;
+use std::fmt::Debug;
 use std::io;
 use std::io::{ErrorKind, Read};
+use std::process::Abort;
 
 /// A reader that gives at most `most` bytes a call, and is interrupted after `whole` bytes.
 #[derive(Drop)]
@@ -44,4 +49,50 @@ fn source_of(bytes: &[u8], most: usize, whole: usize) -> IoRead<Watched<Planned<
         whole,
         calls: 0,
     }))
+}
+
+const EARLY_END: &str = "DeReaderError { source: Eof }";
+
+const FAILED_BEFORE: &str = "DeReaderError { source: Failed }";
+
+const NEGATIVE_LENGTH: &str = "DeCustom { msg: Fixed(NegativeLength) }";
+
+const NULL_IS_NO_INTEGER: &str = "DeInvalidStartByte { kind: Integer, byte: 10 }";
+
+/// The answer is a refusal, of which `Debug` prints this.
+fn check_refused<T: Drop, E: Debug + Drop>(
+    rt: &impl Abort,
+    alloc: Global,
+    answer: Result<T, E>,
+    refusal: &str,
+) {
+    let found = answer.err().expect(rt, "the call is refused");
+    let printed = format!(in alloc; "{found:?}").expect(rt, "memory is left");
+    assert_eq!(rt; printed.as_str(), refusal);
+}
+
+/// The answer is this value.
+fn check_given<T: PartialEq + Debug + Copy, E: Debug + Drop>(
+    rt: &impl Abort,
+    answer: Result<T, E>,
+    value: T,
+) {
+    assert_eq!(rt; answer.expect(rt, "the call is not refused"), value);
+}
+
+/// The answer is these bytes, lent or copied.
+fn check_bytes<L: Lending + Drop, E: Debug + Drop>(
+    rt: &impl Abort,
+    answer: Result<Reference<'_, L>, E>,
+    bytes: &[u8],
+) {
+    let found = answer.expect(rt, "the call is not refused");
+    assert_eq!(rt; found.get_ref(), bytes);
+}
+
+/// The head announces these capabilities and a body of this length and start.
+fn check_head(rt: &impl Abort, info: &PduInfo, bser_capabilities: u32, len: i64, start: i64) {
+    assert_eq!(rt; info.bser_capabilities, bser_capabilities);
+    assert_eq!(rt; info.len, len);
+    assert_eq!(rt; info.start, start);
 }

@@ -1,17 +1,14 @@
 //! Tests of heads, integers and counted bytes, by the calls of the crate.
-use super::source_of;
+use super::{
+    EARLY_END, FAILED_BEFORE, NEGATIVE_LENGTH, NULL_IS_NO_INTEGER, check_bytes, check_given,
+    check_head, check_refused, source_of,
+};
 use bser_bunser::bunser::{Bunser, PduInfo};
-use bser_format::errors::{Complaint, Error, Kind, Message, ReadCause, Result};
+use bser_format::errors::Result;
 use bser_format::header::EMPTY_HEADER;
 use bser_read::slice_read::SliceRead;
 use std::alloc::Global;
-use std::io;
-use std::io::ErrorKind;
 use std::process::Abort;
-
-fn is_interruption(error: &io::Error) -> bool {
-    error.kind() == ErrorKind::Interrupted
-}
 
 const MESSAGE: &[u8] = b"\x00\x02\x01\x00\x00\x00\x03\x06\x05\xff\xff\xff\xff\x0aZZ";
 
@@ -20,10 +17,8 @@ const MESSAGE: &[u8] = b"\x00\x02\x01\x00\x00\x00\x03\x06\x05\xff\xff\xff\xff\x0
 fn reads_whole(rt: &impl Abort, alloc: Global, most: usize) -> Result<(u64, usize)> {
     let mut bunser = Bunser::new(alloc, source_of(MESSAGE, most, 99));
     let info = bunser.read_pdu()?;
-    assert_eq!(rt; info.bser_capabilities, 1);
-    assert_eq!(rt; info.len, 6);
-    assert_eq!(rt; info.start, 8);
-    assert_eq!(rt; bunser.check_next_int()?, -1);
+    check_head(rt, &info, 1, 6, 8);
+    check_given(rt, bunser.check_next_int(), -1);
     assert_eq!(rt; bunser.peek()?, 0x0a);
     bunser.discard();
     bunser.end(&info)?;
@@ -42,31 +37,17 @@ fn short_reads_give_what_whole_ones_give(rt: HostRuntime) -> Result<()> {
 }
 
 #[test]
-fn a_fault_waits_for_the_call_that_needs_the_byte(rt: HostRuntime) -> Result<()> {
+fn a_fault_waits_for_the_call_that_needs_the_byte(rt: HostRuntime) {
+    let fault = "DeReaderError { source: Reader(Kind(Interrupted)) }";
     let mut bunser = Bunser::new(rt.alloc(), source_of(MESSAGE, 99, 13));
-    bunser.read_pdu()?;
-    assert_eq!(rt; bunser.check_next_int()?, -1);
-    match bunser.peek() {
-        Err(
-            Error::DeReaderError {
-                source: ReadCause::Reader(error),
-            },
-        ) => assert!(rt; is_interruption(&error)),
-        _ => assert!(rt; false),
-    }
-    assert!(rt;
-        matches!(
-            bunser.peek(),
-            Err(Error::DeReaderError {
-                source: ReadCause::Failed
-            })
-        )
-    );
-    Ok(())
+    assert!(rt; bunser.read_pdu().is_ok());
+    check_given(&rt, bunser.check_next_int(), -1);
+    check_refused(&rt, rt.alloc(), bunser.peek(), fault);
+    check_refused(&rt, rt.alloc(), bunser.peek(), FAILED_BEFORE);
 }
 
 #[test]
-fn integers_have_four_widths(rt: HostRuntime) -> Result<()> {
+fn integers_have_four_widths(rt: HostRuntime) {
     let texts: [(&[u8], i64); 6] = [
         (b"\x03\x80", -128),
         (b"\x04\x80\x00", 128),
@@ -77,102 +58,38 @@ fn integers_have_four_widths(rt: HostRuntime) -> Result<()> {
     ];
     for (text, value) in texts {
         let mut bunser = Bunser::new(rt.alloc(), SliceRead::new(text));
-        assert_eq!(rt; bunser.check_next_int()?, value);
+        check_given(&rt, bunser.check_next_int(), value);
     }
     let mut bunser = Bunser::new(rt.alloc(), SliceRead::new(b"\x0a\x03\x01"));
-    match bunser.check_next_int() {
-        Err(Error::DeInvalidStartByte { kind, byte }) => {
-            assert!(rt; kind == Kind::Integer);
-            assert_eq!(rt; byte, 0x0a);
-        }
-        _ => assert!(rt; false),
-    }
-    assert!(rt;
-        matches!(
-            bunser.check_next_int(),
-            Err(Error::DeReaderError {
-                source: ReadCause::Failed
-            })
-        )
-    );
-    Ok(())
+    check_refused(&rt, rt.alloc(), bunser.check_next_int(), NULL_IS_NO_INTEGER);
+    check_refused(&rt, rt.alloc(), bunser.check_next_int(), FAILED_BEFORE);
 }
 
 #[test]
-fn a_real_is_its_bits(rt: HostRuntime) -> Result<()> {
-    let mut bunser = Bunser::new(
-        rt.alloc(),
-        SliceRead::new(b"\x07\x18\x2d\x44\x54\xfb\x21\x09\x40"),
-    );
-    assert_eq!(rt; bunser.peek()?, 0x07);
-    assert_eq!(rt; bunser.next_f64()?, 0x4009_21fb_5444_2d18);
-    Ok(())
+fn a_real_is_its_bits(rt: HostRuntime) {
+    let real = b"\x07\x18\x2d\x44\x54\xfb\x21\x09\x40";
+    let mut bunser = Bunser::new(rt.alloc(), SliceRead::new(real));
+    check_given(&rt, bunser.peek(), 0x07);
+    check_given(&rt, bunser.next_f64(), 0x4009_21fb_5444_2d18);
 }
 
 #[test]
-fn bytes_are_lent_from_a_slice(rt: HostRuntime) -> Result<()> {
+fn bytes_are_lent_from_a_slice(rt: HostRuntime) {
     let mut scratch = Vec::new(rt.alloc());
     let mut bunser = Bunser::new(rt.alloc(), SliceRead::new(b"abc"));
-    assert_eq!(rt;
-        bunser.read_bytes(2, &mut scratch)?.get_ref(),
-        b"ab".as_slice()
-    );
+    check_bytes(&rt, bunser.read_bytes(2, &mut scratch), b"ab");
     assert_eq!(rt; scratch.len(), 0);
-    assert!(rt;
-        is_complaint(
-            bunser.read_bytes(-1, &mut scratch).err(),
-            Complaint::NegativeLength
-        )
-    );
-    Ok(())
-}
-
-fn is_complaint(refusal: Option<Error>, complaint: Complaint) -> bool {
-    match refusal {
-        Some(
-            Error::DeCustom {
-                msg: Message::Fixed(found),
-            },
-        ) => found == complaint,
-        _ => false,
-    }
+    let refused = bunser.read_bytes(-1, &mut scratch);
+    check_refused(&rt, rt.alloc(), refused, NEGATIVE_LENGTH);
 }
 
 #[test]
 fn reads_the_empty_header(rt: HostRuntime) -> Result<()> {
     let mut bunser = Bunser::new(rt.alloc(), SliceRead::new(EMPTY_HEADER));
     let info = bunser.read_pdu()?;
-    assert_eq!(rt; info.bser_capabilities, 0);
-    assert_eq!(rt; info.len, 0);
-    assert_eq!(rt; info.start, 11);
+    check_head(&rt, &info, 0, 0, 11);
     assert_eq!(rt; bunser.read_count(), 11);
     bunser.end(&info)
-}
-
-#[test]
-fn refuses_other_heads(rt: HostRuntime) {
-    let mut bunser = Bunser::new(rt.alloc(), SliceRead::new(b"\x00\x01\x03\x01\x0a"));
-    match bunser.read_pdu() {
-        Err(Error::DeInvalidMagic { magic }) => assert_eq!(rt; magic, [0, 1]),
-        _ => assert!(rt; false),
-    }
-    let mut bunser = Bunser::new(
-        rt.alloc(),
-        SliceRead::new(b"\x00\x02\x00\x00\x00\x00\x03\xff\x0a"),
-    );
-    assert!(rt; is_complaint(bunser.read_pdu().err(), Complaint::NegativeLength));
-    let mut bunser = Bunser::new(
-        rt.alloc(),
-        SliceRead::new(b"\x00\x02\x00\x00\x00\x00\x04\x80"),
-    );
-    assert!(rt;
-        matches!(
-            bunser.read_pdu(),
-            Err(Error::DeReaderError {
-                source: ReadCause::Eof
-            })
-        )
-    );
 }
 
 #[test]
@@ -181,58 +98,50 @@ fn a_body_does_not_end_after_a_refusal(rt: HostRuntime) -> Result<()> {
     let mut bunser = Bunser::new(rt.alloc(), SliceRead::new(message));
     let info = bunser.read_pdu()?;
     bunser.end(&info)?;
-    assert!(rt;
-        matches!(
-            bunser.peek(),
-            Err(Error::DeReaderError {
-                source: ReadCause::Eof
-            })
-        )
-    );
-    assert!(rt;
-        matches!(
-            bunser.end(&info),
-            Err(Error::DeReaderError {
-                source: ReadCause::Failed
-            })
-        )
-    );
+    check_refused(&rt, rt.alloc(), bunser.peek(), EARLY_END);
+    check_refused(&rt, rt.alloc(), bunser.end(&info), FAILED_BEFORE);
     Ok(())
 }
 
-/// Reads the head and a body of one byte, and gives what `end` refuses.
-fn end_of_one_byte(alloc: Global, message: &[u8]) -> Result<Option<Error>> {
+/// Reads the head and a body of one byte, and gives what `end` answers.
+fn end_of_one_byte(alloc: Global, message: &[u8]) -> Result<()> {
     let mut bunser = Bunser::new(alloc, SliceRead::new(message));
     let info = bunser.read_pdu()?;
     bunser.peek()?;
     bunser.discard();
-    Ok(bunser.end(&info).err())
-}
-
-fn is_end(refusal: Option<Error>, expected_count: usize, read_count: usize) -> bool {
-    match refusal {
-        Some(Error::DeEof { expected, read }) => expected == expected_count && read == read_count,
-        _ => false,
-    }
+    bunser.end(&info)
 }
 
 #[test]
-fn a_body_ends_where_its_head_says(rt: HostRuntime) -> Result<()> {
-    let cases: [(&[u8], usize, usize); 3] = [
-        (b"\x00\x02\x00\x00\x00\x00\x03\x02\x0a", 10, 9),
-        (b"\x00\x02\x00\x00\x00\x00\x03\x00\x0a", 8, 9),
+fn a_body_ends_where_its_head_says(rt: HostRuntime) {
+    let cases: [(&[u8], &str); 4] = [
+        (
+            b"\x00\x02\x00\x00\x00\x00\x03\x02\x0a",
+            "DeEof { expected: 10, read: 9 }",
+        ),
+        (
+            b"\x00\x02\x00\x00\x00\x00\x03\x00\x0a",
+            "DeEof { expected: 8, read: 9 }",
+        ),
         (
             b"\x00\x02\x00\x00\x00\x00\x06\xf0\xff\xff\xff\xff\xff\xff\x7f\x0a",
-            9_223_372_036_854_775_807,
-            16,
+            "DeEof { expected: 9223372036854775807, read: 16 }",
+        ),
+        (
+            b"\x00\x02\x00\x00\x00\x00\x06\xff\xff\xff\xff\xff\xff\xff\x7f\x0a",
+            "DeCustom { msg: Fixed(CountTooGreat) }",
         ),
     ];
-    for (message, expected, read) in cases {
-        assert!(rt; is_end(end_of_one_byte(rt.alloc(), message)?, expected, read));
+    for (message, refusal) in cases {
+        check_refused(
+            &rt,
+            rt.alloc(),
+            end_of_one_byte(rt.alloc(), message),
+            refusal,
+        );
     }
-    assert!(rt; end_of_one_byte(rt.alloc(), b"\x00\x02\x00\x00\x00\x00\x03\x01\x0a")?.is_none());
-    let most = b"\x00\x02\x00\x00\x00\x00\x06\xff\xff\xff\xff\xff\xff\xff\x7f\x0a";
-    assert!(rt; is_complaint(end_of_one_byte(rt.alloc(), most)?, Complaint::CountTooGreat));
+    let whole = b"\x00\x02\x00\x00\x00\x00\x03\x01\x0a";
+    check_given(&rt, end_of_one_byte(rt.alloc(), whole), ());
     let bunser = Bunser::new(rt.alloc(), SliceRead::new(b""));
     for (len, start) in [(-1, 0), (0, -1)] {
         let info = PduInfo {
@@ -240,7 +149,6 @@ fn a_body_ends_where_its_head_says(rt: HostRuntime) -> Result<()> {
             len,
             start,
         };
-        assert!(rt; is_complaint(bunser.end(&info).err(), Complaint::NegativeLength));
+        check_refused(&rt, rt.alloc(), bunser.end(&info), NEGATIVE_LENGTH);
     }
-    Ok(())
 }

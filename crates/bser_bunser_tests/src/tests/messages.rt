@@ -1,5 +1,5 @@
 //! Whole messages, token by token.
-use super::source_of;
+use super::{check_bytes, check_given, check_head, source_of};
 use bser_bunser::bunser::Bunser;
 use bser_bunser::prefix::{Look, Token, Unexpected};
 use bser_format::errors::Result;
@@ -13,54 +13,62 @@ use std::process::Abort;
 const MESSAGE: &[u8] =
     b"\x00\x02\x02\x01\x00\x00\x03\x26\x00\x03\x09\x0a\x08\x03\xfe\x07\x01\x02\x03\x04\x05\x06\x07\x08\x0d\x03\x03abc\x02\x03\x02xy\x04\x01\x02\x01\x03\x00\x05\xff\xff\xff\xff";
 
-fn is_walked<R: DeRead + Drop>(rt: &impl Abort, alloc: Global, read: R) -> Result<()> {
-    let mut scratch = Vec::new(alloc);
-    let mut bunser = Bunser::new(alloc, read);
-    let info = bunser.read_pdu()?;
-    assert_eq!(rt; info.len, 38);
-    assert_eq!(rt; info.start, 8);
-    assert_eq!(rt; info.bser_capabilities, 0x0102);
-    assert!(rt; matches!(bunser.token(), Ok(Token::Array { len: 9 })));
-    assert!(rt; matches!(bunser.token(), Ok(Token::Null)));
-    assert!(rt; matches!(bunser.token(), Ok(Token::Bool(true))));
-    assert!(rt; matches!(bunser.token(), Ok(Token::Int(-2))));
-    assert!(rt; matches!(bunser.token(), Ok(Token::Real(0x0807_0605_0403_0201))));
+/// The tokens in front, up to the text's bytes.
+fn check_tokens<R: DeRead>(rt: &impl Abort, from: &mut Bunser<R>) {
+    assert!(rt; matches!(from.token(), Ok(Token::Array { len: 9 })));
+    assert!(rt; matches!(from.token(), Ok(Token::Null)));
+    assert!(rt; matches!(from.token(), Ok(Token::Bool(true))));
+    assert!(rt; matches!(from.token(), Ok(Token::Int(-2))));
+    assert!(rt; matches!(from.token(), Ok(Token::Real(0x0807_0605_0403_0201))));
+    let text = from.token();
     assert!(rt;
         matches!(
-            bunser.token(),
+            text,
             Ok(Token::Str {
                 is_text: true,
                 len: 3
             })
         )
     );
-    assert!(rt; bunser.pass(3).is_ok());
-    assert_eq!(rt; bunser.peek()?, 0x02);
-    bunser.discard();
-    assert_eq!(rt; bunser.check_next_int()?, 2);
-    assert_eq!(rt;
-        bunser.read_bytes(2, &mut scratch)?.get_ref(),
-        b"xy".as_slice()
-    );
-    assert_eq!(rt; bunser.check_next_int()?, 513);
-    assert!(rt;
-        matches!(
-            bunser.next_int(),
-            Ok(Look::Unexpected(Unexpected::Tag(0x01)))
-        )
-    );
-    assert!(rt; matches!(bunser.token(), Ok(Token::Object { len: 0 })));
-    assert_eq!(rt; bunser.peek()?, 0x05);
-    assert_eq!(rt; bunser.next_i32()?, -1);
-    assert_eq!(rt; bunser.read_count(), 46);
+}
+
+/// The text's bytes, and the byte string by its tag, its length and its bytes.
+fn check_strings<R: DeRead>(rt: &impl Abort, alloc: Global, from: &mut Bunser<R>) -> Result<()> {
+    let mut scratch = Vec::new(alloc);
+    check_given(rt, from.pass(3), ());
+    assert_eq!(rt; from.peek()?, 0x02);
+    from.discard();
+    check_given(rt, from.check_next_int(), 2);
+    check_bytes(rt, from.read_bytes(2, &mut scratch), b"xy");
+    Ok(())
+}
+
+/// An integer, an object that is no integer, and an integer of four bytes.
+fn check_numbers<R: DeRead>(rt: &impl Abort, from: &mut Bunser<R>) {
+    check_given(rt, from.check_next_int(), 513);
+    let look = from.next_int();
+    assert!(rt; matches!(look, Ok(Look::Unexpected(Unexpected::Tag(0x01)))));
+    assert!(rt; matches!(from.token(), Ok(Token::Object { len: 0 })));
+    check_given(rt, from.peek(), 0x05);
+    check_given(rt, from.next_i32(), -1);
+    assert_eq!(rt; from.read_count(), 46);
+}
+
+fn check_message<R: DeRead + Drop>(rt: &impl Abort, alloc: Global, read: R) -> Result<()> {
+    let mut bunser = Bunser::new(alloc, read);
+    let info = bunser.read_pdu()?;
+    check_head(rt, &info, 0x0102, 38, 8);
+    check_tokens(rt, &mut bunser);
+    check_strings(rt, alloc, &mut bunser)?;
+    check_numbers(rt, &mut bunser);
     bunser.end(&info)
 }
 
 #[test]
 fn a_message_is_read_token_by_token(rt: HostRuntime) -> Result<()> {
-    is_walked(&rt, rt.alloc(), SliceRead::new(MESSAGE))?;
+    check_message(&rt, rt.alloc(), SliceRead::new(MESSAGE))?;
     for most in [1, 2, 3, 7, 4096] {
-        is_walked(&rt, rt.alloc(), source_of(MESSAGE, most, 99))?;
+        check_message(&rt, rt.alloc(), source_of(MESSAGE, most, 99))?;
     }
     Ok(())
 }
