@@ -5,8 +5,9 @@ mod refusals;
 mod sources;
 mod text;
 
-use bser_bunser::bunser::PduInfo;
+use bser_bunser::bunser::{Bunser, PduInfo};
 use bser_read::io_read::IoRead;
+use bser_read::read::DeRead;
 use bser_source::device::Watched;
 use bser_source::read::{Lending, Reference};
 use std::alloc::Global;
@@ -51,13 +52,16 @@ fn source_of(bytes: &[u8], most: usize, whole: usize) -> IoRead<Watched<Planned<
     }))
 }
 
+/// The reader below, as far as it was read.
+fn reader_of(bunser: Bunser<IoRead<Watched<Planned<'_>>>>) -> Planned<'_> {
+    bunser.into_inner().into_inner().into_inner()
+}
+
 const EARLY_END: &str = "DeReaderError { source: Eof }";
 
 const FAILED_BEFORE: &str = "DeReaderError { source: Failed }";
 
 const NEGATIVE_LENGTH: &str = "DeCustom { msg: Fixed(NegativeLength) }";
-
-const NULL_IS_NO_INTEGER: &str = "DeInvalidStartByte { kind: Integer, byte: 10 }";
 
 /// The answer is a refusal, of which `Debug` prints this.
 fn check_refused<T: Drop, E: Debug + Drop>(
@@ -90,9 +94,31 @@ fn check_bytes<L: Lending + Drop, E: Debug + Drop>(
     assert_eq!(rt; found.get_ref(), bytes);
 }
 
-/// The head announces these capabilities and a body of this length and start.
-fn check_head(rt: &impl Abort, info: &PduInfo, bser_capabilities: u32, len: i64, start: i64) {
+/// The head announces these capabilities and a body of this length and start. It is given.
+fn check_head<R: DeRead>(
+    rt: &impl Abort,
+    from: &mut Bunser<R>,
+    bser_capabilities: u32,
+    len: i64,
+    start: i64,
+) -> PduInfo {
+    let info = from.read_pdu().expect(rt, "the head is whole");
     assert_eq!(rt; info.bser_capabilities, bser_capabilities);
     assert_eq!(rt; info.len, len);
     assert_eq!(rt; info.start, start);
+    info
+}
+
+/// The next byte is this. It is taken.
+fn check_discarded<R: DeRead>(rt: &impl Abort, from: &mut Bunser<R>, byte: u8) {
+    let found = from.peek().expect(rt, "a byte is left");
+    assert_eq!(rt; found, byte);
+    from.discard();
+}
+
+/// The next integer is refused for the null that stands there, and the next one for the refusal.
+fn check_no_integer<R: DeRead>(rt: &impl Abort, alloc: Global, from: &mut Bunser<R>) {
+    let null = "DeInvalidStartByte { kind: Integer, byte: 10 }";
+    check_refused(rt, alloc, from.check_next_int(), null);
+    check_refused(rt, alloc, from.check_next_int(), FAILED_BEFORE);
 }

@@ -1,11 +1,9 @@
 //! Whole messages, token by token.
-use super::{check_bytes, check_given, check_head, source_of};
+use super::{check_bytes, check_discarded, check_given, check_head, reader_of, source_of};
 use bser_bunser::bunser::Bunser;
 use bser_bunser::prefix::{Look, Token, Unexpected};
-use bser_format::errors::Result;
 use bser_read::read::DeRead;
 use bser_read::slice_read::SliceRead;
-use std::alloc::Global;
 use std::process::Abort;
 
 /// An array of null, true, -2, a real, `abc` under the text's tag, `xy` under the other, 513, an empty
@@ -33,14 +31,11 @@ fn check_tokens<R: DeRead>(rt: &impl Abort, from: &mut Bunser<R>) {
 }
 
 /// The text's bytes, and the byte string by its tag, its length and its bytes.
-fn check_strings<R: DeRead>(rt: &impl Abort, alloc: Global, from: &mut Bunser<R>) -> Result<()> {
-    let mut scratch = Vec::new(alloc);
+fn check_strings<R: DeRead>(rt: &impl Abort, scratch: &mut Vec<u8>, from: &mut Bunser<R>) {
     check_given(rt, from.pass(3), ());
-    assert_eq!(rt; from.peek()?, 0x02);
-    from.discard();
+    check_discarded(rt, from, 0x02);
     check_given(rt, from.check_next_int(), 2);
-    check_bytes(rt, from.read_bytes(2, &mut scratch), b"xy");
-    Ok(())
+    check_bytes(rt, from.read_bytes(2, scratch), b"xy");
 }
 
 /// An integer, an object that is no integer, and an integer of four bytes.
@@ -54,42 +49,50 @@ fn check_numbers<R: DeRead>(rt: &impl Abort, from: &mut Bunser<R>) {
     assert_eq!(rt; from.read_count(), 46);
 }
 
-fn check_message<R: DeRead + Drop>(rt: &impl Abort, alloc: Global, read: R) -> Result<()> {
-    let mut bunser = Bunser::new(alloc, read);
-    let info = bunser.read_pdu()?;
-    check_head(rt, &info, 0x0102, 38, 8);
-    check_tokens(rt, &mut bunser);
-    check_strings(rt, alloc, &mut bunser)?;
-    check_numbers(rt, &mut bunser);
-    bunser.end(&info)
+fn check_message<R: DeRead>(rt: &impl Abort, scratch: &mut Vec<u8>, from: &mut Bunser<R>) {
+    let info = check_head(rt, from, 0x0102, 38, 8);
+    check_tokens(rt, from);
+    check_strings(rt, scratch, from);
+    check_numbers(rt, from);
+    check_given(rt, from.end(&info), ());
 }
 
 #[test]
-fn a_message_is_read_token_by_token(rt: HostRuntime) -> Result<()> {
-    check_message(&rt, rt.alloc(), SliceRead::new(MESSAGE))?;
+fn a_message_is_read_token_by_token(rt: HostRuntime) {
+    let mut scratch = Vec::new(rt.alloc());
+    let mut slice = Bunser::new(rt.alloc(), SliceRead::new(MESSAGE));
+    check_message(&rt, &mut scratch, &mut slice);
     for most in [1, 2, 3, 7, 4096] {
-        check_message(&rt, rt.alloc(), source_of(MESSAGE, most, 99))?;
+        let mut reader = Bunser::new(rt.alloc(), source_of(MESSAGE, most, 99));
+        check_message(&rt, &mut scratch, &mut reader);
     }
-    Ok(())
+}
+
+/// A whole message of a null.
+fn check_null<R: DeRead>(rt: &impl Abort, from: &mut Bunser<R>) {
+    let info = check_head(rt, from, 0, 1, 8);
+    assert!(rt; matches!(from.token(), Ok(Token::Null)));
+    check_given(rt, from.end(&info), ());
 }
 
 #[test]
-fn what_follows_a_message_is_left(rt: HostRuntime) -> Result<()> {
+fn what_follows_a_message_is_left(rt: HostRuntime) {
     let message = b"\x00\x02\x00\x00\x00\x00\x03\x01\x0aZZ";
     let mut bunser = Bunser::new(rt.alloc(), source_of(message, 99, 99));
-    let info = bunser.read_pdu()?;
-    assert!(rt; matches!(bunser.token(), Ok(Token::Null)));
-    bunser.end(&info)?;
-    let reader = bunser.into_inner().into_inner().into_inner();
-    assert_eq!(rt; reader.bytes, b"ZZ".as_slice());
-    Ok(())
+    check_null(&rt, &mut bunser);
+    assert_eq!(rt; reader_of(bunser).bytes, b"ZZ".as_slice());
+}
+
+/// Of 20,000 bytes the first 15,000 are passed, and then no 5,001.
+fn check_passed<R: DeRead>(rt: &impl Abort, from: &mut Bunser<R>) {
+    check_given(rt, from.pass(15_000), ());
+    assert_eq!(rt; from.read_count(), 15_000);
+    assert!(rt; from.pass(5_001).is_err());
 }
 
 #[test]
 fn bytes_beyond_the_window_are_passed(rt: HostRuntime) {
     let bytes = [7u8; 20_000];
     let mut bunser = Bunser::new(rt.alloc(), source_of(&bytes, 4099, 20_000));
-    assert!(rt; bunser.pass(15_000).is_ok());
-    assert_eq!(rt; bunser.read_count(), 15_000);
-    assert!(rt; bunser.pass(5_001).is_err());
+    check_passed(&rt, &mut bunser);
 }

@@ -1,9 +1,9 @@
 //! Refusals by their names.
 use super::{
-    EARLY_END, FAILED_BEFORE, NEGATIVE_LENGTH, NULL_IS_NO_INTEGER, check_refused, source_of,
+    EARLY_END, FAILED_BEFORE, NEGATIVE_LENGTH, check_given, check_head, check_no_integer,
+    check_refused, source_of,
 };
 use bser_bunser::bunser::Bunser;
-use bser_format::errors::Result;
 use bser_read::read::DeRead;
 use bser_read::slice_read::SliceRead;
 use std::alloc::Global;
@@ -22,8 +22,8 @@ fn a_front_of_a_head_is_an_early_end(rt: HostRuntime) {
         check_head_refused(&rt, rt.alloc(), SliceRead::new(&head[..len]), EARLY_END);
         check_head_refused(&rt, rt.alloc(), source_of(&head[..len], 1, 99), EARLY_END);
     }
-    let mut bunser = Bunser::new(rt.alloc(), source_of(head, 1, 99));
-    assert!(rt; bunser.read_pdu().is_ok());
+    let mut whole = Bunser::new(rt.alloc(), source_of(head, 1, 99));
+    check_head(&rt, &mut whole, 0, 128, 9);
 }
 
 #[test]
@@ -41,17 +41,22 @@ fn a_negative_length_of_a_body_is_named(rt: HostRuntime) {
 #[test]
 fn another_tag_than_an_integer_is_named(rt: HostRuntime) {
     let mut bunser = Bunser::new(rt.alloc(), source_of(b"\x0a\x03\x01", 1, 9));
-    check_refused(&rt, rt.alloc(), bunser.check_next_int(), NULL_IS_NO_INTEGER);
+    check_no_integer(&rt, rt.alloc(), &mut bunser);
+}
+
+/// The body ends before its first byte. A byte more is an early end, and no call goes on after it.
+fn check_past_the_end<R: DeRead>(rt: &impl Abort, alloc: Global, from: &mut Bunser<R>) {
+    let info = check_head(rt, from, 0, 0, 8);
+    check_given(rt, from.end(&info), ());
+    check_refused(rt, alloc, from.peek(), EARLY_END);
+    check_refused(rt, alloc, from.end(&info), FAILED_BEFORE);
+    check_refused(rt, alloc, from.check_next_int(), FAILED_BEFORE);
+    check_refused(rt, alloc, from.end(&info), FAILED_BEFORE);
 }
 
 #[test]
-fn after_a_refusal_each_call_has_failed(rt: HostRuntime) -> Result<()> {
+fn after_a_refusal_each_call_has_failed(rt: HostRuntime) {
     let message = b"\x00\x02\x00\x00\x00\x00\x03\x00";
     let mut bunser = Bunser::new(rt.alloc(), SliceRead::new(message));
-    let info = bunser.read_pdu()?;
-    bunser.end(&info)?;
-    check_refused(&rt, rt.alloc(), bunser.peek(), EARLY_END);
-    check_refused(&rt, rt.alloc(), bunser.check_next_int(), FAILED_BEFORE);
-    check_refused(&rt, rt.alloc(), bunser.end(&info), FAILED_BEFORE);
-    Ok(())
+    check_past_the_end(&rt, rt.alloc(), &mut bunser);
 }
