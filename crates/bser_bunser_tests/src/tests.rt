@@ -63,6 +63,11 @@ const FAILED_BEFORE: &str = "DeReaderError { source: Failed }";
 
 const NEGATIVE_LENGTH: &str = "DeCustom { msg: Fixed(NegativeLength) }";
 
+/// What was found is what was expected.
+fn check_equal<T: PartialEq + Debug + Copy>(rt: &impl Abort, found: T, expected: T) {
+    assert_eq!(rt; found, expected);
+}
+
 /// The answer is a refusal, of which `Debug` prints this.
 fn check_refused<T: Drop, E: Debug + Drop>(
     rt: &impl Abort,
@@ -72,7 +77,7 @@ fn check_refused<T: Drop, E: Debug + Drop>(
 ) {
     let found = answer.err().expect(rt, "the call is refused");
     let printed = format!(in alloc; "{found:?}").expect(rt, "memory is left");
-    assert_eq!(rt; printed.as_str(), refusal);
+    check_equal(rt, printed.as_str(), refusal);
 }
 
 /// The answer is this value.
@@ -81,7 +86,7 @@ fn check_given<T: PartialEq + Debug + Copy, E: Debug + Drop>(
     answer: Result<T, E>,
     value: T,
 ) {
-    assert_eq!(rt; answer.expect(rt, "the call is not refused"), value);
+    check_equal(rt, answer.expect(rt, "the call is not refused"), value);
 }
 
 /// The answer is these bytes, lent or copied.
@@ -91,7 +96,7 @@ fn check_bytes<L: Lending + Drop, E: Debug + Drop>(
     bytes: &[u8],
 ) {
     let found = answer.expect(rt, "the call is not refused");
-    assert_eq!(rt; found.get_ref(), bytes);
+    check_equal(rt, found.get_ref(), bytes);
 }
 
 /// The head announces these capabilities and a body of this length and start. It is given.
@@ -103,16 +108,16 @@ fn check_head<R: DeRead>(
     start: i64,
 ) -> PduInfo {
     let info = from.read_pdu().expect(rt, "the head is whole");
-    assert_eq!(rt; info.bser_capabilities, bser_capabilities);
-    assert_eq!(rt; info.len, len);
-    assert_eq!(rt; info.start, start);
+    check_equal(rt, info.bser_capabilities, bser_capabilities);
+    check_equal(rt, info.len, len);
+    check_equal(rt, info.start, start);
     info
 }
 
 /// The next byte is this. It is taken.
 fn check_discarded<R: DeRead>(rt: &impl Abort, from: &mut Bunser<R>, byte: u8) {
     let found = from.peek().expect(rt, "a byte is left");
-    assert_eq!(rt; found, byte);
+    check_equal(rt, found, byte);
     from.discard();
 }
 

@@ -1,7 +1,7 @@
 //! Tests of heads, integers and counted bytes, by the calls of the crate.
 use super::{
-    FAILED_BEFORE, NEGATIVE_LENGTH, check_bytes, check_discarded, check_given, check_head,
-    check_no_integer, check_refused, reader_of, source_of,
+    FAILED_BEFORE, NEGATIVE_LENGTH, check_bytes, check_discarded, check_equal, check_given,
+    check_head, check_no_integer, check_refused, reader_of, source_of,
 };
 use bser_bunser::bunser::{Bunser, PduInfo};
 use bser_format::errors::Result;
@@ -26,8 +26,7 @@ fn check_short_reads(rt: &impl Abort, alloc: Global, most: usize, calls: u64) {
     let mut bunser = Bunser::new(alloc, source_of(MESSAGE, most, 99));
     check_whole(rt, &mut bunser);
     let reader = reader_of(bunser);
-    assert_eq!(rt; reader.calls, calls);
-    assert_eq!(rt; reader.bytes.len(), 2, "at most {most} bytes a call");
+    check_equal(rt, (reader.calls, reader.bytes.len()), (calls, 2));
 }
 
 #[test]
@@ -52,6 +51,12 @@ fn a_fault_waits_for_the_call_that_needs_the_byte(rt: HostRuntime) {
     check_fault(&rt, rt.alloc(), &mut bunser);
 }
 
+/// An integer of this value is next.
+fn check_integer(rt: &impl Abort, alloc: Global, text: &[u8], value: i64) {
+    let mut bunser = Bunser::new(alloc, SliceRead::new(text));
+    check_given(rt, bunser.check_next_int(), value);
+}
+
 #[test]
 fn integers_have_four_widths(rt: HostRuntime) {
     let texts: [(&[u8], i64); 6] = [
@@ -63,8 +68,7 @@ fn integers_have_four_widths(rt: HostRuntime) {
         (b"\x06\x00\x00\x00\x00\x00\x00\x00\x80", i64::MIN),
     ];
     for (text, value) in texts {
-        let mut bunser = Bunser::new(rt.alloc(), SliceRead::new(text));
-        check_given(&rt, bunser.check_next_int(), value);
+        check_integer(&rt, rt.alloc(), text, value);
     }
     let mut bunser = Bunser::new(rt.alloc(), SliceRead::new(b"\x0a\x03\x01"));
     check_no_integer(&rt, rt.alloc(), &mut bunser);
@@ -87,7 +91,7 @@ fn a_real_is_its_bits(rt: HostRuntime) {
 fn check_lent<R: DeRead>(rt: &impl Abort, alloc: Global, from: &mut Bunser<R>) {
     let mut scratch = Vec::new(alloc);
     check_bytes(rt, from.read_bytes(2, &mut scratch), b"ab");
-    assert_eq!(rt; scratch.len(), 0);
+    check_equal(rt, scratch.len(), 0);
     let refused = from.read_bytes(-1, &mut scratch);
     check_refused(rt, alloc, refused, NEGATIVE_LENGTH);
 }
@@ -101,7 +105,7 @@ fn bytes_are_lent_from_a_slice(rt: HostRuntime) {
 /// A message of no body, whose head takes eleven bytes.
 fn check_empty<R: DeRead>(rt: &impl Abort, from: &mut Bunser<R>) {
     let info = check_head(rt, from, 0, 0, 11);
-    assert_eq!(rt; from.read_count(), 11);
+    check_equal(rt, from.read_count(), 11);
     check_given(rt, from.end(&info), ());
 }
 

@@ -1,5 +1,5 @@
 //! Byte sources.
-use super::{check_bytes, check_given, check_refused, source_of};
+use super::{check_bytes, check_equal, check_given, check_refused, source_of};
 use bser_read::read::DeRead;
 use bser_read::slice_read::SliceRead;
 use std::alloc::Global;
@@ -24,19 +24,19 @@ fn an_empty_reader_ends_and_then_has_failed(rt: HostRuntime) {
 /// The first two bytes are buffered as these, and one is taken.
 fn check_buffered<R: DeRead>(rt: &impl Abort, read: &mut R, bytes: [u8; 2]) {
     read.fill(2).expect(rt, "two bytes are left");
-    assert_eq!(rt; read.buffered()[..2], bytes[..]);
+    check_equal(rt, &read.buffered()[..2], &bytes);
     read.consume(1);
 }
 
 /// Over the bytes 61 to 66.
 fn check_window<R: DeRead>(rt: &impl Abort, scratch: &mut Vec<u8>, read: &mut R) {
     check_given(rt, read.peek(), 0x61);
-    assert_eq!(rt; read.read_count(), 0);
+    check_equal(rt, read.read_count(), 0);
     check_bytes(rt, read.next_bytes(0, scratch), b"");
     check_buffered(rt, read, *b"ab");
     check_given(rt, read.next_u32(scratch), 0x6564_6362);
     check_given(rt, read.next(), 0x66);
-    assert_eq!(rt; read.read_count(), 6);
+    check_equal(rt, read.read_count(), 6);
 }
 
 #[test]
@@ -50,7 +50,7 @@ fn what_is_buffered_is_taken_first(rt: HostRuntime) {
 /// The first two of the bytes 61 to 63 are given, and the scratch holds these after it.
 fn check_copied<R: DeRead>(rt: &impl Abort, scratch: &mut Vec<u8>, read: &mut R, copied: &[u8]) {
     check_bytes(rt, read.next_bytes(2, scratch), b"ab");
-    assert_eq!(rt; scratch.as_slice(), copied);
+    check_equal(rt, scratch.as_slice(), copied);
 }
 
 #[test]
@@ -64,8 +64,8 @@ fn a_slice_lends_and_a_reader_copies(rt: HostRuntime) {
 fn check_gathered<R: DeRead>(rt: &impl Abort, scratch: &mut Vec<u8>, read: &mut R) {
     check_given(rt, read.next(), 7);
     assert!(rt; read.next_bytes(10_000, scratch).is_ok());
-    assert_eq!(rt; scratch.len(), 10_000);
-    assert_eq!(rt; read.read_count(), 10_001);
+    check_equal(rt, scratch.len(), 10_000);
+    check_equal(rt, read.read_count(), 10_001);
 }
 
 #[test]
