@@ -76,7 +76,8 @@ fn integers_have_four_widths(rt: HostRuntime) {
 
 /// A real of these bits is next.
 fn check_real<R: DeRead>(rt: &impl Abort, from: &mut Bunser<R>, bits: u64) {
-    check_given(rt, from.peek(), 0x07);
+    let tag = from.peek().expect(rt, "a byte is left");
+    check_equal(rt, tag, 0x07);
     check_given(rt, from.next_f64(), bits);
 }
 

@@ -68,7 +68,8 @@ fn check_numbers<R: DeRead>(rt: &impl Abort, from: &mut Bunser<R>) {
     let look = from.next_int();
     assert!(rt; matches!(look, Ok(Look::Unexpected(Unexpected::Tag(0x01)))));
     check_token(rt, from, Token::Object { len: 0 });
-    check_given(rt, from.peek(), 0x05);
+    let tag = from.peek().expect(rt, "a byte is left");
+    check_equal(rt, tag, 0x05);
     check_given(rt, from.next_i32(), -1);
     check_equal(rt, from.read_count(), 46);
 }
