@@ -15,6 +15,7 @@ use serde_bser::ser::{Serialize, to_vec};
 use serde_bser::{from_reader, from_slice};
 use std::alloc::Global;
 use std::collections::BTreeMap;
+use std::fmt::Debug;
 use std::io;
 use std::io::Read;
 use std::process::Abort;
@@ -27,26 +28,30 @@ struct OneByOne<'a> {
 
 impl<'a> Read for OneByOne<'a> {
     fn read(&mut self, buf: &mut [u8]) -> io::Result<usize> {
-        let count = buf.len().min(1).min(self.bytes.len());
-        buf[..count].copy_from_slice(&self.bytes[..count]);
-        self.bytes = &self.bytes[count..];
-        Ok(count)
+        let most = buf.len().min(1);
+        self.bytes.read(&mut buf[..most])
     }
 }
 
-/// Checks that the message is read as this value, from a slice and byte by byte.
-fn check_read<'a, T: DeserializeOwned + Deserialize<&'a [u8]> + PartialEq>(
-    rt: &impl Abort,
-    alloc: Global,
-    bytes: &'a [u8],
-    wanted: &T,
-) -> Result<()> {
-    let read: T = from_slice(alloc, bytes)?;
-    assert!(rt; read == *wanted);
+/// Reads the message from a reader that gives one byte a call.
+fn read_one_by_one<T: DeserializeOwned>(alloc: Global, bytes: &[u8]) -> Result<T> {
     let mut reader = Watched::new(OneByOne { bytes });
-    let read: T = from_reader(alloc, &mut reader)?;
-    assert!(rt; read == *wanted);
+    from_reader(alloc, &mut reader)
+}
+
+/// Checks that the message is read as this value, from a slice and byte by byte.
+fn check_read<'a, T>(rt: &impl Abort, alloc: Global, bytes: &'a [u8], wanted: &T) -> Result<()>
+where
+    T: DeserializeOwned + Deserialize<&'a [u8]> + PartialEq + Debug,
+{
+    check_equal(rt, &from_slice(alloc, bytes)?, wanted);
+    check_equal(rt, &read_one_by_one(alloc, bytes)?, wanted);
     Ok(())
+}
+
+/// Checks that the message is read as this value.
+fn check_equal<T: PartialEq + Debug>(rt: &impl Abort, read: &T, wanted: &T) {
+    assert_eq!(rt; *read, *wanted);
 }
 
 /// Checks that this message is written for the value.
@@ -56,9 +61,22 @@ fn check_written<T: Serialize>(
     value: &T,
     bytes: &[u8],
 ) -> Result<()> {
-    let message = to_vec(alloc, value)?;
-    assert_eq!(rt; message.as_slice(), bytes);
+    assert_eq!(rt; to_vec(alloc, value)?.as_slice(), bytes);
     Ok(())
+}
+
+/// Checks that the message is read as this value, and is written for it.
+fn check_read_and_written<'a, T>(
+    rt: &impl Abort,
+    alloc: Global,
+    bytes: &'a [u8],
+    value: &T,
+) -> Result<()>
+where
+    T: DeserializeOwned + Deserialize<&'a [u8]> + Serialize + PartialEq + Debug,
+{
+    check_read(rt, alloc, bytes, value)?;
+    check_written(rt, alloc, value, bytes)
 }
 
 /// Checks that the message is refused with this complaint, from a slice and byte by byte.
@@ -68,21 +86,28 @@ fn check_refused<'a, T: DeserializeOwned + Deserialize<&'a [u8]>>(
     bytes: &'a [u8],
     complaint: Complaint,
 ) {
-    match from_slice::<T>(alloc, bytes) {
-        Ok(_) => assert!(rt; false),
-        Err(error) => assert!(rt; is_complaint(&error, complaint)),
-    }
-    let mut reader = Watched::new(OneByOne { bytes });
-    match from_reader::<_, T>(alloc, &mut reader) {
-        Ok(_) => assert!(rt; false),
-        Err(error) => assert!(rt; is_complaint(&error, complaint)),
+    check_complaint(rt, &from_slice::<T>(alloc, bytes), complaint);
+    check_complaint(rt, &read_one_by_one::<T>(alloc, bytes), complaint);
+}
+
+/// Checks that the answer is a refusal with this complaint.
+fn check_complaint<T>(rt: &impl Abort, answer: &Result<T>, complaint: Complaint) {
+    assert_eq!(rt; complaint_of(answer), Some(complaint));
+}
+
+/// The fixed complaint that the answer is refused with.
+fn complaint_of<T>(answer: &Result<T>) -> Option<Complaint> {
+    match answer {
+        Err(
+            Error::DeCustom {
+                msg: Message::Fixed(complaint),
+            },
+        ) => Some(*complaint),
+        _ => None,
     }
 }
 
-fn is_complaint(error: &Error, complaint: Complaint) -> bool {
-    matches!(error, Error::DeCustom { msg: Message::Fixed(found) } if *found == complaint)
-}
-
+/// A file that has each field but a kind.
 fn first_file(alloc: Global) -> Result<File> {
     Ok(File {
         name: ByteString::from_vec(Vec::from_slice(alloc, b"a")?),
@@ -93,6 +118,7 @@ fn first_file(alloc: Global) -> Result<File> {
     })
 }
 
+/// A file whose name is no text, and whose time is null.
 fn second_file(alloc: Global) -> Result<File> {
     Ok(File {
         name: ByteString::from_vec(Vec::from_slice(alloc, b"\xff")?),
@@ -108,9 +134,7 @@ fn a_struct_is_read_as_it_is_written(rt: HostRuntime) -> Result<()> {
     let alloc = rt.alloc();
     let bytes = b"\x00\x02\0\0\0\0\x03\x2e\x01\x03\x04\x0d\x03\x04name\x02\x03\x01a\
 \x0d\x03\x04size\x03\x05\x0d\x03\x08mtime_ms\x03\x07\x0d\x03\x06exists\x08";
-    let file = first_file(alloc)?;
-    check_read(&rt, alloc, bytes, &file)?;
-    check_written(&rt, alloc, &file, bytes)
+    check_read_and_written(&rt, alloc, bytes, &first_file(alloc)?)
 }
 
 #[test]
@@ -118,9 +142,7 @@ fn what_is_none_is_null_or_left_out(rt: HostRuntime) -> Result<()> {
     let alloc = rt.alloc();
     let bytes = b"\x00\x02\0\0\0\0\x03\x2f\x01\x03\x04\x0d\x03\x04name\x02\x03\x01\xff\
 \x0d\x03\x04size\x04\x80\x00\x0d\x03\x08mtime_ms\x0a\x0d\x03\x04type\x0d\x03\x01f";
-    let file = second_file(alloc)?;
-    check_read(&rt, alloc, bytes, &file)?;
-    check_written(&rt, alloc, &file, bytes)
+    check_read_and_written(&rt, alloc, bytes, &second_file(alloc)?)
 }
 
 #[test]
@@ -155,6 +177,15 @@ fn a_field_that_comes_twice_is_refused(rt: HostRuntime) {
     check_refused::<File>(&rt, rt.alloc(), bytes, Complaint::ItemsLeft);
 }
 
+/// A file of this name, whose size is 5.
+fn named_file(alloc: Global, name: &str, exists: Option<bool>) -> Result<NamedFile<String>> {
+    Ok(NamedFile {
+        name: String::from_str(alloc, name)?,
+        size: 5,
+        exists,
+    })
+}
+
 #[test]
 fn a_name_is_lent_or_owned(rt: HostRuntime) -> Result<()> {
     let alloc = rt.alloc();
@@ -163,13 +194,7 @@ fn a_name_is_lent_or_owned(rt: HostRuntime) -> Result<()> {
     let lent: NamedFile<&str> = from_slice(alloc, bytes)?;
     assert_eq!(rt; lent.name, "a");
     check_written(&rt, alloc, &lent, bytes)?;
-    let owned = NamedFile {
-        name: String::from_str(alloc, "a")?,
-        size: 5,
-        exists: Some(false),
-    };
-    check_read(&rt, alloc, bytes, &owned)?;
-    check_written(&rt, alloc, &owned, bytes)
+    check_read_and_written(&rt, alloc, bytes, &named_file(alloc, "a", Some(false))?)
 }
 
 #[test]
@@ -180,13 +205,16 @@ fn strings_are_lent(rt: HostRuntime) -> Result<()> {
 \x00\x03\x01\x0d\x03\x01t";
     let rows: Vec<Row> = from_slice(alloc, bytes)?;
     assert_eq!(rt; rows.len(), 2);
-    assert_eq!(rt; rows[0].name, b"\xff".as_slice());
-    assert_eq!(rt; rows[0].kind, None);
-    assert_eq!(rt; rows[0].tags.len(), 0);
-    assert_eq!(rt; rows[1].name, b"b".as_slice());
-    assert_eq!(rt; rows[1].kind, Some("f"));
-    assert_eq!(rt; rows[1].tags.as_slice(), ["t"].as_slice());
+    check_row(&rt, &rows[0], b"\xff", None, &[]);
+    check_row(&rt, &rows[1], b"b", Some("f"), &["t"]);
     Ok(())
+}
+
+/// Checks what the row holds.
+fn check_row(rt: &impl Abort, row: &Row, name: &[u8], kind: Option<&str>, tags: &[&str]) {
+    assert_eq!(rt; row.name, name);
+    assert_eq!(rt; row.kind, kind);
+    assert_eq!(rt; row.tags.as_slice(), tags);
 }
 
 #[test]
@@ -200,24 +228,22 @@ fn numbers_have_a_sign(rt: HostRuntime) -> Result<()> {
         drift: Some(-1),
         leap: None,
     };
-    check_read(&rt, alloc, bytes, &shift)?;
-    check_written(&rt, alloc, &shift, bytes)
+    check_read_and_written(&rt, alloc, bytes, &shift)
 }
 
 #[test]
 fn files_are_names_or_objects(rt: HostRuntime) -> Result<()> {
     let alloc = rt.alloc();
-    let file = NamedFile {
-        name: String::from_str(alloc, "b")?,
-        size: 5,
-        exists: None,
-    };
-    let name = String::from_str(alloc, "a")?;
     let bytes = b"\x00\x02\0\0\0\0\x03\x1e\x00\x03\x02\x0d\x03\x01a\
 \x01\x03\x02\x0d\x03\x04name\x0d\x03\x01b\x0d\x03\x04size\x03\x05";
-    let files = vec![in alloc; ObjectOr::Other(name), ObjectOr::Object(file)]?;
-    check_read(&rt, alloc, bytes, &files)?;
-    check_written(&rt, alloc, &files, bytes)
+    check_read_and_written(&rt, alloc, bytes, &name_and_object(alloc)?)
+}
+
+/// A name alone, and then a file.
+fn name_and_object(alloc: Global) -> Result<Vec<ObjectOr<NamedFile<String>, String>>> {
+    let name = String::from_str(alloc, "a")?;
+    let file = named_file(alloc, "b", None)?;
+    Ok(vec![in alloc; ObjectOr::Other(name), ObjectOr::Object(file)]?)
 }
 
 #[test]
@@ -249,65 +275,63 @@ fn a_query_is_written(rt: HostRuntime) -> Result<()> {
     let alloc = rt.alloc();
     let bytes = b"\x00\x02\0\0\0\0\x03\x21\x01\x03\x02\x0d\x03\x06fields\x00\x03\x01\
 \x0d\x03\x04name\x0d\x03\x05since\x0d\x03\x00";
-    let query = Query {
-        fields: &["name"],
-        since: Some(""),
-    };
-    check_written(&rt, alloc, &query, bytes)?;
+    check_query(&rt, alloc, Some(""), bytes)?;
     let bytes = b"\x00\x02\0\0\0\0\x03\x16\x01\x03\x01\x0d\x03\x06fields\x00\x03\x01\
 \x0d\x03\x04name";
+    check_query(&rt, alloc, None, bytes)
+}
+
+/// Checks that this message is written for a query of the names.
+fn check_query(rt: &impl Abort, alloc: Global, since: Option<&str>, bytes: &[u8]) -> Result<()> {
     let query = Query {
         fields: &["name"],
-        since: None,
+        since,
     };
-    check_written(&rt, alloc, &query, bytes)
+    check_written(rt, alloc, &query, bytes)
 }
 
 #[test]
 fn a_variant_of_each_form_is_read_as_it_is_written(rt: HostRuntime) -> Result<()> {
     let alloc = rt.alloc();
     let bytes = b"\x00\x02\0\0\0\0\x03\x0a\x0d\x03\x07Nothing";
-    check_choice(&rt, alloc, &Choice::Nothing, bytes)?;
+    check_choice(&rt, alloc, bytes, Choice::Nothing)?;
     let bytes = b"\x00\x02\0\0\0\0\x03\x0d\x01\x03\x01\x0d\x03\x03One\x0d\x03\x01a";
-    check_choice(
-        &rt,
-        alloc,
-        &Choice::One(String::from_str(alloc, "a")?),
-        bytes,
-    )?;
+    check_choice(&rt, alloc, bytes, Choice::One("a"))?;
     let bytes = b"\x00\x02\0\0\0\0\x03\x12\x01\x03\x01\x0d\x03\x03Two\x00\x03\x02\
 \x0d\x03\x01a\x03\x05";
-    check_choice(
-        &rt,
-        alloc,
-        &Choice::Two(String::from_str(alloc, "a")?, 5),
-        bytes,
-    )?;
+    check_choice(&rt, alloc, bytes, Choice::Two("a", 5))?;
     let bytes = b"\x00\x02\0\0\0\0\x03\x18\x01\x03\x01\x0d\x03\x05Named\x01\x03\x01\
 \x0d\x03\x03abc\x0d\x03\x01a";
     let named = Choice::Named {
-        abc: String::from_str(alloc, "a")?,
+        abc: "a",
         def: None,
     };
-    check_choice(&rt, alloc, &named, bytes)?;
+    check_choice(&rt, alloc, bytes, named)?;
     let bytes = b"\x00\x02\0\0\0\0\x03\x20\x01\x03\x01\x0d\x03\x05Named\x01\x03\x02\
 \x0d\x03\x03abc\x0d\x03\x01a\x0d\x03\x03def\x03\xfe";
     let named = Choice::Named {
-        abc: String::from_str(alloc, "a")?,
+        abc: "a",
         def: Some(-2),
     };
-    check_choice(&rt, alloc, &named, bytes)
+    check_choice(&rt, alloc, bytes, named)
 }
 
-/// Checks that the message is read as this choice, and written for it.
-fn check_choice(
-    rt: &impl Abort,
-    alloc: Global,
-    choice: &Choice<String>,
-    bytes: &[u8],
-) -> Result<()> {
-    check_read(rt, alloc, bytes, choice)?;
-    check_written(rt, alloc, choice, bytes)
+/// Checks that the message is read as this choice with a text of its own, and written for it.
+fn check_choice(rt: &impl Abort, alloc: Global, bytes: &[u8], choice: Choice<&str>) -> Result<()> {
+    check_read_and_written(rt, alloc, bytes, &owned(alloc, choice)?)
+}
+
+/// The choice with a text of its own.
+fn owned(alloc: Global, choice: Choice<&str>) -> Result<Choice<String>> {
+    Ok(match choice {
+        Choice::Nothing => Choice::Nothing,
+        Choice::One(first) => Choice::One(String::from_str(alloc, first)?),
+        Choice::Two(first, second) => Choice::Two(String::from_str(alloc, first)?, second),
+        Choice::Named { abc, def } => Choice::Named {
+            abc: String::from_str(alloc, abc)?,
+            def,
+        },
+    })
 }
 
 #[test]
@@ -316,7 +340,7 @@ fn a_variant_is_read_from_an_object_or_a_row(rt: HostRuntime) -> Result<()> {
     let bytes = b"\x00\x02\0\0\0\0\x03\x0e\x01\x03\x01\x0d\x03\x07Nothing\x0a";
     check_read(&rt, alloc, bytes, &Choice::<String>::Nothing)?;
     let bytes = b"\x00\x02\0\0\0\0\x03\x10\x0b\x00\x03\x01\x0d\x03\x03One\x03\x01\x0d\x03\x01a";
-    let rows = vec![in alloc; Choice::One(String::from_str(alloc, "a")?)]?;
+    let rows = vec![in alloc; owned(alloc, Choice::One("a"))?]?;
     check_read(&rt, alloc, bytes, &rows)
 }
 
