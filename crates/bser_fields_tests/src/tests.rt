@@ -6,7 +6,6 @@ use bser_source::device::Watched;
 use bser_types::deserialize::{Deserialize, DeserializeOwned};
 use std::alloc::Global;
 use std::convert::AsStr;
-use std::fmt::Debug;
 use std::io;
 use std::io::Read;
 use std::process::Abort;
@@ -70,16 +69,9 @@ fn check_refused<'a, T: DeserializeOwned + Deserialize<&'a [u8]>>(
     assert!(rt; is_named(&read_one_by_one::<T>(alloc, bytes), name));
 }
 
-/// Checks that the message is read as this value from a slice.
-fn check_read<'a, T: Deserialize<&'a [u8]> + PartialEq + Debug>(
-    rt: &impl Abort,
-    alloc: Global,
-    bytes: &'a [u8],
-    wanted: &T,
-) -> Result<()> {
-    let read: T = from_slice(alloc, bytes)?;
-    assert_eq!(rt; read, *wanted);
-    Ok(())
+/// Checks that the message is refused as a file by this name.
+fn check_file_refused(rt: &impl Abort, alloc: Global, bytes: &[u8], name: Name) {
+    check_refused::<FileInfo<String>>(rt, alloc, bytes, name);
 }
 
 /// Checks what is known of the file.
@@ -99,14 +91,10 @@ fn check_both<S: AsStr>(rt: &impl Abort, files: &[FileInfo<S>]) {
 fn fields_come_in_any_order_and_others_are_passed_over(rt: HostRuntime) -> Result<()> {
     let bytes = b"\x00\x02\0\0\0\0\x03\x2b\x01\x03\x03\x0d\x03\x04size\x03\x05\x0d\x03\x05other\
 \x00\x03\x02\x01\x03\x01\x0d\x03\x01a\x0a\x08\x0d\x03\x04name\x0d\x03\x01x";
-    let alloc = rt.alloc();
-    check_read(&rt, alloc, bytes, &FileInfo { name: "x", size: 5 })?;
-    check_file(
-        &rt,
-        &read_one_by_one::<FileInfo<String>>(alloc, bytes)?,
-        "x",
-        5,
-    );
+    let lent: FileInfo<&str> = from_slice(rt.alloc(), bytes)?;
+    check_file(&rt, &lent, "x", 5);
+    let owned: FileInfo<String> = read_one_by_one(rt.alloc(), bytes)?;
+    check_file(&rt, &owned, "x", 5);
     Ok(())
 }
 
@@ -154,10 +142,10 @@ fn a_field_that_comes_twice_is_refused(rt: HostRuntime) {
     let name = Name::Complains(Complaint::ItemsLeft);
     let bytes = b"\x00\x02\0\0\0\0\x03\x22\x01\x03\x03\x0d\x03\x04name\x0d\x03\x01x\
 \x0d\x03\x04name\x0d\x03\x01y\x0d\x03\x04size\x03\x05";
-    check_refused::<FileInfo<String>>(&rt, rt.alloc(), bytes, name);
+    check_file_refused(&rt, rt.alloc(), bytes, name);
     let bytes = b"\x00\x02\0\0\0\0\x03\x1f\x01\x03\x03\x0d\x03\x04name\x0d\x03\x01x\
 \x0d\x03\x04size\x03\x05\x0d\x03\x04name\x08";
-    check_refused::<FileInfo<String>>(&rt, rt.alloc(), bytes, name);
+    check_file_refused(&rt, rt.alloc(), bytes, name);
 }
 
 #[test]
@@ -165,7 +153,7 @@ fn an_absent_field_is_refused_unless_it_is_optional(rt: HostRuntime) -> Result<(
     let alloc = rt.alloc();
     let bytes = b"\x00\x02\0\0\0\0\x03\x0e\x01\x03\x01\x0d\x03\x04name\x0d\x03\x01x";
     let name = Name::Complains(Complaint::TooFewItems);
-    check_refused::<FileInfo<String>>(&rt, alloc, bytes, name);
+    check_file_refused(&rt, alloc, bytes, name);
     let bytes = b"\x00\x02\0\0\0\0\x03\x0b\x01\x03\x01\x0d\x03\x03abc\x03\x07";
     check_number_alone(&rt, alloc, bytes, 7)?;
     let bytes = b"\x00\x02\0\0\0\0\x03\x19\x01\x03\x03\x0d\x03\x03ghi\x0a\x0d\x03\x03abc\x03\x07\
@@ -175,12 +163,22 @@ fn an_absent_field_is_refused_unless_it_is_optional(rt: HostRuntime) -> Result<(
 
 /// Checks that the message is read as a row that has this number alone.
 fn check_number_alone(rt: &impl Abort, alloc: Global, bytes: &[u8], abc: i32) -> Result<()> {
-    let wanted: TemplateRow<&str> = TemplateRow {
-        abc,
-        def: None,
-        ghi: None,
-    };
-    check_read(rt, alloc, bytes, &wanted)
+    let row: TemplateRow<&str> = from_slice(alloc, bytes)?;
+    check_row(rt, &row, abc, None, None);
+    Ok(())
+}
+
+/// Checks what the row holds.
+fn check_row(
+    rt: &impl Abort,
+    row: &TemplateRow<&str>,
+    abc: i32,
+    def: Option<&str>,
+    ghi: Option<i64>,
+) {
+    assert_eq!(rt; row.abc, abc);
+    assert_eq!(rt; row.def, def);
+    assert_eq!(rt; row.ghi, ghi);
 }
 
 #[test]
@@ -189,12 +187,12 @@ fn a_value_of_another_kind_is_refused(rt: HostRuntime) -> Result<()> {
     let name = Name::Complains(Complaint::WrongType);
     let bytes =
         b"\x00\x02\0\0\0\0\x03\x16\x01\x03\x02\x0d\x03\x04name\x0d\x03\x01x\x0d\x03\x04size\x08";
-    check_refused::<FileInfo<String>>(&rt, alloc, bytes, name);
+    check_file_refused(&rt, alloc, bytes, name);
     let bytes =
         b"\x00\x02\0\0\0\0\x03\x17\x0b\x00\x03\x02\x0d\x03\x04name\x0d\x03\x04size\x03\x01\x0c\x03\x05";
     check_refused::<Vec<FileInfo<String>>>(&rt, alloc, bytes, name);
     let bytes = b"\x00\x02\0\0\0\0\x03\x03\x00\x03\x00";
-    check_refused::<FileInfo<String>>(&rt, alloc, bytes, name);
+    check_file_refused(&rt, alloc, bytes, name);
     let bytes = b"\x00\x02\0\0\0\0\x03\x0c\x01\x03\x01\x0d\x03\x03abc\x04\x00\x80";
     check_number_alone(&rt, alloc, bytes, -32768)?;
     let bytes = b"\x00\x02\0\0\0\0\x03\x12\x01\x03\x01\x0d\x03\x03abc\x06\0\0\0\x80\0\0\0\0";
@@ -207,9 +205,9 @@ fn a_value_of_another_kind_is_refused(rt: HostRuntime) -> Result<()> {
 fn names_and_what_is_passed_over_are_checked(rt: HostRuntime) {
     let alloc = rt.alloc();
     let bytes = b"\x00\x02\0\0\0\0\x03\x08\x01\x03\x01\x02\x03\x01\xff\x0a";
-    check_refused::<FileInfo<String>>(&rt, alloc, bytes, Name::Utf8);
+    check_file_refused(&rt, alloc, bytes, Name::Utf8);
     let bytes = b"\x00\x02\0\0\0\0\x03\x0b\x01\x03\x01\x02\x03\x01a\x0d\x03\x01\xff";
-    check_refused::<FileInfo<String>>(&rt, alloc, bytes, Name::Utf8);
+    check_file_refused(&rt, alloc, bytes, Name::Utf8);
 }
 
 #[test]
@@ -219,24 +217,14 @@ fn rows_that_break_off_are_refused(rt: HostRuntime) -> Result<()> {
     for len in 0..bytes.len() {
         check_refused::<Vec<TemplateRow<String>>>(&rt, rt.alloc(), &bytes[..len], Name::Eof);
     }
-    check_rows(
-        &rt,
-        &from_slice::<Vec<TemplateRow<&str>>>(rt.alloc(), bytes)?,
-    );
-    Ok(())
+    check_rows(&rt, rt.alloc(), bytes)
 }
 
-/// Checks that the rows are the worked ones.
-fn check_rows(rt: &impl Abort, rows: &[TemplateRow<&str>]) {
-    let first = TemplateRow {
-        abc: 123,
-        def: Some("bar"),
-        ghi: None,
-    };
-    let second = TemplateRow {
-        abc: 456,
-        def: None,
-        ghi: Some(789),
-    };
-    assert_eq!(rt; rows, [first, second].as_slice());
+/// Checks that the message is read as the worked rows.
+fn check_rows(rt: &impl Abort, alloc: Global, bytes: &[u8]) -> Result<()> {
+    let rows: Vec<TemplateRow<&str>> = from_slice(alloc, bytes)?;
+    assert_eq!(rt; rows.len(), 2);
+    check_row(rt, &rows[0], 123, Some("bar"), None);
+    check_row(rt, &rows[1], 456, None, Some(789));
+    Ok(())
 }

@@ -107,6 +107,22 @@ fn complaint_of<T>(answer: &Result<T>) -> Option<Complaint> {
     }
 }
 
+/// Checks that the message is read as this file.
+fn check_file_read(rt: &impl Abort, alloc: Global, bytes: &[u8], file: &File) -> Result<()> {
+    check_read(rt, alloc, bytes, file)
+}
+
+/// Checks that the message is read as this file, and written for it.
+fn check_file(rt: &impl Abort, alloc: Global, bytes: &[u8], file: &File) -> Result<()> {
+    check_file_read(rt, alloc, bytes, file)?;
+    check_written(rt, alloc, file, bytes)
+}
+
+/// Checks that the message is refused as a file with this complaint.
+fn check_file_refused(rt: &impl Abort, alloc: Global, bytes: &[u8], complaint: Complaint) {
+    check_refused::<File>(rt, alloc, bytes, complaint);
+}
+
 /// A file that has each field but a kind.
 fn first_file(alloc: Global) -> Result<File> {
     Ok(File {
@@ -134,7 +150,7 @@ fn a_struct_is_read_as_it_is_written(rt: HostRuntime) -> Result<()> {
     let alloc = rt.alloc();
     let bytes = b"\x00\x02\0\0\0\0\x03\x2e\x01\x03\x04\x0d\x03\x04name\x02\x03\x01a\
 \x0d\x03\x04size\x03\x05\x0d\x03\x08mtime_ms\x03\x07\x0d\x03\x06exists\x08";
-    check_read_and_written(&rt, alloc, bytes, &first_file(alloc)?)
+    check_file(&rt, alloc, bytes, &first_file(alloc)?)
 }
 
 #[test]
@@ -142,7 +158,7 @@ fn what_is_none_is_null_or_left_out(rt: HostRuntime) -> Result<()> {
     let alloc = rt.alloc();
     let bytes = b"\x00\x02\0\0\0\0\x03\x2f\x01\x03\x04\x0d\x03\x04name\x02\x03\x01\xff\
 \x0d\x03\x04size\x04\x80\x00\x0d\x03\x08mtime_ms\x0a\x0d\x03\x04type\x0d\x03\x01f";
-    check_read_and_written(&rt, alloc, bytes, &second_file(alloc)?)
+    check_file(&rt, alloc, bytes, &second_file(alloc)?)
 }
 
 #[test]
@@ -151,7 +167,7 @@ fn fields_come_in_any_order_and_other_names_are_passed_over(rt: HostRuntime) -> 
     let bytes = b"\x00\x02\0\0\0\0\x03\x42\x01\x03\x06\x0d\x03\x06exists\x08\
 \x0d\x03\x05other\x00\x03\x01\x0a\x0d\x03\x08mtime_ms\x03\x07\x0d\x03\x04size\x03\x05\
 \x0d\x03\x04type\x0a\x0d\x03\x04name\x02\x03\x01a";
-    check_read(&rt, alloc, bytes, &first_file(alloc)?)
+    check_file_read(&rt, alloc, bytes, &first_file(alloc)?)
 }
 
 #[test]
@@ -167,14 +183,14 @@ fn rows_of_a_template_are_structs(rt: HostRuntime) -> Result<()> {
 #[test]
 fn a_field_that_has_to_be_there_is_refused_where_it_is_absent(rt: HostRuntime) {
     let bytes = b"\x00\x02\0\0\0\0\x03\x0e\x01\x03\x01\x0d\x03\x04name\x02\x03\x01a";
-    check_refused::<File>(&rt, rt.alloc(), bytes, Complaint::TooFewItems);
+    check_file_refused(&rt, rt.alloc(), bytes, Complaint::TooFewItems);
 }
 
 #[test]
 fn a_field_that_comes_twice_is_refused(rt: HostRuntime) {
     let bytes = b"\x00\x02\0\0\0\0\x03\x15\x01\x03\x02\x0d\x03\x04size\x03\x05\
 \x0d\x03\x04size\x03\x05";
-    check_refused::<File>(&rt, rt.alloc(), bytes, Complaint::ItemsLeft);
+    check_file_refused(&rt, rt.alloc(), bytes, Complaint::ItemsLeft);
 }
 
 /// A file of this name, whose size is 5.
@@ -264,10 +280,15 @@ fn the_rows_of_a_template_are_objects(rt: HostRuntime) -> Result<()> {
 #[test]
 fn an_object_is_not_read_as_the_other_type(rt: HostRuntime) {
     let bytes = b"\x00\x02\0\0\0\0\x03\x0e\x01\x03\x01\x0d\x03\x04name\x0d\x03\x01b";
-    type Listed = ObjectOr<NamedFile<String>, BTreeMap<String, String>>;
-    check_refused::<Listed>(&rt, rt.alloc(), bytes, Complaint::TooFewItems);
+    check_listed_refused(&rt, rt.alloc(), bytes, Complaint::TooFewItems);
     let bytes = b"\x00\x02\0\0\0\0\x03\x01\x0a";
-    check_refused::<Listed>(&rt, rt.alloc(), bytes, Complaint::WrongType);
+    check_listed_refused(&rt, rt.alloc(), bytes, Complaint::WrongType);
+}
+
+/// Checks that the message is refused as a file or a map with this complaint.
+fn check_listed_refused(rt: &impl Abort, alloc: Global, bytes: &[u8], complaint: Complaint) {
+    type Listed = ObjectOr<NamedFile<String>, BTreeMap<String, String>>;
+    check_refused::<Listed>(rt, alloc, bytes, complaint);
 }
 
 #[test]
@@ -318,7 +339,24 @@ fn a_variant_of_each_form_is_read_as_it_is_written(rt: HostRuntime) -> Result<()
 
 /// Checks that the message is read as this choice with a text of its own, and written for it.
 fn check_choice(rt: &impl Abort, alloc: Global, bytes: &[u8], choice: Choice<&str>) -> Result<()> {
-    check_read_and_written(rt, alloc, bytes, &owned(alloc, choice)?)
+    let choice = owned(alloc, choice)?;
+    check_choice_read(rt, alloc, bytes, &choice)?;
+    check_written(rt, alloc, &choice, bytes)
+}
+
+/// Checks that the message is read as this choice.
+fn check_choice_read(
+    rt: &impl Abort,
+    alloc: Global,
+    bytes: &[u8],
+    choice: &Choice<String>,
+) -> Result<()> {
+    check_read(rt, alloc, bytes, choice)
+}
+
+/// Checks that the message is refused as a choice with this complaint.
+fn check_choice_refused(rt: &impl Abort, alloc: Global, bytes: &[u8], complaint: Complaint) {
+    check_refused::<Choice<String>>(rt, alloc, bytes, complaint);
 }
 
 /// The choice with a text of its own.
@@ -338,7 +376,7 @@ fn owned(alloc: Global, choice: Choice<&str>) -> Result<Choice<String>> {
 fn a_variant_is_read_from_an_object_or_a_row(rt: HostRuntime) -> Result<()> {
     let alloc = rt.alloc();
     let bytes = b"\x00\x02\0\0\0\0\x03\x0e\x01\x03\x01\x0d\x03\x07Nothing\x0a";
-    check_read(&rt, alloc, bytes, &Choice::<String>::Nothing)?;
+    check_choice_read(&rt, alloc, bytes, &Choice::Nothing)?;
     let bytes = b"\x00\x02\0\0\0\0\x03\x10\x0b\x00\x03\x01\x0d\x03\x03One\x03\x01\x0d\x03\x01a";
     let rows = vec![in alloc; owned(alloc, Choice::One("a"))?]?;
     check_read(&rt, alloc, bytes, &rows)
@@ -348,28 +386,28 @@ fn a_variant_is_read_from_an_object_or_a_row(rt: HostRuntime) -> Result<()> {
 fn a_name_of_no_variant_is_refused(rt: HostRuntime) {
     let alloc = rt.alloc();
     let bytes = b"\x00\x02\0\0\0\0\x03\x07\x0d\x03\x04Nope";
-    check_refused::<Choice<String>>(&rt, alloc, bytes, Complaint::UnknownVariant);
+    check_choice_refused(&rt, alloc, bytes, Complaint::UnknownVariant);
     let bytes = b"\x00\x02\0\0\0\0\x03\x0b\x01\x03\x01\x0d\x03\x04Nope\x0a";
-    check_refused::<Choice<String>>(&rt, alloc, bytes, Complaint::UnknownVariant);
+    check_choice_refused(&rt, alloc, bytes, Complaint::UnknownVariant);
 }
 
 #[test]
 fn a_payload_that_is_not_as_its_variant_is_refused(rt: HostRuntime) {
     let alloc = rt.alloc();
     let bytes = b"\x00\x02\0\0\0\0\x03\x06\x0d\x03\x03One";
-    check_refused::<Choice<String>>(&rt, alloc, bytes, Complaint::WrongType);
+    check_choice_refused(&rt, alloc, bytes, Complaint::WrongType);
     let bytes = b"\x00\x02\0\0\0\0\x03\x0f\x01\x03\x01\x0d\x03\x07Nothing\x03\x01";
-    check_refused::<Choice<String>>(&rt, alloc, bytes, Complaint::WrongType);
+    check_choice_refused(&rt, alloc, bytes, Complaint::WrongType);
     let bytes = b"\x00\x02\0\0\0\0\x03\x10\x01\x03\x01\x0d\x03\x03Two\x00\x03\x01\x0d\x03\x01a";
-    check_refused::<Choice<String>>(&rt, alloc, bytes, Complaint::TooFewItems);
+    check_choice_refused(&rt, alloc, bytes, Complaint::TooFewItems);
     let bytes = b"\x00\x02\0\0\0\0\x03\x16\x01\x03\x01\x0d\x03\x05Named\x01\x03\x01\
 \x0d\x03\x03def\x03\x05";
-    check_refused::<Choice<String>>(&rt, alloc, bytes, Complaint::TooFewItems);
+    check_choice_refused(&rt, alloc, bytes, Complaint::TooFewItems);
 }
 
 #[test]
 fn an_enum_of_two_entries_is_refused(rt: HostRuntime) {
     let bytes = b"\x00\x02\0\0\0\0\x03\x19\x01\x03\x02\x0d\x03\x07Nothing\x0a\
 \x0d\x03\x07Nothing\x0a";
-    check_refused::<Choice<String>>(&rt, rt.alloc(), bytes, Complaint::EnumObjectEntries);
+    check_choice_refused(&rt, rt.alloc(), bytes, Complaint::EnumObjectEntries);
 }
