@@ -76,8 +76,7 @@ fn check_file_refused(rt: &impl Abort, alloc: Global, bytes: &[u8], name: Name) 
 
 /// Checks what is known of the file.
 fn check_file<S: AsStr>(rt: &impl Abort, file: &FileInfo<S>, name: &str, size: u32) {
-    assert_eq!(rt; file.name.as_str(), name);
-    assert_eq!(rt; file.size, size);
+    assert_eq!(rt; (file.name.as_str(), file.size), (name, size));
 }
 
 /// Checks that the files are x, of size 5, and y, of size 6.
@@ -164,21 +163,16 @@ fn an_absent_field_is_refused_unless_it_is_optional(rt: HostRuntime) -> Result<(
 /// Checks that the message is read as a row that has this number alone.
 fn check_number_alone(rt: &impl Abort, alloc: Global, bytes: &[u8], abc: i32) -> Result<()> {
     let row: TemplateRow<&str> = from_slice(alloc, bytes)?;
-    check_row(rt, &row, abc, None, None);
+    check_row(rt, &row, (abc, None, None));
     Ok(())
 }
 
+/// What a row holds: abc, def and ghi.
+type Held<'a> = (i32, Option<&'a str>, Option<i64>);
+
 /// Checks what the row holds.
-fn check_row(
-    rt: &impl Abort,
-    row: &TemplateRow<&str>,
-    abc: i32,
-    def: Option<&str>,
-    ghi: Option<i64>,
-) {
-    assert_eq!(rt; row.abc, abc);
-    assert_eq!(rt; row.def, def);
-    assert_eq!(rt; row.ghi, ghi);
+fn check_row(rt: &impl Abort, row: &TemplateRow<&str>, wanted: Held<'_>) {
+    assert_eq!(rt; (row.abc, row.def, row.ghi), wanted);
 }
 
 #[test]
@@ -217,14 +211,14 @@ fn rows_that_break_off_are_refused(rt: HostRuntime) -> Result<()> {
     for len in 0..bytes.len() {
         check_refused::<Vec<TemplateRow<String>>>(&rt, rt.alloc(), &bytes[..len], Name::Eof);
     }
-    check_rows(&rt, rt.alloc(), bytes)
+    let rows: Vec<TemplateRow<&str>> = from_slice(rt.alloc(), bytes)?;
+    check_rows(&rt, &rows);
+    Ok(())
 }
 
-/// Checks that the message is read as the worked rows.
-fn check_rows(rt: &impl Abort, alloc: Global, bytes: &[u8]) -> Result<()> {
-    let rows: Vec<TemplateRow<&str>> = from_slice(alloc, bytes)?;
+/// Checks that the rows are the worked ones.
+fn check_rows(rt: &impl Abort, rows: &[TemplateRow<&str>]) {
     assert_eq!(rt; rows.len(), 2);
-    check_row(rt, &rows[0], 123, Some("bar"), None);
-    check_row(rt, &rows[1], 456, None, Some(789));
-    Ok(())
+    check_row(rt, &rows[0], (123, Some("bar"), None));
+    check_row(rt, &rows[1], (456, None, Some(789)));
 }
