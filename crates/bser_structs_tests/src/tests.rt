@@ -1,5 +1,8 @@
 //! Structs and enums from objects, rows and names, from a slice and from a reader, and the messages
 //! written for them.
+mod readers;
+
+use self::readers::read_one_by_one;
 use bser_structs_types::choices::Choice;
 use bser_structs_types::files::File;
 use bser_structs_types::named::NamedFile;
@@ -8,36 +11,14 @@ use bser_structs_types::rows::Row;
 use bser_structs_types::signed::Shift;
 use serde_bser::bytestring::ByteString;
 use serde_bser::de::ObjectOr;
-use serde_bser::device::Watched;
 use serde_bser::errors::{Complaint, Error, Message, Result};
+use serde_bser::from_slice;
 use serde_bser::prelude::*;
 use serde_bser::ser::{Serialize, to_vec};
-use serde_bser::{from_reader, from_slice};
 use std::alloc::Global;
 use std::collections::BTreeMap;
 use std::fmt::Debug;
-use std::io;
-use std::io::Read;
 use std::process::Abort;
-
-/// A reader that gives one byte a call.
-#[derive(Drop)]
-struct OneByOne<'a> {
-    bytes: &'a [u8],
-}
-
-impl<'a> Read for OneByOne<'a> {
-    fn read(&mut self, buf: &mut [u8]) -> io::Result<usize> {
-        let most = buf.len().min(1);
-        self.bytes.read(&mut buf[..most])
-    }
-}
-
-/// Reads the message from a reader that gives one byte a call.
-fn read_one_by_one<T: DeserializeOwned>(alloc: Global, bytes: &[u8]) -> Result<T> {
-    let mut reader = Watched::new(OneByOne { bytes });
-    from_reader(alloc, &mut reader)
-}
 
 /// Checks that the message is read as this value, from a slice and byte by byte.
 fn check_read<'a, T>(rt: &impl Abort, alloc: Global, bytes: &'a [u8], wanted: &T) -> Result<()>
@@ -215,22 +196,27 @@ fn a_name_is_lent_or_owned(rt: HostRuntime) -> Result<()> {
 
 #[test]
 fn strings_are_lent(rt: HostRuntime) -> Result<()> {
-    let alloc = rt.alloc();
     let bytes = b"\x00\x02\0\0\0\0\x03\x32\x0b\x00\x03\x03\x0d\x03\x04name\x0d\x03\x04type\
 \x0d\x03\x04tags\x03\x02\x02\x03\x01\xff\x0c\x00\x03\x00\x02\x03\x01b\x0d\x03\x01f\
 \x00\x03\x01\x0d\x03\x01t";
-    let rows: Vec<Row> = from_slice(alloc, bytes)?;
-    assert_eq!(rt; rows.len(), 2);
-    check_row(&rt, &rows[0], b"\xff", None, &[]);
-    check_row(&rt, &rows[1], b"b", Some("f"), &["t"]);
+    let rows: Vec<Row> = from_slice(rt.alloc(), bytes)?;
+    check_rows(&rt, &rows);
     Ok(())
 }
 
+/// Checks that the first row has a name alone, and the second has each field.
+fn check_rows(rt: &impl Abort, rows: &[Row]) {
+    assert_eq!(rt; rows.len(), 2);
+    check_row(rt, &rows[0], (b"\xff", None, &[]));
+    check_row(rt, &rows[1], (b"b", Some("f"), &["t"]));
+}
+
+/// What a row holds: the name, the kind and the tags.
+type Held<'a> = (&'a [u8], Option<&'a str>, &'a [&'a str]);
+
 /// Checks what the row holds.
-fn check_row(rt: &impl Abort, row: &Row, name: &[u8], kind: Option<&str>, tags: &[&str]) {
-    assert_eq!(rt; row.name, name);
-    assert_eq!(rt; row.kind, kind);
-    assert_eq!(rt; row.tags.as_slice(), tags);
+fn check_row(rt: &impl Abort, row: &Row, wanted: Held<'_>) {
+    assert_eq!(rt; (row.name, row.kind, row.tags.as_slice()), wanted);
 }
 
 #[test]
