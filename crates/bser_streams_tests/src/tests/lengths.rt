@@ -1,7 +1,18 @@
 //! How long a message is, by its first bytes.
 use super::{HUGE, NUMBERS, Tested, VERSION, check_answer};
 use bser_streams::length::message_length;
+use std::alloc::Global;
+use std::process::Abort;
 use std::rt::HostRuntime;
+
+/// Checks that the first `head` bytes are needed for this answer, and fewer are answered `None`.
+fn check_fronts(rt: &impl Abort, alloc: Global, bytes: &[u8], head: usize, answer: &str) -> Tested {
+    for count in 0..bytes.len() + 1 {
+        let expected = if count < head { "Ok(None)" } else { answer };
+        check_answer(rt, alloc, message_length(alloc, &bytes[..count]), expected)?;
+    }
+    Ok(())
+}
 
 #[test]
 fn each_prefix_of_a_message_tells_its_length(rt: HostRuntime) -> Tested {
@@ -10,16 +21,8 @@ fn each_prefix_of_a_message_tells_its_length(rt: HostRuntime) -> Tested {
         let wanted = if count < 8 { None } else { Some(29) };
         assert_eq!(rt; message_length(alloc, &VERSION[..count])?, wanted);
     }
-    assert_eq!(rt; message_length(alloc, NUMBERS)?, Some(13));
-    for count in 0..HUGE.len() + 1 {
-        let wanted = if count < 15 {
-            None
-        } else {
-            Some(4_294_967_311)
-        };
-        assert_eq!(rt; message_length(alloc, &HUGE[..count])?, wanted);
-    }
-    Ok(())
+    check_answer(&rt, alloc, message_length(alloc, NUMBERS), "Ok(Some(13))")?;
+    check_fronts(&rt, alloc, HUGE, 15, "Ok(Some(4294967311))")
 }
 
 #[test]

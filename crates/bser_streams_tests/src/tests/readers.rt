@@ -21,8 +21,8 @@ fn the_messages_of_a_reader_are_read_in_turn(rt: HostRuntime) -> Tested {
             None => break,
         }
     }
-    assert_eq!(rt; numbers.as_slice(), [300, 300].as_slice());
-    assert_eq!(rt; (messages.taken(), messages.is_failed()), (2, false));
+    let read = (numbers.as_slice(), messages.taken(), messages.is_failed());
+    assert_eq!(rt; read, ([300, 300].as_slice(), 2, false));
     Ok(())
 }
 
@@ -89,29 +89,36 @@ fn after_a_refusal_a_reader_is_not_read(rt: HostRuntime) -> Tested {
     Ok(())
 }
 
-#[test]
-fn nothing_of_a_body_above_the_limit_is_read(rt: HostRuntime) -> Tested {
-    let alloc = rt.alloc();
+/// Checks that a body of five bytes is read within that limit, and nothing of a longer one.
+fn check_limit_of_five(rt: &impl Abort, alloc: Global) -> Tested {
     let five = Limits {
         levels: 128,
         bytes: 5,
     };
+    let mut reader = one_by_one(NUMBERS);
+    let number = from_reader_limited::<_, i64>(alloc, five, &mut reader);
+    check_answer(rt, alloc, number, "Ok(300)")?;
+    assert_eq!(rt; reader.get_ref().bytes.len(), 11);
+    let mut messages = ReaderMessages::with_limits(alloc, five, one_by_one(HUGE));
+    let refused = "Err(DeTooLong { announced: 4294967296, most: 5 })";
+    check_next(rt, alloc, &mut messages, refused, 0)?;
+    assert_eq!(rt; messages.into_inner().get_ref().bytes.len(), 2);
+    Ok(())
+}
+
+#[test]
+fn nothing_of_a_body_above_the_limit_is_read(rt: HostRuntime) -> Tested {
+    let alloc = rt.alloc();
+    check_limit_of_five(&rt, alloc)?;
     let four = Limits {
         levels: 128,
         bytes: 4,
     };
-    let mut reader = one_by_one(NUMBERS);
-    let number = from_reader_limited::<_, i64>(alloc, five, &mut reader)?;
-    assert_eq!(rt; (number, reader.get_ref().bytes.len()), (300, 11));
     let mut reader = one_by_one(NUMBERS);
     match next_message_limited::<_, i64>(alloc, four, &mut reader) {
         Err(Error::DeTooLong { announced, most }) => assert_eq!(rt; (announced, most), (5, 4)),
         _ => panic!(rt; "a body above the limit was not refused"),
     }
     assert_eq!(rt; reader.get_ref().bytes.len(), 16);
-    let mut messages = ReaderMessages::with_limits(alloc, five, one_by_one(HUGE));
-    let refused = "Err(DeTooLong { announced: 4294967296, most: 5 })";
-    check_next(&rt, alloc, &mut messages, refused, 0)?;
-    assert_eq!(rt; messages.into_inner().get_ref().bytes.len(), 2);
     Ok(())
 }
