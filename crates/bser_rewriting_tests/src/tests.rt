@@ -1,7 +1,7 @@
 //! Tests of the engine, and of the program over streams in memory.
 mod compact;
 
-use bser_format::errors::Error;
+use bser_format::errors::Result;
 use bser_rewriting::engine::canon;
 use bser_rewriting::program::{DONE, REFUSED, UNKNOWN_ARGUMENT, run};
 use bser_source::device::{Source, Watched};
@@ -113,8 +113,9 @@ fn the_status_stands_where_its_line_cannot_be_written(rt: HostRuntime) -> Tested
     let refused = run(alloc, &[], &mut empty, &mut writer, &mut errors);
     let unknown = run(alloc, &args, &mut reader, &mut writer, &mut errors);
     let done = run(alloc, &[], &mut reader, &mut writer, &mut errors);
-    assert_eq!(rt; [refused, unknown, done], [REFUSED, UNKNOWN_ARGUMENT, DONE]);
-    assert_eq!(rt; writer.get_ref().as_slice(), NULL);
+    let statuses = [refused, unknown, done];
+    let expected = [REFUSED, UNKNOWN_ARGUMENT, DONE];
+    assert_eq!(rt; (statuses, writer.get_ref().as_slice()), (expected, NULL));
     Ok(())
 }
 
@@ -145,6 +146,11 @@ fn check_next<R: Source>(
     Ok(())
 }
 
+/// The answer as it is printed.
+fn printed(alloc: Global, answer: Result<()>) -> std::result::Result<String, AllocError> {
+    format!(in alloc; "{answer:?}")
+}
+
 /// Checks that what a reader of so many bytes gives is refused so, and that nothing is written.
 fn check_refused<R: Source>(
     rt: &impl Abort,
@@ -155,9 +161,8 @@ fn check_refused<R: Source>(
     expected: &str,
 ) -> Tested {
     let before = writer.get_ref().len();
-    let answer = canon(alloc, reader, writer);
+    let answer = printed(alloc, canon(alloc, reader, writer))?;
     let after = writer.get_ref().len();
-    let answer = format!(in alloc; "{answer:?}")?;
     assert_eq!(rt; (given, answer.as_str(), after), (given, expected, before));
     Ok(())
 }
@@ -262,7 +267,7 @@ fn check_parts(
 ) -> Tested {
     let message = repeated(alloc, message)?;
     let expected = repeated(alloc, expected)?;
-    assert_eq!(rt; expected.len(), length);
+    assert!(rt; expected.len() == length);
     check_written(rt, alloc, &message, &expected)
 }
 
