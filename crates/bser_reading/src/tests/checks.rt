@@ -8,7 +8,7 @@ use serde_bser::de::{
 };
 use serde_bser::device::Watched;
 use serde_bser::errors::{Error, Result};
-use serde_bser::from_reader;
+use serde_bser::{from_reader, from_slice};
 use std::alloc::Global;
 use std::fmt::Debug;
 use std::process::Abort;
@@ -33,6 +33,16 @@ pub fn check_code<T>(rt: &impl Abort, alloc: Global, answer: &Result<T>, expecte
         Err(error) => check_error(rt, alloc, error, expected)?,
     }
     Ok(())
+}
+
+/// Checks that the slice is refused with this code.
+pub fn check_slice_refused<'a, T: Deserialize<&'a [u8]>>(
+    rt: &impl Abort,
+    alloc: Global,
+    bytes: &'a [u8],
+    expected: &str,
+) -> Tested {
+    check_code(rt, alloc, &from_slice::<T>(alloc, bytes), expected)
 }
 
 /// Checks that the error has this code.

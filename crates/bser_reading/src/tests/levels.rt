@@ -1,6 +1,6 @@
 //! How many levels a message may have where no limit is given.
 use super::Tested;
-use super::checks::{check_code, read_by};
+use super::checks::{check_code, check_slice_refused, read_by};
 use bser_vectors::devices::Plan;
 use serde_bser::de::Ignored;
 use serde_bser::from_slice;
@@ -39,12 +39,7 @@ fn without_a_limit_given_there_are_128_levels(rt: HostRuntime) -> Tested {
     check_passed_over(&rt, alloc, &read, Plan::pieces(1))?;
     check_passed_over(&rt, alloc, &read, Plan::whole())?;
     let refused = nested(alloc, b"\x00\x02\0\0\0\0\x04\x03\x05", 128)?;
-    check_code(
-        &rt,
-        alloc,
-        &from_slice::<Ignored>(alloc, &refused),
-        "E3 array",
-    )?;
+    check_slice_refused::<Ignored>(&rt, alloc, &refused, "E3 array")?;
     check_too_deep(&rt, alloc, &refused, Plan::pieces(1))?;
     check_too_deep(&rt, alloc, &refused, Plan::whole())
 }

@@ -1,6 +1,6 @@
 //! Maps in the order of their hashes, read from whole messages.
 use super::Tested;
-use super::checks::check_code;
+use super::checks::check_slice_refused;
 use serde_bser::bytestring::ByteString;
 use serde_bser::de::{Deserialize, MapKey, from_reader, from_slice};
 use serde_bser::device::Watched;
@@ -51,22 +51,10 @@ fn check_read<K: MapKey + Deserialize<&'static [u8]>>(
 #[test]
 fn each_type_of_keys_finds_its_values_by_hash(rt: HostRuntime) -> Tested {
     let alloc = rt.alloc();
-    check_read(
-        &rt,
-        alloc,
-        FALLING,
-        2,
-        &String::from_str(alloc, "a")?,
-        Some(2),
-    )?;
-    check_read(
-        &rt,
-        alloc,
-        FALLING,
-        2,
-        &ByteString::from_text(alloc, "b")?,
-        Some(1),
-    )?;
+    let text = String::from_str(alloc, "a")?;
+    check_read(&rt, alloc, FALLING, 2, &text, Some(2))?;
+    let name = ByteString::from_text(alloc, "b")?;
+    check_read(&rt, alloc, FALLING, 2, &name, Some(1))?;
     check_read(&rt, alloc, FALLING, 2, &"b", Some(1))?;
     check_read(&rt, alloc, FALLING, 2, &b"a".as_slice(), Some(2))?;
     check_read(&rt, alloc, FALLING, 2, &b"c".as_slice(), None)
@@ -89,26 +77,11 @@ fn what_no_hashed_map_is_read_from(rt: HostRuntime) -> Tested {
     // the key "a" twice, of true and then 2
     let first_unreadable =
         b"\x00\x02\0\0\0\0\x03\x0e\x01\x03\x02\x0d\x03\x01a\x08\x0d\x03\x01a\x03\x02";
-    check_code(
-        &rt,
-        alloc,
-        &from_slice::<HashMap<&str, u8>>(alloc, first_unreadable),
-        "C5",
-    )?;
+    check_slice_refused::<HashMap<&str, u8>>(&rt, alloc, first_unreadable, "C5")?;
     let array = b"\x00\x02\0\0\0\0\x03\x03\x00\x03\x00";
-    check_code(
-        &rt,
-        alloc,
-        &from_slice::<HashMap<ByteString, u8>>(alloc, array),
-        "C5",
-    )?;
+    check_slice_refused::<HashMap<ByteString, u8>>(&rt, alloc, array, "C5")?;
     let no_text = b"\x00\x02\0\0\0\0\x03\x09\x01\x03\x01\x02\x03\x01\xff\x03\x01";
-    check_code(
-        &rt,
-        alloc,
-        &from_slice::<HashMap<&str, u8>>(alloc, no_text),
-        "E6 Utf8",
-    )
+    check_slice_refused::<HashMap<&str, u8>>(&rt, alloc, no_text, "E6 Utf8")
 }
 
 #[test]
