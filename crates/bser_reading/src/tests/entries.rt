@@ -37,6 +37,33 @@ fn is_answered(
     })
 }
 
+/// Checks that each of the calls is answered.
+fn check_answered(
+    rt: &impl Abort,
+    alloc: Global,
+    entries: &mut MapAccess<'_, SliceRead<'_>>,
+    calls: &[Call],
+) -> Tested {
+    for call in calls {
+        assert!(rt; is_answered(alloc, entries, *call)?);
+    }
+    Ok(())
+}
+
+/// Whether each of the calls is refused.
+fn is_each_refused(
+    alloc: Global,
+    entries: &mut MapAccess<'_, SliceRead<'_>>,
+    calls: &[Call],
+) -> bool {
+    for call in calls {
+        if is_answered(alloc, entries, *call).is_ok() {
+            return false;
+        }
+    }
+    true
+}
+
 /// Checks that the first calls on the entries are answered, that each of those after them is refused,
 /// and that the last refusal has this code.
 fn check_calls(
@@ -48,12 +75,11 @@ fn check_calls(
 ) -> Tested {
     let mut from = Deserializer::new(alloc, SliceRead::new(OBJECT))?;
     let mut entries = from.read_map()?;
-    for call in answered {
-        assert!(rt; is_answered(alloc, &mut entries, *call)?);
-    }
-    for call in refused {
-        assert!(rt; is_answered(alloc, &mut entries, *call).is_err());
-    }
+    check_answered(rt, alloc, &mut entries, answered)?;
+    assert!(rt;
+        is_each_refused(alloc, &mut entries, refused),
+        "{expected} is read"
+    );
     drop(entries);
     check_refusal(rt, alloc, &mut from, expected)
 }
@@ -63,9 +89,7 @@ fn check_calls(
 fn check_ended_early(rt: &impl Abort, alloc: Global, answered: &[Call]) -> Tested {
     let mut from = Deserializer::new(alloc, SliceRead::new(OBJECT))?;
     let mut entries = from.read_map()?;
-    for call in answered {
-        assert!(rt; is_answered(alloc, &mut entries, *call)?);
-    }
+    check_answered(rt, alloc, &mut entries, answered)?;
     let refused = entries.end();
     check_refused(rt, alloc, &refused, &mut from, "C3")?;
     check_code(rt, alloc, &from.end(), "E6 Failed")

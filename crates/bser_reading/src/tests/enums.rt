@@ -30,15 +30,24 @@ fn the_first_place_of_a_repeated_name_counts(rt: HostRuntime) -> Tested {
     Ok(())
 }
 
-#[test]
-fn the_items_of_a_tuple_are_read(rt: HostRuntime) -> Tested {
-    let alloc = rt.alloc();
-    let mut from = Deserializer::with_limit(alloc, 2, SliceRead::new(TUPLE))?;
+/// Checks that the payload is an array of "foo" and "bar".
+fn check_payload_items(
+    rt: &impl Abort,
+    alloc: Global,
+    from: &mut Deserializer<SliceRead<'_>>,
+) -> Tested {
     let variant = from.read_enum(alloc, "TestEnum", &["TestTuple"])?;
     let mut items = variant.tuple_variant(alloc)?;
-    check_item(&rt, alloc, &mut items, 2, Some("foo"))?;
-    check_item(&rt, alloc, &mut items, 1, Some("bar"))?;
+    check_item(rt, alloc, &mut items, 2, Some("foo"))?;
+    check_item(rt, alloc, &mut items, 1, Some("bar"))?;
     items.end()?;
+    Ok(())
+}
+
+#[test]
+fn the_items_of_a_tuple_are_read(rt: HostRuntime) -> Tested {
+    let mut from = Deserializer::with_limit(rt.alloc(), 2, SliceRead::new(TUPLE))?;
+    check_payload_items(&rt, rt.alloc(), &mut from)?;
     from.end()?;
     Ok(())
 }
@@ -54,15 +63,24 @@ fn check_texts(
     Ok(())
 }
 
-#[test]
-fn the_entries_of_a_struct_are_read(rt: HostRuntime) -> Tested {
-    let alloc = rt.alloc();
-    let mut from = Deserializer::with_limit(alloc, 2, SliceRead::new(STRUCT))?;
+/// Checks that the payload is an object of "abc" and "def", of "foo" and "bar".
+fn check_payload_entries(
+    rt: &impl Abort,
+    alloc: Global,
+    from: &mut Deserializer<SliceRead<'_>>,
+) -> Tested {
     let variant = from.read_enum(alloc, "TestEnum", &["TestStruct"])?;
     let mut entries = variant.struct_variant()?;
-    check_texts(&rt, alloc, &mut entries, ("abc", "foo"))?;
-    check_texts(&rt, alloc, &mut entries, ("def", "bar"))?;
+    check_texts(rt, alloc, &mut entries, ("abc", "foo"))?;
+    check_texts(rt, alloc, &mut entries, ("def", "bar"))?;
     entries.end()?;
+    Ok(())
+}
+
+#[test]
+fn the_entries_of_a_struct_are_read(rt: HostRuntime) -> Tested {
+    let mut from = Deserializer::with_limit(rt.alloc(), 2, SliceRead::new(STRUCT))?;
+    check_payload_entries(&rt, rt.alloc(), &mut from)?;
     from.end()?;
     Ok(())
 }
@@ -76,14 +94,23 @@ fn a_dropped_variant_leaves_its_object_open(rt: HostRuntime) -> Tested {
     check_refused(&rt, alloc, &refused, &mut from, "C11")
 }
 
-#[test]
-fn a_key_is_a_unit_variant(rt: HostRuntime) -> Tested {
-    let alloc = rt.alloc();
-    let mut from = Deserializer::new(alloc, SliceRead::new(UNIT))?;
+/// Checks that the object's key is a unit variant, and its value null.
+fn check_unit_key(
+    rt: &impl Abort,
+    alloc: Global,
+    from: &mut Deserializer<SliceRead<'_>>,
+) -> Tested {
     let mut map = from.read_map()?;
-    check_key(&rt, alloc, &mut map, TestEnum::<&str>::TestUnit)?;
+    check_key(rt, alloc, &mut map, TestEnum::<&str>::TestUnit)?;
     map.next_value::<()>(alloc)?;
     map.end()?;
+    Ok(())
+}
+
+#[test]
+fn a_key_is_a_unit_variant(rt: HostRuntime) -> Tested {
+    let mut from = Deserializer::new(rt.alloc(), SliceRead::new(UNIT))?;
+    check_unit_key(&rt, rt.alloc(), &mut from)?;
     from.end()?;
     Ok(())
 }

@@ -1,6 +1,8 @@
 //! Messages read as typed values.
 use super::Tested;
-use super::checks::{check_code, check_item, check_not_lent, check_refused, copying};
+use super::checks::{
+    check_code, check_item, check_not_lent, check_refusal, check_refused, copying,
+};
 use bser_vectors::devices::{Plan, PlannedReader};
 use serde_bser::de::read::{DeRead, LendsText};
 use serde_bser::de::{Deserializer, ReadsContainers, SliceRead};
@@ -35,16 +37,24 @@ fn names_cannot_be_lent_from_a_reader(rt: HostRuntime) -> Tested {
 /// The numbers 1, 2 and 3 in an array.
 const THREE: &[u8] = b"\x00\x02\0\0\0\0\x03\x09\x00\x03\x03\x03\x01\x03\x02\x03\x03";
 
-/// Reads the first of three numbers and drops the access, and checks that the array is open then.
+/// Reads the first of three numbers, and drops the access.
+fn read_first<R: DeRead>(rt: &impl Abort, alloc: Global, from: &mut Deserializer<R>) -> Tested
+where
+    R::Lent: LendsText,
+{
+    let mut items = from.read_seq(alloc)?;
+    check_item(rt, alloc, &mut items, 3, Some(1i64))?;
+    assert_eq!(rt; items.remaining(), 2);
+    Ok(())
+}
+
+/// Checks that the array is open where an access was dropped.
 fn check_dropped<R: DeRead + Drop>(rt: &impl Abort, alloc: Global, source: R) -> Tested
 where
     R::Lent: LendsText,
 {
     let mut from = Deserializer::new(alloc, source)?;
-    let mut items = from.read_seq(alloc)?;
-    check_item(rt, alloc, &mut items, 3, Some(1i64))?;
-    assert_eq!(rt; items.remaining(), 2);
-    drop(items);
+    read_first(rt, alloc, &mut from)?;
     check_code(rt, alloc, &from.end(), "C11")
 }
 
@@ -56,17 +66,25 @@ fn an_access_that_is_dropped_leaves_its_array_open(rt: HostRuntime) -> Tested {
     check_dropped(&rt, alloc, copying(THREE, Plan::whole()))
 }
 
-/// Reads the first of three numbers, and checks that the access does not end there, and that later
-/// calls are refused.
+/// Reads the first of three numbers, and checks that the access does not end there.
+fn end_early<R: DeRead>(rt: &impl Abort, alloc: Global, from: &mut Deserializer<R>) -> Tested
+where
+    R::Lent: LendsText,
+{
+    let mut items = from.read_seq(alloc)?;
+    check_item(rt, alloc, &mut items, 3, Some(1i64))?;
+    assert!(rt; items.end().is_err());
+    Ok(())
+}
+
+/// Checks why an access is refused that ends early, and that later calls are refused.
 fn check_ended_early<R: DeRead + Drop>(rt: &impl Abort, alloc: Global, source: R) -> Tested
 where
     R::Lent: LendsText,
 {
     let mut from = Deserializer::new(alloc, source)?;
-    let mut items = from.read_seq(alloc)?;
-    check_item(rt, alloc, &mut items, 3, Some(1i64))?;
-    let ended = items.end();
-    check_refused(rt, alloc, &ended, &mut from, "C3")?;
+    end_early(rt, alloc, &mut from)?;
+    check_refusal(rt, alloc, &mut from, "C3")?;
     let read = from.read_i64();
     check_refused(rt, alloc, &read, &mut from, "E6 Failed")
 }
