@@ -8,14 +8,16 @@ use bser_bunser::refusal::Answer;
 use bser_deserializer::container::Containers;
 use bser_deserializer::cursor::Cursor;
 use bser_deserializer::deserializer::{Deserializer, Due};
-use bser_format::errors::{Complaint, Error, Kind, Message, ReadCause};
+use bser_format::errors::{Complaint, Error, Kind, Message, ReadCause, Result};
 use bser_read::io_read::IoRead;
 use bser_read::read::DeRead;
+use bser_read::slice_read::SliceRead;
 use bser_source::device::Watched;
 use bser_source::read::LendsText;
 use std::alloc::Global;
 use std::io;
 use std::io::Read;
+use std::process::Abort;
 
 /// A reader that gives one byte a call.
 #[derive(Drop)]
@@ -34,6 +36,73 @@ impl<'a> Read for OneByOne<'a> {
 
 fn reader_of(bytes: &[u8]) -> IoRead<Watched<OneByOne<'_>>> {
     IoRead::new(Watched::new(OneByOne { bytes }))
+}
+
+/// What a message holds, and how it is read.
+#[derive(Clone, Copy)]
+enum Content {
+    Scalars,
+    Rows,
+    NestedRows,
+    OwnedRow,
+    InsideItems,
+    PastKeys,
+    Ends,
+    Counts(usize, usize),
+}
+
+fn check_content<R: DeRead>(
+    rt: &impl Abort,
+    alloc: Global,
+    content: Content,
+    from: &mut Deserializer<R>,
+) -> Answer<()>
+where
+    R::Lent: LendsText,
+{
+    match content {
+        Content::Scalars => messages::check_scalars(rt, alloc, from),
+        Content::Rows => messages::check_rows(rt, alloc, from),
+        Content::NestedRows => messages::check_nested_rows(rt, alloc, from),
+        Content::OwnedRow => memory::check_row_or_refusal(rt, alloc, from),
+        Content::InsideItems => states::check_inside_items(rt, alloc, from),
+        Content::PastKeys => states::check_past_keys(rt, alloc, from),
+        Content::Ends => states::check_ends(rt, alloc, from),
+        Content::Counts(expected, read) => states::check_counts(rt, expected, read, from),
+    }
+}
+
+fn check_message<R: DeRead + Drop>(
+    rt: &impl Abort,
+    alloc: Global,
+    content: Content,
+    read: R,
+) -> Result<()>
+where
+    R::Lent: LendsText,
+{
+    let mut from = Deserializer::new(alloc, read)?;
+    assert!(rt; check_content(rt, alloc, content, &mut from).is_ok());
+    Ok(())
+}
+
+/// A message holds this, read from a slice and from a reader that gives one byte a call.
+fn check_content_of(
+    rt: &impl Abort,
+    alloc: Global,
+    message: &[u8],
+    content: Content,
+) -> Result<()> {
+    check_message(rt, alloc, content, SliceRead::new(message))?;
+    check_message(rt, alloc, content, reader_of(message))
+}
+
+fn check_levels<R: DeRead>(rt: &impl Abort, levels: usize, from: &Deserializer<R>) {
+    assert_eq!(rt; from.levels(), levels);
+}
+
+fn check_end<R: DeRead>(rt: &impl Abort, from: &Deserializer<R>) {
+    assert!(rt; from.end().is_ok());
 }
 
 /// A call that reads.
@@ -64,42 +133,35 @@ const ASKS: [Ask; 10] = [
     Ask::Pairs,
 ];
 
-fn call<R: DeRead>(alloc: Global, asked: Ask, from: &mut Deserializer<R>) -> Answer<()>
+fn are_bytes_refused<R: DeRead>(alloc: Global, from: &mut Deserializer<R>) -> bool {
+    let mut scratch = Vec::new(alloc);
+    from.read_bytes(&mut scratch).is_err()
+}
+
+fn is_text_refused<R: DeRead>(alloc: Global, from: &mut Deserializer<R>) -> bool
 where
     R::Lent: LendsText,
 {
     let mut scratch = Vec::new(alloc);
+    from.read_text(&mut scratch).is_err()
+}
+
+fn is_refused<R: DeRead>(alloc: Global, asked: Ask, from: &mut Deserializer<R>) -> bool
+where
+    R::Lent: LendsText,
+{
     match asked {
-        Ask::Node => {
-            from.node()?;
-        }
-        Ask::IsNone => {
-            from.read_none()?;
-        }
-        Ask::Bool => {
-            from.read_bool()?;
-        }
-        Ask::Integer => {
-            from.read_i64()?;
-        }
-        Ask::Real => {
-            from.read_real_bits()?;
-        }
-        Ask::Unit => from.read_unit()?,
-        Ask::Bytes => {
-            from.read_bytes(&mut scratch)?;
-        }
-        Ask::Text => {
-            from.read_text(&mut scratch)?;
-        }
-        Ask::Items => {
-            from.open_items(alloc)?;
-        }
-        Ask::Pairs => {
-            from.open_pairs()?;
-        }
+        Ask::Node => from.node().is_err(),
+        Ask::IsNone => from.read_none().is_err(),
+        Ask::Bool => from.read_bool().is_err(),
+        Ask::Integer => from.read_i64().is_err(),
+        Ask::Real => from.read_real_bits().is_err(),
+        Ask::Unit => from.read_unit().is_err(),
+        Ask::Bytes => are_bytes_refused(alloc, from),
+        Ask::Text => is_text_refused(alloc, from),
+        Ask::Items => from.open_items(alloc).is_err(),
+        Ask::Pairs => from.open_pairs().is_err(),
     }
-    Ok(())
 }
 
 fn make_due<R: DeRead>(due: Due, from: &mut Deserializer<R>) {
@@ -124,32 +186,45 @@ enum Name {
     Failed,
 }
 
-fn is_named(name: Name, error: &Error) -> bool {
-    match (name, error) {
-        (
-            Name::Complains(wanted),
-            Error::DeCustom {
-                msg: Message::Fixed(complaint),
-            },
-        ) => *complaint == wanted,
-        (Name::Begins(wanted, first), Error::DeInvalidStartByte { kind, byte }) => {
-            *kind == wanted && *byte == first
-        }
-        (Name::TooDeep(wanted), Error::DeRecursionLimitExceeded { kind }) => *kind == wanted,
-        (Name::Eof, Error::DeReaderError { source }) => matches!(source, ReadCause::Eof),
-        (Name::Utf8, Error::DeReaderError { source }) => matches!(source, ReadCause::Utf8),
-        (Name::Failed, Error::DeReaderError { source }) => matches!(source, ReadCause::Failed),
+fn is_named_cause(name: Name, cause: &ReadCause) -> bool {
+    match cause {
+        ReadCause::Eof => matches!(name, Name::Eof),
+        ReadCause::Utf8 => matches!(name, Name::Utf8),
+        ReadCause::Failed => matches!(name, Name::Failed),
         _ => false,
     }
 }
 
-fn ends_by<R: DeRead>(name: Name, from: &Deserializer<R>) -> bool {
-    match from.end() {
-        Ok(()) => false,
-        Err(reason) => is_named(name, &reason),
+fn is_named(name: Name, error: &Error) -> bool {
+    match error {
+        Error::DeCustom {
+            msg: Message::Fixed(complaint),
+        } => matches!(name, Name::Complains(wanted) if wanted == *complaint),
+        Error::DeInvalidStartByte { kind, byte } => {
+            matches!(name, Name::Begins(wanted, first) if wanted == *kind && first == *byte)
+        }
+        Error::DeRecursionLimitExceeded { kind } => {
+            matches!(name, Name::TooDeep(wanted) if wanted == *kind)
+        }
+        Error::DeReaderError { source } => is_named_cause(name, source),
+        _ => false,
     }
 }
 
+/// The end is refused by this name.
+fn ends_by<R: DeRead>(name: Name, from: &Deserializer<R>) -> bool {
+    match &from.end() {
+        Ok(()) => false,
+        Err(reason) => is_named(name, reason),
+    }
+}
+
+/// The reason that is kept has this name.
+fn keeps<R: DeRead>(name: Name, from: &mut Deserializer<R>) -> bool {
+    is_named(name, &from.take_refusal())
+}
+
+/// A call is refused by this name.
 fn is_refused_by<R: DeRead>(
     alloc: Global,
     asked: Ask,
@@ -159,5 +234,5 @@ fn is_refused_by<R: DeRead>(
 where
     R::Lent: LendsText,
 {
-    call(alloc, asked, from).is_err() && is_named(name, &from.take_refusal())
+    is_refused(alloc, asked, from) && keeps(name, from)
 }

@@ -5,6 +5,7 @@ use bser_messages::message::{from_reader, from_slice};
 use bser_source::device::Watched;
 use bser_types::deserialize::{Deserialize, DeserializeOwned};
 use std::alloc::Global;
+use std::convert::AsStr;
 use std::io;
 use std::io::Read;
 use std::process::Abort;
@@ -17,11 +18,15 @@ struct OneByOne<'a> {
 
 impl<'a> Read for OneByOne<'a> {
     fn read(&mut self, buf: &mut [u8]) -> io::Result<usize> {
-        let count = buf.len().min(1).min(self.bytes.len());
-        buf[..count].copy_from_slice(&self.bytes[..count]);
-        self.bytes = &self.bytes[count..];
-        Ok(count)
+        let most = buf.len().min(1);
+        self.bytes.read(&mut buf[..most])
     }
+}
+
+/// Reads the message from a reader that gives one byte a call.
+fn read_one_by_one<T: DeserializeOwned>(alloc: Global, bytes: &[u8]) -> Result<T> {
+    let mut reader = Watched::new(OneByOne { bytes });
+    from_reader(alloc, &mut reader)
 }
 
 /// The name of a refusal.
@@ -32,17 +37,24 @@ enum Name {
     Utf8,
 }
 
-fn is_named(name: Name, error: &Error) -> bool {
-    match (name, error) {
-        (
-            Name::Complains(wanted),
-            Error::DeCustom {
-                msg: Message::Fixed(complaint),
-            },
-        ) => *complaint == wanted,
-        (Name::Eof, Error::DeReaderError { source }) => matches!(source, ReadCause::Eof),
-        (Name::Utf8, Error::DeReaderError { source }) => matches!(source, ReadCause::Utf8),
-        _ => false,
+fn is_named<T>(answer: &Result<T>, name: Name) -> bool {
+    match name {
+        Name::Complains(wanted) => matches!(
+            answer,
+            Err(Error::DeCustom { msg: Message::Fixed(complaint) }) if *complaint == wanted
+        ),
+        Name::Eof => matches!(
+            answer,
+            Err(Error::DeReaderError {
+                source: ReadCause::Eof
+            })
+        ),
+        Name::Utf8 => matches!(
+            answer,
+            Err(Error::DeReaderError {
+                source: ReadCause::Utf8
+            })
+        ),
     }
 }
 
@@ -53,45 +65,42 @@ fn check_refused<'a, T: DeserializeOwned + Deserialize<&'a [u8]>>(
     bytes: &'a [u8],
     name: Name,
 ) {
-    match from_slice::<T>(alloc, bytes) {
-        Ok(_) => assert!(rt; false),
-        Err(error) => assert!(rt; is_named(name, &error)),
-    }
-    let mut reader = Watched::new(OneByOne { bytes });
-    match from_reader::<_, T>(alloc, &mut reader) {
-        Ok(_) => assert!(rt; false),
-        Err(error) => assert!(rt; is_named(name, &error)),
-    }
+    assert!(rt; is_named(&from_slice::<T>(alloc, bytes), name));
+    assert!(rt; is_named(&read_one_by_one::<T>(alloc, bytes), name));
 }
 
-fn check_file(rt: &impl Abort, alloc: Global, bytes: &[u8]) -> Result<()> {
-    let file: FileInfo<&str> = from_slice(alloc, bytes)?;
-    assert_eq!(rt; file, FileInfo { name: "x", size: 5 });
-    let mut reader = Watched::new(OneByOne { bytes });
-    let file: FileInfo<String> = from_reader(alloc, &mut reader)?;
-    assert_eq!(rt; file.name.as_str(), "x");
-    assert_eq!(rt; file.size, 5);
-    Ok(())
+/// Checks that the message is refused as a file by this name.
+fn check_file_refused(rt: &impl Abort, alloc: Global, bytes: &[u8], name: Name) {
+    check_refused::<FileInfo<String>>(rt, alloc, bytes, name);
+}
+
+/// Checks what is known of the file.
+fn check_file<S: AsStr>(rt: &impl Abort, file: &FileInfo<S>, name: &str, size: u32) {
+    assert_eq!(rt; (file.name.as_str(), file.size), (name, size));
+}
+
+/// Checks that the files are x, of size 5, and y, of size 6.
+fn check_both<S: AsStr>(rt: &impl Abort, files: &[FileInfo<S>]) {
+    assert_eq!(rt; files.len(), 2);
+    check_file(rt, &files[0], "x", 5);
+    check_file(rt, &files[1], "y", 6);
 }
 
 #[test]
 fn fields_come_in_any_order_and_others_are_passed_over(rt: HostRuntime) -> Result<()> {
     let bytes = b"\x00\x02\0\0\0\0\x03\x2b\x01\x03\x03\x0d\x03\x04size\x03\x05\x0d\x03\x05other\
 \x00\x03\x02\x01\x03\x01\x0d\x03\x01a\x0a\x08\x0d\x03\x04name\x0d\x03\x01x";
-    check_file(&rt, rt.alloc(), bytes)
+    let lent: FileInfo<&str> = from_slice(rt.alloc(), bytes)?;
+    check_file(&rt, &lent, "x", 5);
+    let owned: FileInfo<String> = read_one_by_one(rt.alloc(), bytes)?;
+    check_file(&rt, &owned, "x", 5);
+    Ok(())
 }
 
+/// Checks that the message is read as a list of two files, from a slice and byte by byte.
 fn check_files(rt: &impl Abort, alloc: Global, bytes: &[u8]) -> Result<()> {
-    let files: Vec<FileInfo<&str>> = from_slice(alloc, bytes)?;
-    assert_eq!(rt; files.len(), 2);
-    assert_eq!(rt; files[0], FileInfo { name: "x", size: 5 });
-    assert_eq!(rt; files[1], FileInfo { name: "y", size: 6 });
-    let mut reader = Watched::new(OneByOne { bytes });
-    let files: Vec<FileInfo<String>> = from_reader(alloc, &mut reader)?;
-    assert_eq!(rt; files.len(), 2);
-    assert_eq!(rt; files[0].name.as_str(), "x");
-    assert_eq!(rt; files[1].name.as_str(), "y");
-    assert_eq!(rt; files[1].size, 6);
+    check_both(rt, &from_slice::<Vec<FileInfo<&str>>>(alloc, bytes)?);
+    check_both(rt, &read_one_by_one::<Vec<FileInfo<String>>>(alloc, bytes)?);
     Ok(())
 }
 
@@ -122,26 +131,20 @@ fn a_struct_holds_structs(rt: HostRuntime) -> Result<()> {
     let bytes = b"\x00\x02\0\0\0\0\x03\x34\x01\x03\x02\x0d\x03\x05files\x0b\x00\x03\x02\
 \x0d\x03\x04name\x0d\x03\x04size\x03\x02\x0d\x03\x01x\x03\x05\x0d\x03\x01y\x03\x06\
 \x02\x03\x05clock\x0a";
-    let answer: Files<&str> = from_slice(alloc, bytes)?;
-    assert_eq!(rt; answer.files.len(), 2);
-    assert_eq!(rt; answer.files[1], FileInfo { name: "y", size: 6 });
-    let mut reader = Watched::new(OneByOne { bytes });
-    let answer: Files<String> = from_reader(alloc, &mut reader)?;
-    assert_eq!(rt; answer.files.len(), 2);
-    assert_eq!(rt; answer.files[1].name.as_str(), "y");
+    check_both(&rt, &from_slice::<Files<&str>>(alloc, bytes)?.files);
+    check_both(&rt, &read_one_by_one::<Files<String>>(alloc, bytes)?.files);
     Ok(())
 }
 
 #[test]
-fn a_field_that_comes_twice_is_refused(rt: HostRuntime) -> Result<()> {
+fn a_field_that_comes_twice_is_refused(rt: HostRuntime) {
     let name = Name::Complains(Complaint::ItemsLeft);
     let bytes = b"\x00\x02\0\0\0\0\x03\x22\x01\x03\x03\x0d\x03\x04name\x0d\x03\x01x\
 \x0d\x03\x04name\x0d\x03\x01y\x0d\x03\x04size\x03\x05";
-    check_refused::<FileInfo<String>>(&rt, rt.alloc(), bytes, name);
+    check_file_refused(&rt, rt.alloc(), bytes, name);
     let bytes = b"\x00\x02\0\0\0\0\x03\x1f\x01\x03\x03\x0d\x03\x04name\x0d\x03\x01x\
 \x0d\x03\x04size\x03\x05\x0d\x03\x04name\x08";
-    check_refused::<FileInfo<String>>(&rt, rt.alloc(), bytes, name);
-    Ok(())
+    check_file_refused(&rt, rt.alloc(), bytes, name);
 }
 
 #[test]
@@ -149,29 +152,27 @@ fn an_absent_field_is_refused_unless_it_is_optional(rt: HostRuntime) -> Result<(
     let alloc = rt.alloc();
     let bytes = b"\x00\x02\0\0\0\0\x03\x0e\x01\x03\x01\x0d\x03\x04name\x0d\x03\x01x";
     let name = Name::Complains(Complaint::TooFewItems);
-    check_refused::<FileInfo<String>>(&rt, alloc, bytes, name);
+    check_file_refused(&rt, alloc, bytes, name);
     let bytes = b"\x00\x02\0\0\0\0\x03\x0b\x01\x03\x01\x0d\x03\x03abc\x03\x07";
-    let row: TemplateRow<&str> = from_slice(alloc, bytes)?;
-    assert_eq!(rt;
-        row,
-        TemplateRow {
-            abc: 7,
-            def: None,
-            ghi: None
-        }
-    );
+    check_number_alone(&rt, alloc, bytes, 7)?;
     let bytes = b"\x00\x02\0\0\0\0\x03\x19\x01\x03\x03\x0d\x03\x03ghi\x0a\x0d\x03\x03abc\x03\x07\
 \x0d\x03\x03def\x0a";
+    check_number_alone(&rt, alloc, bytes, 7)
+}
+
+/// Checks that the message is read as a row that has this number alone.
+fn check_number_alone(rt: &impl Abort, alloc: Global, bytes: &[u8], abc: i32) -> Result<()> {
     let row: TemplateRow<&str> = from_slice(alloc, bytes)?;
-    assert_eq!(rt;
-        row,
-        TemplateRow {
-            abc: 7,
-            def: None,
-            ghi: None
-        }
-    );
+    check_row(rt, &row, (abc, None, None));
     Ok(())
+}
+
+/// What a row holds: abc, def and ghi.
+type Held<'a> = (i32, Option<&'a str>, Option<i64>);
+
+/// Checks what the row holds.
+fn check_row(rt: &impl Abort, row: &TemplateRow<&str>, wanted: Held<'_>) {
+    assert_eq!(rt; (row.abc, row.def, row.ghi), wanted);
 }
 
 #[test]
@@ -180,15 +181,14 @@ fn a_value_of_another_kind_is_refused(rt: HostRuntime) -> Result<()> {
     let name = Name::Complains(Complaint::WrongType);
     let bytes =
         b"\x00\x02\0\0\0\0\x03\x16\x01\x03\x02\x0d\x03\x04name\x0d\x03\x01x\x0d\x03\x04size\x08";
-    check_refused::<FileInfo<String>>(&rt, alloc, bytes, name);
+    check_file_refused(&rt, alloc, bytes, name);
     let bytes =
         b"\x00\x02\0\0\0\0\x03\x17\x0b\x00\x03\x02\x0d\x03\x04name\x0d\x03\x04size\x03\x01\x0c\x03\x05";
     check_refused::<Vec<FileInfo<String>>>(&rt, alloc, bytes, name);
     let bytes = b"\x00\x02\0\0\0\0\x03\x03\x00\x03\x00";
-    check_refused::<FileInfo<String>>(&rt, alloc, bytes, name);
+    check_file_refused(&rt, alloc, bytes, name);
     let bytes = b"\x00\x02\0\0\0\0\x03\x0c\x01\x03\x01\x0d\x03\x03abc\x04\x00\x80";
-    let row: TemplateRow<&str> = from_slice(alloc, bytes)?;
-    assert_eq!(rt; row.abc, -32768);
+    check_number_alone(&rt, alloc, bytes, -32768)?;
     let bytes = b"\x00\x02\0\0\0\0\x03\x12\x01\x03\x01\x0d\x03\x03abc\x06\0\0\0\x80\0\0\0\0";
     let range = Name::Complains(Complaint::IntegerOutOfRange);
     check_refused::<TemplateRow<String>>(&rt, alloc, bytes, range);
@@ -196,13 +196,12 @@ fn a_value_of_another_kind_is_refused(rt: HostRuntime) -> Result<()> {
 }
 
 #[test]
-fn names_and_what_is_passed_over_are_checked(rt: HostRuntime) -> Result<()> {
+fn names_and_what_is_passed_over_are_checked(rt: HostRuntime) {
     let alloc = rt.alloc();
     let bytes = b"\x00\x02\0\0\0\0\x03\x08\x01\x03\x01\x02\x03\x01\xff\x0a";
-    check_refused::<FileInfo<String>>(&rt, alloc, bytes, Name::Utf8);
+    check_file_refused(&rt, alloc, bytes, Name::Utf8);
     let bytes = b"\x00\x02\0\0\0\0\x03\x0b\x01\x03\x01\x02\x03\x01a\x0d\x03\x01\xff";
-    check_refused::<FileInfo<String>>(&rt, alloc, bytes, Name::Utf8);
-    Ok(())
+    check_file_refused(&rt, alloc, bytes, Name::Utf8);
 }
 
 #[test]
@@ -213,22 +212,13 @@ fn rows_that_break_off_are_refused(rt: HostRuntime) -> Result<()> {
         check_refused::<Vec<TemplateRow<String>>>(&rt, rt.alloc(), &bytes[..len], Name::Eof);
     }
     let rows: Vec<TemplateRow<&str>> = from_slice(rt.alloc(), bytes)?;
-    assert_eq!(rt; rows.len(), 2);
-    assert_eq!(rt;
-        rows[0],
-        TemplateRow {
-            abc: 123,
-            def: Some("bar"),
-            ghi: None
-        }
-    );
-    assert_eq!(rt;
-        rows[1],
-        TemplateRow {
-            abc: 456,
-            def: None,
-            ghi: Some(789)
-        }
-    );
+    check_rows(&rt, &rows);
     Ok(())
+}
+
+/// Checks that the rows are the worked ones.
+fn check_rows(rt: &impl Abort, rows: &[TemplateRow<&str>]) {
+    assert_eq!(rt; rows.len(), 2);
+    check_row(rt, &rows[0], (123, Some("bar"), None));
+    check_row(rt, &rows[1], (456, None, Some(789)));
 }

@@ -4,12 +4,12 @@ use bser_promises::bounds::read_within_bounds;
 use bser_promises::least::{compactly_rewritten, least_compact_message, least_message, rewritten};
 use bser_promises::messages::{have_one_compact_message, have_one_message};
 use bser_promises::returned::{
-    compactly_written_and_read, compactly_written_and_read_on, written_and_read,
+    ReadBack, compactly_written_and_read, compactly_written_and_read_on, written_and_read,
     written_and_read_on,
 };
-use bser_promises::templates::{read_written_out, read_written_out_on};
+use bser_promises::templates::{TemplateReadings, read_written_out, read_written_out_on};
 use bser_source::device::Watched;
-use serde_bser::errors::{Error, Kind, ReadCause, Result};
+use serde_bser::errors::Result;
 use serde_bser::from_slice;
 use serde_bser::value::Value;
 use std::alloc::Global;
@@ -23,30 +23,66 @@ const ROWS: &[u8] =
 const TEMPLATE: &[u8] =
     b"\x00\x02\x00\x00\x00\x00\x03\x0e\x0b\x00\x03\x01\x0d\x03\x01a\x03\x02\x03\x01\x03\x02";
 
+/// `TEMPLATE`, and a stray byte.
+const TEMPLATE_AND_STRAY: &[u8] =
+    b"\x00\x02\x00\x00\x00\x00\x03\x0e\x0b\x00\x03\x01\x0d\x03\x01a\x03\x02\x03\x01\x03\x02\xff";
+
 /// The same rows as objects.
 const OBJECTS: &[u8] =
     b"\x00\x02\x00\x00\x00\x00\x03\x15\x00\x03\x02\x01\x03\x01\x0d\x03\x01a\x03\x01\x01\x03\x01\x0d\x03\x01a\x03\x02";
 
-/// The array of 1 and 2.
-const NUMBERS: &[u8] = b"\x00\x02\x00\x00\x00\x00\x03\x07\x00\x03\x02\x03\x01\x03\x02";
+/// `OBJECTS`, and a stray byte.
+const OBJECTS_AND_STRAY: &[u8] =
+    b"\x00\x02\x00\x00\x00\x00\x03\x15\x00\x03\x02\x01\x03\x01\x0d\x03\x01a\x03\x01\x01\x03\x01\x0d\x03\x01a\x03\x02\xff";
 
-/// The bytes, and then a stray one.
-fn with_stray(alloc: Global, bytes: &[u8]) -> Result<Vec<u8>> {
-    let mut all = Vec::from_slice(alloc, bytes)?;
-    all.push(0xff)?;
-    Ok(all)
+/// The array of 1 and 2, and a stray byte.
+const NUMBERS_AND_STRAY: &[u8] =
+    b"\x00\x02\x00\x00\x00\x00\x03\x07\x00\x03\x02\x03\x01\x03\x02\xff";
+
+/// Checks that 1 and 2 were read.
+fn check_numbers(rt: &impl Abort, read: Result<Vec<i64>>) -> Result<()> {
+    assert_eq!(rt; read?.as_slice(), [1, 2].as_slice());
+    Ok(())
+}
+
+/// Checks that the value was read.
+fn check_read(rt: &impl Abort, read: Result<Value>, value: &Value) -> Result<()> {
+    assert!(rt; read? == *value);
+    Ok(())
+}
+
+/// Checks that the value was read from a reader, which has the stray byte left.
+fn check_read_on(rt: &impl Abort, read: Result<ReadBack>, value: &Value) -> Result<()> {
+    let back = read?;
+    assert!(rt; back.value == *value);
+    assert_eq!(rt; back.left.as_slice(), b"\xff".as_slice());
+    Ok(())
+}
+
+/// Checks that reading was refused so.
+fn check_refused(
+    rt: &impl Abort,
+    alloc: Global,
+    read: Result<Value>,
+    expected: &str,
+) -> Result<()> {
+    let answer = format!(in alloc; "{read:?}")?;
+    assert_eq!(rt; answer.as_str(), expected);
+    Ok(())
+}
+
+/// Checks that the message was made.
+fn check_message(rt: &impl Abort, made: Result<Vec<u8>>, expected: &[u8]) -> Result<()> {
+    assert_eq!(rt; made?.as_slice(), expected);
+    Ok(())
 }
 
 #[test]
 fn a_slice_and_a_reader_agree(rt: HostRuntime) -> Result<()> {
-    let alloc = rt.alloc();
-    let bytes = with_stray(alloc, NUMBERS)?;
-    let mut reader = Watched::new(bytes.as_slice());
-    let read = read_both_ways::<_, Vec<i64>>(alloc, &bytes, &mut reader);
-    let from_slice = read.slice?;
-    let from_reader = read.reader?;
-    assert_eq!(rt; from_slice.as_slice(), [1, 2].as_slice());
-    assert_eq!(rt; from_reader.as_slice(), [1, 2].as_slice());
+    let mut reader = Watched::new(NUMBERS_AND_STRAY);
+    let read = read_both_ways(rt.alloc(), NUMBERS_AND_STRAY, &mut reader);
+    check_numbers(&rt, read.slice)?;
+    check_numbers(&rt, read.reader)?;
     assert_eq!(rt; *reader.get_ref(), b"\xff".as_slice());
     Ok(())
 }
@@ -54,96 +90,96 @@ fn a_slice_and_a_reader_agree(rt: HostRuntime) -> Result<()> {
 #[test]
 fn a_slice_and_a_reader_refuse_alike(rt: HostRuntime) -> Result<()> {
     let alloc = rt.alloc();
-    let bytes = &NUMBERS[..NUMBERS.len() - 1];
-    let mut reader = Watched::new(bytes);
-    let read = read_both_ways::<_, Value>(alloc, bytes, &mut reader);
-    for answer in [read.slice, read.reader] {
-        assert!(rt;
-            matches!(
-                answer,
-                Err(Error::DeReaderError {
-                    source: ReadCause::Eof
-                })
-            )
-        );
-    }
-    Ok(())
+    let bytes = &NUMBERS_AND_STRAY[..NUMBERS_AND_STRAY.len() - 2];
+    let read = read_both_ways(alloc, bytes, &mut Watched::new(bytes));
+    check_refused(&rt, alloc, read.slice, "Err(DeReaderError { source: Eof })")?;
+    check_refused(
+        &rt,
+        alloc,
+        read.reader,
+        "Err(DeReaderError { source: Eof })",
+    )
 }
 
 #[test]
 fn a_value_is_returned(rt: HostRuntime) -> Result<()> {
     let alloc = rt.alloc();
     let value: Value = from_slice(alloc, ROWS)?;
-    assert!(rt; written_and_read(alloc, 2, &value, b"\xff")? == value);
-    assert!(rt; compactly_written_and_read(alloc, 2, &value, b"\xff")? == value);
-    let back = written_and_read_on(alloc, 2, &value, b"\xff")?;
-    assert!(rt; back.value == value);
-    assert_eq!(rt; back.left.as_slice(), b"\xff".as_slice());
-    let back = compactly_written_and_read_on(alloc, 2, &value, b"\xff")?;
-    assert!(rt; back.value == value);
-    assert_eq!(rt; back.left.as_slice(), b"\xff".as_slice());
-    Ok(())
+    check_read(&rt, written_and_read(alloc, 2, &value, b"\xff"), &value)?;
+    check_read(
+        &rt,
+        compactly_written_and_read(alloc, 2, &value, b"\xff"),
+        &value,
+    )?;
+    check_read_on(&rt, written_and_read_on(alloc, 2, &value, b"\xff"), &value)?;
+    check_read_on(
+        &rt,
+        compactly_written_and_read_on(alloc, 2, &value, b"\xff"),
+        &value,
+    )
 }
 
 #[test]
 fn a_value_that_is_too_deep_is_not_returned(rt: HostRuntime) -> Result<()> {
     let alloc = rt.alloc();
     let value: Value = from_slice(alloc, ROWS)?;
-    assert!(rt;
-        matches!(
-            written_and_read(alloc, 1, &value, b""),
-            Err(Error::DeRecursionLimitExceeded { kind: Kind::Object })
-        )
-    );
+    let deep = "Err(DeRecursionLimitExceeded { kind: Object })";
+    check_refused(&rt, alloc, written_and_read(alloc, 1, &value, b""), deep)
+}
+
+/// Checks whether the values of two messages have one canonical and one compact message.
+fn check_compared(
+    rt: &impl Abort,
+    alloc: Global,
+    first: &[u8],
+    second: &[u8],
+    expected: bool,
+) -> Result<()> {
+    let first: Value = from_slice(alloc, first)?;
+    let second: Value = from_slice(alloc, second)?;
+    let canonical = have_one_message(alloc, &first, &second)?;
+    let compact = have_one_compact_message(alloc, &first, &second)?;
+    assert_eq!(rt; (canonical, compact), (expected, expected));
     Ok(())
 }
 
 #[test]
 fn values_are_compared_by_their_messages(rt: HostRuntime) -> Result<()> {
-    let alloc = rt.alloc();
-    let rows: Value = from_slice(alloc, TEMPLATE)?;
-    let same: Value = from_slice(alloc, OBJECTS)?;
-    let other: Value = from_slice(alloc, ROWS)?;
-    assert!(rt; have_one_message(alloc, &rows, &same)?);
-    assert!(rt; !have_one_message(alloc, &rows, &other)?);
-    assert!(rt; have_one_compact_message(alloc, &rows, &same)?);
-    assert!(rt; !have_one_compact_message(alloc, &rows, &other)?);
-    Ok(())
+    check_compared(&rt, rt.alloc(), TEMPLATE, OBJECTS, true)?;
+    check_compared(&rt, rt.alloc(), TEMPLATE, ROWS, false)
 }
 
 #[test]
 fn the_least_messages_are_written(rt: HostRuntime) -> Result<()> {
     let alloc = rt.alloc();
     let value: Value = from_slice(alloc, TEMPLATE)?;
-    assert_eq!(rt; least_message(alloc, &value)?.as_slice(), OBJECTS);
-    assert_eq!(rt; least_compact_message(alloc, &value)?.as_slice(), TEMPLATE);
-    assert_eq!(rt;
-        rewritten(alloc, &with_stray(alloc, TEMPLATE)?)?.as_slice(),
-        OBJECTS
-    );
-    assert_eq!(rt;
-        compactly_rewritten(alloc, &with_stray(alloc, OBJECTS)?)?.as_slice(),
-        TEMPLATE
-    );
-    Ok(())
+    check_message(&rt, least_message(alloc, &value), OBJECTS)?;
+    check_message(&rt, least_compact_message(alloc, &value), TEMPLATE)?;
+    check_message(&rt, rewritten(alloc, TEMPLATE_AND_STRAY), OBJECTS)?;
+    check_message(&rt, compactly_rewritten(alloc, OBJECTS_AND_STRAY), TEMPLATE)
 }
 
 #[test]
 fn a_value_is_read_within_bounds(rt: HostRuntime) -> Result<()> {
     let alloc = rt.alloc();
-    let value = read_within_bounds(alloc, ROWS)?;
-    assert!(rt; value == from_slice(alloc, ROWS)?);
+    let value: Value = from_slice(alloc, ROWS)?;
+    check_read(&rt, read_within_bounds(alloc, ROWS), &value)
+}
+
+/// Checks that both were read, and as one value.
+fn check_alike(rt: &impl Abort, read: TemplateReadings<Value>) -> Result<()> {
+    assert!(rt; read.template? == read.objects?);
     Ok(())
 }
 
 #[test]
 fn a_template_is_read_as_its_objects(rt: HostRuntime) -> Result<()> {
     let alloc = rt.alloc();
-    let read = read_written_out::<Value>(alloc, 2, TEMPLATE, OBJECTS);
-    assert!(rt; read.template? == read.objects?);
+    check_alike(&rt, read_written_out(alloc, 2, TEMPLATE, OBJECTS))?;
     let mut template = Watched::new(TEMPLATE);
     let mut objects = Watched::new(OBJECTS);
-    let read = read_written_out_on::<_, _, Value>(alloc, 2, &mut template, &mut objects);
-    assert!(rt; read.template? == read.objects?);
-    Ok(())
+    check_alike(
+        &rt,
+        read_written_out_on(alloc, 2, &mut template, &mut objects),
+    )
 }

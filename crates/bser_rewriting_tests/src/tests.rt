@@ -1,10 +1,10 @@
 //! Tests of the engine, and of the program over streams in memory.
 mod compact;
 
-use bser_format::errors::{Error, Kind, ReadCause};
+use bser_format::errors::Result;
 use bser_rewriting::engine::canon;
 use bser_rewriting::program::{DONE, REFUSED, UNKNOWN_ARGUMENT, run};
-use bser_source::device::Watched;
+use bser_source::device::{Source, Watched};
 use std::alloc::{AllocError, Global};
 use std::io;
 use std::io::{ErrorKind, Read, Write};
@@ -15,29 +15,18 @@ type Tested = std::result::Result<(), Fail>;
 
 const NULL: &[u8] = b"\x00\x02\x00\x00\x00\x00\x03\x01\x0a";
 
-/// A reader that gives at most one byte a call.
+/// A reader that gives at most `most` bytes a call; once its bytes are given, it fails if it
+/// `breaks`.
 #[derive(Drop)]
-struct ByteByByte<'a> {
-    bytes: &'a [u8],
-}
-
-impl Read for ByteByByte<'_> {
-    fn read(&mut self, buf: &mut [u8]) -> io::Result<usize> {
-        let most = buf.len().min(1);
-        self.bytes.read(&mut buf[..most])
-    }
-}
-
-/// A reader that gives at most `most` bytes a call, and fails once its bytes are given.
-#[derive(Drop)]
-struct Breaks<'a> {
+struct Piecewise<'a> {
     bytes: &'a [u8],
     most: usize,
+    breaks: bool,
 }
 
-impl Read for Breaks<'_> {
+impl Read for Piecewise<'_> {
     fn read(&mut self, buf: &mut [u8]) -> io::Result<usize> {
-        if self.bytes.is_empty() {
+        if self.breaks && self.bytes.is_empty() {
             return Err(io::Error::new(ErrorKind::BrokenPipe, "broken"));
         }
         let most = buf.len().min(self.most);
@@ -67,37 +56,114 @@ fn memory(alloc: Global) -> Watched<Vec<u8>> {
     Watched::new(Vec::new(alloc))
 }
 
-#[test]
-fn an_empty_input_is_refused(rt: HostRuntime) -> Tested {
-    let alloc = rt.alloc();
-    let mut reader = Watched::new(b"".as_slice());
-    let mut writer = memory(alloc);
+/// The answer where the input ends too early, as it is printed.
+const EARLY_END: &str = "Err(DeReaderError { source: Eof })";
+
+/// What the program answers, what it leaves of its input, and what it writes as output and as
+/// errors.
+type Outcome<'a> = (u8, &'a [u8], &'a [u8], &'a [u8]);
+
+fn texts(alloc: Global, words: &[&str]) -> std::result::Result<Vec<String>, AllocError> {
+    let mut args = Vec::new(alloc);
+    for word in words {
+        args.push(String::from_str(alloc, word)?)?;
+    }
+    Ok(args)
+}
+
+/// Runs the program with these words as arguments, and checks the outcome.
+fn check_run(
+    rt: &impl Abort,
+    alloc: Global,
+    words: &[&str],
+    input: &[u8],
+    expected: Outcome<'_>,
+) -> Tested {
+    let args = texts(alloc, words)?;
+    let mut reader = Watched::new(input);
+    let mut output = memory(alloc);
     let mut errors = memory(alloc);
-    let status = run(alloc, &[], &mut reader, &mut writer, &mut errors);
-    assert_eq!(rt; status, 1);
-    assert_eq!(rt; writer.get_ref().as_slice(), b"".as_slice());
-    assert_eq!(rt;
-        errors.get_ref().as_slice(),
-        b"bser_canon: reader error while deserializing\n".as_slice()
-    );
+    let status = run(alloc, &args, &mut reader, &mut output, &mut errors);
+    let left = *reader.get_ref();
+    let (written, told) = (output.get_ref().as_slice(), errors.get_ref().as_slice());
+    assert_eq!(rt; (status, left, written, told), expected);
     Ok(())
 }
 
 #[test]
+fn an_empty_input_is_refused(rt: HostRuntime) -> Tested {
+    let told = b"bser_canon: reader error while deserializing\n";
+    check_run(&rt, rt.alloc(), &[], b"", (1, b"", b"", told))
+}
+
+#[test]
 fn an_argument_is_unknown_and_nothing_is_read(rt: HostRuntime) -> Tested {
+    let told = b"bser_canon: unknown argument\n";
+    check_run(&rt, rt.alloc(), &["x"], NULL, (2, NULL, b"", told))
+}
+
+#[test]
+fn the_status_stands_where_its_line_cannot_be_written(rt: HostRuntime) -> Tested {
     let alloc = rt.alloc();
-    let args = [String::from_str(alloc, "x")?];
-    let mut reader = Watched::new(NULL);
+    let args = texts(alloc, &["x"])?;
+    let mut errors = Watched::new(Full);
     let mut writer = memory(alloc);
+    let mut empty = Watched::new(b"".as_slice());
+    let mut reader = Watched::new(NULL);
+    let refused = run(alloc, &[], &mut empty, &mut writer, &mut errors);
+    let unknown = run(alloc, &args, &mut reader, &mut writer, &mut errors);
+    let done = run(alloc, &[], &mut reader, &mut writer, &mut errors);
+    let statuses = [refused, unknown, done];
+    let expected = [REFUSED, UNKNOWN_ARGUMENT, DONE];
+    assert_eq!(rt; (statuses, writer.get_ref().as_slice()), (expected, NULL));
+    Ok(())
+}
+
+#[test]
+fn a_writer_that_fails_is_an_io_error(rt: HostRuntime) {
+    let alloc = rt.alloc();
+    let mut reader = Watched::new(NULL);
+    let mut writer = Watched::new(Full);
     let mut errors = memory(alloc);
-    let status = run(alloc, &args, &mut reader, &mut writer, &mut errors);
-    assert_eq!(rt; status, 2);
-    assert_eq!(rt; *reader.get_ref(), NULL);
-    assert_eq!(rt; writer.get_ref().as_slice(), b"".as_slice());
+    let status = run(alloc, &[], &mut reader, &mut writer, &mut errors);
+    let told = errors.get_ref().as_slice();
     assert_eq!(rt;
-        errors.get_ref().as_slice(),
-        b"bser_canon: unknown argument\n".as_slice()
+        (status, told),
+        (REFUSED, b"bser_canon: IO Error\n".as_slice())
     );
+}
+
+/// Rewrites the reader's next message, and checks all that the writer has then.
+fn check_next<R: Source>(
+    rt: &impl Abort,
+    alloc: Global,
+    reader: &mut R,
+    writer: &mut Watched<Vec<u8>>,
+    expected: &[u8],
+) -> Tested {
+    canon(alloc, reader, writer)?;
+    assert!(rt; writer.get_ref().as_slice() == expected);
+    Ok(())
+}
+
+/// The answer as it is printed.
+fn printed(alloc: Global, answer: Result<()>) -> std::result::Result<String, AllocError> {
+    format!(in alloc; "{answer:?}")
+}
+
+/// Checks that what a reader of so many bytes gives is refused so, and that nothing is written.
+fn check_refused<R: Source>(
+    rt: &impl Abort,
+    alloc: Global,
+    reader: &mut R,
+    writer: &mut Watched<Vec<u8>>,
+    given: usize,
+    expected: &str,
+) -> Tested {
+    let before = writer.get_ref().len();
+    let answer = printed(alloc, canon(alloc, reader, writer))?;
+    let after = writer.get_ref().len();
+    assert_eq!(rt; (given, answer.as_str(), after), (given, expected, before));
     Ok(())
 }
 
@@ -105,9 +171,7 @@ fn an_argument_is_unknown_and_nothing_is_read(rt: HostRuntime) -> Tested {
 fn what_follows_a_message_is_left(rt: HostRuntime) -> Tested {
     let alloc = rt.alloc();
     let mut reader = Watched::new(b"\x00\x02\x00\x00\x00\x00\x03\x01\x0a\xff".as_slice());
-    let mut writer = memory(alloc);
-    canon(alloc, &mut reader, &mut writer)?;
-    assert_eq!(rt; writer.get_ref().as_slice(), NULL);
+    check_next(&rt, alloc, &mut reader, &mut memory(alloc), NULL)?;
     assert_eq!(rt; *reader.get_ref(), b"\xff".as_slice());
     Ok(())
 }
@@ -116,69 +180,24 @@ fn what_follows_a_message_is_left(rt: HostRuntime) -> Tested {
 fn messages_are_taken_one_by_one(rt: HostRuntime) -> Tested {
     let alloc = rt.alloc();
     let bytes = b"\x00\x02\x00\x00\x00\x00\x03\x01\x0a\x00\x02\x00\x00\x00\x00\x03\x03\x04\x80\x00";
-    let mut reader = Watched::new(ByteByByte { bytes });
+    let mut reader = Watched::new(Piecewise {
+        bytes,
+        most: 1,
+        breaks: false,
+    });
     let mut writer = memory(alloc);
-    canon(alloc, &mut reader, &mut writer)?;
-    assert_eq!(rt; writer.get_ref().as_slice(), NULL);
-    canon(alloc, &mut reader, &mut writer)?;
+    check_next(&rt, alloc, &mut reader, &mut writer, NULL)?;
+    check_next(&rt, alloc, &mut reader, &mut writer, bytes)?;
+    let given = bytes.len();
+    check_refused(&rt, alloc, &mut reader, &mut writer, given, EARLY_END)?;
     assert_eq!(rt; writer.get_ref().as_slice(), bytes.as_slice());
-    let refused = canon(alloc, &mut reader, &mut writer);
-    assert!(rt;
-        matches!(
-            refused,
-            Err(Error::DeReaderError {
-                source: ReadCause::Eof
-            })
-        )
-    );
-    assert_eq!(rt; writer.get_ref().as_slice(), bytes.as_slice());
-    Ok(())
-}
-
-#[test]
-fn the_status_stands_where_its_line_cannot_be_written(rt: HostRuntime) -> Tested {
-    let alloc = rt.alloc();
-    let mut errors = Watched::new(Full);
-    let mut writer = memory(alloc);
-    let mut reader = Watched::new(b"".as_slice());
-    let refused = run(alloc, &[], &mut reader, &mut writer, &mut errors);
-    assert_eq!(rt; refused, REFUSED);
-    let args = [String::from_str(alloc, "x")?];
-    let mut reader = Watched::new(NULL);
-    let unknown = run(alloc, &args, &mut reader, &mut writer, &mut errors);
-    assert_eq!(rt; unknown, UNKNOWN_ARGUMENT);
-    let done = run(alloc, &[], &mut reader, &mut writer, &mut errors);
-    assert_eq!(rt; done, DONE);
-    assert_eq!(rt; writer.get_ref().as_slice(), NULL);
-    Ok(())
-}
-
-#[test]
-fn a_writer_that_fails_is_an_io_error(rt: HostRuntime) -> Tested {
-    let alloc = rt.alloc();
-    let mut reader = Watched::new(NULL);
-    let mut errors = memory(alloc);
-    let status = run(
-        alloc,
-        &[],
-        &mut reader,
-        &mut Watched::new(Full),
-        &mut errors,
-    );
-    assert_eq!(rt; status, REFUSED);
-    assert_eq!(rt;
-        errors.get_ref().as_slice(),
-        b"bser_canon: IO Error\n".as_slice()
-    );
     Ok(())
 }
 
 /// Checks that the message is written so.
 fn check_written(rt: &impl Abort, alloc: Global, message: &[u8], expected: &[u8]) -> Tested {
     let mut writer = memory(alloc);
-    canon(alloc, &mut Watched::new(message), &mut writer)?;
-    assert!(rt; writer.get_ref().as_slice() == expected);
-    Ok(())
+    check_next(rt, alloc, &mut Watched::new(message), &mut writer, expected)
 }
 
 #[test]
@@ -224,92 +243,102 @@ fn a_message_is_written_in_its_canonical_form(rt: HostRuntime) -> Tested {
     Ok(())
 }
 
-/// `front`, then `part` so many times, then `end`.
-fn repeated(
-    alloc: Global,
-    front: &[u8],
-    part: &[u8],
-    count: usize,
-    end: &[u8],
-) -> std::result::Result<Vec<u8>, AllocError> {
-    let mut bytes = Vec::from_slice(alloc, front)?;
-    for _ in 0..count {
-        bytes.extend_from_slice(part)?;
+/// Slices, and how often each stands in a message.
+type Parts<'a> = &'a [(&'a [u8], usize)];
+
+/// The bytes of the parts, one after the other.
+fn repeated(alloc: Global, parts: Parts<'_>) -> std::result::Result<Vec<u8>, AllocError> {
+    let mut bytes = Vec::new(alloc);
+    for (part, count) in parts {
+        for _ in 0..*count {
+            bytes.extend_from_slice(part)?;
+        }
     }
-    bytes.extend_from_slice(end)?;
     Ok(bytes)
+}
+
+/// Checks that the message of these parts is written as one of those, of so many bytes.
+fn check_parts(
+    rt: &impl Abort,
+    alloc: Global,
+    message: Parts<'_>,
+    expected: Parts<'_>,
+    length: usize,
+) -> Tested {
+    let message = repeated(alloc, message)?;
+    let expected = repeated(alloc, expected)?;
+    assert!(rt; expected.len() == length);
+    check_written(rt, alloc, &message, &expected)
 }
 
 #[test]
 fn rows_of_one_null_each_are_written_out(rt: HostRuntime) -> Tested {
-    let alloc = rt.alloc();
     let front = b"\x00\x02\x00\x00\x00\x00\x03\x6e\x0b\x00\x03\x01\x0d\x03\x01a\x03\x64";
-    let message = repeated(alloc, front, b"\x0a", 100, b"")?;
     let head = b"\x00\x02\x00\x00\x00\x00\x04\x23\x03\x00\x03\x64";
-    let expected = repeated(alloc, head, b"\x01\x03\x01\x0d\x03\x01a\x0a", 100, b"")?;
-    assert_eq!(rt; expected.len(), 812);
-    check_written(&rt, alloc, &message, &expected)
+    let object = b"\x01\x03\x01\x0d\x03\x01a\x0a";
+    let rows = [(front.as_slice(), 1), (b"\x0a", 100)];
+    check_parts(&rt, rt.alloc(), &rows, &[(head, 1), (object, 100)], 812)
 }
 
 #[test]
 fn rows_under_a_long_key_are_written_out(rt: HostRuntime) -> Tested {
     let alloc = rt.alloc();
     let front = b"\x00\x02\x00\x00\x00\x00\x04\xd1\x00\x0b\x00\x03\x01\x0d\x03\x64";
-    let front = repeated(alloc, front, b"a", 100, b"\x03\x64")?;
-    let message = repeated(alloc, &front, b"\x0a", 100, b"")?;
-    let object = repeated(alloc, b"\x01\x03\x01\x0d\x03\x64", b"a", 100, b"\x0a")?;
+    let rows = [
+        (front.as_slice(), 1),
+        (b"a", 100),
+        (b"\x03\x64", 1),
+        (b"\x0a", 100),
+    ];
+    let object = [
+        (b"\x01\x03\x01\x0d\x03\x64".as_slice(), 1),
+        (b"a", 100),
+        (b"\x0a", 1),
+    ];
+    let object = repeated(alloc, &object)?;
     let head = b"\x00\x02\x00\x00\x00\x00\x04\xcf\x29\x00\x03\x64";
-    let expected = repeated(alloc, head, &object, 100, b"")?;
-    assert_eq!(rt; expected.len(), 10_712);
-    check_written(&rt, alloc, &message, &expected)
+    check_parts(&rt, alloc, &rows, &[(head, 1), (&object, 100)], 10_712)
 }
 
 #[test]
 fn templates_in_one_another_are_written_as_what_is_not_read_again(rt: HostRuntime) -> Tested {
     let alloc = rt.alloc();
-    let head = b"\x00\x02\x00\x00\x00\x00\x04\xf9\x04";
-    let empty = b"\x00\x03\x00";
+    let head = b"\x00\x02\x00\x00\x00\x00\x04\xf9\x04".as_slice();
+    let empty = b"\x00\x03\x00".as_slice();
     let template = b"\x0b\x00\x03\x01\x0d\x03\x01a\x03\x01";
-    let message = repeated(alloc, head, template, 127, empty)?;
     let object_in_array = b"\x00\x03\x01\x01\x03\x01\x0d\x03\x01a";
-    let expected = repeated(alloc, head, object_in_array, 127, empty)?;
-    check_written(&rt, alloc, &message, &expected)?;
-    let mut writer = memory(alloc);
-    let refused = canon(alloc, &mut Watched::new(expected.as_slice()), &mut writer);
-    assert!(rt;
-        matches!(
-            refused,
-            Err(Error::DeRecursionLimitExceeded { kind: Kind::Array })
-        )
-    );
-    assert!(rt; writer.get_ref().is_empty());
-    Ok(())
+    let written = [(head, 1), (object_in_array, 127), (empty, 1)];
+    check_parts(
+        &rt,
+        alloc,
+        &[(head, 1), (template, 127), (empty, 1)],
+        &written,
+        1282,
+    )?;
+    let written = repeated(alloc, &written)?;
+    let mut reader = Watched::new(written.as_slice());
+    let deep = "Err(DeRecursionLimitExceeded { kind: Array })";
+    check_refused(&rt, alloc, &mut reader, &mut memory(alloc), 1282, deep)
 }
 
 #[test]
 fn a_long_byte_string_is_written_as_it_is(rt: HostRuntime) -> Tested {
-    let alloc = rt.alloc();
     let front = b"\x00\x02\x00\x00\x00\x00\x05\x46\x0d\x03\x00\x02\x05\x40\x0d\x03\x00";
-    let message = repeated(alloc, front, b"\xff\x00", 100_000, b"")?;
-    check_written(&rt, alloc, &message, &message)
+    let parts = [(front.as_slice(), 1), (b"\xff\x00", 100_000)];
+    check_parts(&rt, rt.alloc(), &parts, &parts, 200_017)
 }
 
-/// Reads the rows from a reader that breaks after so many bytes, and checks that its fault is
-/// answered and nothing is written.
+/// Checks that the fault of a reader that breaks after so many bytes of the rows is answered.
 fn check_broken(rt: &impl Abort, alloc: Global, given: usize, most: usize) -> Tested {
     let bytes = &ROWS[..given.min(ROWS.len())];
-    let mut reader = Watched::new(Breaks { bytes, most });
-    let mut writer = memory(alloc);
-    match canon(alloc, &mut reader, &mut writer) {
-        Err(
-            Error::DeReaderError {
-                source: ReadCause::Reader(fault),
-            },
-        ) => assert_eq!(rt; fault.kind(), ErrorKind::BrokenPipe, "after {given} bytes"),
-        _ => return Err("not refused for the reader".into()),
-    }
-    assert!(rt; writer.get_ref().is_empty(), "after {given} bytes");
-    Ok(())
+    let mut reader = Watched::new(Piecewise {
+        bytes,
+        most,
+        breaks: true,
+    });
+    let fault =
+        "Err(DeReaderError { source: Reader(Custom { kind: BrokenPipe, error: \"broken\" }) })";
+    check_refused(rt, alloc, &mut reader, &mut memory(alloc), given, fault)
 }
 
 #[test]
@@ -324,19 +353,10 @@ fn a_reader_that_breaks_at_any_byte_leaves_the_writer_untouched(rt: HostRuntime)
 #[test]
 fn each_proper_front_leaves_the_writer_untouched(rt: HostRuntime) -> Tested {
     let alloc = rt.alloc();
+    let mut writer = memory(alloc);
     for given in 0..ROWS.len() {
-        let mut writer = memory(alloc);
-        let refused = canon(alloc, &mut Watched::new(&ROWS[..given]), &mut writer);
-        assert!(rt;
-            matches!(
-                refused,
-                Err(Error::DeReaderError {
-                    source: ReadCause::Eof
-                })
-            ),
-            "after {given} bytes"
-        );
-        assert!(rt; writer.get_ref().is_empty(), "after {given} bytes");
+        let mut reader = Watched::new(&ROWS[..given]);
+        check_refused(&rt, alloc, &mut reader, &mut writer, given, EARLY_END)?;
     }
     Ok(())
 }

@@ -4,9 +4,11 @@ mod lengths;
 mod readers;
 mod slices;
 
-use bser_format::errors::{Error, ReadCause};
+use std::alloc::Global;
+use std::fmt::Debug;
 use std::io;
 use std::io::Read;
+use std::process::Abort;
 use std::test::Fail;
 
 type Tested = std::result::Result<(), Fail>;
@@ -34,27 +36,19 @@ struct OneByOne<'a> {
 
 impl<'a> Read for OneByOne<'a> {
     fn read(&mut self, buf: &mut [u8]) -> io::Result<usize> {
-        let count = buf.len().min(1).min(self.bytes.len());
-        buf[..count].copy_from_slice(&self.bytes[..count]);
-        self.bytes = &self.bytes[count..];
-        Ok(count)
+        let count = buf.len().min(1);
+        self.bytes.read(&mut buf[..count])
     }
 }
 
-fn is_eof(error: &Error) -> bool {
-    matches!(
-        error,
-        Error::DeReaderError {
-            source: ReadCause::Eof
-        }
-    )
-}
-
-fn is_failed(error: &Error) -> bool {
-    matches!(
-        error,
-        Error::DeReaderError {
-            source: ReadCause::Failed
-        }
-    )
+/// Checks how an answer is printed.
+fn check_answer<T: Debug + Drop>(
+    rt: &impl Abort,
+    alloc: Global,
+    answer: T,
+    expected: &str,
+) -> Tested {
+    let answer = format!(in alloc; "{answer:?}")?;
+    assert_eq!(rt; answer.as_str(), expected);
+    Ok(())
 }

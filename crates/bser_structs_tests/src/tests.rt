@@ -1,5 +1,8 @@
 //! Structs and enums from objects, rows and names, from a slice and from a reader, and the messages
 //! written for them.
+mod readers;
+
+use self::readers::read_one_by_one;
 use bser_structs_types::choices::Choice;
 use bser_structs_types::files::File;
 use bser_structs_types::named::NamedFile;
@@ -8,45 +11,28 @@ use bser_structs_types::rows::Row;
 use bser_structs_types::signed::Shift;
 use serde_bser::bytestring::ByteString;
 use serde_bser::de::ObjectOr;
-use serde_bser::device::Watched;
 use serde_bser::errors::{Complaint, Error, Message, Result};
+use serde_bser::from_slice;
 use serde_bser::prelude::*;
 use serde_bser::ser::{Serialize, to_vec};
-use serde_bser::{from_reader, from_slice};
 use std::alloc::Global;
 use std::collections::BTreeMap;
-use std::io;
-use std::io::Read;
+use std::fmt::Debug;
 use std::process::Abort;
 
-/// A reader that gives one byte a call.
-#[derive(Drop)]
-struct OneByOne<'a> {
-    bytes: &'a [u8],
-}
-
-impl<'a> Read for OneByOne<'a> {
-    fn read(&mut self, buf: &mut [u8]) -> io::Result<usize> {
-        let count = buf.len().min(1).min(self.bytes.len());
-        buf[..count].copy_from_slice(&self.bytes[..count]);
-        self.bytes = &self.bytes[count..];
-        Ok(count)
-    }
-}
-
 /// Checks that the message is read as this value, from a slice and byte by byte.
-fn check_read<'a, T: DeserializeOwned + Deserialize<&'a [u8]> + PartialEq>(
-    rt: &impl Abort,
-    alloc: Global,
-    bytes: &'a [u8],
-    wanted: &T,
-) -> Result<()> {
-    let read: T = from_slice(alloc, bytes)?;
-    assert!(rt; read == *wanted);
-    let mut reader = Watched::new(OneByOne { bytes });
-    let read: T = from_reader(alloc, &mut reader)?;
-    assert!(rt; read == *wanted);
+fn check_read<'a, T>(rt: &impl Abort, alloc: Global, bytes: &'a [u8], wanted: &T) -> Result<()>
+where
+    T: DeserializeOwned + Deserialize<&'a [u8]> + PartialEq + Debug,
+{
+    check_equal(rt, &from_slice(alloc, bytes)?, wanted);
+    check_equal(rt, &read_one_by_one(alloc, bytes)?, wanted);
     Ok(())
+}
+
+/// Checks that the message is read as this value.
+fn check_equal<T: PartialEq + Debug>(rt: &impl Abort, read: &T, wanted: &T) {
+    assert_eq!(rt; *read, *wanted);
 }
 
 /// Checks that this message is written for the value.
@@ -56,9 +42,22 @@ fn check_written<T: Serialize>(
     value: &T,
     bytes: &[u8],
 ) -> Result<()> {
-    let message = to_vec(alloc, value)?;
-    assert_eq!(rt; message.as_slice(), bytes);
+    assert_eq!(rt; to_vec(alloc, value)?.as_slice(), bytes);
     Ok(())
+}
+
+/// Checks that the message is read as this value, and is written for it.
+fn check_read_and_written<'a, T>(
+    rt: &impl Abort,
+    alloc: Global,
+    bytes: &'a [u8],
+    value: &T,
+) -> Result<()>
+where
+    T: DeserializeOwned + Deserialize<&'a [u8]> + Serialize + PartialEq + Debug,
+{
+    check_read(rt, alloc, bytes, value)?;
+    check_written(rt, alloc, value, bytes)
 }
 
 /// Checks that the message is refused with this complaint, from a slice and byte by byte.
@@ -68,21 +67,44 @@ fn check_refused<'a, T: DeserializeOwned + Deserialize<&'a [u8]>>(
     bytes: &'a [u8],
     complaint: Complaint,
 ) {
-    match from_slice::<T>(alloc, bytes) {
-        Ok(_) => assert!(rt; false),
-        Err(error) => assert!(rt; is_complaint(&error, complaint)),
-    }
-    let mut reader = Watched::new(OneByOne { bytes });
-    match from_reader::<_, T>(alloc, &mut reader) {
-        Ok(_) => assert!(rt; false),
-        Err(error) => assert!(rt; is_complaint(&error, complaint)),
+    check_complaint(rt, &from_slice::<T>(alloc, bytes), complaint);
+    check_complaint(rt, &read_one_by_one::<T>(alloc, bytes), complaint);
+}
+
+/// Checks that the answer is a refusal with this complaint.
+fn check_complaint<T>(rt: &impl Abort, answer: &Result<T>, complaint: Complaint) {
+    assert_eq!(rt; complaint_of(answer), Some(complaint));
+}
+
+/// The fixed complaint that the answer is refused with.
+fn complaint_of<T>(answer: &Result<T>) -> Option<Complaint> {
+    match answer {
+        Err(
+            Error::DeCustom {
+                msg: Message::Fixed(complaint),
+            },
+        ) => Some(*complaint),
+        _ => None,
     }
 }
 
-fn is_complaint(error: &Error, complaint: Complaint) -> bool {
-    matches!(error, Error::DeCustom { msg: Message::Fixed(found) } if *found == complaint)
+/// Checks that the message is read as this file.
+fn check_file_read(rt: &impl Abort, alloc: Global, bytes: &[u8], file: &File) -> Result<()> {
+    check_read(rt, alloc, bytes, file)
 }
 
+/// Checks that the message is read as this file, and written for it.
+fn check_file(rt: &impl Abort, alloc: Global, bytes: &[u8], file: &File) -> Result<()> {
+    check_file_read(rt, alloc, bytes, file)?;
+    check_written(rt, alloc, file, bytes)
+}
+
+/// Checks that the message is refused as a file with this complaint.
+fn check_file_refused(rt: &impl Abort, alloc: Global, bytes: &[u8], complaint: Complaint) {
+    check_refused::<File>(rt, alloc, bytes, complaint);
+}
+
+/// A file that has each field but a kind.
 fn first_file(alloc: Global) -> Result<File> {
     Ok(File {
         name: ByteString::from_vec(Vec::from_slice(alloc, b"a")?),
@@ -93,6 +115,7 @@ fn first_file(alloc: Global) -> Result<File> {
     })
 }
 
+/// A file whose name is no text, and whose time is null.
 fn second_file(alloc: Global) -> Result<File> {
     Ok(File {
         name: ByteString::from_vec(Vec::from_slice(alloc, b"\xff")?),
@@ -108,9 +131,7 @@ fn a_struct_is_read_as_it_is_written(rt: HostRuntime) -> Result<()> {
     let alloc = rt.alloc();
     let bytes = b"\x00\x02\0\0\0\0\x03\x2e\x01\x03\x04\x0d\x03\x04name\x02\x03\x01a\
 \x0d\x03\x04size\x03\x05\x0d\x03\x08mtime_ms\x03\x07\x0d\x03\x06exists\x08";
-    let file = first_file(alloc)?;
-    check_read(&rt, alloc, bytes, &file)?;
-    check_written(&rt, alloc, &file, bytes)
+    check_file(&rt, alloc, bytes, &first_file(alloc)?)
 }
 
 #[test]
@@ -118,9 +139,7 @@ fn what_is_none_is_null_or_left_out(rt: HostRuntime) -> Result<()> {
     let alloc = rt.alloc();
     let bytes = b"\x00\x02\0\0\0\0\x03\x2f\x01\x03\x04\x0d\x03\x04name\x02\x03\x01\xff\
 \x0d\x03\x04size\x04\x80\x00\x0d\x03\x08mtime_ms\x0a\x0d\x03\x04type\x0d\x03\x01f";
-    let file = second_file(alloc)?;
-    check_read(&rt, alloc, bytes, &file)?;
-    check_written(&rt, alloc, &file, bytes)
+    check_file(&rt, alloc, bytes, &second_file(alloc)?)
 }
 
 #[test]
@@ -129,7 +148,7 @@ fn fields_come_in_any_order_and_other_names_are_passed_over(rt: HostRuntime) -> 
     let bytes = b"\x00\x02\0\0\0\0\x03\x42\x01\x03\x06\x0d\x03\x06exists\x08\
 \x0d\x03\x05other\x00\x03\x01\x0a\x0d\x03\x08mtime_ms\x03\x07\x0d\x03\x04size\x03\x05\
 \x0d\x03\x04type\x0a\x0d\x03\x04name\x02\x03\x01a";
-    check_read(&rt, alloc, bytes, &first_file(alloc)?)
+    check_file_read(&rt, alloc, bytes, &first_file(alloc)?)
 }
 
 #[test]
@@ -145,14 +164,23 @@ fn rows_of_a_template_are_structs(rt: HostRuntime) -> Result<()> {
 #[test]
 fn a_field_that_has_to_be_there_is_refused_where_it_is_absent(rt: HostRuntime) {
     let bytes = b"\x00\x02\0\0\0\0\x03\x0e\x01\x03\x01\x0d\x03\x04name\x02\x03\x01a";
-    check_refused::<File>(&rt, rt.alloc(), bytes, Complaint::TooFewItems);
+    check_file_refused(&rt, rt.alloc(), bytes, Complaint::TooFewItems);
 }
 
 #[test]
 fn a_field_that_comes_twice_is_refused(rt: HostRuntime) {
     let bytes = b"\x00\x02\0\0\0\0\x03\x15\x01\x03\x02\x0d\x03\x04size\x03\x05\
 \x0d\x03\x04size\x03\x05";
-    check_refused::<File>(&rt, rt.alloc(), bytes, Complaint::ItemsLeft);
+    check_file_refused(&rt, rt.alloc(), bytes, Complaint::ItemsLeft);
+}
+
+/// A file of this name, whose size is 5.
+fn named_file(alloc: Global, name: &str, exists: Option<bool>) -> Result<NamedFile<String>> {
+    Ok(NamedFile {
+        name: String::from_str(alloc, name)?,
+        size: 5,
+        exists,
+    })
 }
 
 #[test]
@@ -163,30 +191,32 @@ fn a_name_is_lent_or_owned(rt: HostRuntime) -> Result<()> {
     let lent: NamedFile<&str> = from_slice(alloc, bytes)?;
     assert_eq!(rt; lent.name, "a");
     check_written(&rt, alloc, &lent, bytes)?;
-    let owned = NamedFile {
-        name: String::from_str(alloc, "a")?,
-        size: 5,
-        exists: Some(false),
-    };
-    check_read(&rt, alloc, bytes, &owned)?;
-    check_written(&rt, alloc, &owned, bytes)
+    check_read_and_written(&rt, alloc, bytes, &named_file(alloc, "a", Some(false))?)
 }
 
 #[test]
 fn strings_are_lent(rt: HostRuntime) -> Result<()> {
-    let alloc = rt.alloc();
     let bytes = b"\x00\x02\0\0\0\0\x03\x32\x0b\x00\x03\x03\x0d\x03\x04name\x0d\x03\x04type\
 \x0d\x03\x04tags\x03\x02\x02\x03\x01\xff\x0c\x00\x03\x00\x02\x03\x01b\x0d\x03\x01f\
 \x00\x03\x01\x0d\x03\x01t";
-    let rows: Vec<Row> = from_slice(alloc, bytes)?;
-    assert_eq!(rt; rows.len(), 2);
-    assert_eq!(rt; rows[0].name, b"\xff".as_slice());
-    assert_eq!(rt; rows[0].kind, None);
-    assert_eq!(rt; rows[0].tags.len(), 0);
-    assert_eq!(rt; rows[1].name, b"b".as_slice());
-    assert_eq!(rt; rows[1].kind, Some("f"));
-    assert_eq!(rt; rows[1].tags.as_slice(), ["t"].as_slice());
+    let rows: Vec<Row> = from_slice(rt.alloc(), bytes)?;
+    check_rows(&rt, &rows);
     Ok(())
+}
+
+/// Checks that the first row has a name alone, and the second has each field.
+fn check_rows(rt: &impl Abort, rows: &[Row]) {
+    assert_eq!(rt; rows.len(), 2);
+    check_row(rt, &rows[0], (b"\xff", None, &[]));
+    check_row(rt, &rows[1], (b"b", Some("f"), &["t"]));
+}
+
+/// What a row holds: the name, the kind and the tags.
+type Held<'a> = (&'a [u8], Option<&'a str>, &'a [&'a str]);
+
+/// Checks what the row holds.
+fn check_row(rt: &impl Abort, row: &Row, wanted: Held<'_>) {
+    assert_eq!(rt; (row.name, row.kind, row.tags.as_slice()), wanted);
 }
 
 #[test]
@@ -200,24 +230,22 @@ fn numbers_have_a_sign(rt: HostRuntime) -> Result<()> {
         drift: Some(-1),
         leap: None,
     };
-    check_read(&rt, alloc, bytes, &shift)?;
-    check_written(&rt, alloc, &shift, bytes)
+    check_read_and_written(&rt, alloc, bytes, &shift)
 }
 
 #[test]
 fn files_are_names_or_objects(rt: HostRuntime) -> Result<()> {
     let alloc = rt.alloc();
-    let file = NamedFile {
-        name: String::from_str(alloc, "b")?,
-        size: 5,
-        exists: None,
-    };
-    let name = String::from_str(alloc, "a")?;
     let bytes = b"\x00\x02\0\0\0\0\x03\x1e\x00\x03\x02\x0d\x03\x01a\
 \x01\x03\x02\x0d\x03\x04name\x0d\x03\x01b\x0d\x03\x04size\x03\x05";
-    let files = vec![in alloc; ObjectOr::Other(name), ObjectOr::Object(file)]?;
-    check_read(&rt, alloc, bytes, &files)?;
-    check_written(&rt, alloc, &files, bytes)
+    check_read_and_written(&rt, alloc, bytes, &name_and_object(alloc)?)
+}
+
+/// A name alone, and then a file.
+fn name_and_object(alloc: Global) -> Result<Vec<ObjectOr<NamedFile<String>, String>>> {
+    let name = String::from_str(alloc, "a")?;
+    let file = named_file(alloc, "b", None)?;
+    Ok(vec![in alloc; ObjectOr::Other(name), ObjectOr::Object(file)]?)
 }
 
 #[test]
@@ -238,10 +266,15 @@ fn the_rows_of_a_template_are_objects(rt: HostRuntime) -> Result<()> {
 #[test]
 fn an_object_is_not_read_as_the_other_type(rt: HostRuntime) {
     let bytes = b"\x00\x02\0\0\0\0\x03\x0e\x01\x03\x01\x0d\x03\x04name\x0d\x03\x01b";
-    type Listed = ObjectOr<NamedFile<String>, BTreeMap<String, String>>;
-    check_refused::<Listed>(&rt, rt.alloc(), bytes, Complaint::TooFewItems);
+    check_listed_refused(&rt, rt.alloc(), bytes, Complaint::TooFewItems);
     let bytes = b"\x00\x02\0\0\0\0\x03\x01\x0a";
-    check_refused::<Listed>(&rt, rt.alloc(), bytes, Complaint::WrongType);
+    check_listed_refused(&rt, rt.alloc(), bytes, Complaint::WrongType);
+}
+
+/// Checks that the message is refused as a file or a map with this complaint.
+fn check_listed_refused(rt: &impl Abort, alloc: Global, bytes: &[u8], complaint: Complaint) {
+    type Listed = ObjectOr<NamedFile<String>, BTreeMap<String, String>>;
+    check_refused::<Listed>(rt, alloc, bytes, complaint);
 }
 
 #[test]
@@ -249,74 +282,89 @@ fn a_query_is_written(rt: HostRuntime) -> Result<()> {
     let alloc = rt.alloc();
     let bytes = b"\x00\x02\0\0\0\0\x03\x21\x01\x03\x02\x0d\x03\x06fields\x00\x03\x01\
 \x0d\x03\x04name\x0d\x03\x05since\x0d\x03\x00";
-    let query = Query {
-        fields: &["name"],
-        since: Some(""),
-    };
-    check_written(&rt, alloc, &query, bytes)?;
+    check_query(&rt, alloc, Some(""), bytes)?;
     let bytes = b"\x00\x02\0\0\0\0\x03\x16\x01\x03\x01\x0d\x03\x06fields\x00\x03\x01\
 \x0d\x03\x04name";
+    check_query(&rt, alloc, None, bytes)
+}
+
+/// Checks that this message is written for a query of the names.
+fn check_query(rt: &impl Abort, alloc: Global, since: Option<&str>, bytes: &[u8]) -> Result<()> {
     let query = Query {
         fields: &["name"],
-        since: None,
+        since,
     };
-    check_written(&rt, alloc, &query, bytes)
+    check_written(rt, alloc, &query, bytes)
 }
 
 #[test]
 fn a_variant_of_each_form_is_read_as_it_is_written(rt: HostRuntime) -> Result<()> {
     let alloc = rt.alloc();
     let bytes = b"\x00\x02\0\0\0\0\x03\x0a\x0d\x03\x07Nothing";
-    check_choice(&rt, alloc, &Choice::Nothing, bytes)?;
+    check_choice(&rt, alloc, bytes, Choice::Nothing)?;
     let bytes = b"\x00\x02\0\0\0\0\x03\x0d\x01\x03\x01\x0d\x03\x03One\x0d\x03\x01a";
-    check_choice(
-        &rt,
-        alloc,
-        &Choice::One(String::from_str(alloc, "a")?),
-        bytes,
-    )?;
+    check_choice(&rt, alloc, bytes, Choice::One("a"))?;
     let bytes = b"\x00\x02\0\0\0\0\x03\x12\x01\x03\x01\x0d\x03\x03Two\x00\x03\x02\
 \x0d\x03\x01a\x03\x05";
-    check_choice(
-        &rt,
-        alloc,
-        &Choice::Two(String::from_str(alloc, "a")?, 5),
-        bytes,
-    )?;
+    check_choice(&rt, alloc, bytes, Choice::Two("a", 5))?;
     let bytes = b"\x00\x02\0\0\0\0\x03\x18\x01\x03\x01\x0d\x03\x05Named\x01\x03\x01\
 \x0d\x03\x03abc\x0d\x03\x01a";
     let named = Choice::Named {
-        abc: String::from_str(alloc, "a")?,
+        abc: "a",
         def: None,
     };
-    check_choice(&rt, alloc, &named, bytes)?;
+    check_choice(&rt, alloc, bytes, named)?;
     let bytes = b"\x00\x02\0\0\0\0\x03\x20\x01\x03\x01\x0d\x03\x05Named\x01\x03\x02\
 \x0d\x03\x03abc\x0d\x03\x01a\x0d\x03\x03def\x03\xfe";
     let named = Choice::Named {
-        abc: String::from_str(alloc, "a")?,
+        abc: "a",
         def: Some(-2),
     };
-    check_choice(&rt, alloc, &named, bytes)
+    check_choice(&rt, alloc, bytes, named)
 }
 
-/// Checks that the message is read as this choice, and written for it.
-fn check_choice(
+/// Checks that the message is read as this choice with a text of its own, and written for it.
+fn check_choice(rt: &impl Abort, alloc: Global, bytes: &[u8], choice: Choice<&str>) -> Result<()> {
+    let choice = owned(alloc, choice)?;
+    check_choice_read(rt, alloc, bytes, &choice)?;
+    check_written(rt, alloc, &choice, bytes)
+}
+
+/// Checks that the message is read as this choice.
+fn check_choice_read(
     rt: &impl Abort,
     alloc: Global,
-    choice: &Choice<String>,
     bytes: &[u8],
+    choice: &Choice<String>,
 ) -> Result<()> {
-    check_read(rt, alloc, bytes, choice)?;
-    check_written(rt, alloc, choice, bytes)
+    check_read(rt, alloc, bytes, choice)
+}
+
+/// Checks that the message is refused as a choice with this complaint.
+fn check_choice_refused(rt: &impl Abort, alloc: Global, bytes: &[u8], complaint: Complaint) {
+    check_refused::<Choice<String>>(rt, alloc, bytes, complaint);
+}
+
+/// The choice with a text of its own.
+fn owned(alloc: Global, choice: Choice<&str>) -> Result<Choice<String>> {
+    Ok(match choice {
+        Choice::Nothing => Choice::Nothing,
+        Choice::One(first) => Choice::One(String::from_str(alloc, first)?),
+        Choice::Two(first, second) => Choice::Two(String::from_str(alloc, first)?, second),
+        Choice::Named { abc, def } => Choice::Named {
+            abc: String::from_str(alloc, abc)?,
+            def,
+        },
+    })
 }
 
 #[test]
 fn a_variant_is_read_from_an_object_or_a_row(rt: HostRuntime) -> Result<()> {
     let alloc = rt.alloc();
     let bytes = b"\x00\x02\0\0\0\0\x03\x0e\x01\x03\x01\x0d\x03\x07Nothing\x0a";
-    check_read(&rt, alloc, bytes, &Choice::<String>::Nothing)?;
+    check_choice_read(&rt, alloc, bytes, &Choice::Nothing)?;
     let bytes = b"\x00\x02\0\0\0\0\x03\x10\x0b\x00\x03\x01\x0d\x03\x03One\x03\x01\x0d\x03\x01a";
-    let rows = vec![in alloc; Choice::One(String::from_str(alloc, "a")?)]?;
+    let rows = vec![in alloc; owned(alloc, Choice::One("a"))?]?;
     check_read(&rt, alloc, bytes, &rows)
 }
 
@@ -324,28 +372,28 @@ fn a_variant_is_read_from_an_object_or_a_row(rt: HostRuntime) -> Result<()> {
 fn a_name_of_no_variant_is_refused(rt: HostRuntime) {
     let alloc = rt.alloc();
     let bytes = b"\x00\x02\0\0\0\0\x03\x07\x0d\x03\x04Nope";
-    check_refused::<Choice<String>>(&rt, alloc, bytes, Complaint::UnknownVariant);
+    check_choice_refused(&rt, alloc, bytes, Complaint::UnknownVariant);
     let bytes = b"\x00\x02\0\0\0\0\x03\x0b\x01\x03\x01\x0d\x03\x04Nope\x0a";
-    check_refused::<Choice<String>>(&rt, alloc, bytes, Complaint::UnknownVariant);
+    check_choice_refused(&rt, alloc, bytes, Complaint::UnknownVariant);
 }
 
 #[test]
 fn a_payload_that_is_not_as_its_variant_is_refused(rt: HostRuntime) {
     let alloc = rt.alloc();
     let bytes = b"\x00\x02\0\0\0\0\x03\x06\x0d\x03\x03One";
-    check_refused::<Choice<String>>(&rt, alloc, bytes, Complaint::WrongType);
+    check_choice_refused(&rt, alloc, bytes, Complaint::WrongType);
     let bytes = b"\x00\x02\0\0\0\0\x03\x0f\x01\x03\x01\x0d\x03\x07Nothing\x03\x01";
-    check_refused::<Choice<String>>(&rt, alloc, bytes, Complaint::WrongType);
+    check_choice_refused(&rt, alloc, bytes, Complaint::WrongType);
     let bytes = b"\x00\x02\0\0\0\0\x03\x10\x01\x03\x01\x0d\x03\x03Two\x00\x03\x01\x0d\x03\x01a";
-    check_refused::<Choice<String>>(&rt, alloc, bytes, Complaint::TooFewItems);
+    check_choice_refused(&rt, alloc, bytes, Complaint::TooFewItems);
     let bytes = b"\x00\x02\0\0\0\0\x03\x16\x01\x03\x01\x0d\x03\x05Named\x01\x03\x01\
 \x0d\x03\x03def\x03\x05";
-    check_refused::<Choice<String>>(&rt, alloc, bytes, Complaint::TooFewItems);
+    check_choice_refused(&rt, alloc, bytes, Complaint::TooFewItems);
 }
 
 #[test]
 fn an_enum_of_two_entries_is_refused(rt: HostRuntime) {
     let bytes = b"\x00\x02\0\0\0\0\x03\x19\x01\x03\x02\x0d\x03\x07Nothing\x0a\
 \x0d\x03\x07Nothing\x0a";
-    check_refused::<Choice<String>>(&rt, rt.alloc(), bytes, Complaint::EnumObjectEntries);
+    check_choice_refused(&rt, rt.alloc(), bytes, Complaint::EnumObjectEntries);
 }

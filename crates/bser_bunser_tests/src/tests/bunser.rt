@@ -1,72 +1,64 @@
 //! Tests of heads, integers and counted bytes, by the calls of the crate.
-use super::source_of;
+use super::{
+    FAILED_BEFORE, NEGATIVE_LENGTH, check_bytes, check_discarded, check_equal, check_given,
+    check_head, check_no_integer, check_refused, reader_of, source_of,
+};
 use bser_bunser::bunser::{Bunser, PduInfo};
-use bser_format::errors::{Complaint, Error, Kind, Message, ReadCause, Result};
+use bser_format::errors::Result;
 use bser_format::header::EMPTY_HEADER;
+use bser_read::read::DeRead;
 use bser_read::slice_read::SliceRead;
 use std::alloc::Global;
-use std::io;
-use std::io::ErrorKind;
 use std::process::Abort;
-
-fn is_interruption(error: &io::Error) -> bool {
-    error.kind() == ErrorKind::Interrupted
-}
 
 const MESSAGE: &[u8] = b"\x00\x02\x01\x00\x00\x00\x03\x06\x05\xff\xff\xff\xff\x0aZZ";
 
-/// Reads the message's head, the integer -1 and a null, and gives how often the reader was asked and
-/// how many bytes it has left.
-fn reads_whole(rt: &impl Abort, alloc: Global, most: usize) -> Result<(u64, usize)> {
+/// The message's head, the integer -1 and a null.
+fn check_whole<R: DeRead>(rt: &impl Abort, from: &mut Bunser<R>) {
+    let info = check_head(rt, from, 1, 6, 8);
+    check_given(rt, from.check_next_int(), -1);
+    check_discarded(rt, from, 0x0a);
+    check_given(rt, from.end(&info), ());
+}
+
+/// The message is read by so many calls of the reader, which keeps two bytes.
+fn check_short_reads(rt: &impl Abort, alloc: Global, most: usize, calls: u64) {
     let mut bunser = Bunser::new(alloc, source_of(MESSAGE, most, 99));
-    let info = bunser.read_pdu()?;
-    assert_eq!(rt; info.bser_capabilities, 1);
-    assert_eq!(rt; info.len, 6);
-    assert_eq!(rt; info.start, 8);
-    assert_eq!(rt; bunser.check_next_int()?, -1);
-    assert_eq!(rt; bunser.peek()?, 0x0a);
-    bunser.discard();
-    bunser.end(&info)?;
-    let reader = bunser.into_inner().into_inner().into_inner();
-    Ok((reader.calls, reader.bytes.len()))
+    check_whole(rt, &mut bunser);
+    let reader = reader_of(bunser);
+    check_equal(rt, (reader.calls, reader.bytes.len()), (calls, 2));
 }
 
 #[test]
-fn short_reads_give_what_whole_ones_give(rt: HostRuntime) -> Result<()> {
+fn short_reads_give_what_whole_ones_give(rt: HostRuntime) {
     for (most, calls) in [(99, 5), (1, 14), (3, 7)] {
-        let (asked, left) = reads_whole(&rt, rt.alloc(), most)?;
-        assert_eq!(rt; asked, calls, "at most {most} bytes a call");
-        assert_eq!(rt; left, 2, "at most {most} bytes a call");
+        check_short_reads(&rt, rt.alloc(), most, calls);
     }
-    Ok(())
+}
+
+/// The message's head and the integer -1, and then an interruption.
+fn check_fault<R: DeRead>(rt: &impl Abort, alloc: Global, from: &mut Bunser<R>) {
+    let fault = "DeReaderError { source: Reader(Kind(Interrupted)) }";
+    check_head(rt, from, 1, 6, 8);
+    check_given(rt, from.check_next_int(), -1);
+    check_refused(rt, alloc, from.peek(), fault);
+    check_refused(rt, alloc, from.peek(), FAILED_BEFORE);
 }
 
 #[test]
-fn a_fault_waits_for_the_call_that_needs_the_byte(rt: HostRuntime) -> Result<()> {
+fn a_fault_waits_for_the_call_that_needs_the_byte(rt: HostRuntime) {
     let mut bunser = Bunser::new(rt.alloc(), source_of(MESSAGE, 99, 13));
-    bunser.read_pdu()?;
-    assert_eq!(rt; bunser.check_next_int()?, -1);
-    match bunser.peek() {
-        Err(
-            Error::DeReaderError {
-                source: ReadCause::Reader(error),
-            },
-        ) => assert!(rt; is_interruption(&error)),
-        _ => assert!(rt; false),
-    }
-    assert!(rt;
-        matches!(
-            bunser.peek(),
-            Err(Error::DeReaderError {
-                source: ReadCause::Failed
-            })
-        )
-    );
-    Ok(())
+    check_fault(&rt, rt.alloc(), &mut bunser);
+}
+
+/// An integer of this value is next.
+fn check_integer(rt: &impl Abort, alloc: Global, text: &[u8], value: i64) {
+    let mut bunser = Bunser::new(alloc, SliceRead::new(text));
+    check_given(rt, bunser.check_next_int(), value);
 }
 
 #[test]
-fn integers_have_four_widths(rt: HostRuntime) -> Result<()> {
+fn integers_have_four_widths(rt: HostRuntime) {
     let texts: [(&[u8], i64); 6] = [
         (b"\x03\x80", -128),
         (b"\x04\x80\x00", 128),
@@ -76,171 +68,101 @@ fn integers_have_four_widths(rt: HostRuntime) -> Result<()> {
         (b"\x06\x00\x00\x00\x00\x00\x00\x00\x80", i64::MIN),
     ];
     for (text, value) in texts {
-        let mut bunser = Bunser::new(rt.alloc(), SliceRead::new(text));
-        assert_eq!(rt; bunser.check_next_int()?, value);
+        check_integer(&rt, rt.alloc(), text, value);
     }
     let mut bunser = Bunser::new(rt.alloc(), SliceRead::new(b"\x0a\x03\x01"));
-    match bunser.check_next_int() {
-        Err(Error::DeInvalidStartByte { kind, byte }) => {
-            assert!(rt; kind == Kind::Integer);
-            assert_eq!(rt; byte, 0x0a);
-        }
-        _ => assert!(rt; false),
-    }
-    assert!(rt;
-        matches!(
-            bunser.check_next_int(),
-            Err(Error::DeReaderError {
-                source: ReadCause::Failed
-            })
-        )
-    );
-    Ok(())
+    check_no_integer(&rt, rt.alloc(), &mut bunser);
+}
+
+/// A real of these bits is next.
+fn check_real<R: DeRead>(rt: &impl Abort, from: &mut Bunser<R>, bits: u64) {
+    let tag = from.peek().expect(rt, "a byte is left");
+    check_equal(rt, tag, 0x07);
+    check_given(rt, from.next_f64(), bits);
 }
 
 #[test]
-fn a_real_is_its_bits(rt: HostRuntime) -> Result<()> {
-    let mut bunser = Bunser::new(
-        rt.alloc(),
-        SliceRead::new(b"\x07\x18\x2d\x44\x54\xfb\x21\x09\x40"),
-    );
-    assert_eq!(rt; bunser.peek()?, 0x07);
-    assert_eq!(rt; bunser.next_f64()?, 0x4009_21fb_5444_2d18);
-    Ok(())
+fn a_real_is_its_bits(rt: HostRuntime) {
+    let real = b"\x07\x18\x2d\x44\x54\xfb\x21\x09\x40";
+    let mut bunser = Bunser::new(rt.alloc(), SliceRead::new(real));
+    check_real(&rt, &mut bunser, 0x4009_21fb_5444_2d18);
+}
+
+/// Two bytes are lent, and a length below 0 is refused.
+fn check_lent<R: DeRead>(rt: &impl Abort, alloc: Global, from: &mut Bunser<R>) {
+    let mut scratch = Vec::new(alloc);
+    check_bytes(rt, from.read_bytes(2, &mut scratch), b"ab");
+    check_equal(rt, scratch.len(), 0);
+    let refused = from.read_bytes(-1, &mut scratch);
+    check_refused(rt, alloc, refused, NEGATIVE_LENGTH);
 }
 
 #[test]
-fn bytes_are_lent_from_a_slice(rt: HostRuntime) -> Result<()> {
-    let mut scratch = Vec::new(rt.alloc());
+fn bytes_are_lent_from_a_slice(rt: HostRuntime) {
     let mut bunser = Bunser::new(rt.alloc(), SliceRead::new(b"abc"));
-    assert_eq!(rt;
-        bunser.read_bytes(2, &mut scratch)?.get_ref(),
-        b"ab".as_slice()
-    );
-    assert_eq!(rt; scratch.len(), 0);
-    assert!(rt;
-        is_complaint(
-            bunser.read_bytes(-1, &mut scratch).err(),
-            Complaint::NegativeLength
-        )
-    );
-    Ok(())
+    check_lent(&rt, rt.alloc(), &mut bunser);
 }
 
-fn is_complaint(refusal: Option<Error>, complaint: Complaint) -> bool {
-    match refusal {
-        Some(
-            Error::DeCustom {
-                msg: Message::Fixed(found),
-            },
-        ) => found == complaint,
-        _ => false,
-    }
+/// A message of no body, whose head takes eleven bytes.
+fn check_empty<R: DeRead>(rt: &impl Abort, from: &mut Bunser<R>) {
+    let info = check_head(rt, from, 0, 0, 11);
+    check_equal(rt, from.read_count(), 11);
+    check_given(rt, from.end(&info), ());
 }
 
 #[test]
-fn reads_the_empty_header(rt: HostRuntime) -> Result<()> {
+fn reads_the_empty_header(rt: HostRuntime) {
     let mut bunser = Bunser::new(rt.alloc(), SliceRead::new(EMPTY_HEADER));
-    let info = bunser.read_pdu()?;
-    assert_eq!(rt; info.bser_capabilities, 0);
-    assert_eq!(rt; info.len, 0);
-    assert_eq!(rt; info.start, 11);
-    assert_eq!(rt; bunser.read_count(), 11);
-    bunser.end(&info)
+    check_empty(&rt, &mut bunser);
 }
 
-#[test]
-fn refuses_other_heads(rt: HostRuntime) {
-    let mut bunser = Bunser::new(rt.alloc(), SliceRead::new(b"\x00\x01\x03\x01\x0a"));
-    match bunser.read_pdu() {
-        Err(Error::DeInvalidMagic { magic }) => assert_eq!(rt; magic, [0, 1]),
-        _ => assert!(rt; false),
-    }
-    let mut bunser = Bunser::new(
-        rt.alloc(),
-        SliceRead::new(b"\x00\x02\x00\x00\x00\x00\x03\xff\x0a"),
-    );
-    assert!(rt; is_complaint(bunser.read_pdu().err(), Complaint::NegativeLength));
-    let mut bunser = Bunser::new(
-        rt.alloc(),
-        SliceRead::new(b"\x00\x02\x00\x00\x00\x00\x04\x80"),
-    );
-    assert!(rt;
-        matches!(
-            bunser.read_pdu(),
-            Err(Error::DeReaderError {
-                source: ReadCause::Eof
-            })
-        )
-    );
+/// What `end` answers after the head and a body of one null.
+fn end_of_null<R: DeRead>(rt: &impl Abort, from: &mut Bunser<R>) -> Result<()> {
+    let info = from.read_pdu().expect(rt, "the head is whole");
+    check_discarded(rt, from, 0x0a);
+    from.end(&info)
 }
 
-#[test]
-fn a_body_does_not_end_after_a_refusal(rt: HostRuntime) -> Result<()> {
-    let message = b"\x00\x02\x00\x00\x00\x00\x03\x00";
-    let mut bunser = Bunser::new(rt.alloc(), SliceRead::new(message));
-    let info = bunser.read_pdu()?;
-    bunser.end(&info)?;
-    assert!(rt;
-        matches!(
-            bunser.peek(),
-            Err(Error::DeReaderError {
-                source: ReadCause::Eof
-            })
-        )
-    );
-    assert!(rt;
-        matches!(
-            bunser.end(&info),
-            Err(Error::DeReaderError {
-                source: ReadCause::Failed
-            })
-        )
-    );
-    Ok(())
-}
-
-/// Reads the head and a body of one byte, and gives what `end` refuses.
-fn end_of_one_byte(alloc: Global, message: &[u8]) -> Result<Option<Error>> {
+/// The message of one null is refused where it ends.
+fn check_end_refused(rt: &impl Abort, alloc: Global, message: &[u8], refusal: &str) {
     let mut bunser = Bunser::new(alloc, SliceRead::new(message));
-    let info = bunser.read_pdu()?;
-    bunser.peek()?;
-    bunser.discard();
-    Ok(bunser.end(&info).err())
+    check_refused(rt, alloc, end_of_null(rt, &mut bunser), refusal);
 }
 
-fn is_end(refusal: Option<Error>, expected_count: usize, read_count: usize) -> bool {
-    match refusal {
-        Some(Error::DeEof { expected, read }) => expected == expected_count && read == read_count,
-        _ => false,
-    }
+/// No body of this length and start ends before the first byte.
+fn check_negative(rt: &impl Abort, alloc: Global, len: i64, start: i64) {
+    let info = PduInfo {
+        bser_capabilities: 0,
+        len,
+        start,
+    };
+    let bunser = Bunser::new(alloc, SliceRead::new(b""));
+    check_refused(rt, alloc, bunser.end(&info), NEGATIVE_LENGTH);
 }
 
 #[test]
-fn a_body_ends_where_its_head_says(rt: HostRuntime) -> Result<()> {
-    let cases: [(&[u8], usize, usize); 3] = [
-        (b"\x00\x02\x00\x00\x00\x00\x03\x02\x0a", 10, 9),
-        (b"\x00\x02\x00\x00\x00\x00\x03\x00\x0a", 8, 9),
-        (
-            b"\x00\x02\x00\x00\x00\x00\x06\xf0\xff\xff\xff\xff\xff\xff\x7f\x0a",
-            9_223_372_036_854_775_807,
-            16,
-        ),
-    ];
-    for (message, expected, read) in cases {
-        assert!(rt; is_end(end_of_one_byte(rt.alloc(), message)?, expected, read));
-    }
-    assert!(rt; end_of_one_byte(rt.alloc(), b"\x00\x02\x00\x00\x00\x00\x03\x01\x0a")?.is_none());
-    let most = b"\x00\x02\x00\x00\x00\x00\x06\xff\xff\xff\xff\xff\xff\xff\x7f\x0a";
-    assert!(rt; is_complaint(end_of_one_byte(rt.alloc(), most)?, Complaint::CountTooGreat));
-    let bunser = Bunser::new(rt.alloc(), SliceRead::new(b""));
-    for (len, start) in [(-1, 0), (0, -1)] {
-        let info = PduInfo {
-            bser_capabilities: 0,
-            len,
-            start,
-        };
-        assert!(rt; is_complaint(bunser.end(&info).err(), Complaint::NegativeLength));
-    }
-    Ok(())
+fn a_body_ends_where_its_head_says(rt: HostRuntime) {
+    let alloc = rt.alloc();
+    check_ends(&rt, alloc);
+    let mut whole = Bunser::new(
+        alloc,
+        SliceRead::new(b"\x00\x02\x00\x00\x00\x00\x03\x01\x0a"),
+    );
+    check_given(&rt, end_of_null(&rt, &mut whole), ());
+    check_negative(&rt, alloc, -1, 0);
+    check_negative(&rt, alloc, 0, -1);
+}
+
+/// Messages of one null whose heads say another length than one.
+fn check_ends(rt: &impl Abort, alloc: Global) {
+    let long = b"\x00\x02\x00\x00\x00\x00\x03\x02\x0a";
+    check_end_refused(rt, alloc, long, "DeEof { expected: 10, read: 9 }");
+    let short = b"\x00\x02\x00\x00\x00\x00\x03\x00\x0a";
+    check_end_refused(rt, alloc, short, "DeEof { expected: 8, read: 9 }");
+    let greatest = b"\x00\x02\x00\x00\x00\x00\x06\xf0\xff\xff\xff\xff\xff\xff\x7f\x0a";
+    let refusal = "DeEof { expected: 9223372036854775807, read: 16 }";
+    check_end_refused(rt, alloc, greatest, refusal);
+    let greater = b"\x00\x02\x00\x00\x00\x00\x06\xff\xff\xff\xff\xff\xff\xff\x7f\x0a";
+    let refusal = "DeCustom { msg: Fixed(CountTooGreat) }";
+    check_end_refused(rt, alloc, greater, refusal);
 }

@@ -6,6 +6,10 @@ fn is_its_text(rt: &impl Abort, text: &str) {
     assert_eq!(rt; as_text(text.as_bytes()), Some(text));
 }
 
+fn is_no_text(rt: &impl Abort, bytes: &[u8]) {
+    assert_eq!(rt; as_text(bytes), None);
+}
+
 #[test]
 fn bytes_are_a_text_where_they_are_utf8(rt: HostRuntime) {
     is_its_text(&rt, "");
@@ -16,9 +20,9 @@ fn bytes_are_a_text_where_they_are_utf8(rt: HostRuntime) {
     is_its_text(&rt, "é");
     is_its_text(&rt, "123456é");
     is_its_text(&rt, "1234567é");
-    assert!(rt; as_text(b"\xc3").is_none());
-    assert!(rt; as_text(b"\x80").is_none());
-    assert!(rt; as_text(b"1234567\xc3").is_none());
-    assert!(rt; as_text(b"1234567\xff").is_none());
-    assert!(rt; as_text(b"12345678\xff").is_none());
+    is_no_text(&rt, b"\xc3");
+    is_no_text(&rt, b"\x80");
+    is_no_text(&rt, b"1234567\xc3");
+    is_no_text(&rt, b"1234567\xff");
+    is_no_text(&rt, b"12345678\xff");
 }

@@ -1,13 +1,13 @@
 //! Whole messages, part by part.
-use super::reader_of;
+use super::{Content, check_content_of, check_end, check_levels};
 use bser_bunser::refusal::Answer;
 use bser_deserializer::container::Containers;
 use bser_deserializer::cursor::Cursor;
 use bser_deserializer::deserializer::Deserializer;
 use bser_deserializer::scalar::Node;
+use bser_due::frames::{MapHead, SeqHead};
 use bser_format::errors::Result;
 use bser_read::read::DeRead;
-use bser_read::slice_read::SliceRead;
 use bser_source::read::LendsText;
 use std::alloc::Global;
 use std::process::Abort;
@@ -27,56 +27,148 @@ const ROWS: &[u8] =
 const NESTED: &[u8] =
     b"\x00\x02\x00\x00\x00\x00\x03\x1c\x0b\x00\x03\x01\x02\x03\x01a\x03\x02\x0b\x00\x03\x02\x0d\x03\x01b\x02\x03\x01c\x03\x01\x08\x09\x03\x07";
 
-fn key_is<R: DeRead>(alloc: Global, key: &[u8], from: &mut Deserializer<R>) -> Answer<bool> {
-    let mut scratch = Vec::new(alloc);
-    from.await_key();
-    let is_key = from.node()? == Node::Key;
-    let is_same = from.read_bytes(&mut scratch)?.get_ref() == key;
-    from.await_node();
-    Ok(is_key && is_same)
+fn check_node<R: DeRead>(rt: &impl Abort, node: Node, from: &mut Deserializer<R>) {
+    assert_eq!(rt; from.node().ok(), Some(node));
 }
 
-fn name_is<R: DeRead>(
+fn check_unit<R: DeRead>(rt: &impl Abort, from: &mut Deserializer<R>) {
+    assert!(rt; from.read_unit().is_ok());
+}
+
+fn check_none<R: DeRead>(rt: &impl Abort, is_none: bool, from: &mut Deserializer<R>) {
+    assert_eq!(rt; from.read_none().ok(), Some(is_none));
+}
+
+fn check_bool<R: DeRead>(rt: &impl Abort, value: bool, from: &mut Deserializer<R>) {
+    assert_eq!(rt; from.read_bool().ok(), Some(value));
+}
+
+fn check_integer<R: DeRead>(rt: &impl Abort, value: i64, from: &mut Deserializer<R>) {
+    assert_eq!(rt; from.read_i64().ok(), Some(value));
+}
+
+fn check_bytes<R: DeRead>(
+    rt: &impl Abort,
+    alloc: Global,
+    bytes: &[u8],
+    from: &mut Deserializer<R>,
+) {
+    let mut scratch = Vec::new(alloc);
+    match from.read_bytes(&mut scratch) {
+        Ok(read) => assert_eq!(rt; read.get_ref(), bytes),
+        Err(_) => assert!(rt; false),
+    }
+}
+
+fn check_text<R: DeRead>(rt: &impl Abort, alloc: Global, text: &str, from: &mut Deserializer<R>)
+where
+    R::Lent: LendsText,
+{
+    let mut scratch = Vec::new(alloc);
+    match from.read_text(&mut scratch) {
+        Ok(read) => assert_eq!(rt; read.get_ref(), text),
+        Err(_) => assert!(rt; false),
+    }
+}
+
+/// The key of an object's entry is read as these bytes, and its value is due.
+fn check_key<R: DeRead>(rt: &impl Abort, alloc: Global, key: &[u8], from: &mut Deserializer<R>) {
+    from.await_key();
+    check_node(rt, Node::Key, from);
+    check_bytes(rt, alloc, key, from);
+    from.await_node();
+}
+
+/// The key of a row's field is read as this text, and the field is due.
+fn check_name<R: DeRead>(
+    rt: &impl Abort,
     alloc: Global,
     place: usize,
     name: &str,
     from: &mut Deserializer<R>,
-) -> Answer<bool>
+)
 where
     R::Lent: LendsText,
 {
-    let mut scratch = Vec::new(alloc);
     from.await_name(place);
-    let is_key = from.node()? == Node::Key;
-    let is_same = from.read_text(&mut scratch)?.get_ref() == name;
+    check_node(rt, Node::Key, from);
+    check_text(rt, alloc, name, from);
     from.await_field();
-    Ok(is_key && is_same)
 }
 
-fn singles_are_read<R: DeRead>(
+/// So many items are opened, and they are rows or not.
+fn check_items<R: DeRead>(
+    rt: &impl Abort,
+    alloc: Global,
+    remaining: usize,
+    rows: bool,
+    from: &mut Deserializer<R>,
+) -> Answer<SeqHead> {
+    let items = from.open_items(alloc)?;
+    assert!(rt; items.remaining == remaining && items.rows == rows);
+    Ok(items)
+}
+
+/// Entries are opened: an object of so many, or the row whose first field has this place.
+fn check_pairs<R: DeRead>(
+    rt: &impl Abort,
+    at: usize,
+    row: bool,
+    from: &mut Deserializer<R>,
+) -> Answer<MapHead> {
+    let pairs = from.open_pairs()?;
+    assert!(rt; pairs.at == at && pairs.row == row);
+    Ok(pairs)
+}
+
+fn check_singles<R: DeRead>(rt: &impl Abort, alloc: Global, from: &mut Deserializer<R>) {
+    check_key(rt, alloc, b"n", from);
+    check_node(rt, Node::Null, from);
+    check_unit(rt, from);
+    check_key(rt, alloc, b"t", from);
+    check_node(rt, Node::Bool, from);
+    check_bool(rt, true, from);
+    check_key(rt, alloc, b"f", from);
+    check_none(rt, false, from);
+    check_bool(rt, false, from);
+    check_key(rt, alloc, b"i", from);
+    check_node(rt, Node::Integer, from);
+    check_integer(rt, 128, from);
+    check_key(rt, alloc, b"r", from);
+    check_node(rt, Node::Real, from);
+    assert_eq!(rt; from.read_real_bits().ok(), Some(0x0807_0605_0403_0201));
+}
+
+fn check_strings<R: DeRead>(rt: &impl Abort, alloc: Global, from: &mut Deserializer<R>)
+where
+    R::Lent: LendsText,
+{
+    check_key(rt, alloc, b"b", from);
+    check_node(rt, Node::Bytes, from);
+    check_bytes(rt, alloc, b"\xff\xfe", from);
+    check_key(rt, alloc, b"s", from);
+    check_node(rt, Node::Text, from);
+    check_text(rt, alloc, "hi", from);
+}
+
+fn check_array_and_integer<R: DeRead>(
     rt: &impl Abort,
     alloc: Global,
     from: &mut Deserializer<R>,
 ) -> Answer<()> {
-    assert!(rt; key_is(alloc, b"n", from)?);
-    assert!(rt; from.node()? == Node::Null);
-    from.read_unit()?;
-    assert!(rt; key_is(alloc, b"t", from)?);
-    assert!(rt; from.node()? == Node::Bool);
-    assert!(rt; from.read_bool()?);
-    assert!(rt; key_is(alloc, b"f", from)?);
-    assert!(rt; !from.read_none()?);
-    assert!(rt; !from.read_bool()?);
-    assert!(rt; key_is(alloc, b"i", from)?);
-    assert!(rt; from.node()? == Node::Integer);
-    assert_eq!(rt; from.read_i64()?, 128);
-    assert!(rt; key_is(alloc, b"r", from)?);
-    assert!(rt; from.node()? == Node::Real);
-    assert_eq!(rt; from.read_real_bits()?, 0x0807_0605_0403_0201);
+    check_key(rt, alloc, b"a", from);
+    check_node(rt, Node::Array, from);
+    let items = check_items(rt, alloc, 0, false, from)?;
+    check_levels(rt, 126, from);
+    from.close_items(items);
+    check_levels(rt, 127, from);
+    check_key(rt, alloc, b"l", from);
+    check_integer(rt, i64::MIN, from);
     Ok(())
 }
 
-fn strings_are_read<R: DeRead>(
+/// The parts of [`SCALARS`].
+pub(super) fn check_scalars<R: DeRead>(
     rt: &impl Abort,
     alloc: Global,
     from: &mut Deserializer<R>,
@@ -84,55 +176,24 @@ fn strings_are_read<R: DeRead>(
 where
     R::Lent: LendsText,
 {
-    let mut scratch = Vec::new(alloc);
-    assert!(rt; key_is(alloc, b"b", from)?);
-    assert!(rt; from.node()? == Node::Bytes);
-    assert_eq!(rt;
-        from.read_bytes(&mut scratch)?.get_ref(),
-        b"\xff\xfe".as_slice()
-    );
-    assert!(rt; key_is(alloc, b"s", from)?);
-    assert!(rt; from.node()? == Node::Text);
-    assert_eq!(rt; from.read_text(&mut scratch)?.get_ref(), "hi");
-    assert!(rt; key_is(alloc, b"a", from)?);
-    assert!(rt; from.node()? == Node::Array);
-    let items = from.open_items(alloc)?;
-    assert!(rt; items.remaining == 0 && !items.rows);
-    assert_eq!(rt; from.levels(), 126);
-    from.close_items(items);
-    assert_eq!(rt; from.levels(), 127);
-    assert!(rt; key_is(alloc, b"l", from)?);
-    assert_eq!(rt; from.read_i64()?, i64::MIN);
-    Ok(())
-}
-
-fn object_is_read<R: DeRead + Drop>(rt: &impl Abort, alloc: Global, read: R) -> Result<()>
-where
-    R::Lent: LendsText,
-{
-    let mut from = Deserializer::new(alloc, read)?;
     assert_eq!(rt; from.capabilities(), 0x0102);
-    assert_eq!(rt; from.levels(), 128);
-    match from.open_pairs() {
-        Ok(entries) => {
-            assert!(rt; entries.at == 9 && !entries.row);
-            assert!(rt; singles_are_read(rt, alloc, &mut from).is_ok());
-            assert!(rt; strings_are_read(rt, alloc, &mut from).is_ok());
-            from.close_pairs(entries);
-        }
-        Err(_) => assert!(rt; false),
-    }
-    assert_eq!(rt; from.levels(), 128);
-    from.end()
+    check_levels(rt, 128, from);
+    let entries = check_pairs(rt, 9, false, from)?;
+    check_singles(rt, alloc, from);
+    check_strings(rt, alloc, from);
+    check_array_and_integer(rt, alloc, from)?;
+    from.close_pairs(entries);
+    check_levels(rt, 128, from);
+    check_end(rt, from);
+    Ok(())
 }
 
 #[test]
 fn each_kind_of_value_in_an_object_is_read(rt: HostRuntime) -> Result<()> {
-    object_is_read(&rt, rt.alloc(), SliceRead::new(SCALARS))?;
-    object_is_read(&rt, rt.alloc(), reader_of(SCALARS))
+    check_content_of(&rt, rt.alloc(), SCALARS, Content::Scalars)
 }
 
-fn first_row_is_read<R: DeRead>(
+fn check_first_row<R: DeRead>(
     rt: &impl Abort,
     alloc: Global,
     from: &mut Deserializer<R>,
@@ -140,23 +201,21 @@ fn first_row_is_read<R: DeRead>(
 where
     R::Lent: LendsText,
 {
-    let mut scratch = Vec::new(alloc);
     from.await_row();
-    assert!(rt; from.node()? == Node::Object);
-    let fields = from.open_pairs()?;
-    assert!(rt; fields.at == 0 && fields.row);
-    assert_eq!(rt; from.levels(), 127);
-    assert!(rt; name_is(alloc, 0, "abc", from)?);
-    assert_eq!(rt; from.read_i64()?, 123);
-    assert!(rt; name_is(alloc, 1, "def", from)?);
-    assert_eq!(rt; from.read_bytes(&mut scratch)?.get_ref(), b"bar".as_slice());
-    assert!(rt; name_is(alloc, 2, "ghi", from)?);
-    assert!(rt; from.read_none()?);
+    check_node(rt, Node::Object, from);
+    let fields = check_pairs(rt, 0, true, from)?;
+    check_levels(rt, 127, from);
+    check_name(rt, alloc, 0, "abc", from);
+    check_integer(rt, 123, from);
+    check_name(rt, alloc, 1, "def", from);
+    check_bytes(rt, alloc, b"bar", from);
+    check_name(rt, alloc, 2, "ghi", from);
+    check_none(rt, true, from);
     from.close_pairs(fields);
     Ok(())
 }
 
-fn second_row_is_read<R: DeRead>(
+fn check_second_row<R: DeRead>(
     rt: &impl Abort,
     alloc: Global,
     from: &mut Deserializer<R>,
@@ -166,43 +225,42 @@ where
 {
     from.await_row();
     let fields = from.open_pairs()?;
-    assert!(rt; name_is(alloc, 0, "abc", from)?);
-    assert_eq!(rt; from.read_i64()?, 456);
-    assert!(rt; name_is(alloc, 1, "def", from)?);
-    assert!(rt; from.node()? == Node::Null);
-    from.read_unit()?;
-    assert!(rt; name_is(alloc, 2, "ghi", from)?);
-    assert_eq!(rt; from.read_i64()?, 789);
+    check_name(rt, alloc, 0, "abc", from);
+    check_integer(rt, 456, from);
+    check_name(rt, alloc, 1, "def", from);
+    check_node(rt, Node::Null, from);
+    check_unit(rt, from);
+    check_name(rt, alloc, 2, "ghi", from);
+    check_integer(rt, 789, from);
     from.close_pairs(fields);
     Ok(())
 }
 
-fn rows_are_read<R: DeRead + Drop>(rt: &impl Abort, alloc: Global, read: R) -> Result<()>
+/// The parts of [`ROWS`].
+pub(super) fn check_rows<R: DeRead>(
+    rt: &impl Abort,
+    alloc: Global,
+    from: &mut Deserializer<R>,
+) -> Answer<()>
 where
     R::Lent: LendsText,
 {
-    let mut from = Deserializer::new(alloc, read)?;
-    match from.open_items(alloc) {
-        Ok(rows) => {
-            assert!(rt; rows.remaining == 2 && rows.rows);
-            assert_eq!(rt; from.levels(), 127);
-            assert!(rt; first_row_is_read(rt, alloc, &mut from).is_ok());
-            assert!(rt; second_row_is_read(rt, alloc, &mut from).is_ok());
-            from.close_items(rows);
-        }
-        Err(_) => assert!(rt; false),
-    }
-    assert_eq!(rt; from.levels(), 128);
-    from.end()
+    let rows = check_items(rt, alloc, 2, true, from)?;
+    check_levels(rt, 127, from);
+    check_first_row(rt, alloc, from)?;
+    check_second_row(rt, alloc, from)?;
+    from.close_items(rows);
+    check_levels(rt, 128, from);
+    check_end(rt, from);
+    Ok(())
 }
 
 #[test]
 fn rows_of_a_template_are_read_by_its_keys(rt: HostRuntime) -> Result<()> {
-    rows_are_read(&rt, rt.alloc(), SliceRead::new(ROWS))?;
-    rows_are_read(&rt, rt.alloc(), reader_of(ROWS))
+    check_content_of(&rt, rt.alloc(), ROWS, Content::Rows)
 }
 
-fn inner_rows_are_read<R: DeRead>(
+fn check_inner_rows<R: DeRead>(
     rt: &impl Abort,
     alloc: Global,
     from: &mut Deserializer<R>,
@@ -210,23 +268,23 @@ fn inner_rows_are_read<R: DeRead>(
 where
     R::Lent: LendsText,
 {
-    let rows = from.open_items(alloc)?;
-    assert!(rt; rows.remaining == 1 && rows.rows);
-    assert_eq!(rt; from.levels(), 126);
+    let rows = check_items(rt, alloc, 1, true, from)?;
+    check_levels(rt, 126, from);
     from.await_row();
     let fields = from.open_pairs()?;
-    assert!(rt; name_is(alloc, 1, "c", from)?);
+    check_name(rt, alloc, 1, "c", from);
     from.await_nothing();
-    assert!(rt; name_is(alloc, 0, "b", from)?);
-    assert!(rt; from.read_bool()?);
+    check_name(rt, alloc, 0, "b", from);
+    check_bool(rt, true, from);
     from.await_field();
-    assert!(rt; !from.read_bool()?);
+    check_bool(rt, false, from);
     from.close_pairs(fields);
     from.close_items(rows);
     Ok(())
 }
 
-fn outer_rows_are_read<R: DeRead>(
+/// The parts of [`NESTED`].
+pub(super) fn check_nested_rows<R: DeRead>(
     rt: &impl Abort,
     alloc: Global,
     from: &mut Deserializer<R>,
@@ -237,30 +295,21 @@ where
     let rows = from.open_items(alloc)?;
     from.await_row();
     let first = from.open_pairs()?;
-    assert!(rt; name_is(alloc, 0, "a", from)?);
-    inner_rows_are_read(rt, alloc, from)?;
-    assert_eq!(rt; from.levels(), 127);
+    check_name(rt, alloc, 0, "a", from);
+    check_inner_rows(rt, alloc, from)?;
+    check_levels(rt, 127, from);
     from.close_pairs(first);
     from.await_row();
     let second = from.open_pairs()?;
-    assert!(rt; name_is(alloc, 0, "a", from)?);
-    assert_eq!(rt; from.read_i64()?, 7);
+    check_name(rt, alloc, 0, "a", from);
+    check_integer(rt, 7, from);
     from.close_pairs(second);
     from.close_items(rows);
+    check_end(rt, from);
     Ok(())
-}
-
-fn nested_rows_are_read<R: DeRead + Drop>(rt: &impl Abort, alloc: Global, read: R) -> Result<()>
-where
-    R::Lent: LendsText,
-{
-    let mut from = Deserializer::new(alloc, read)?;
-    assert!(rt; outer_rows_are_read(rt, alloc, &mut from).is_ok());
-    from.end()
 }
 
 #[test]
 fn after_a_template_the_keys_outside_are_due_again(rt: HostRuntime) -> Result<()> {
-    nested_rows_are_read(&rt, rt.alloc(), SliceRead::new(NESTED))?;
-    nested_rows_are_read(&rt, rt.alloc(), reader_of(NESTED))
+    check_content_of(&rt, rt.alloc(), NESTED, Content::NestedRows)
 }

@@ -1,5 +1,5 @@
 //! Refusals by their names, and what is refused after them.
-use super::{ASKS, Ask, Name, ends_by, is_named, is_refused_by, make_due, reader_of};
+use super::{ASKS, Ask, Name, ends_by, is_refused_by, keeps, make_due, reader_of};
 use bser_deserializer::cursor::Cursor;
 use bser_deserializer::deserializer::{Deserializer, Due};
 use bser_format::errors::{Complaint, Kind, Result};
@@ -51,23 +51,36 @@ fn message_of(alloc: Global, body: &[u8]) -> Result<Vec<u8>> {
     Ok(message)
 }
 
+/// The call is refused by its name, and each later one by the failure alone.
+fn check_refusals<R: DeRead>(
+    rt: &impl Abort,
+    alloc: Global,
+    case: &Case,
+    from: &mut Deserializer<R>,
+)
+where
+    R::Lent: LendsText,
+{
+    assert!(rt;
+        is_refused_by(alloc, case.call, case.name, from),
+        "{body:?}",
+        body = case.body
+    );
+    assert!(rt; from.is_failed());
+    assert!(rt; keeps(Name::Failed, from));
+    for call in ASKS {
+        assert!(rt; is_refused_by(alloc, call, Name::Failed, from));
+    }
+    assert!(rt; ends_by(Name::Failed, from));
+}
+
 fn is_refused<R: DeRead + Drop>(rt: &impl Abort, alloc: Global, case: &Case, read: R) -> Result<()>
 where
     R::Lent: LendsText,
 {
     let mut from = Deserializer::with_limit(alloc, usize::from(case.levels), read)?;
     make_due(case.due, &mut from);
-    assert!(rt;
-        is_refused_by(alloc, case.call, case.name, &mut from),
-        "{body:?}",
-        body = case.body
-    );
-    assert!(rt; from.is_failed());
-    assert!(rt; is_named(Name::Failed, &from.take_refusal()));
-    for call in ASKS {
-        assert!(rt; is_refused_by(alloc, call, Name::Failed, &mut from));
-    }
-    assert!(rt; ends_by(Name::Failed, &from));
+    check_refusals(rt, alloc, case, &mut from);
     Ok(())
 }
 

@@ -1,13 +1,22 @@
-//! Reading by a plan, and checks of refusals.
+//! Reading by a plan, and checks of what is read and of refusals.
 use super::Tested;
 use bser_vectors::devices::{Plan, PlannedReader};
 use bser_vectors::notation::code;
-use serde_bser::de::DeserializeOwned;
+use serde_bser::de::read::{LendsText, NoLoan};
+use serde_bser::de::{
+    Answer, DeRead, Deserialize, DeserializeOwned, Deserializer, IoRead, MapAccess, SeqAccess,
+};
 use serde_bser::device::Watched;
-use serde_bser::errors::Result;
-use serde_bser::from_reader;
+use serde_bser::errors::{Error, Result};
+use serde_bser::{from_reader, from_slice};
 use std::alloc::Global;
+use std::fmt::Debug;
 use std::process::Abort;
+
+/// A source that copies from a reader, which gives the message by the plan.
+pub fn copying(message: &[u8], plan: Plan) -> IoRead<Watched<PlannedReader<'_>>> {
+    IoRead::new(Watched::new(PlannedReader::new(message, plan)))
+}
 
 /// Reads the message from a reader that gives it by the plan, and tells how many bytes are left.
 pub fn read_by<T: DeserializeOwned>(alloc: Global, bytes: &[u8], plan: Plan) -> (Result<T>, usize) {
@@ -21,7 +30,89 @@ pub fn read_by<T: DeserializeOwned>(alloc: Global, bytes: &[u8], plan: Plan) -> 
 pub fn check_code<T>(rt: &impl Abort, alloc: Global, answer: &Result<T>, expected: &str) -> Tested {
     match answer {
         Ok(_) => assert!(rt; false, "{expected} is read"),
-        Err(error) => assert_eq!(rt; code(alloc, error)?.as_str(), expected),
+        Err(error) => check_error(rt, alloc, error, expected)?,
     }
+    Ok(())
+}
+
+/// Checks that the slice is refused with this code.
+pub fn check_slice_refused<'a, T: Deserialize<&'a [u8]>>(
+    rt: &impl Abort,
+    alloc: Global,
+    bytes: &'a [u8],
+    expected: &str,
+) -> Tested {
+    check_code(rt, alloc, &from_slice::<T>(alloc, bytes), expected)
+}
+
+/// Checks that the error has this code.
+fn check_error(rt: &impl Abort, alloc: Global, error: &Error, expected: &str) -> Tested {
+    assert_eq!(rt; code(alloc, error)?.as_str(), expected);
+    Ok(())
+}
+
+/// Checks that what the deserializer was refused by last has this code.
+pub fn check_refusal<R: DeRead>(
+    rt: &impl Abort,
+    alloc: Global,
+    from: &mut Deserializer<R>,
+    expected: &str,
+) -> Tested {
+    check_error(rt, alloc, &from.take_refusal(), expected)
+}
+
+/// Checks that the call was refused, with this code.
+pub fn check_refused<T, R: DeRead>(
+    rt: &impl Abort,
+    alloc: Global,
+    answer: &Answer<T>,
+    from: &mut Deserializer<R>,
+    expected: &str,
+) -> Tested {
+    assert!(rt; answer.is_err(), "{expected} is read");
+    check_refusal(rt, alloc, from, expected)
+}
+
+/// Checks that a type that is lent is refused with this code where a reader gives the message by the
+/// plan.
+pub fn check_not_lent<T: Deserialize<NoLoan>>(
+    rt: &impl Abort,
+    alloc: Global,
+    message: &[u8],
+    plan: Plan,
+    expected: &str,
+) -> Tested {
+    let mut from = Deserializer::new(alloc, copying(message, plan))?;
+    let refused = T::deserialize(alloc, &mut from);
+    check_refused(rt, alloc, &refused, &mut from, expected)
+}
+
+/// Checks that so many items are left, and what the next one is.
+pub fn check_item<R: DeRead, T: Deserialize<R::Lent> + Debug + PartialEq>(
+    rt: &impl Abort,
+    alloc: Global,
+    items: &mut SeqAccess<'_, R>,
+    left: usize,
+    expected: Option<T>,
+) -> Tested
+where
+    R::Lent: LendsText,
+{
+    assert_eq!(rt; items.remaining(), left);
+    assert_eq!(rt; items.next_element::<T>(alloc)?, expected);
+    Ok(())
+}
+
+/// Checks what the next key is.
+pub fn check_key<R: DeRead, K: Deserialize<R::Lent> + Debug + PartialEq>(
+    rt: &impl Abort,
+    alloc: Global,
+    entries: &mut MapAccess<'_, R>,
+    expected: K,
+) -> Tested
+where
+    R::Lent: LendsText,
+{
+    assert_eq!(rt; entries.next_key::<K>(alloc)?, Some(expected));
     Ok(())
 }

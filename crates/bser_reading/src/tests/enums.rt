@@ -1,8 +1,10 @@
 //! Tests of the calls that read an enum.
-use super::{Tested, has_complained};
+use super::Tested;
+use super::checks::{check_item, check_key, check_refused};
 use bser_vectors::enums::TestEnum;
-use serde_bser::de::{Deserializer, ReadsContainers, ReadsEnums, SliceRead};
-use serde_bser::errors::Complaint;
+use serde_bser::de::{Deserializer, MapAccess, ReadsContainers, ReadsEnums, SliceRead};
+use std::alloc::Global;
+use std::process::Abort;
 
 /// An object from "TestUnit" to null.
 const UNIT: &[u8] =
@@ -28,38 +30,57 @@ fn the_first_place_of_a_repeated_name_counts(rt: HostRuntime) -> Tested {
     Ok(())
 }
 
-#[test]
-fn the_items_of_a_tuple_are_read(rt: HostRuntime) -> Tested {
-    let alloc = rt.alloc();
-    let mut from = Deserializer::with_limit(alloc, 2, SliceRead::new(TUPLE))?;
+/// Checks that the payload is an array of "foo" and "bar".
+fn check_payload_items(
+    rt: &impl Abort,
+    alloc: Global,
+    from: &mut Deserializer<SliceRead<'_>>,
+) -> Tested {
     let variant = from.read_enum(alloc, "TestEnum", &["TestTuple"])?;
     let mut items = variant.tuple_variant(alloc)?;
-    assert!(rt; matches!(items.next_element::<&str>(alloc)?, Some("foo")));
-    assert!(rt; matches!(items.next_element::<&str>(alloc)?, Some("bar")));
+    check_item(rt, alloc, &mut items, 2, Some("foo"))?;
+    check_item(rt, alloc, &mut items, 1, Some("bar"))?;
     items.end()?;
+    Ok(())
+}
+
+#[test]
+fn the_items_of_a_tuple_are_read(rt: HostRuntime) -> Tested {
+    let mut from = Deserializer::with_limit(rt.alloc(), 2, SliceRead::new(TUPLE))?;
+    check_payload_items(&rt, rt.alloc(), &mut from)?;
     from.end()?;
+    Ok(())
+}
+
+/// Checks what the next key and its value are.
+fn check_texts(
+    rt: &impl Abort,
+    alloc: Global,
+    entries: &mut MapAccess<'_, SliceRead<'_>>,
+    expected: (&str, &str),
+) -> Tested {
+    assert_eq!(rt; entries.next_entry::<&str, &str>(alloc)?, Some(expected));
+    Ok(())
+}
+
+/// Checks that the payload is an object of "abc" and "def", of "foo" and "bar".
+fn check_payload_entries(
+    rt: &impl Abort,
+    alloc: Global,
+    from: &mut Deserializer<SliceRead<'_>>,
+) -> Tested {
+    let variant = from.read_enum(alloc, "TestEnum", &["TestStruct"])?;
+    let mut entries = variant.struct_variant()?;
+    check_texts(rt, alloc, &mut entries, ("abc", "foo"))?;
+    check_texts(rt, alloc, &mut entries, ("def", "bar"))?;
+    entries.end()?;
     Ok(())
 }
 
 #[test]
 fn the_entries_of_a_struct_are_read(rt: HostRuntime) -> Tested {
-    let alloc = rt.alloc();
-    let mut from = Deserializer::with_limit(alloc, 2, SliceRead::new(STRUCT))?;
-    let variant = from.read_enum(alloc, "TestEnum", &["TestStruct"])?;
-    let mut entries = variant.struct_variant()?;
-    assert!(rt;
-        matches!(
-            entries.next_entry::<&str, &str>(alloc)?,
-            Some(("abc", "foo"))
-        )
-    );
-    assert!(rt;
-        matches!(
-            entries.next_entry::<&str, &str>(alloc)?,
-            Some(("def", "bar"))
-        )
-    );
-    entries.end()?;
+    let mut from = Deserializer::with_limit(rt.alloc(), 2, SliceRead::new(STRUCT))?;
+    check_payload_entries(&rt, rt.alloc(), &mut from)?;
     from.end()?;
     Ok(())
 }
@@ -70,19 +91,26 @@ fn a_dropped_variant_leaves_its_object_open(rt: HostRuntime) -> Tested {
     let mut from = Deserializer::new(alloc, SliceRead::new(UNIT))?;
     drop(from.read_enum(alloc, "TestEnum", &["TestUnit"])?);
     let refused = from.read_unit();
-    assert!(rt; has_complained(refused, &mut from, Complaint::ValueOpen));
+    check_refused(&rt, alloc, &refused, &mut from, "C11")
+}
+
+/// Checks that the object's key is a unit variant, and its value null.
+fn check_unit_key(
+    rt: &impl Abort,
+    alloc: Global,
+    from: &mut Deserializer<SliceRead<'_>>,
+) -> Tested {
+    let mut map = from.read_map()?;
+    check_key(rt, alloc, &mut map, TestEnum::<&str>::TestUnit)?;
+    map.next_value::<()>(alloc)?;
+    map.end()?;
     Ok(())
 }
 
 #[test]
 fn a_key_is_a_unit_variant(rt: HostRuntime) -> Tested {
-    let alloc = rt.alloc();
-    let mut from = Deserializer::new(alloc, SliceRead::new(UNIT))?;
-    let mut map = from.read_map()?;
-    let key = map.next_key::<TestEnum<&str>>(alloc)?;
-    assert!(rt; matches!(key, Some(TestEnum::TestUnit)));
-    map.next_value::<()>(alloc)?;
-    map.end()?;
+    let mut from = Deserializer::new(rt.alloc(), SliceRead::new(UNIT))?;
+    check_unit_key(&rt, rt.alloc(), &mut from)?;
     from.end()?;
     Ok(())
 }

@@ -16,15 +16,15 @@ const ROWS: &[u8] =
 
 const REAL: &[u8] = b"\x00\x02\0\0\0\0\x03\x09\x07\x18\x2d\x44\x54\xfb\x21\x09\x40";
 
-/// Whether the reader's fault is handed on with its kind.
-fn is_fault<T>(answer: &Result<T>, wanted: ErrorKind) -> bool {
+/// The kind of the reader's fault, where it is handed on.
+fn fault<T>(answer: &Result<T>) -> Option<ErrorKind> {
     match answer {
         Err(
             Error::DeReaderError {
                 source: ReadCause::Reader(fault),
             },
-        ) => fault.kind() == wanted,
-        _ => false,
+        ) => Some(fault.kind()),
+        _ => None,
     }
 }
 
@@ -40,8 +40,7 @@ fn check_faults<T: DeserializeOwned>(
     for whole in 0..message.len() {
         let plan = Plan::pieces(most).up_to(whole, Then::Faults(kind));
         let (answer, left) = read_by::<T>(alloc, message, plan);
-        assert!(rt; is_fault(&answer, kind), "after {whole} bytes");
-        assert_eq!(rt; left, message.len() - whole, "after {whole} bytes");
+        assert_eq!(rt; (fault(&answer), left), (Some(kind), message.len() - whole));
     }
 }
 

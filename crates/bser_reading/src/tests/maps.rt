@@ -1,10 +1,12 @@
 //! Maps in the order of their hashes, read from whole messages.
-use super::is_complaint;
+use super::Tested;
+use super::checks::check_slice_refused;
 use serde_bser::bytestring::ByteString;
-use serde_bser::de::{from_reader, from_slice};
+use serde_bser::de::{Deserialize, MapKey, from_reader, from_slice};
 use serde_bser::device::Watched;
-use serde_bser::errors::{Complaint, Error, ReadCause, Result};
+use std::alloc::Global;
 use std::collections::HashMap;
+use std::process::Abort;
 
 /// An object with the key "b" of 1, and then "a" of 2.
 const FALLING: &[u8] =
@@ -18,71 +20,76 @@ const TWICE: &[u8] =
 const ROWS: &[u8] =
     b"\x00\x02\0\0\0\0\x03\x16\x0b\x00\x03\x02\x0d\x03\x01a\x0d\x03\x01b\x03\x02\x03\x01\x03\x02\x03\x03\x03\x04";
 
-#[test]
-fn each_type_of_keys_finds_its_values_by_hash(rt: HostRuntime) -> Result<()> {
-    let alloc = rt.alloc();
-    let texts: HashMap<String, u8> = from_slice(alloc, FALLING)?;
-    assert_eq!(rt; texts.len(), 2);
-    assert_eq!(rt; texts.get("a").copied(), Some(2));
-    let names: HashMap<ByteString, u8> = from_slice(alloc, FALLING)?;
-    assert_eq!(rt;
-        names.get(&ByteString::from_text(alloc, "b")?).copied(),
-        Some(1)
-    );
-    let lent_texts: HashMap<&str, u8> = from_slice(alloc, FALLING)?;
-    assert_eq!(rt; lent_texts.get("b").copied(), Some(1));
-    let lent: HashMap<&[u8], u8> = from_slice(alloc, FALLING)?;
-    assert_eq!(rt; lent.get(b"a".as_slice()).copied(), Some(2));
-    assert!(rt; lent.get(b"c".as_slice()).is_none());
+/// An object with no entry.
+const EMPTY: &[u8] = b"\x00\x02\0\0\0\0\x03\x03\x01\x03\x00";
+
+/// Checks how many keys the map has, and what it has under this one.
+fn check_entry<K: MapKey>(
+    rt: &impl Abort,
+    map: &HashMap<K, u8>,
+    len: usize,
+    key: &K,
+    value: Option<u8>,
+) {
+    assert_eq!(rt; (map.len(), map.get(key).copied()), (len, value));
+}
+
+/// Checks how many keys the message's map has, and what it has under this one.
+fn check_read<K: MapKey + Deserialize<&'static [u8]>>(
+    rt: &impl Abort,
+    alloc: Global,
+    message: &'static [u8],
+    len: usize,
+    key: &K,
+    value: Option<u8>,
+) -> Tested {
+    let map = from_slice::<HashMap<K, u8>>(alloc, message)?;
+    check_entry(rt, &map, len, key, value);
     Ok(())
 }
 
 #[test]
-fn the_last_of_equal_hashed_keys_stays(rt: HostRuntime) -> Result<()> {
+fn each_type_of_keys_finds_its_values_by_hash(rt: HostRuntime) -> Tested {
     let alloc = rt.alloc();
-    let texts: HashMap<String, u8> = from_slice(alloc, TWICE)?;
-    assert_eq!(rt; texts.len(), 1);
-    assert_eq!(rt; texts.get("a").copied(), Some(2));
-    let lent: HashMap<&str, u8> = from_slice(alloc, TWICE)?;
-    assert_eq!(rt; lent.len(), 1);
-    assert_eq!(rt; lent.get("a").copied(), Some(2));
-    let mut reader = Watched::new(TWICE);
-    let read: HashMap<String, u8> = from_reader(alloc, &mut reader)?;
-    assert_eq!(rt; read.get("a").copied(), Some(2));
+    let text = String::from_str(alloc, "a")?;
+    check_read(&rt, alloc, FALLING, 2, &text, Some(2))?;
+    let name = ByteString::from_text(alloc, "b")?;
+    check_read(&rt, alloc, FALLING, 2, &name, Some(1))?;
+    check_read(&rt, alloc, FALLING, 2, &"b", Some(1))?;
+    check_read(&rt, alloc, FALLING, 2, &b"a".as_slice(), Some(2))?;
+    check_read(&rt, alloc, FALLING, 2, &b"c".as_slice(), None)
+}
+
+#[test]
+fn the_last_of_equal_hashed_keys_stays(rt: HostRuntime) -> Tested {
+    let alloc = rt.alloc();
+    let key = String::from_str(alloc, "a")?;
+    check_read(&rt, alloc, TWICE, 1, &key, Some(2))?;
+    check_read(&rt, alloc, TWICE, 1, &"a", Some(2))?;
+    let read = from_reader::<_, HashMap<String, u8>>(alloc, &mut Watched::new(TWICE))?;
+    check_entry(&rt, &read, 1, &key, Some(2));
     Ok(())
 }
 
 #[test]
-fn what_no_hashed_map_is_read_from(rt: HostRuntime) {
+fn what_no_hashed_map_is_read_from(rt: HostRuntime) -> Tested {
     let alloc = rt.alloc();
     // the key "a" twice, of true and then 2
     let first_unreadable =
         b"\x00\x02\0\0\0\0\x03\x0e\x01\x03\x02\x0d\x03\x01a\x08\x0d\x03\x01a\x03\x02";
-    let replaced = from_slice::<HashMap<&str, u8>>(alloc, first_unreadable);
-    assert!(rt; is_complaint(&replaced, Complaint::WrongType));
+    check_slice_refused::<HashMap<&str, u8>>(&rt, alloc, first_unreadable, "C5")?;
     let array = b"\x00\x02\0\0\0\0\x03\x03\x00\x03\x00";
-    let listed = from_slice::<HashMap<ByteString, u8>>(alloc, array);
-    assert!(rt; is_complaint(&listed, Complaint::WrongType));
+    check_slice_refused::<HashMap<ByteString, u8>>(&rt, alloc, array, "C5")?;
     let no_text = b"\x00\x02\0\0\0\0\x03\x09\x01\x03\x01\x02\x03\x01\xff\x03\x01";
-    let named = from_slice::<HashMap<&str, u8>>(alloc, no_text);
-    assert!(rt;
-        matches!(
-            named,
-            Err(Error::DeReaderError {
-                source: ReadCause::Utf8
-            })
-        )
-    );
+    check_slice_refused::<HashMap<&str, u8>>(&rt, alloc, no_text, "E6 Utf8")
 }
 
 #[test]
-fn rows_are_hashed_maps(rt: HostRuntime) -> Result<()> {
-    let rows = from_slice::<Vec<HashMap<&str, u8>>>(rt.alloc(), ROWS)?;
+fn rows_are_hashed_maps(rt: HostRuntime) -> Tested {
+    let alloc = rt.alloc();
+    let rows = from_slice::<Vec<HashMap<&str, u8>>>(alloc, ROWS)?;
     assert_eq!(rt; rows.len(), 2);
-    assert_eq!(rt; rows[0].get("a").copied(), Some(1));
-    assert_eq!(rt; rows[1].len(), 2);
-    assert_eq!(rt; rows[1].get("b").copied(), Some(4));
-    let empty = b"\x00\x02\0\0\0\0\x03\x03\x01\x03\x00";
-    assert!(rt; from_slice::<HashMap<String, u8>>(rt.alloc(), empty)?.is_empty());
-    Ok(())
+    check_entry(&rt, &rows[0], 2, &"a", Some(1));
+    check_entry(&rt, &rows[1], 2, &"b", Some(4));
+    check_read(&rt, alloc, EMPTY, 0, &String::new(alloc), None)
 }

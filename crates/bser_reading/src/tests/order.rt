@@ -1,44 +1,45 @@
 //! Which of several refusals is answered: that of the first check that fails.
 use super::Tested;
-use super::checks::check_code;
-use bser_vectors::devices::{Plan, PlannedReader};
-use serde_bser::de::read::NoLoan;
-use serde_bser::de::{Deserializer, IoRead, SliceRead};
-use serde_bser::device::Watched;
+use super::checks::{check_code, check_not_lent, check_refused};
+use bser_vectors::devices::Plan;
+use serde_bser::de::{Deserializer, SliceRead};
 use serde_bser::prelude::*;
-
-/// A message, and its refusal's code.
-type Refused = (&'static [u8], &'static str);
+use std::alloc::Global;
+use std::process::Abort;
 
 #[test]
 fn utf8_before_what_cannot_be_lent(rt: HostRuntime) -> Tested {
     let alloc = rt.alloc();
-    let cases: [Refused; 2] = [
-        (b"\x00\x02\0\0\0\0\x03\x04\x02\x03\x01\xff", "E6 Utf8"),
-        (b"\x00\x02\0\0\0\0\x03\x04\x02\x03\x01a", "C8"),
-    ];
-    for (bytes, code) in cases {
-        let reader = Watched::new(PlannedReader::new(bytes, Plan::whole()));
-        let mut from = Deserializer::new(alloc, IoRead::new(reader))?;
-        let refused = <&str as Deserialize<NoLoan>>::deserialize(alloc, &mut from);
-        assert!(rt; refused.is_err());
-        check_code::<()>(&rt, alloc, &Err(from.take_refusal()), code)?;
-    }
-    Ok(())
+    let no_text = b"\x00\x02\0\0\0\0\x03\x04\x02\x03\x01\xff";
+    check_not_lent::<&str>(&rt, alloc, no_text, Plan::whole(), "E6 Utf8")?;
+    let text = b"\x00\x02\0\0\0\0\x03\x04\x02\x03\x01a";
+    check_not_lent::<&str>(&rt, alloc, text, Plan::whole(), "C8")
+}
+
+/// An array of true, whose message is said to have five bytes more.
+const SHORT: &[u8] = b"\x00\x02\0\0\0\0\x03\x09\x00\x03\x01\x08";
+
+/// Checks that the end is refused before the array is read, and where it is open.
+fn check_open(rt: &impl Abort, alloc: Global) -> Tested {
+    let mut from = Deserializer::new(alloc, SliceRead::new(SHORT))?;
+    check_code(rt, alloc, &from.end(), "C11")?;
+    drop(from.read_seq(alloc)?);
+    check_code(rt, alloc, &from.end(), "C11")
+}
+
+/// Checks that the end is refused by the length once the array was passed over, and by the refusal of
+/// a second value after that.
+fn check_passed_over(rt: &impl Abort, alloc: Global) -> Tested {
+    let mut from = Deserializer::new(alloc, SliceRead::new(SHORT))?;
+    from.skip_value(alloc)?;
+    check_code(rt, alloc, &from.end(), "E4 17 12")?;
+    let second = from.skip_value(alloc);
+    check_refused(rt, alloc, &second, &mut from, "C4")?;
+    check_code(rt, alloc, &from.end(), "E6 Failed")
 }
 
 #[test]
 fn what_is_open_before_the_length(rt: HostRuntime) -> Tested {
-    let alloc = rt.alloc();
-    let bytes = b"\x00\x02\0\0\0\0\x03\x09\x00\x03\x01\x08";
-    let mut from = Deserializer::new(alloc, SliceRead::new(bytes))?;
-    check_code(&rt, alloc, &from.end(), "C11")?;
-    drop(from.read_seq(alloc)?);
-    check_code(&rt, alloc, &from.end(), "C11")?;
-    let mut from = Deserializer::new(alloc, SliceRead::new(bytes))?;
-    from.skip_value(alloc)?;
-    check_code(&rt, alloc, &from.end(), "E4 17 12")?;
-    assert!(rt; from.skip_value(alloc).is_err());
-    check_code::<()>(&rt, alloc, &Err(from.take_refusal()), "C4")?;
-    check_code(&rt, alloc, &from.end(), "E6 Failed")
+    check_open(&rt, rt.alloc())?;
+    check_passed_over(&rt, rt.alloc())
 }

@@ -1,23 +1,14 @@
 //! The printed texts of refusals and of tags.
+use super::checks::{check_string, check_text};
 use bser_format::errors::{Collection, Complaint, EnumName, Error, Kind, Message, ReadCause};
 use bser_format::header::{HeaderByte, header_byte_desc};
-use std::alloc::Global;
-use std::fmt::Display;
+use std::alloc::{AllocError, Global};
 use std::io;
 use std::io::ErrorKind;
 use std::process::Abort;
-use std::test::Fail;
-
-type Tested = std::result::Result<(), Fail>;
-
-fn check_text<T: Display>(rt: &impl Abort, alloc: Global, printed: &T, text: &str) -> Tested {
-    let found = format!(in alloc; "{printed}")?;
-    assert_eq!(rt; found.as_str(), text);
-    Ok(())
-}
 
 #[test]
-fn kinds(rt: HostRuntime) -> Tested {
+fn kinds(rt: HostRuntime) -> Result<(), AllocError> {
     let kinds = [
         (Kind::NextItem, "next item"),
         (Kind::Integer, "integer"),
@@ -60,39 +51,64 @@ const COMPLAINTS: [(Complaint, &str); 12] = [
     (Complaint::CountTooGreat, "count too great"),
 ];
 
+/// The error is printed as this beginning and then the text.
+fn check_error(
+    rt: &impl Abort,
+    alloc: Global,
+    error: Error,
+    beginning: &str,
+    text: &str,
+) -> Result<(), AllocError> {
+    let whole = format!(in alloc; "{beginning}{text}")?;
+    check_text(rt, alloc, error, whole.as_str())
+}
+
+/// The complaint is printed as this text, by itself and as a refusal of each side.
+fn check_complaint(
+    rt: &impl Abort,
+    alloc: Global,
+    complaint: Complaint,
+    text: &str,
+) -> Result<(), AllocError> {
+    check_text(rt, alloc, complaint, text)?;
+    let reading = Error::de_custom(complaint);
+    check_error(rt, alloc, reading, "error while deserializing BSER: ", text)?;
+    let writing = Error::ser_custom(complaint);
+    check_error(rt, alloc, writing, "error while serializing BSER: ", text)
+}
+
 #[test]
-fn fixed_messages(rt: HostRuntime) -> Tested {
-    let alloc = rt.alloc();
-    for (complaint, text) in COMPLAINTS {
-        check_text(&rt, alloc, &complaint, text)?;
-        let reading = format!(in alloc; "error while deserializing BSER: {text}")?;
-        check_text(&rt, alloc, &Error::de_custom(complaint), reading.as_str())?;
-        let writing = format!(in alloc; "error while serializing BSER: {text}")?;
-        check_text(&rt, alloc, &Error::ser_custom(complaint), writing.as_str())?;
+fn fixed_messages(rt: HostRuntime) -> Result<(), AllocError> {
+    for (complaint, text) in &COMPLAINTS {
+        check_complaint(&rt, rt.alloc(), *complaint, text)?;
     }
     Ok(())
 }
 
+/// A reader's fault.
+fn reader_fault() -> ReadCause {
+    ReadCause::Reader(io::Error::from(ErrorKind::Other))
+}
+
 #[test]
-fn refusals_of_reading(rt: HostRuntime) -> Tested {
+fn refusals_of_reading(rt: HostRuntime) -> Result<(), AllocError> {
     let alloc = rt.alloc();
-    let fault = ReadCause::Reader(io::Error::from(ErrorKind::Other));
-    check_text(&rt, alloc, &ReadCause::Eof, "end of input")?;
-    check_text(&rt, alloc, &ReadCause::Utf8, "invalid UTF-8")?;
-    check_text(&rt, alloc, &fault, "reader fault")?;
-    check_text(&rt, alloc, &ReadCause::Memory, "out of memory")?;
-    check_text(&rt, alloc, &ReadCause::Failed, "failed before")?;
-    let refused = Error::de_reader_error(fault);
-    check_text(&rt, alloc, &refused, "reader error while deserializing")?;
+    check_text(&rt, alloc, ReadCause::Eof, "end of input")?;
+    check_text(&rt, alloc, ReadCause::Utf8, "invalid UTF-8")?;
+    check_text(&rt, alloc, reader_fault(), "reader fault")?;
+    check_text(&rt, alloc, ReadCause::Memory, "out of memory")?;
+    check_text(&rt, alloc, ReadCause::Failed, "failed before")?;
+    let refused = Error::de_reader_error(reader_fault());
+    check_text(&rt, alloc, refused, "reader error while deserializing")?;
     let refused = Error::de_reader_error(ReadCause::Memory);
-    check_text(&rt, alloc, &refused, "out of memory")?;
+    check_text(&rt, alloc, refused, "out of memory")?;
     let made = Error::DeCustom {
         msg: Message::Made(String::from_str(alloc, "no colour")?),
     };
     check_text(
         &rt,
         alloc,
-        &made,
+        made,
         "error while deserializing BSER: no colour",
     )?;
     let refused = Error::DeRecursionLimitExceeded {
@@ -100,30 +116,34 @@ fn refusals_of_reading(rt: HostRuntime) -> Tested {
     };
     let text =
         "while deserializing BSER: recursion limit exceeded with object-like enum 'TestEnum'";
-    check_text(&rt, alloc, &refused, text)
+    check_text(&rt, alloc, refused, text)
+}
+
+/// The refusal of a collection whose size is not told.
+fn check_need_size(
+    rt: &impl Abort,
+    alloc: Global,
+    kind: Collection,
+    text: &str,
+) -> Result<(), AllocError> {
+    check_text(rt, alloc, Error::SerNeedSize { kind }, text)
 }
 
 #[test]
-fn refusals_of_writing(rt: HostRuntime) -> Tested {
+fn refusals_of_writing(rt: HostRuntime) -> Result<(), AllocError> {
     let alloc = rt.alloc();
-    let sizes = [
-        (
-            Collection::Sequence,
-            "while serializing BSER: need size of sequence",
-        ),
-        (Collection::Map, "while serializing BSER: need size of map"),
-    ];
-    for (kind, text) in sizes {
-        check_text(&rt, alloc, &Error::SerNeedSize { kind }, text)?;
-    }
+    let text = "while serializing BSER: need size of sequence";
+    check_need_size(&rt, alloc, Collection::Sequence, text)?;
+    let text = "while serializing BSER: need size of map";
+    check_need_size(&rt, alloc, Collection::Map, text)?;
     let great = Error::SerU64TooBig {
         v: 9223372036854775808,
     };
     let text = "while serializing BSER: integer too big: 9223372036854775808";
-    check_text(&rt, alloc, &great, text)?;
+    check_text(&rt, alloc, great, text)?;
     let fault = Error::from(io::Error::from(ErrorKind::Other));
-    check_text(&rt, alloc, &fault, "IO Error")?;
-    check_text(&rt, alloc, &Error::OutOfMemory, "out of memory")
+    check_text(&rt, alloc, fault, "IO Error")?;
+    check_text(&rt, alloc, Error::OutOfMemory, "out of memory")
 }
 
 const TAGS: [(u8, &str); 15] = [
@@ -144,11 +164,16 @@ const TAGS: [(u8, &str); 15] = [
     (0xff, "unknown byte '255'"),
 ];
 
+/// The tag's byte is described by this text, as a value and by its function.
+fn check_tag(rt: &impl Abort, alloc: Global, byte: u8, text: &str) -> Result<(), AllocError> {
+    check_text(rt, alloc, HeaderByte(byte), text)?;
+    check_string(rt, header_byte_desc(alloc, byte), text)
+}
+
 #[test]
-fn tags(rt: HostRuntime) -> Tested {
-    for (byte, text) in TAGS {
-        check_text(&rt, rt.alloc(), &HeaderByte(byte), text)?;
-        assert_eq!(rt; header_byte_desc(rt.alloc(), byte)?.as_str(), text);
+fn tags(rt: HostRuntime) -> Result<(), AllocError> {
+    for (byte, text) in &TAGS {
+        check_tag(&rt, rt.alloc(), *byte, text)?;
     }
     Ok(())
 }

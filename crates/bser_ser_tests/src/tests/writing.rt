@@ -2,18 +2,18 @@ mod lists;
 mod types;
 
 use self::types::{FileInfo, RealBits, TestEnum, TestStruct};
+use super::checks::{Tested, check_bytes, check_refused, check_written, message};
 use bser_format::bytestring::ByteString;
-use bser_format::errors::{Collection, Error};
-use bser_ser::message::{serialize, serialize_to};
-use bser_ser::{CountWrite, Serialize, Serializer};
+use bser_format::errors::Error;
+use bser_ser::message::serialize_to;
+use bser_ser::{CountWrite, Serializer};
 use bser_source::device::{Sink, Watched};
-use std::alloc::Global;
+use std::alloc::{AllocError, Global};
 use std::collections::BTreeMap;
 use std::io;
 use std::io::{ErrorKind, Write};
+use std::process::Abort;
 use std::test::Fail;
-
-type Tested = std::result::Result<(), Fail>;
 
 /// A writer that follows a plan: for each call how many bytes it takes, or a fault. After the plan
 /// it takes all.
@@ -29,6 +29,9 @@ enum Step {
     Take(usize),
     Fault(ErrorKind),
 }
+
+/// A serializer over a writer that follows a plan.
+type Planning = Serializer<Watched<Planned>>;
 
 impl Planned {
     fn new(alloc: Global, plan: &'static [Step]) -> Self {
@@ -61,80 +64,90 @@ impl Write for Planned {
     }
 }
 
-/// A message in memory.
-fn message<T: Serialize>(alloc: Global, value: &T) -> std::result::Result<Vec<u8>, Error> {
-    match serialize(alloc, Watched::new(Vec::new(alloc)), value) {
-        Ok(writer) => Ok(writer.into_inner()),
-        Err((_, error)) => Err(error),
-    }
-}
-
 #[test]
 fn writes_integers_in_their_least_size(rt: HostRuntime) -> Tested {
     let alloc = rt.alloc();
-    assert_eq!(rt;
-        message(alloc, &128i64)?.as_slice(),
-        b"\x00\x02\x00\x00\x00\x00\x03\x03\x04\x80\x00".as_slice()
-    );
-    assert_eq!(rt;
-        message(alloc, &-129i16)?.as_slice(),
-        b"\x00\x02\x00\x00\x00\x00\x03\x03\x04\x7f\xff".as_slice()
-    );
-    assert_eq!(rt;
-        message(alloc, &-128i8)?.as_slice(),
-        b"\x00\x02\x00\x00\x00\x00\x03\x02\x03\x80".as_slice()
-    );
-    assert_eq!(rt;
-        message(alloc, &i64::MIN)?.as_slice(),
-        b"\x00\x02\x00\x00\x00\x00\x03\x09\x06\x00\x00\x00\x00\x00\x00\x00\x80".as_slice()
-    );
+    check_written(
+        &rt,
+        alloc,
+        128i64,
+        b"\x00\x02\x00\x00\x00\x00\x03\x03\x04\x80\x00",
+    )?;
+    check_written(
+        &rt,
+        alloc,
+        -129i16,
+        b"\x00\x02\x00\x00\x00\x00\x03\x03\x04\x7f\xff",
+    )?;
+    check_written(
+        &rt,
+        alloc,
+        -128i8,
+        b"\x00\x02\x00\x00\x00\x00\x03\x02\x03\x80",
+    )?;
+    check_written(
+        &rt,
+        alloc,
+        i64::MIN,
+        b"\x00\x02\x00\x00\x00\x00\x03\x09\x06\x00\x00\x00\x00\x00\x00\x00\x80",
+    )
+}
+
+/// A serializer over a writer of this plan, with a text pending.
+fn with_hello(alloc: Global, plan: &'static [Step]) -> std::result::Result<Planning, Error> {
+    let mut out = Serializer::new(alloc, Watched::new(Planned::new(alloc, plan)));
+    out.put_text("hello")?;
+    Ok(out)
+}
+
+/// The writer has taken these bytes.
+fn check_taken(rt: &impl Abort, writer: Watched<Planned>, expected: &[u8]) {
+    check_bytes(rt, writer.into_inner().bytes.as_slice(), expected);
+}
+
+/// The text is finished, and the writer has taken it whole.
+fn check_finished(rt: &impl Abort, out: Planning) -> Tested {
+    check_taken(rt, out.finish()?, b"\x0d\x03\x05hello");
     Ok(())
+}
+
+/// Flushing stops with a fault of this kind.
+fn check_flush_stops(rt: &impl Abort, out: &mut Planning, kind: ErrorKind) -> Tested {
+    let fault = out.flush().err().ok_or("no fault")?;
+    assert_eq!(rt; fault.kind(), kind);
+    Ok(())
+}
+
+/// Finishing stops with a fault of kind `Other`, and hands the serializer back.
+fn stopped(rt: &impl Abort, out: Planning) -> std::result::Result<Planning, Fail> {
+    let (out, fault) = out.try_finish().err().ok_or("no fault")?;
+    assert_eq!(rt; fault.kind(), ErrorKind::Other);
+    Ok(out)
 }
 
 #[test]
 fn goes_on_at_the_same_byte_after_a_fault(rt: HostRuntime) -> Tested {
-    let alloc = rt.alloc();
     let plan = &[Step::Take(3), Step::Fault(ErrorKind::Other)];
-    let mut out = Serializer::new(alloc, Watched::new(Planned::new(alloc, plan)));
-    out.put_text("hello")?;
-    let (out, fault) = out.try_finish().err().ok_or("no fault")?;
-    assert_eq!(rt; fault.kind(), ErrorKind::Other);
+    let out = stopped(&rt, with_hello(rt.alloc(), plan)?)?;
     let writer = out.try_finish().ok().ok_or("a fault")?;
-    assert_eq!(rt;
-        writer.into_inner().bytes.as_slice(),
-        b"\x0d\x03\x05hello".as_slice()
-    );
+    check_taken(&rt, writer, b"\x0d\x03\x05hello");
     Ok(())
 }
 
 #[test]
 fn a_writer_that_takes_nothing_gives_write_zero(rt: HostRuntime) -> Tested {
-    let alloc = rt.alloc();
-    let mut out = Serializer::new(alloc, Watched::new(Planned::new(alloc, &[Step::Take(0)])));
-    out.put_text("hello")?;
-    let fault = out.flush().err().ok_or("no fault")?;
-    assert_eq!(rt; fault.kind(), ErrorKind::WriteZero);
-    assert_eq!(rt;
-        out.finish()?.into_inner().bytes.as_slice(),
-        b"\x0d\x03\x05hello".as_slice()
-    );
-    Ok(())
+    let mut out = with_hello(rt.alloc(), &[Step::Take(0)])?;
+    check_flush_stops(&rt, &mut out, ErrorKind::WriteZero)?;
+    check_finished(&rt, out)
 }
 
 #[test]
 fn an_interruption_is_handed_back(rt: HostRuntime) -> Tested {
-    let alloc = rt.alloc();
     let plan = &[Step::Take(2), Step::Fault(ErrorKind::Interrupted)];
-    let mut out = Serializer::new(alloc, Watched::new(Planned::new(alloc, plan)));
-    out.put_text("hello")?;
-    let fault = out.flush().err().ok_or("no fault")?;
-    assert_eq!(rt; fault.kind(), ErrorKind::Interrupted);
+    let mut out = with_hello(rt.alloc(), plan)?;
+    check_flush_stops(&rt, &mut out, ErrorKind::Interrupted)?;
     out.flush()?;
-    assert_eq!(rt;
-        out.finish()?.into_inner().bytes.as_slice(),
-        b"\x0d\x03\x05hello".as_slice()
-    );
-    Ok(())
+    check_finished(&rt, out)
 }
 
 #[test]
@@ -142,43 +155,49 @@ fn refuses_a_great_number_before_writing(rt: HostRuntime) -> Tested {
     let alloc = rt.alloc();
     let numbers = vec![in alloc; 9223372036854775808u64]?;
     let mut writer = CountWrite::new();
-    match serialize_to(alloc, &mut writer, &numbers) {
-        Err(Error::SerU64TooBig { v }) => assert_eq!(rt; v, 9223372036854775808),
-        _ => return Err("not refused for its number".into()),
-    }
+    let answer = serialize_to(alloc, &mut writer, &numbers);
     assert_eq!(rt; writer.count(), 0);
-    Ok(())
+    check_refused(
+        &rt,
+        alloc,
+        answer,
+        "while serializing BSER: integer too big: 9223372036854775808",
+    )
 }
 
 #[test]
 fn what_was_taken_before_a_fault_stays_taken(rt: HostRuntime) -> Tested {
-    let alloc = rt.alloc();
     let plan = &[Step::Take(3), Step::Fault(ErrorKind::Other)];
-    let mut out = Serializer::new(alloc, Watched::new(Planned::new(alloc, plan)));
-    out.put_text("hello")?;
-    let (out, _) = out.try_finish().err().ok_or("no fault")?;
-    assert_eq!(rt;
-        out.into_writer().into_inner().bytes.as_slice(),
-        b"\x0d\x03\x05".as_slice()
-    );
+    let out = stopped(&rt, with_hello(rt.alloc(), plan)?)?;
+    check_taken(&rt, out.into_writer(), b"\x0d\x03\x05");
     Ok(())
 }
 
-/// How many bytes were sent after a byte string of 4094 bytes and so many nulls.
-fn sent_after(alloc: Global, nulls: usize) -> std::result::Result<usize, Fail> {
-    let mut out = Serializer::new(alloc, Watched::new(Vec::new(alloc)));
-    let bytes = vec![in alloc; 0u8; 4090]?;
-    out.put_bytes(&bytes)?;
+/// A serializer into memory.
+fn in_memory(alloc: Global) -> Serializer<Watched<Vec<u8>>> {
+    Serializer::new(alloc, Watched::new(Vec::new(alloc)))
+}
+
+/// After a byte string of 4094 bytes and so many nulls, this many bytes were sent.
+fn check_sent_after(rt: &impl Abort, alloc: Global, nulls: usize, sent: usize) -> Tested {
+    let mut out = in_memory(alloc);
+    out.put_bytes(&[0; 4090])?;
     for _ in 0..nulls {
         out.put_null()?;
     }
-    Ok(out.into_writer().into_inner().len())
+    assert_eq!(rt; out.into_writer().into_inner().len(), sent);
+    Ok(())
 }
 
 #[test]
 fn sends_before_a_put_when_much_is_pending(rt: HostRuntime) -> Tested {
-    assert_eq!(rt; sent_after(rt.alloc(), 3)?, 0);
-    assert_eq!(rt; sent_after(rt.alloc(), 4)?, 4097);
+    check_sent_after(&rt, rt.alloc(), 3, 0)?;
+    check_sent_after(&rt, rt.alloc(), 4, 4097)
+}
+
+/// What was put is these bytes.
+fn check_put(rt: &impl Abort, out: Serializer<Watched<Vec<u8>>>, expected: &[u8]) -> Tested {
+    check_bytes(rt, out.finish()?.into_inner().as_slice(), expected);
     Ok(())
 }
 
@@ -190,158 +209,185 @@ fn put_again<W: Sink>(out: &mut Serializer<W>, text: &str) -> std::result::Resul
     }
 }
 
+/// Puts the name of a variant, and puts it again where memory was refused.
+fn put_variant_again<W: Sink>(
+    out: &mut Serializer<W>,
+    name: &str,
+) -> std::result::Result<(), Error> {
+    match out.put_newtype_variant(name) {
+        Err(Error::OutOfMemory) => out.put_newtype_variant(name),
+        answer => answer,
+    }
+}
+
 /// The pending bytes grow four times. Where the tests run with one of these growths refused, they
 /// are the same.
 #[test]
 fn a_put_that_is_refused_for_memory_can_be_put_again(rt: HostRuntime) -> Tested {
-    let alloc = rt.alloc();
-    let mut out = Serializer::new(alloc, Watched::new(Vec::new(alloc)));
-    for text in ["hello", "a text", "and one that is longer"] {
-        put_again(&mut out, text)?;
-    }
-    let variant = match out.put_newtype_variant("of an enum") {
-        Err(Error::OutOfMemory) => out.put_newtype_variant("of an enum"),
-        answer => answer,
-    };
-    variant?;
-    assert_eq!(rt;
-        out.finish()?.into_inner().as_slice(),
-        b"\x0d\x03\x05hello\x0d\x03\x06a text\x0d\x03\x16and one that is longer\x01\x03\x01\x0d\x03\x0aof an enum".as_slice()
-    );
-    Ok(())
+    let mut out = in_memory(rt.alloc());
+    put_again(&mut out, "hello")?;
+    put_again(&mut out, "a text")?;
+    put_again(&mut out, "and one that is longer")?;
+    put_variant_again(&mut out, "of an enum")?;
+    check_put(
+        &rt,
+        out,
+        b"\x0d\x03\x05hello\x0d\x03\x06a text\x0d\x03\x16and one that is longer\x01\x03\x01\x0d\x03\x0aof an enum",
+    )
 }
 
 #[test]
 fn a_sequence_needs_its_size(rt: HostRuntime) -> Tested {
-    let alloc = rt.alloc();
-    let mut out = Serializer::new(alloc, Watched::new(Vec::new(alloc)));
-    match out.put_seq(None) {
-        Err(Error::SerNeedSize { kind }) => assert_eq!(rt; kind, Collection::Sequence),
-        _ => return Err("not refused for its size".into()),
-    }
+    let mut out = in_memory(rt.alloc());
+    check_refused(
+        &rt,
+        rt.alloc(),
+        out.put_seq(None),
+        "while serializing BSER: need size of sequence",
+    )?;
     out.put_null()?;
-    assert_eq!(rt; out.finish()?.into_inner().as_slice(), b"\x0a".as_slice());
-    Ok(())
+    check_put(&rt, out, b"\x0a")
+}
+
+#[test]
+fn puts_a_key_that_is_no_text(rt: HostRuntime) -> Tested {
+    let mut out = in_memory(rt.alloc());
+    out.put_map(Some(1))?;
+    out.put_key(b"\xff")?;
+    out.put_null()?;
+    check_put(&rt, out, b"\x01\x03\x01\x02\x03\x01\xff\x0a")
+}
+
+/// A variant with fields.
+fn struct_variant() -> TestEnum {
+    TestEnum::TestStruct {
+        abc: (),
+        def: '\u{1f4a9}',
+    }
+}
+
+/// A variant with parts.
+fn tuple_variant() -> TestEnum {
+    TestEnum::TestTuple(42, 9223372036854775807)
 }
 
 #[test]
 fn writes_the_variants_of_an_enum(rt: HostRuntime) -> Tested {
     let alloc = rt.alloc();
-    assert_eq!(rt;
-        message(alloc, &TestEnum::TestUnit)?.as_slice(),
-        b"\x00\x02\x00\x00\x00\x00\x03\x0b\x0d\x03\x08TestUnit".as_slice()
-    );
-    let shape = TestEnum::TestStruct {
-        abc: (),
-        def: '\u{1f4a9}',
-    };
-    assert_eq!(rt;
-        message(alloc, &shape)?.as_slice(),
-        b"\x00\x02\x00\x00\x00\x00\x03\x27\x01\x03\x01\x0d\x03\x0aTestStruct\x01\x03\x02\x0d\x03\x03abc\x0a\x0d\x03\x03def\x0d\x03\x04\xf0\x9f\x92\xa9".as_slice()
-    );
-    let pair = TestEnum::TestTuple(42, 9223372036854775807);
-    assert_eq!(rt;
-        message(alloc, &pair)?.as_slice(),
-        b"\x00\x02\x00\x00\x00\x00\x03\x1d\x01\x03\x01\x0d\x03\x09TestTuple\x00\x03\x02\x03\x2a\x06\xff\xff\xff\xff\xff\xff\xff\x7f".as_slice()
-    );
-    Ok(())
+    check_written(
+        &rt,
+        alloc,
+        TestEnum::TestUnit,
+        b"\x00\x02\x00\x00\x00\x00\x03\x0b\x0d\x03\x08TestUnit",
+    )?;
+    check_written(
+        &rt,
+        alloc,
+        struct_variant(),
+        b"\x00\x02\x00\x00\x00\x00\x03\x27\x01\x03\x01\x0d\x03\x0aTestStruct\x01\x03\x02\x0d\x03\x03abc\x0a\x0d\x03\x03def\x0d\x03\x04\xf0\x9f\x92\xa9",
+    )?;
+    check_written(
+        &rt,
+        alloc,
+        tuple_variant(),
+        b"\x00\x02\x00\x00\x00\x00\x03\x1d\x01\x03\x01\x0d\x03\x09TestTuple\x00\x03\x02\x03\x2a\x06\xff\xff\xff\xff\xff\xff\xff\x7f",
+    )
+}
+
+/// A list of variants that hold something.
+fn enum_list(alloc: Global) -> std::result::Result<Vec<TestEnum>, AllocError> {
+    let text = ByteString::from_text(alloc, "BSER test")?;
+    Ok(vec![in alloc;
+        TestEnum::TestNewtype(text),
+        tuple_variant(),
+        struct_variant(),
+    ]?)
+}
+
+/// A struct with something in each field.
+fn test_struct(alloc: Global) -> std::result::Result<TestStruct<TestEnum>, AllocError> {
+    Ok(TestStruct {
+        test_list: vec![in alloc; 3, 4, 42, 987, 524288]?,
+        test_tuple: ("foo", Some(RealBits(0x400921fb54442d18))),
+        test_enum: TestEnum::TestUnit,
+        test_enum_list: enum_list(alloc)?,
+    })
 }
 
 #[test]
 fn writes_a_struct_of_a_list_a_tuple_and_enums(rt: HostRuntime) -> Tested {
-    let alloc = rt.alloc();
-    let shape = TestEnum::TestStruct {
-        abc: (),
-        def: '\u{1f4a9}',
-    };
-    let value = TestStruct {
-        test_list: vec![in alloc; 3, 4, 42, 987, 524288]?,
-        test_tuple: ("foo", Some(RealBits(0x400921fb54442d18))),
-        test_enum: TestEnum::TestUnit,
-        test_enum_list: vec![in alloc;
-            TestEnum::TestNewtype(ByteString::from_text(alloc, "BSER test")?),
-            TestEnum::TestTuple(42, 9223372036854775807),
-            shape,
-        ]?,
-    };
-    let expected =
-        b"\x00\x02\x00\x00\x00\x00\x04\xcb\x00\x01\x03\x04\x0d\x03\x09test_list\x00\x03\x05\x03\x03\x03\x04\x03\x2a\x04\xdb\x03\x05\x00\x00\x08\x00\x0d\x03\x0atest_tuple\x00\x03\x02\x0d\x03\x03foo\x07\x18\x2d\x44\x54\xfb\x21\x09\x40\x0d\x03\x09test_enum\x0d\x03\x08TestUnit\x0d\x03\x0etest_enum_list\x00\x03\x03\x01\x03\x01\x0d\x03\x0bTestNewtype\x02\x03\x09BSER test\x01\x03\x01\x0d\x03\x09TestTuple\x00\x03\x02\x03\x2a\x06\xff\xff\xff\xff\xff\xff\xff\x7f\x01\x03\x01\x0d\x03\x0aTestStruct\x01\x03\x02\x0d\x03\x03abc\x0a\x0d\x03\x03def\x0d\x03\x04\xf0\x9f\x92\xa9";
-    assert_eq!(rt; message(alloc, &value)?.as_slice(), expected.as_slice());
-    Ok(())
+    check_written(
+        &rt,
+        rt.alloc(),
+        test_struct(rt.alloc())?,
+        b"\x00\x02\x00\x00\x00\x00\x04\xcb\x00\x01\x03\x04\x0d\x03\x09test_list\x00\x03\x05\x03\x03\x03\x04\x03\x2a\x04\xdb\x03\x05\x00\x00\x08\x00\x0d\x03\x0atest_tuple\x00\x03\x02\x0d\x03\x03foo\x07\x18\x2d\x44\x54\xfb\x21\x09\x40\x0d\x03\x09test_enum\x0d\x03\x08TestUnit\x0d\x03\x0etest_enum_list\x00\x03\x03\x01\x03\x01\x0d\x03\x0bTestNewtype\x02\x03\x09BSER test\x01\x03\x01\x0d\x03\x09TestTuple\x00\x03\x02\x03\x2a\x06\xff\xff\xff\xff\xff\xff\xff\x7f\x01\x03\x01\x0d\x03\x0aTestStruct\x01\x03\x02\x0d\x03\x03abc\x0a\x0d\x03\x03def\x0d\x03\x04\xf0\x9f\x92\xa9",
+    )
 }
 
 #[test]
 fn writes_a_struct_whose_name_is_no_text(rt: HostRuntime) -> Tested {
-    let alloc = rt.alloc();
-    let file = FileInfo {
-        name: ByteString::from_vec(vec![in alloc; b'a', 0xff]?),
-        size: 300,
-    };
-    assert_eq!(rt;
-        message(alloc, &file)?.as_slice(),
-        b"\x00\x02\x00\x00\x00\x00\x03\x19\x01\x03\x02\x0d\x03\x04name\x02\x03\x02a\xff\x0d\x03\x04size\x04\x2c\x01".as_slice()
-    );
-    Ok(())
+    let name = ByteString::from_vec(vec![in rt.alloc(); b'a', 0xff]?);
+    check_written(
+        &rt,
+        rt.alloc(),
+        FileInfo { name, size: 300 },
+        b"\x00\x02\x00\x00\x00\x00\x03\x19\x01\x03\x02\x0d\x03\x04name\x02\x03\x02a\xff\x0d\x03\x04size\x04\x2c\x01",
+    )
 }
 
-#[test]
-fn puts_a_key_that_is_no_text(rt: HostRuntime) -> Tested {
-    let mut out = Serializer::new(rt.alloc(), Watched::new(Vec::new(rt.alloc())));
-    out.put_map(Some(1))?;
-    out.put_key(b"\xff")?;
-    out.put_null()?;
-    let expected = b"\x01\x03\x01\x02\x03\x01\xff\x0a";
-    assert_eq!(rt; out.finish()?.into_inner().as_slice(), expected.as_slice());
+/// A byte string of so many times this byte is written as this front and then its bytes.
+fn check_byte_string(rt: &impl Abort, alloc: Global, len: usize, byte: u8, front: &[u8]) -> Tested {
+    let value = ByteString::from_vec(vec![in alloc; byte; len]?);
+    let written = message(alloc, &value)?;
+    let rest = written.strip_prefix(front);
+    assert!(rt; rest == Some(value.as_bytes()), "{len} bytes");
     Ok(())
 }
 
 #[test]
 fn writes_byte_strings_beside_a_length_that_takes_more_bytes(rt: HostRuntime) -> Tested {
     let alloc = rt.alloc();
-    let cases: [(usize, u8, &[u8]); 3] = [
-        (124, 0, b"\x00\x02\x00\x00\x00\x00\x03\x7f\x02\x03\x7c"),
-        (125, 0, b"\x00\x02\x00\x00\x00\x00\x04\x80\x00\x02\x03\x7d"),
-        (
-            200_000,
-            0xa5,
-            b"\x00\x02\x00\x00\x00\x00\x05\x46\x0d\x03\x00\x02\x05\x40\x0d\x03\x00",
-        ),
-    ];
-    for (len, byte, front) in cases {
-        let bytes = ByteString::from_vec(vec![in alloc; byte; len]?);
-        let mut expected = Vec::from_slice(alloc, front)?;
-        expected.extend_from_slice(bytes.as_bytes())?;
-        assert!(rt; message(alloc, &bytes)? == expected, "{len} bytes");
-    }
-    Ok(())
+    let front = b"\x00\x02\x00\x00\x00\x00\x03\x7f\x02\x03\x7c";
+    check_byte_string(&rt, alloc, 124, 0, front)?;
+    let front = b"\x00\x02\x00\x00\x00\x00\x04\x80\x00\x02\x03\x7d";
+    check_byte_string(&rt, alloc, 125, 0, front)?;
+    let front = b"\x00\x02\x00\x00\x00\x00\x05\x46\x0d\x03\x00\x02\x05\x40\x0d\x03\x00";
+    check_byte_string(&rt, alloc, 200_000, 0xa5, front)
 }
 
 #[test]
 fn writes_a_map_whose_key_is_no_text(rt: HostRuntime) -> Tested {
-    let alloc = rt.alloc();
+    let mut members = BTreeMap::new(rt.alloc());
+    members.insert(ByteString::from_vec(vec![in rt.alloc(); 0xffu8]?), ())?;
+    check_written(
+        &rt,
+        rt.alloc(),
+        members,
+        b"\x00\x02\x00\x00\x00\x00\x03\x08\x01\x03\x01\x02\x03\x01\xff\x0a",
+    )
+}
+
+/// A map with a member that has a value and one that has none.
+fn members(alloc: Global) -> std::result::Result<BTreeMap<String, Option<u8>>, AllocError> {
     let mut members = BTreeMap::new(alloc);
-    members.insert(ByteString::from_vec(vec![in alloc; 0xffu8]?), ())?;
-    assert_eq!(rt;
-        message(alloc, &members)?.as_slice(),
-        b"\x00\x02\x00\x00\x00\x00\x03\x08\x01\x03\x01\x02\x03\x01\xff\x0a".as_slice()
-    );
-    Ok(())
+    members.insert(String::from_str(alloc, "b")?, Some(1))?;
+    members.insert(String::from_str(alloc, "a")?, None)?;
+    Ok(members)
 }
 
 #[test]
 fn writes_maps_options_and_tuples(rt: HostRuntime) -> Tested {
     let alloc = rt.alloc();
-    let mut members = BTreeMap::new(alloc);
-    members.insert(String::from_str(alloc, "b")?, Some(1u8))?;
-    members.insert(String::from_str(alloc, "a")?, None)?;
-    assert_eq!(rt;
-        message(alloc, &members)?.as_slice(),
-        b"\x00\x02\x00\x00\x00\x00\x03\x0e\x01\x03\x02\x0d\x03\x01a\x0a\x0d\x03\x01b\x03\x01".as_slice()
-    );
-    let parts = (true, "x", [()].as_slice(), 'y');
-    assert_eq!(rt;
-        message(alloc, &parts)?.as_slice(),
-        b"\x00\x02\x00\x00\x00\x00\x03\x10\x00\x03\x04\x08\x0d\x03\x01x\x00\x03\x01\x0a\x0d\x03\x01y".as_slice()
-    );
-    Ok(())
+    check_written(
+        &rt,
+        alloc,
+        members(alloc)?,
+        b"\x00\x02\x00\x00\x00\x00\x03\x0e\x01\x03\x02\x0d\x03\x01a\x0a\x0d\x03\x01b\x03\x01",
+    )?;
+    check_written(
+        &rt,
+        alloc,
+        (true, "x", [()].as_slice(), 'y'),
+        b"\x00\x02\x00\x00\x00\x00\x03\x10\x00\x03\x04\x08\x0d\x03\x01x\x00\x03\x01\x0a\x0d\x03\x01y",
+    )
 }

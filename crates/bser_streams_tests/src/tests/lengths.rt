@@ -1,8 +1,18 @@
 //! How long a message is, by its first bytes.
-use super::{HUGE, NUMBERS, Tested, VERSION};
-use bser_format::errors::{Complaint, Error, Kind, Message};
+use super::{HUGE, NUMBERS, Tested, VERSION, check_answer};
 use bser_streams::length::message_length;
+use std::alloc::Global;
+use std::process::Abort;
 use std::rt::HostRuntime;
+
+/// Checks that the first `head` bytes are needed for this answer, and fewer are answered `None`.
+fn check_fronts(rt: &impl Abort, alloc: Global, bytes: &[u8], head: usize, answer: &str) -> Tested {
+    for count in 0..bytes.len() + 1 {
+        let expected = if count < head { "Ok(None)" } else { answer };
+        check_answer(rt, alloc, message_length(alloc, &bytes[..count]), expected)?;
+    }
+    Ok(())
+}
 
 #[test]
 fn each_prefix_of_a_message_tells_its_length(rt: HostRuntime) -> Tested {
@@ -11,57 +21,33 @@ fn each_prefix_of_a_message_tells_its_length(rt: HostRuntime) -> Tested {
         let wanted = if count < 8 { None } else { Some(29) };
         assert_eq!(rt; message_length(alloc, &VERSION[..count])?, wanted);
     }
-    assert_eq!(rt; message_length(alloc, NUMBERS)?, Some(13));
-    for count in 0..HUGE.len() + 1 {
-        let wanted = if count < 15 {
-            None
-        } else {
-            Some(4_294_967_311)
-        };
-        assert_eq!(rt; message_length(alloc, &HUGE[..count])?, wanted);
-    }
-    Ok(())
+    check_answer(&rt, alloc, message_length(alloc, NUMBERS), "Ok(Some(13))")?;
+    check_fronts(&rt, alloc, HUGE, 15, "Ok(Some(4294967311))")
 }
 
 #[test]
 fn a_head_that_is_none_is_refused_by_its_name(rt: HostRuntime) -> Tested {
-    let alloc = rt.alloc();
-    match message_length(alloc, b"\x00\x01") {
-        Err(Error::DeInvalidMagic { magic }) => assert_eq!(rt; magic, [0, 1]),
-        _ => panic!(rt; "version 1 was not refused"),
+    let cases: [(&[u8], &str); 5] = [
+        (b"\x00\x01", "Err(DeInvalidMagic { magic: [0, 1] })"),
+        (
+            b"\x00\x02\x00\x00\x00\x00\x0a",
+            "Err(DeInvalidStartByte { kind: Integer, byte: 10 })",
+        ),
+        (
+            b"\x00\x02\x00\x00\x00\x00\x03\xff",
+            "Err(DeCustom { msg: Fixed(NegativeLength) })",
+        ),
+        (
+            b"\x00\x02\x00\x00\x00\x00\x06\xf0\xff\xff\xff\xff\xff\xff\x7f",
+            "Ok(Some(9223372036854775807))",
+        ),
+        (
+            b"\x00\x02\x00\x00\x00\x00\x06\xf1\xff\xff\xff\xff\xff\xff\x7f",
+            "Err(DeCustom { msg: Fixed(CountTooGreat) })",
+        ),
+    ];
+    for (bytes, expected) in cases {
+        check_answer(&rt, rt.alloc(), message_length(rt.alloc(), bytes), expected)?;
     }
-    match message_length(alloc, b"\x00\x02\x00\x00\x00\x00\x0a") {
-        Err(
-            Error::DeInvalidStartByte {
-                kind: Kind::Integer,
-                byte,
-            },
-        ) => assert_eq!(rt; byte, 0x0a),
-        _ => panic!(rt; "a length of null was not refused"),
-    }
-    let negative = message_length(alloc, b"\x00\x02\x00\x00\x00\x00\x03\xff");
-    let is_negative = matches!(
-        negative,
-        Err(Error::DeCustom {
-            msg: Message::Fixed(Complaint::NegativeLength)
-        })
-    );
-    assert!(rt; is_negative);
-    let greatest = message_length(
-        alloc,
-        b"\x00\x02\x00\x00\x00\x00\x06\xf0\xff\xff\xff\xff\xff\xff\x7f",
-    );
-    assert_eq!(rt; greatest?, Some(9_223_372_036_854_775_807));
-    let greater = message_length(
-        alloc,
-        b"\x00\x02\x00\x00\x00\x00\x06\xf1\xff\xff\xff\xff\xff\xff\x7f",
-    );
-    let is_too_great = matches!(
-        greater,
-        Err(Error::DeCustom {
-            msg: Message::Fixed(Complaint::CountTooGreat)
-        })
-    );
-    assert!(rt; is_too_great);
     Ok(())
 }

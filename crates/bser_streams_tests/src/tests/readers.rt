@@ -1,10 +1,12 @@
 //! The messages of a reader that gives one byte a call.
-use super::{HUGE, MIXED, NUMBERS, OneByOne, Tested, is_eof, is_failed};
+use super::{HUGE, MIXED, NUMBERS, OneByOne, Tested, check_answer};
 use bser_format::errors::Error;
 use bser_source::device::Watched;
 use bser_streams::limits::Limits;
 use bser_streams::next::{from_reader_limited, next_message, next_message_limited};
 use bser_streams::reader_messages::ReaderMessages;
+use std::alloc::Global;
+use std::process::Abort;
 use std::rt::HostRuntime;
 
 #[test]
@@ -19,82 +21,104 @@ fn the_messages_of_a_reader_are_read_in_turn(rt: HostRuntime) -> Tested {
             None => break,
         }
     }
-    assert_eq!(rt; numbers.as_slice(), [300, 300].as_slice());
-    assert_eq!(rt; messages.taken(), 2);
-    assert!(rt; !messages.is_failed());
+    let read = (numbers.as_slice(), messages.taken(), messages.is_failed());
+    assert_eq!(rt; read, ([300, 300].as_slice(), 2, false));
     Ok(())
+}
+
+/// A reader that gives these bytes one by one.
+fn one_by_one(bytes: &[u8]) -> Watched<OneByOne<'_>> {
+    Watched::new(OneByOne { bytes })
 }
 
 #[test]
 fn the_end_of_a_stream_is_told_from_a_cut_message(rt: HostRuntime) -> Tested {
     let alloc = rt.alloc();
     for count in 0..11 {
-        let mut reader = Watched::new(OneByOne {
-            bytes: &MIXED[..count],
-        });
-        match next_message::<_, i64>(alloc, &mut reader) {
-            Ok(None) => assert_eq!(rt; count, 0),
-            Ok(Some(number)) => assert_eq!(rt; (count, number), (10, 5)),
-            Err(error) => {
-                assert!(rt; 0 < count && count < 10);
-                assert!(rt; is_eof(&error));
-            }
-        }
+        let expected = match count {
+            0 => "Ok(None)",
+            10 => "Ok(Some(5))",
+            _ => "Err(DeReaderError { source: Eof })",
+        };
+        let mut reader = one_by_one(&MIXED[..count]);
+        check_answer(
+            &rt,
+            alloc,
+            next_message::<_, i64>(alloc, &mut reader),
+            expected,
+        )?;
     }
+    Ok(())
+}
+
+/// Checks the answer to the next message as a number, and how many are taken then.
+fn check_next(
+    rt: &impl Abort,
+    alloc: Global,
+    messages: &mut ReaderMessages<Watched<OneByOne<'_>>>,
+    expected: &str,
+    taken: u64,
+) -> Tested {
+    check_answer(rt, alloc, messages.next_message::<i64>(), expected)?;
+    assert_eq!(rt; messages.taken(), taken);
     Ok(())
 }
 
 #[test]
 fn after_a_refusal_a_reader_is_not_read(rt: HostRuntime) -> Tested {
     let alloc = rt.alloc();
-    let mut messages = ReaderMessages::new(alloc, Watched::new(OneByOne { bytes: MIXED }));
-    assert_eq!(rt; messages.next_message::<i64>()?, Some(5));
-    assert!(rt; messages.next_message::<i64>().is_err());
+    let mut messages = ReaderMessages::new(alloc, one_by_one(MIXED));
+    check_next(&rt, alloc, &mut messages, "Ok(Some(5))", 1)?;
+    check_next(
+        &rt,
+        alloc,
+        &mut messages,
+        "Err(DeCustom { msg: Fixed(WrongType) })",
+        1,
+    )?;
     assert!(rt; messages.is_failed());
     let left = messages.get_ref().get_ref().bytes.len();
-    match messages.next_message::<i64>() {
-        Ok(_) => panic!(rt; "a message was read after a refusal"),
-        Err(error) => assert!(rt; is_failed(&error)),
-    }
-    assert_eq!(rt; messages.taken(), 1);
+    check_next(
+        &rt,
+        alloc,
+        &mut messages,
+        "Err(DeReaderError { source: Failed })",
+        1,
+    )?;
     assert_eq!(rt; messages.into_inner().get_ref().bytes.len(), left);
+    Ok(())
+}
+
+/// Checks that a body of five bytes is read within that limit, and nothing of a longer one.
+fn check_limit_of_five(rt: &impl Abort, alloc: Global) -> Tested {
+    let five = Limits {
+        levels: 128,
+        bytes: 5,
+    };
+    let mut reader = one_by_one(NUMBERS);
+    let number = from_reader_limited::<_, i64>(alloc, five, &mut reader);
+    check_answer(rt, alloc, number, "Ok(300)")?;
+    assert_eq!(rt; reader.get_ref().bytes.len(), 11);
+    let mut messages = ReaderMessages::with_limits(alloc, five, one_by_one(HUGE));
+    let refused = "Err(DeTooLong { announced: 4294967296, most: 5 })";
+    check_next(rt, alloc, &mut messages, refused, 0)?;
+    assert_eq!(rt; messages.into_inner().get_ref().bytes.len(), 2);
     Ok(())
 }
 
 #[test]
 fn nothing_of_a_body_above_the_limit_is_read(rt: HostRuntime) -> Tested {
     let alloc = rt.alloc();
-    let five = Limits {
-        levels: 128,
-        bytes: 5,
-    };
+    check_limit_of_five(&rt, alloc)?;
     let four = Limits {
         levels: 128,
         bytes: 4,
     };
-    let mut reader = Watched::new(OneByOne { bytes: NUMBERS });
-    assert_eq!(rt;
-        from_reader_limited::<_, i64>(alloc, five, &mut reader)?,
-        300
-    );
-    assert_eq!(rt; reader.get_ref().bytes.len(), 11);
-    let mut reader = Watched::new(OneByOne { bytes: NUMBERS });
+    let mut reader = one_by_one(NUMBERS);
     match next_message_limited::<_, i64>(alloc, four, &mut reader) {
         Err(Error::DeTooLong { announced, most }) => assert_eq!(rt; (announced, most), (5, 4)),
         _ => panic!(rt; "a body above the limit was not refused"),
     }
     assert_eq!(rt; reader.get_ref().bytes.len(), 16);
-    let mut messages = ReaderMessages::with_limits(
-        alloc,
-        five,
-        Watched::new(OneByOne { bytes: HUGE }),
-    );
-    match messages.next_message::<i64>() {
-        Err(Error::DeTooLong { announced, most }) => {
-            assert_eq!(rt; (announced, most), (4_294_967_296, 5));
-        }
-        _ => panic!(rt; "a body above the limit was not refused"),
-    }
-    assert_eq!(rt; messages.into_inner().get_ref().bytes.len(), 2);
     Ok(())
 }

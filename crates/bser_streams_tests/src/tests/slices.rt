@@ -1,22 +1,36 @@
 //! The messages of a slice.
-use super::{HUGE, MIXED, NUMBERS, Tested, VERSION, is_eof};
-use bser_format::errors::{Complaint, Error, Message};
+use super::{HUGE, MIXED, NUMBERS, Tested, VERSION, check_answer};
+use bser_format::errors::Error;
 use bser_streams::limited::from_slice_limited;
 use bser_streams::limits::Limits;
 use bser_streams::slice_messages::SliceMessages;
+use std::alloc::Global;
 use std::collections::BTreeMap;
+use std::process::Abort;
 use std::rt::HostRuntime;
+
+/// Checks the answer to the next message as a number, and then how much is taken and what is left.
+fn check_next(
+    rt: &impl Abort,
+    alloc: Global,
+    messages: &mut SliceMessages<'_>,
+    expected: &str,
+    taken: usize,
+    rest: &[u8],
+) -> Tested {
+    check_answer(rt, alloc, messages.next_message::<i64>(), expected)?;
+    assert_eq!(rt; (messages.taken(), messages.rest()), (taken, rest));
+    Ok(())
+}
 
 #[test]
 fn the_messages_of_a_slice_are_read_in_turn(rt: HostRuntime) -> Tested {
     let alloc = rt.alloc();
     let mut messages = SliceMessages::new(alloc, NUMBERS);
-    assert_eq!(rt; messages.next_message::<i64>()?, Some(300));
-    assert_eq!(rt; messages.next_message::<i64>()?, Some(300));
-    assert_eq!(rt; messages.next_message::<i64>()?, None);
-    assert_eq!(rt; messages.taken(), 24);
-    assert!(rt; messages.rest().is_empty());
-    Ok(())
+    let rest = &NUMBERS[13..];
+    check_next(&rt, alloc, &mut messages, "Ok(Some(300))", 13, rest)?;
+    check_next(&rt, alloc, &mut messages, "Ok(Some(300))", 24, b"")?;
+    check_next(&rt, alloc, &mut messages, "Ok(None)", 24, b"")
 }
 
 #[test]
@@ -34,38 +48,34 @@ fn texts_are_lent_by_the_slice(rt: HostRuntime) -> Tested {
 fn a_refused_message_of_a_slice_stays(rt: HostRuntime) -> Tested {
     let alloc = rt.alloc();
     let mut messages = SliceMessages::new(alloc, MIXED);
-    assert_eq!(rt; messages.next_message::<i64>()?, Some(5));
+    check_next(&rt, alloc, &mut messages, "Ok(Some(5))", 10, &MIXED[10..])?;
     for _ in 0..2 {
-        let refused = messages.next_message::<i64>();
-        let is_wrong = matches!(
-            refused,
-            Err(Error::DeCustom {
-                msg: Message::Fixed(Complaint::WrongType)
-            })
-        );
-        assert!(rt; is_wrong);
-        assert_eq!(rt; messages.taken(), 10);
-        assert_eq!(rt; messages.rest(), &MIXED[10..]);
+        let refused = "Err(DeCustom { msg: Fixed(WrongType) })";
+        check_next(&rt, alloc, &mut messages, refused, 10, &MIXED[10..])?;
     }
-    let object = messages.next_message::<BTreeMap<&str, i64>>()?;
-    assert!(rt; object.is_some());
-    assert_eq!(rt; messages.next_message::<i64>()?, Some(6));
-    assert_eq!(rt; messages.next_message::<i64>()?, None);
-    Ok(())
+    let object = messages.next_message::<BTreeMap<&str, i64>>();
+    check_answer(&rt, alloc, object, "Ok(Some({}))")?;
+    check_next(&rt, alloc, &mut messages, "Ok(Some(6))", MIXED.len(), b"")?;
+    check_next(&rt, alloc, &mut messages, "Ok(None)", MIXED.len(), b"")
 }
 
 #[test]
 fn a_cut_message_of_a_slice_is_an_early_end(rt: HostRuntime) -> Tested {
-    let alloc = rt.alloc();
+    let refused = "Err(DeReaderError { source: Eof })";
     for count in 1..10 {
-        let mut messages = SliceMessages::new(alloc, &MIXED[..count]);
-        match messages.next_message::<i64>() {
-            Ok(_) => panic!(rt; "a cut message was read"),
-            Err(error) => assert!(rt; is_eof(&error)),
-        }
-        assert_eq!(rt; messages.rest().len(), count);
+        let cut = &MIXED[..count];
+        let mut messages = SliceMessages::new(rt.alloc(), cut);
+        check_next(&rt, rt.alloc(), &mut messages, refused, 0, cut)?;
     }
     Ok(())
+}
+
+/// Whether the answer is a refusal, and not one for the length.
+fn is_refused_for_more_than_length(answer: &Result<i64, Error>) -> bool {
+    match answer {
+        Ok(_) | Err(Error::DeTooLong { .. }) => false,
+        Err(_) => true,
+    }
 }
 
 #[test]
@@ -79,20 +89,17 @@ fn a_longer_body_than_the_limit_of_a_slice_is_refused(rt: HostRuntime) -> Tested
         levels: 128,
         bytes: 4,
     };
-    assert_eq!(rt; from_slice_limited::<i64>(alloc, five, NUMBERS)?, 300);
+    let number = from_slice_limited::<i64>(alloc, five, NUMBERS);
+    check_answer(&rt, alloc, number, "Ok(300)")?;
     let mut messages = SliceMessages::with_limits(alloc, five, NUMBERS);
-    assert_eq!(rt; messages.next_message::<i64>()?, Some(300));
+    let rest = &NUMBERS[13..];
+    check_next(&rt, alloc, &mut messages, "Ok(Some(300))", 13, rest)?;
+    let refused = "Err(DeTooLong { announced: 5, most: 4 })";
     for bytes in [NUMBERS, &NUMBERS[..8]] {
-        match from_slice_limited::<i64>(alloc, four, bytes) {
-            Err(Error::DeTooLong { announced, most }) => {
-                assert_eq!(rt; (announced, most), (5, 4));
-            }
-            _ => panic!(rt; "a body above the limit was not refused"),
-        }
+        let answer = from_slice_limited::<i64>(alloc, four, bytes);
+        check_answer(&rt, alloc, answer, refused)?;
     }
-    match from_slice_limited::<i64>(alloc, Limits::new(), HUGE) {
-        Ok(_) => panic!(rt; "a cut message was read"),
-        Err(error) => assert!(rt; !matches!(&error, Error::DeTooLong { .. })),
-    }
+    let refused = from_slice_limited::<i64>(alloc, Limits::new(), HUGE);
+    assert!(rt; is_refused_for_more_than_length(&refused));
     Ok(())
 }
