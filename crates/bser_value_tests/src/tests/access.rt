@@ -4,100 +4,89 @@ use serde_bser::value::Value;
 use std::collections::BTreeMap;
 use std::process::Abort;
 
-/// Whether the entry is this text.
-fn is_text(value: &Value, key: &str, text: &str) -> bool {
-    match value.get(key).and_then(Value::as_str) {
-        Some(found) => found == text,
-        None => false,
-    }
+/// A text and bytes, where they are found.
+type Strings<'a> = (Option<&'a str>, Option<&'a [u8]>);
+
+/// An integer, a float and a truth value, where they are found.
+type Scalars = (Option<i64>, Option<f64>, Option<bool>);
+
+/// How many items and how many entries are found, and whether it is null.
+type Counts = (Option<usize>, Option<usize>, bool);
+
+/// What is found in the entry by the calls for strings.
+fn strings<'a>(value: &'a Value, key: &str) -> Option<Strings<'a>> {
+    let entry = value.get(key)?;
+    Some((entry.as_str(), entry.as_bytes()))
 }
 
-/// Whether the entry has these bytes.
-fn are_bytes(value: &Value, key: &str, bytes: &[u8]) -> bool {
-    match value.get(key).and_then(Value::as_bytes) {
-        Some(found) => found == bytes,
-        None => false,
-    }
+/// What is found in the entry by the calls for scalars.
+fn scalars(value: &Value, key: &str) -> Option<Scalars> {
+    let entry = value.get(key)?;
+    Some((entry.as_i64(), entry.as_f64(), entry.as_bool()))
 }
 
-/// Whether the entry is this number as a float.
-fn is_float(value: &Value, key: &str, number: f64) -> bool {
-    value.get(key).and_then(Value::as_f64) == Some(number)
+/// What is found in the value by the calls for containers and null.
+fn counts(value: &Value) -> Counts {
+    let items = value.as_array().map(Vec::len);
+    (items, value.as_object().map(BTreeMap::len), value.is_null())
 }
 
-/// Whether the entry is this truth value.
-fn is_truth(value: &Value, key: &str, truth: bool) -> bool {
-    value.get(key).and_then(Value::as_bool) == Some(truth)
+/// Checks what is found in the entry by the calls for strings.
+fn check_strings(rt: &impl Abort, value: &Value, key: &str, expected: Strings<'_>) {
+    assert_eq!(rt; strings(value, key), Some(expected), "{key}");
 }
 
-/// Checks the strings and numbers of a value of all kinds.
-fn check_strings_and_numbers(rt: &impl Abort, value: &Value) {
-    assert!(rt; is_text(value, "t", "a\"\n"));
-    assert!(rt; are_bytes(value, "t", b"a\"\n"));
-    assert!(rt; are_bytes(value, "b", b"/\xff'"));
-    assert!(rt; value.get("i").and_then(Value::as_i64) == Some(300));
-    assert!(rt; is_float(value, "i", 300.0));
-    assert!(rt; is_float(value, "r", -1.5));
+/// Checks what is found in the entry by the calls for scalars.
+fn check_scalars(rt: &impl Abort, value: &Value, key: &str, expected: Scalars) {
+    assert_eq!(rt; scalars(value, key), Some(expected), "{key}");
 }
 
-/// Checks what else a value of all kinds has.
-fn check_truths_and_containers(rt: &impl Abort, value: &Value) {
-    assert!(rt; is_truth(value, "y", true));
-    assert!(rt; is_truth(value, "f", false));
-    assert!(rt; value.get("z").is_some_and(Value::is_null));
-    assert!(rt; value.get("a").and_then(Value::as_array).map(Vec::len) == Some(0));
-    assert!(rt; value.as_object().map(BTreeMap::len) == Some(9));
+/// Checks what is found in the entry by the calls for containers and null.
+fn check_counts(rt: &impl Abort, value: &Value, key: &str, expected: Counts) {
+    assert_eq!(rt; value.get(key).map(counts), Some(expected), "{key}");
 }
 
 #[test]
 fn each_kind_is_found_by_its_call(rt: HostRuntime) -> Tested {
     let value = kinds(rt.alloc())?;
-    check_strings_and_numbers(&rt, &value);
-    check_truths_and_containers(&rt, &value);
+    let bytes = b"a\"\n".as_slice();
+    check_strings(&rt, &value, "t", (Some("a\"\n"), Some(bytes)));
+    check_strings(&rt, &value, "b", (None, Some(b"/\xff'".as_slice())));
+    check_scalars(&rt, &value, "i", (Some(300), Some(300.0), None));
+    check_scalars(&rt, &value, "r", (None, Some(-1.5), None));
+    check_scalars(&rt, &value, "y", (None, None, Some(true)));
+    check_scalars(&rt, &value, "f", (None, None, Some(false)));
+    check_counts(&rt, &value, "z", (None, None, true));
+    check_counts(&rt, &value, "a", (Some(0), None, false));
+    assert_eq!(rt; counts(&value), (None, Some(9), false));
     Ok(())
-}
-
-/// Checks that no call but those for a text finds something.
-fn check_text_alone(rt: &impl Abort, text: &Value) {
-    assert!(rt; text.get("t").is_none());
-    assert!(rt; text.as_i64().is_none());
-    assert!(rt; text.as_f64().is_none());
-    assert!(rt; text.as_bool().is_none());
-    assert!(rt; text.as_array().is_none());
-    assert!(rt; text.as_object().is_none());
-    assert!(rt; !text.is_null());
-}
-
-/// Checks that nothing is found by a name that no entry has, nor by another kind's call.
-fn check_nothing_found(rt: &impl Abort, value: &Value) {
-    assert!(rt; value.get("x").is_none());
-    assert!(rt; value.get("").is_none());
-    assert!(rt; value.get("b").and_then(Value::as_str).is_none());
-    assert!(rt; value.get("i").and_then(Value::as_bytes).is_none());
-    assert!(rt; value.get("r").and_then(Value::as_i64).is_none());
 }
 
 #[test]
 fn another_kind_has_nothing(rt: HostRuntime) -> Tested {
     let value = kinds(rt.alloc())?;
-    check_nothing_found(&rt, &value);
-    check_text_alone(&rt, value.get("t").ok_or("a text")?);
+    assert!(rt; value.get("x").is_none());
+    assert!(rt; value.get("").is_none());
+    assert!(rt; value.get("t").is_some_and(|text| text.get("t").is_none()));
+    check_scalars(&rt, &value, "t", (None, None, None));
+    check_counts(&rt, &value, "t", (None, None, false));
+    check_strings(&rt, &value, "i", (None, None));
     Ok(())
 }
 
-/// The number that these bits are.
-fn float_of(bits: u64) -> Option<f64> {
-    Value::Real(bits).as_f64()
+/// Checks which float a real of these bits is.
+fn check_float(rt: &impl Abort, bits: u64, expected: Option<f64>) {
+    assert_eq!(rt; Value::Real(bits).as_f64(), expected);
 }
 
 /// A NaN is told from infinity, which is a float.
 #[test]
 fn a_nan_is_no_float(rt: HostRuntime) -> Tested {
     let value = kinds(rt.alloc())?;
-    assert!(rt; value.get("n").and_then(Value::as_f64).is_none());
-    assert!(rt; float_of(0xfff8_0000_0000_0000).is_none());
-    assert!(rt; float_of(0x7ff0_0000_0000_0001).is_none());
-    assert!(rt; float_of(0x7ff0_0000_0000_0000) == Some(f64::INFINITY));
-    assert!(rt; float_of(0x8000_0000_0000_0000) == Some(-0.0));
+    check_scalars(&rt, &value, "n", (None, None, None));
+    check_float(&rt, 0xfff8_0000_0000_0000, None);
+    check_float(&rt, 0x7ff0_0000_0000_0001, None);
+    check_float(&rt, 0x7ff0_0000_0000_0000, Some(f64::INFINITY));
+    check_float(&rt, 0x8000_0000_0000_0000, Some(-0.0));
     Ok(())
 }
