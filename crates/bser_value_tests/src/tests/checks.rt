@@ -26,7 +26,7 @@ pub fn check_equal(rt: &impl Abort, value: Value, expected: Value) {
 }
 
 /// Checks how the value is printed.
-pub fn check_printed(rt: &impl Abort, alloc: Global, value: &Value, expected: &str) -> Tested {
+pub fn check_printed(rt: &impl Abort, alloc: Global, value: Value, expected: &str) -> Tested {
     check_text(rt, value.to_string(alloc)?.as_str(), expected);
     Ok(())
 }
