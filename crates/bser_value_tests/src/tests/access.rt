@@ -2,88 +2,103 @@
 use super::{Tested, kinds};
 use serde_bser::value::Value;
 use std::collections::BTreeMap;
+use std::fmt::Debug;
 use std::process::Abort;
 
-/// A text and bytes, where they are found.
-type Strings<'a> = (Option<&'a str>, Option<&'a [u8]>);
-
-/// An integer, a float and a truth value, where they are found.
-type Scalars = (Option<i64>, Option<f64>, Option<bool>);
-
-/// How many items and how many entries are found, and whether it is null.
-type Counts = (Option<usize>, Option<usize>, bool);
-
-/// What is found in the entry by the calls for strings.
-fn strings<'a>(value: &'a Value, key: &str) -> Option<Strings<'a>> {
-    let entry = value.get(key)?;
-    Some((entry.as_str(), entry.as_bytes()))
+/// Checks what was found in what `place` names.
+fn check_found<T: Copy + PartialEq + Debug>(
+    rt: &impl Abort,
+    place: &str,
+    found: Option<T>,
+    expected: Option<T>,
+) {
+    assert_eq!(rt; found, expected, "{place}");
 }
 
-/// What is found in the entry by the calls for scalars.
-fn scalars(value: &Value, key: &str) -> Option<Scalars> {
-    let entry = value.get(key)?;
-    Some((entry.as_i64(), entry.as_f64(), entry.as_bool()))
+/// Checks the strings and numbers of a value of all kinds.
+fn check_strings_and_numbers(rt: &impl Abort, value: &Value) {
+    let (text, bytes, number) = (value.get("t"), value.get("b"), value.get("i"));
+    check_found(rt, "t", text.and_then(Value::as_str), Some("a\"\n"));
+    check_found(
+        rt,
+        "t",
+        text.and_then(Value::as_bytes),
+        Some(b"a\"\n".as_slice()),
+    );
+    check_found(
+        rt,
+        "b",
+        bytes.and_then(Value::as_bytes),
+        Some(b"/\xff'".as_slice()),
+    );
+    check_found(rt, "i", number.and_then(Value::as_i64), Some(300));
+    check_found(rt, "i", number.and_then(Value::as_f64), Some(300.0));
+    let real = value.get("r").and_then(Value::as_f64);
+    check_found(rt, "r", real, Some(-1.5));
 }
 
-/// What is found in the value by the calls for containers and null.
-fn counts(value: &Value) -> Counts {
-    let items = value.as_array().map(Vec::len);
-    (items, value.as_object().map(BTreeMap::len), value.is_null())
-}
-
-/// Checks what is found in the entry by the calls for strings.
-fn check_strings(rt: &impl Abort, value: &Value, key: &str, expected: Strings<'_>) {
-    assert_eq!(rt; strings(value, key), Some(expected), "{key}");
-}
-
-/// Checks what is found in the entry by the calls for scalars.
-fn check_scalars(rt: &impl Abort, value: &Value, key: &str, expected: Scalars) {
-    assert_eq!(rt; scalars(value, key), Some(expected), "{key}");
-}
-
-/// Checks what is found in the entry by the calls for containers and null.
-fn check_counts(rt: &impl Abort, value: &Value, key: &str, expected: Counts) {
-    assert_eq!(rt; value.get(key).map(counts), Some(expected), "{key}");
+/// Checks what else a value of all kinds has.
+fn check_truths_and_containers(rt: &impl Abort, value: &Value) {
+    let (yes, no) = (value.get("y"), value.get("f"));
+    check_found(rt, "y", yes.and_then(Value::as_bool), Some(true));
+    check_found(rt, "f", no.and_then(Value::as_bool), Some(false));
+    check_found(rt, "z", value.get("z").map(Value::is_null), Some(true));
+    let items = value.get("a").and_then(Value::as_array);
+    check_found(rt, "a", items.map(Vec::len), Some(0));
+    let entries = value.as_object();
+    check_found(rt, "the whole", entries.map(BTreeMap::len), Some(9));
 }
 
 #[test]
 fn each_kind_is_found_by_its_call(rt: HostRuntime) -> Tested {
     let value = kinds(rt.alloc())?;
-    let bytes = b"a\"\n".as_slice();
-    check_strings(&rt, &value, "t", (Some("a\"\n"), Some(bytes)));
-    check_strings(&rt, &value, "b", (None, Some(b"/\xff'".as_slice())));
-    check_scalars(&rt, &value, "i", (Some(300), Some(300.0), None));
-    check_scalars(&rt, &value, "r", (None, Some(-1.5), None));
-    check_scalars(&rt, &value, "y", (None, None, Some(true)));
-    check_scalars(&rt, &value, "f", (None, None, Some(false)));
-    check_counts(&rt, &value, "z", (None, None, true));
-    check_counts(&rt, &value, "a", (Some(0), None, false));
-    assert_eq!(rt; counts(&value), (None, Some(9), false));
+    check_strings_and_numbers(&rt, &value);
+    check_truths_and_containers(&rt, &value);
     Ok(())
+}
+
+/// Checks that no call but those for a text finds something.
+fn check_text_alone(rt: &impl Abort, text: &Value) {
+    check_found(rt, "an entry", text.get("t"), None);
+    check_found(rt, "an integer", text.as_i64(), None);
+    check_found(rt, "a float", text.as_f64(), None);
+    check_found(rt, "a truth value", text.as_bool(), None);
+    check_found(rt, "an array", text.as_array(), None);
+    check_found(rt, "an object", text.as_object(), None);
+    assert!(rt; !text.is_null());
+}
+
+/// Checks that nothing is found by a name that no entry has, nor by another kind's call.
+fn check_nothing_found(rt: &impl Abort, value: &Value) {
+    check_found(rt, "x", value.get("x"), None);
+    check_found(rt, "no name", value.get(""), None);
+    let (bytes, number, real) = (value.get("b"), value.get("i"), value.get("r"));
+    check_found(rt, "b", bytes.and_then(Value::as_str), None);
+    check_found(rt, "i", number.and_then(Value::as_bytes), None);
+    check_found(rt, "r", real.and_then(Value::as_i64), None);
 }
 
 #[test]
 fn another_kind_has_nothing(rt: HostRuntime) -> Tested {
     let value = kinds(rt.alloc())?;
-    assert!(rt; value.get("x").is_none());
-    assert!(rt; value.get("").is_none());
-    assert!(rt; value.get("t").is_some_and(|text| text.get("t").is_none()));
-    check_scalars(&rt, &value, "t", (None, None, None));
-    check_counts(&rt, &value, "t", (None, None, false));
-    check_strings(&rt, &value, "i", (None, None));
+    check_nothing_found(&rt, &value);
+    match value.get("t") {
+        Some(text) => check_text_alone(&rt, text),
+        None => assert!(rt; false, "no text"),
+    }
     Ok(())
 }
 
 /// Checks which float a real of these bits is.
 fn check_float(rt: &impl Abort, bits: u64, expected: Option<f64>) {
-    assert_eq!(rt; Value::Real(bits).as_f64(), expected);
+    check_found(rt, "a real", Value::Real(bits).as_f64(), expected);
 }
 
 /// A NaN is told from infinity, which is a float.
 #[test]
 fn a_nan_is_no_float(rt: HostRuntime) -> Tested {
     let value = kinds(rt.alloc())?;
-    check_scalars(&rt, &value, "n", (None, None, None));
+    check_found(&rt, "n", value.get("n").and_then(Value::as_f64), None);
     check_float(&rt, 0xfff8_0000_0000_0000, None);
     check_float(&rt, 0x7ff0_0000_0000_0001, None);
     check_float(&rt, 0x7ff0_0000_0000_0000, Some(f64::INFINITY));

@@ -20,13 +20,8 @@ pub fn check_bytes(rt: &impl Abort, found: &[u8], expected: &[u8]) {
     assert_eq!(rt; found, expected);
 }
 
-/// Checks that the two are the same value.
-pub fn check_equal(rt: &impl Abort, value: Value, expected: Value) {
-    assert!(rt; value == expected);
-}
-
 /// Checks how the value is printed.
-pub fn check_printed(rt: &impl Abort, alloc: Global, value: Value, expected: &str) -> Tested {
+pub fn check_printed(rt: &impl Abort, alloc: Global, value: &Value, expected: &str) -> Tested {
     check_text(rt, value.to_string(alloc)?.as_str(), expected);
     Ok(())
 }

@@ -2,7 +2,6 @@
 use super::Tested;
 use super::checks::read_by;
 use bser_vectors::devices::Plan;
-use serde_bser::errors::Result;
 use serde_bser::from_slice;
 use serde_bser::value::Value;
 use std::alloc::Global;
@@ -30,28 +29,24 @@ fn last_file(value: &Value) -> Option<&Value> {
     }
 }
 
-/// The size of the last file, where the value is an answer with files.
-fn last_size(value: &Value) -> Option<i64> {
-    match last_file(value) {
+/// Checks which size the last file has, where the message is an answer with files.
+fn check_last_size(rt: &impl Abort, value: &Value, size: Option<i64>) {
+    let found = match last_file(value) {
         Some(Value::Object(file)) => match file.get("size") {
             Some(Value::Integer(size)) => Some(*size),
             _ => None,
         },
         _ => None,
-    }
-}
-
-/// Checks which size the last file has in what was read.
-fn check_last_size(rt: &impl Abort, answer: Result<Value>, size: Option<i64>) -> Tested {
-    assert_eq!(rt; last_size(&answer?), size);
-    Ok(())
+    };
+    assert_eq!(rt; found, size);
 }
 
 /// Checks which size the last file has, where the message is read from a slice and from readers.
 fn check_message(rt: &impl Abort, alloc: Global, message: &[u8], size: Option<i64>) -> Tested {
-    check_last_size(rt, from_slice(alloc, message), size)?;
-    check_last_size(rt, read_by(alloc, message, Plan::pieces(1)), size)?;
-    check_last_size(rt, read_by(alloc, message, Plan::whole()), size)
+    check_last_size(rt, &from_slice(alloc, message)?, size);
+    check_last_size(rt, &read_by(alloc, message, Plan::pieces(1))?, size);
+    check_last_size(rt, &read_by(alloc, message, Plan::whole())?, size);
+    Ok(())
 }
 
 #[test]

@@ -1,5 +1,5 @@
 //! Values of long messages.
-use super::checks::{check_equal, check_written};
+use super::checks::check_written;
 use super::{Tested, repeated};
 use bser_vectors::devices::{Plan, PlannedReader};
 use serde_bser::de::{DeserializeOwned, Ignored, from_reader, from_slice};
@@ -49,8 +49,8 @@ fn an_array_of_five_thousand_items_keeps_their_order(rt: HostRuntime) -> Result<
     let message = numbers(alloc, head, 5000)?;
     let value = from_slice::<Value>(alloc, &message)?;
     check_numbers(&rt, items(&value).unwrap_or_default(), 5000);
-    let same = from_reader(alloc, &mut Watched::new(message.as_slice()))?;
-    check_equal(&rt, value, same);
+    let mut reader = Watched::new(message.as_slice());
+    assert!(rt; value == from_reader::<_, Value>(alloc, &mut reader)?);
     Ok(())
 }
 

@@ -32,20 +32,15 @@ fn check_read<'a, T: Deserialize<&'a [u8]> + PartialEq + Debug + Drop>(
     Ok(())
 }
 
-/// Checks what a text of one letter is read as.
-fn check_strings(rt: &impl Abort, alloc: Global) -> Tested {
-    let text = b"\x00\x02\0\0\0\0\x03\x04\x0d\x03\x01x";
-    check_read::<&str>(rt, alloc, text, "x")?;
-    check_read::<&[u8]>(rt, alloc, text, b"x")?;
-    check_read::<char>(rt, alloc, text, 'x')?;
-    check_read::<Option<&str>>(rt, alloc, text, Some("x"))
-}
-
 /// The only request for memory is the last one, which the test makes itself.
 #[test]
 fn scalars_and_lent_strings_take_no_memory(rt: HostRuntime) -> Tested {
     let alloc = rt.alloc();
-    check_strings(&rt, alloc)?;
+    let text = b"\x00\x02\0\0\0\0\x03\x04\x0d\x03\x01x";
+    check_read::<&str>(&rt, alloc, text, "x")?;
+    check_read::<&[u8]>(&rt, alloc, text, b"x")?;
+    check_read::<char>(&rt, alloc, text, 'x')?;
+    check_read::<Option<&str>>(&rt, alloc, text, Some("x"))?;
     let number = b"\x00\x02\0\0\0\0\x03\x03\x04\x80\x00";
     check_read::<i64>(&rt, alloc, number, 128)?;
     check_read::<u8>(&rt, alloc, number, 128)?;
@@ -65,9 +60,9 @@ fn is_want_of_memory<T>(answer: &Result<T>) -> bool {
 }
 
 /// Checks that the answer is the two rows, or that memory was refused in reading or in comparing.
-fn check_value_or_want(rt: &impl Abort, alloc: Global, answer: Result<Value>) {
-    if !is_want_of_memory(&answer) {
-        assert!(rt; is_answer(alloc, &answer, ROWS_SHOWN).unwrap_or(true));
+fn check_value_or_want(rt: &impl Abort, alloc: Global, answer: &Result<Value>) {
+    if !is_want_of_memory(answer) {
+        assert!(rt; is_answer(alloc, answer, ROWS_SHOWN).unwrap_or(true));
     }
 }
 
@@ -87,38 +82,38 @@ fn are_rows(rows: &[TemplateRow<String>]) -> bool {
 }
 
 /// Checks that the answer is the two rows, or that memory was refused.
-fn check_rows_or_want(rt: &impl Abort, answer: Result<Vec<TemplateRow<String>>>) {
-    match &answer {
+fn check_rows_or_want(rt: &impl Abort, answer: &Result<Vec<TemplateRow<String>>>) {
+    match answer {
         Ok(rows) => assert!(rt; are_rows(rows)),
-        Err(_) => assert!(rt; is_want_of_memory(&answer)),
+        Err(_) => assert!(rt; is_want_of_memory(answer)),
     }
 }
 
 #[test]
 fn a_template_is_a_value_or_refused_for_memory(rt: HostRuntime) {
     let alloc = rt.alloc();
-    check_value_or_want(&rt, alloc, from_slice(alloc, ROWS));
-    check_value_or_want(&rt, alloc, read_by(alloc, ROWS, Plan::pieces(1)));
-    check_value_or_want(&rt, alloc, read_by(alloc, ROWS, Plan::whole()));
+    check_value_or_want(&rt, alloc, &from_slice(alloc, ROWS));
+    check_value_or_want(&rt, alloc, &read_by(alloc, ROWS, Plan::pieces(1)));
+    check_value_or_want(&rt, alloc, &read_by(alloc, ROWS, Plan::whole()));
 }
 
 #[test]
 fn a_template_is_its_rows_or_refused_for_memory(rt: HostRuntime) {
     let alloc = rt.alloc();
-    check_rows_or_want(&rt, from_slice(alloc, ROWS));
-    check_rows_or_want(&rt, read_by(alloc, ROWS, Plan::pieces(1)));
-    check_rows_or_want(&rt, read_by(alloc, ROWS, Plan::whole()));
+    check_rows_or_want(&rt, &from_slice(alloc, ROWS));
+    check_rows_or_want(&rt, &read_by(alloc, ROWS, Plan::pieces(1)));
+    check_rows_or_want(&rt, &read_by(alloc, ROWS, Plan::whole()));
 }
 
 /// Checks that the answer ignores the message, or that memory was refused.
-fn check_ignored_or_want(rt: &impl Abort, answer: Result<Ignored>) {
-    assert!(rt; answer.is_ok() || is_want_of_memory(&answer));
+fn check_ignored_or_want(rt: &impl Abort, answer: &Result<Ignored>) {
+    assert!(rt; answer.is_ok() || is_want_of_memory(answer));
 }
 
 #[test]
 fn a_template_is_ignored_or_refused_for_memory(rt: HostRuntime) {
     let alloc = rt.alloc();
-    check_ignored_or_want(&rt, from_slice(alloc, ROWS));
-    check_ignored_or_want(&rt, read_by(alloc, ROWS, Plan::pieces(1)));
-    check_ignored_or_want(&rt, read_by(alloc, ROWS, Plan::whole()));
+    check_ignored_or_want(&rt, &from_slice(alloc, ROWS));
+    check_ignored_or_want(&rt, &read_by(alloc, ROWS, Plan::pieces(1)));
+    check_ignored_or_want(&rt, &read_by(alloc, ROWS, Plan::whole()));
 }

@@ -7,7 +7,6 @@ use serde_bser::de::Ignored;
 use serde_bser::device::Watched;
 use serde_bser::errors::Result;
 use serde_bser::from_reader;
-use serde_bser::value::Value;
 use std::alloc::Global;
 use std::io::ErrorKind;
 use std::process::Abort;
@@ -18,29 +17,18 @@ const TWO: &[u8] = b"\x00\x02\0\0\0\0\x03\x01\x0a\x00\x02\0\0\0\0\x03\x03\x04\x8
 /// What is read of the two and of what follows them, and how many bytes are left then.
 const ANSWERS: [(&str, usize); 3] = [("n", 11), ("i128", 0), ("E6 Eof", 0)];
 
-/// Checks the answer as a `Value`.
-fn check_answer(rt: &impl Abort, alloc: Global, answer: Result<Value>, expected: &str) -> Tested {
-    assert!(rt; is_answer(alloc, &answer, expected)?, "{expected}");
-    Ok(())
-}
-
 /// Checks what ignores a message, where this is its answer as a `Value`.
 fn check_ignored(
     rt: &impl Abort,
     alloc: Global,
-    answer: Result<Ignored>,
+    answer: &Result<Ignored>,
     expected: &str,
 ) -> Tested {
-    match &answer {
+    match answer {
         Ok(_) => assert!(rt; !expected.starts_with("E"), "{expected} is ignored"),
         Err(error) => assert_eq!(rt; code(alloc, error)?.as_str(), expected),
     }
     Ok(())
-}
-
-/// Checks how many bytes the reader has left after this answer.
-fn check_left(rt: &impl Abort, reader: &Watched<PlannedReader<'_>>, left: usize, answer: &str) {
-    assert_eq!(rt; reader.get_ref().left().len(), left, "{answer}");
 }
 
 /// Checks what is read next as a `Value`, and how many bytes are left then.
@@ -50,8 +38,9 @@ fn check_next(
     reader: &mut Watched<PlannedReader<'_>>,
     (expected, left): (&str, usize),
 ) -> Tested {
-    check_answer(rt, alloc, from_reader(alloc, reader), expected)?;
-    check_left(rt, reader, left, expected);
+    let answer = from_reader(alloc, reader);
+    assert!(rt; is_answer(alloc, &answer, expected)?, "{expected}");
+    assert_eq!(rt; reader.get_ref().left().len(), left, "{expected}");
     Ok(())
 }
 
@@ -62,8 +51,8 @@ fn check_next_ignored(
     reader: &mut Watched<PlannedReader<'_>>,
     (expected, left): (&str, usize),
 ) -> Tested {
-    check_ignored(rt, alloc, from_reader(alloc, reader), expected)?;
-    check_left(rt, reader, left, expected);
+    check_ignored(rt, alloc, &from_reader(alloc, reader), expected)?;
+    assert_eq!(rt; reader.get_ref().left().len(), left, "{expected}");
     Ok(())
 }
 
@@ -89,5 +78,6 @@ fn a_fault_after_the_message_is_not_asked_for(rt: HostRuntime) -> Tested {
     let real = b"\x00\x02\0\0\0\0\x03\x09\x07\x18\x2d\x44\x54\xfb\x21\x09\x40";
     let plan = Plan::whole().up_to(real.len(), Then::Faults(ErrorKind::Other));
     let answer = read_by(rt.alloc(), real, plan);
-    check_answer(&rt, rt.alloc(), answer, "r400921fb54442d18")
+    assert!(rt; is_answer(rt.alloc(), &answer, "r400921fb54442d18")?);
+    Ok(())
 }

@@ -8,7 +8,7 @@ use serde_bser::value::Value;
 fn a_value_is_one_line(rt: HostRuntime) -> Tested {
     let expected =
         "{\"a\": [], \"b\": \"/\\\\xff\\'\", \"f\": false, \"i\": 300, \"n\": NaN(0x7ff8000000000001), \"r\": -1.5, \"t\": \"a\\\"\\n\", \"y\": true, \"z\": null}";
-    check_printed(&rt, rt.alloc(), kinds(rt.alloc())?, expected)
+    check_printed(&rt, rt.alloc(), &kinds(rt.alloc())?, expected)
 }
 
 #[test]
@@ -18,7 +18,7 @@ fn parts_stand_between_commas(rt: HostRuntime) -> Tested {
     let empty = Value::from_text(alloc, "")?;
     let items = Vec::from_array(alloc, [Value::Integer(i64::MIN), inner, empty])?;
     let expected = "[-9223372036854775808, [null], \"\"]";
-    check_printed(&rt, alloc, Value::from(items), expected)
+    check_printed(&rt, alloc, &Value::from(items), expected)
 }
 
 #[test]
@@ -31,7 +31,7 @@ fn a_text_is_escaped_as_in_json(rt: HostRuntime) -> Tested {
         ("\u{0}\u{1f}\u{7f}", "\"\\u0000\\u001f\u{7f}\""),
         ("caf\u{e9} \u{1f4a9}", "\"caf\u{e9} \u{1f4a9}\""),
     ] {
-        check_printed(&rt, alloc, Value::from_text(alloc, text)?, printed)?;
+        check_printed(&rt, alloc, &Value::from_text(alloc, text)?, printed)?;
     }
     Ok(())
 }
@@ -49,7 +49,7 @@ fn a_real_is_printed_as_a_float(rt: HostRuntime) -> Tested {
         (0x7ff0_0000_0000_0001, "NaN(0x7ff0000000000001)"),
         (0xffff_ffff_ffff_ffff, "NaN(0xffffffffffffffff)"),
     ] {
-        check_printed(&rt, rt.alloc(), Value::Real(bits), printed)?;
+        check_printed(&rt, rt.alloc(), &Value::Real(bits), printed)?;
     }
     Ok(())
 }
