@@ -3,9 +3,15 @@ mod faults;
 mod messages;
 mod puts;
 
+use std::process::Abort;
 use std::test::Fail;
 
 type Tested = std::result::Result<(), Fail>;
+
+/// Checks that the bytes are those expected.
+fn check_bytes(rt: &impl Abort, found: &[u8], expected: &[u8]) {
+    assert_eq!(rt; found, expected);
+}
 
 /// Two rows of three fields each, in the notation: the first has no `ghi`, the second no `def`.
 const ROWS: &str = "[{616263:i123,646566:b626172,676869:n},{616263:i456,646566:n,676869:i789}]";

@@ -1,5 +1,6 @@
 //! Tests of values. Expected texts of printing are made by hand, after the rules that `Display` states.
 mod access;
+mod checks;
 mod files;
 mod lengths;
 mod memory;

@@ -1,18 +1,45 @@
 //! Refusals while a compact message is written.
-use super::{NESTED, NESTED_MESSAGE, Tested};
+use super::{NESTED, NESTED_MESSAGE, Tested, check_bytes};
 use bser_vectors::devices::{Plan, PlannedWriter, Then};
 use bser_vectors::notation::parse_value;
 use serde_bser::device::Watched;
 use serde_bser::errors::Error;
 use serde_bser::ser::serialize_compact;
+use serde_bser::value::Value;
+use std::alloc::Global;
 use std::io::ErrorKind;
+use std::process::Abort;
 
 /// Whether writing was refused by the writer's fault of this kind.
-fn is_fault(answer: &Result<(), Error>, wanted: ErrorKind) -> bool {
-    match answer {
-        Err(Error::Io(fault)) => fault.kind() == wanted,
+fn is_fault(error: &Error, wanted: ErrorKind) -> bool {
+    match error {
+        Error::Io(fault) => fault.kind() == wanted,
         _ => false,
     }
+}
+
+/// The same of an answer.
+fn is_refused(answer: &Result<(), Error>, wanted: ErrorKind) -> bool {
+    match answer {
+        Ok(()) => false,
+        Err(error) => is_fault(error, wanted),
+    }
+}
+
+/// Checks that a writer that stops after these bytes took them, and that its fault is the answer.
+fn check_stop(
+    rt: &impl Abort,
+    alloc: Global,
+    value: &Value,
+    taken: &[u8],
+    (then, kind): (Then, ErrorKind),
+) {
+    let whole = taken.len();
+    let plan = Plan::whole().up_to(whole, then);
+    let mut writer = Watched::new(PlannedWriter::new(alloc, plan));
+    let answer = serialize_compact(alloc, &mut writer, value);
+    assert!(rt; is_refused(&answer, kind), "after {whole} bytes");
+    check_bytes(rt, writer.get_ref().taken(), taken);
 }
 
 #[test]
@@ -23,13 +50,9 @@ fn a_fault_at_each_byte_leaves_a_beginning(rt: HostRuntime) -> Tested {
         (Then::Faults(ErrorKind::BrokenPipe), ErrorKind::BrokenPipe),
         (Then::Faults(ErrorKind::Interrupted), ErrorKind::Interrupted),
     ];
-    for (then, kind) in stops {
+    for stop in stops {
         for whole in 0..NESTED_MESSAGE.len() {
-            let plan = Plan::whole().up_to(whole, then);
-            let mut writer = Watched::new(PlannedWriter::new(rt.alloc(), plan));
-            let answer = serialize_compact(rt.alloc(), &mut writer, &value);
-            assert!(rt; is_fault(&answer, kind), "after {whole} bytes");
-            assert_eq!(rt; writer.get_ref().taken(), &NESTED_MESSAGE[..whole]);
+            check_stop(&rt, rt.alloc(), &value, &NESTED_MESSAGE[..whole], stop);
         }
     }
     Ok(())
@@ -40,8 +63,16 @@ fn a_message_is_written_a_byte_a_call(rt: HostRuntime) -> Tested {
     let value = parse_value(rt.alloc(), NESTED)?;
     let mut writer = Watched::new(PlannedWriter::new(rt.alloc(), Plan::pieces(1)));
     serialize_compact(rt.alloc(), &mut writer, &value)?;
-    assert_eq!(rt; writer.get_ref().taken(), NESTED_MESSAGE);
+    check_bytes(&rt, writer.get_ref().taken(), NESTED_MESSAGE);
     Ok(())
+}
+
+/// Whether memory was refused, to the writer or to what calls it.
+fn is_want_of_memory(error: &Error) -> bool {
+    match error {
+        Error::OutOfMemory => true,
+        _ => is_fault(error, ErrorKind::OutOfMemory),
+    }
 }
 
 /// Each growth is granted where the tests run. Where one is refused, a beginning was written.
@@ -49,15 +80,11 @@ fn a_message_is_written_a_byte_a_call(rt: HostRuntime) -> Tested {
 fn a_message_that_is_refused_for_memory_leaves_a_beginning(rt: HostRuntime) -> Tested {
     let value = parse_value(rt.alloc(), NESTED)?;
     let mut writer = Watched::new(PlannedWriter::new(rt.alloc(), Plan::pieces(5)));
-    match serialize_compact(rt.alloc(), &mut writer, &value) {
-        Ok(()) => assert_eq!(rt; writer.get_ref().taken(), NESTED_MESSAGE),
-        Err(Error::OutOfMemory) => {
-            assert!(rt; NESTED_MESSAGE.starts_with(writer.get_ref().taken()));
-        }
-        answer => {
-            assert!(rt; is_fault(&answer, ErrorKind::OutOfMemory));
-            assert!(rt; NESTED_MESSAGE.starts_with(writer.get_ref().taken()));
-        }
+    let answer = serialize_compact(rt.alloc(), &mut writer, &value);
+    let taken = writer.get_ref().taken();
+    match &answer {
+        Ok(()) => check_bytes(&rt, taken, NESTED_MESSAGE),
+        Err(error) => assert!(rt; is_want_of_memory(error) && NESTED_MESSAGE.starts_with(taken)),
     }
     Ok(())
 }

@@ -1,31 +1,46 @@
 //! Compact messages, which are read back as the values.
-use super::{NESTED, NESTED_MESSAGE, ROWS, ROWS_MESSAGE, Tested};
+use super::{NESTED, NESTED_MESSAGE, ROWS, ROWS_MESSAGE, Tested, check_bytes};
 use bser_vectors::devices::{Plan, PlannedReader};
 use bser_vectors::notation::parse_value;
 use serde_bser::device::Watched;
+use serde_bser::errors::Error;
 use serde_bser::ser::{serialize, serialize_compact};
 use serde_bser::value::Value;
 use serde_bser::{from_reader, from_slice};
 use std::alloc::Global;
 use std::process::Abort;
 
+/// Checks that the value is written so.
+fn check_written(rt: &impl Abort, alloc: Global, value: &Value, expected: &[u8]) -> Tested {
+    let mut writer = Watched::new(Vec::new(alloc));
+    serialize_compact(alloc, &mut writer, value)?;
+    check_bytes(rt, writer.get_ref().as_slice(), expected);
+    Ok(())
+}
+
+/// The length of the value's message in the canonical form.
+fn canonical_length(alloc: Global, value: &Value) -> Result<usize, Error> {
+    match serialize(alloc, Watched::new(Vec::new(alloc)), value) {
+        Ok(writer) => Ok(writer.get_ref().len()),
+        Err((_, error)) => Err(error),
+    }
+}
+
+/// Checks that the message is read as the value by a reader of one byte a call.
+fn check_reader(rt: &impl Abort, alloc: Global, value: &Value, message: &[u8]) -> Tested {
+    let mut reader = Watched::new(PlannedReader::new(message, Plan::pieces(1)));
+    assert!(rt; from_reader::<_, Value>(alloc, &mut reader)? == *value);
+    assert!(rt; reader.get_ref().left().is_empty());
+    Ok(())
+}
+
 /// Checks that the value is written so, that no more bytes are written than in the canonical form,
 /// and that it is read back from a slice and from a reader of one byte a call.
 fn check_compact(rt: &impl Abort, alloc: Global, value: &Value, expected: &[u8]) -> Tested {
-    let mut writer = Watched::new(Vec::new(alloc));
-    serialize_compact(alloc, &mut writer, value)?;
-    assert_eq!(rt; writer.get_ref().as_slice(), expected);
-    match serialize(alloc, Watched::new(Vec::new(alloc)), value) {
-        Ok(canonical) => assert!(rt; expected.len() <= canonical.get_ref().len()),
-        Err((_, error)) => return Err(error.into()),
-    }
-    let from_slice: Value = from_slice(alloc, expected)?;
-    assert!(rt; from_slice == *value);
-    let mut reader = Watched::new(PlannedReader::new(expected, Plan::pieces(1)));
-    let from_reader: Value = from_reader(alloc, &mut reader)?;
-    assert!(rt; from_reader == *value);
-    assert!(rt; reader.get_ref().left().is_empty());
-    Ok(())
+    check_written(rt, alloc, value, expected)?;
+    assert!(rt; expected.len() <= canonical_length(alloc, value)?);
+    assert!(rt; from_slice::<Value>(alloc, expected)? == *value);
+    check_reader(rt, alloc, value, expected)
 }
 
 #[test]

@@ -1,5 +1,5 @@
 //! A template by the puts of a serializer.
-use super::Tested;
+use super::{Tested, check_bytes};
 use serde_bser::device::Watched;
 use serde_bser::ser::Serializer;
 
@@ -14,6 +14,6 @@ fn a_template_of_two_rows(rt: HostRuntime) -> Tested {
     out.put_i64(1)?;
     out.put_i64(2)?;
     let expected = b"\x0b\x00\x03\x01\x0d\x03\x01a\x03\x02\x03\x01\x03\x02";
-    assert_eq!(rt; out.finish()?.into_inner().as_slice(), expected.as_slice());
+    check_bytes(&rt, out.finish()?.into_inner().as_slice(), expected);
     Ok(())
 }

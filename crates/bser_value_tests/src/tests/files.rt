@@ -1,9 +1,10 @@
 //! Answers of a server, told from others by their files.
 use super::Tested;
+use super::checks::read_by;
 use bser_vectors::devices::Plan;
-use bser_vectors::ways::read_by_plan;
 use serde_bser::from_slice;
 use serde_bser::value::Value;
+use std::alloc::Global;
 use std::process::Abort;
 
 /// An answer with its files in a template.
@@ -40,19 +41,18 @@ fn check_last_size(rt: &impl Abort, value: &Value, size: Option<i64>) {
     assert_eq!(rt; found, size);
 }
 
+/// Checks which size the last file has, where the message is read from a slice and from readers.
+fn check_message(rt: &impl Abort, alloc: Global, message: &[u8], size: Option<i64>) -> Tested {
+    check_last_size(rt, &from_slice(alloc, message)?, size);
+    check_last_size(rt, &read_by(alloc, message, Plan::pieces(1))?, size);
+    check_last_size(rt, &read_by(alloc, message, Plan::whole())?, size);
+    Ok(())
+}
+
 #[test]
 fn an_answer_is_told_from_others_by_its_files(rt: HostRuntime) -> Tested {
     let alloc = rt.alloc();
-    let cases = [
-        (FILES_IN_TEMPLATE, Some(3200)),
-        (FILES_IN_ARRAY, Some(224)),
-        (ERROR, None),
-    ];
-    for (message, size) in cases {
-        check_last_size(&rt, &from_slice(alloc, message)?, size);
-        for plan in [Plan::pieces(1), Plan::whole()] {
-            check_last_size(&rt, &read_by_plan(alloc, message, plan).0?, size);
-        }
-    }
-    Ok(())
+    check_message(&rt, alloc, FILES_IN_TEMPLATE, Some(3200))?;
+    check_message(&rt, alloc, FILES_IN_ARRAY, Some(224))?;
+    check_message(&rt, alloc, ERROR, None)
 }

@@ -1,8 +1,8 @@
 //! Messages one after another, and a reader that faults behind one.
 use super::Tested;
+use super::checks::read_by;
 use bser_vectors::devices::{Plan, PlannedReader, Then};
 use bser_vectors::notation::{code, is_answer};
-use bser_vectors::ways::read_by_plan;
 use serde_bser::de::Ignored;
 use serde_bser::device::Watched;
 use serde_bser::errors::Result;
@@ -31,28 +31,53 @@ fn check_ignored(
     Ok(())
 }
 
-#[test]
-fn messages_are_read_one_after_another(rt: HostRuntime) -> Tested {
-    for plan in [Plan::pieces(1), Plan::whole()] {
-        let mut reader = Watched::new(PlannedReader::new(TWO, plan));
-        let mut passed = Watched::new(PlannedReader::new(TWO, plan));
-        for (expected, left) in ANSWERS {
-            let answer = from_reader(rt.alloc(), &mut reader);
-            assert!(rt; is_answer(rt.alloc(), &answer, expected)?, "{expected}");
-            assert_eq!(rt; reader.get_ref().left().len(), left, "{expected}");
-            let answer = from_reader(rt.alloc(), &mut passed);
-            check_ignored(&rt, rt.alloc(), &answer, expected)?;
-            assert_eq!(rt; passed.get_ref().left().len(), left, "{expected}");
-        }
+/// Checks what is read next as a `Value`, and how many bytes are left then.
+fn check_next(
+    rt: &impl Abort,
+    alloc: Global,
+    reader: &mut Watched<PlannedReader<'_>>,
+    (expected, left): (&str, usize),
+) -> Tested {
+    let answer = from_reader(alloc, reader);
+    assert!(rt; is_answer(alloc, &answer, expected)?, "{expected}");
+    assert_eq!(rt; reader.get_ref().left().len(), left, "{expected}");
+    Ok(())
+}
+
+/// The same of what ignores the next message.
+fn check_next_ignored(
+    rt: &impl Abort,
+    alloc: Global,
+    reader: &mut Watched<PlannedReader<'_>>,
+    (expected, left): (&str, usize),
+) -> Tested {
+    check_ignored(rt, alloc, &from_reader(alloc, reader), expected)?;
+    assert_eq!(rt; reader.get_ref().left().len(), left, "{expected}");
+    Ok(())
+}
+
+/// Checks what is read of the two messages, and what ignores them, from readers of this plan.
+fn check_two(rt: &impl Abort, alloc: Global, plan: Plan) -> Tested {
+    let mut reader = Watched::new(PlannedReader::new(TWO, plan));
+    let mut passed = Watched::new(PlannedReader::new(TWO, plan));
+    for next in ANSWERS {
+        check_next(rt, alloc, &mut reader, next)?;
+        check_next_ignored(rt, alloc, &mut passed, next)?;
     }
     Ok(())
+}
+
+#[test]
+fn messages_are_read_one_after_another(rt: HostRuntime) -> Tested {
+    check_two(&rt, rt.alloc(), Plan::pieces(1))?;
+    check_two(&rt, rt.alloc(), Plan::whole())
 }
 
 #[test]
 fn a_fault_after_the_message_is_not_asked_for(rt: HostRuntime) -> Tested {
     let real = b"\x00\x02\0\0\0\0\x03\x09\x07\x18\x2d\x44\x54\xfb\x21\x09\x40";
     let plan = Plan::whole().up_to(real.len(), Then::Faults(ErrorKind::Other));
-    let (answer, _) = read_by_plan(rt.alloc(), real, plan);
+    let answer = read_by(rt.alloc(), real, plan);
     assert!(rt; is_answer(rt.alloc(), &answer, "r400921fb54442d18")?);
     Ok(())
 }

@@ -1,34 +1,28 @@
 //! Printing.
-use super::kinds;
+use super::checks::{check_printed, check_text};
+use super::{Tested, kinds};
 use serde_bser::escaped::escaped_bytes;
 use serde_bser::value::Value;
-use std::test::Fail;
 
 #[test]
-fn a_value_is_one_line(rt: HostRuntime) -> Result<(), Fail> {
-    let text = kinds(rt.alloc())?.to_string(rt.alloc())?;
+fn a_value_is_one_line(rt: HostRuntime) -> Tested {
     let expected =
         "{\"a\": [], \"b\": \"/\\\\xff\\'\", \"f\": false, \"i\": 300, \"n\": NaN(0x7ff8000000000001), \"r\": -1.5, \"t\": \"a\\\"\\n\", \"y\": true, \"z\": null}";
-    assert_eq!(rt; text.as_str(), expected);
-    Ok(())
+    check_printed(&rt, rt.alloc(), &kinds(rt.alloc())?, expected)
 }
 
 #[test]
-fn parts_stand_between_commas(rt: HostRuntime) -> Result<(), Fail> {
+fn parts_stand_between_commas(rt: HostRuntime) -> Tested {
     let alloc = rt.alloc();
-    let mut inner = Vec::new(alloc);
-    inner.push(Value::Null)?;
-    let mut items = Vec::new(alloc);
-    items.push(Value::Integer(i64::MIN))?;
-    items.push(Value::from(inner))?;
-    items.push(Value::from_text(alloc, "")?)?;
-    let text = Value::from(items).to_string(alloc)?;
-    assert_eq!(rt; text.as_str(), "[-9223372036854775808, [null], \"\"]");
-    Ok(())
+    let inner = Value::from(Vec::from_array(alloc, [Value::Null])?);
+    let empty = Value::from_text(alloc, "")?;
+    let items = Vec::from_array(alloc, [Value::Integer(i64::MIN), inner, empty])?;
+    let expected = "[-9223372036854775808, [null], \"\"]";
+    check_printed(&rt, alloc, &Value::from(items), expected)
 }
 
 #[test]
-fn a_text_is_escaped_as_in_json(rt: HostRuntime) -> Result<(), Fail> {
+fn a_text_is_escaped_as_in_json(rt: HostRuntime) -> Tested {
     let alloc = rt.alloc();
     for (text, printed) in [
         ("plain", "\"plain\""),
@@ -37,17 +31,14 @@ fn a_text_is_escaped_as_in_json(rt: HostRuntime) -> Result<(), Fail> {
         ("\u{0}\u{1f}\u{7f}", "\"\\u0000\\u001f\u{7f}\""),
         ("caf\u{e9} \u{1f4a9}", "\"caf\u{e9} \u{1f4a9}\""),
     ] {
-        assert_eq!(rt;
-            Value::from_text(alloc, text)?.to_string(alloc)?.as_str(),
-            printed
-        );
+        check_printed(&rt, alloc, &Value::from_text(alloc, text)?, printed)?;
     }
     Ok(())
 }
 
 /// As `{}` of an `f64`, for the bits of IEEE 754.
 #[test]
-fn a_real_is_printed_as_a_float(rt: HostRuntime) -> Result<(), Fail> {
+fn a_real_is_printed_as_a_float(rt: HostRuntime) -> Tested {
     for (bits, printed) in [
         (0x3ff0_0000_0000_0000, "1"),
         (0x8000_0000_0000_0000, "-0"),
@@ -58,20 +49,20 @@ fn a_real_is_printed_as_a_float(rt: HostRuntime) -> Result<(), Fail> {
         (0x7ff0_0000_0000_0001, "NaN(0x7ff0000000000001)"),
         (0xffff_ffff_ffff_ffff, "NaN(0xffffffffffffffff)"),
     ] {
-        assert_eq!(rt; Value::Real(bits).to_string(rt.alloc())?.as_str(), printed);
+        check_printed(&rt, rt.alloc(), &Value::Real(bits), printed)?;
     }
     Ok(())
 }
 
 #[test]
-fn lent_bytes_are_escaped(rt: HostRuntime) -> Result<(), Fail> {
+fn lent_bytes_are_escaped(rt: HostRuntime) -> Tested {
     for (bytes, text) in [
         (b"plain".as_slice(), "plain"),
         (b"/\xff\xfe".as_slice(), "/\\xff\\xfe"),
         (b"cut-\xc3".as_slice(), "cut-\\xc3"),
         (b"caf\xc3\xa9".as_slice(), "caf\u{e9}"),
     ] {
-        assert_eq!(rt; escaped_bytes(rt.alloc(), bytes)?.as_str(), text);
+        check_text(&rt, escaped_bytes(rt.alloc(), bytes)?.as_str(), text);
     }
     Ok(())
 }

@@ -1,9 +1,10 @@
 //! How large a value is beside the message that it was read from.
 use super::{Tested, repeated};
+use serde_bser::errors::Error;
 use serde_bser::from_slice;
 use serde_bser::ser::{CountWrite, Serialize, Serializer};
 use serde_bser::value::Value;
-use std::alloc::Global;
+use std::alloc::{AllocError, Global};
 use std::collections::BTreeMap;
 use std::process::Abort;
 
@@ -52,14 +53,24 @@ const RECORDED: &[u8] =
 /// What is said of a value: how many values it is, its depth, and the length of its written body.
 type Sizes = (usize, usize, usize);
 
+/// The length of the body that is written for the value.
+fn written(alloc: Global, value: &Value) -> Result<usize, Error> {
+    let mut out = Serializer::new(alloc, CountWrite::new());
+    value.serialize(alloc, &mut out)?;
+    Ok(out.finish()?.count())
+}
+
+/// The sizes of the value that the message is read as.
+fn sizes_of(alloc: Global, message: &[u8]) -> Result<Sizes, Error> {
+    let value = from_slice::<Value>(alloc, message)?;
+    let (nodes, depth) = size(&value);
+    Ok((nodes, depth, written(alloc, &value)?))
+}
+
 /// Checks the sizes of the value that the message of a body of `len` bytes is read as, and that they
 /// are within the bounds that hold for every message.
 fn check_sizes(rt: &impl Abort, alloc: Global, message: &[u8], len: usize, sizes: Sizes) -> Tested {
-    let value = from_slice::<Value>(alloc, message)?;
-    let (nodes, depth) = size(&value);
-    let mut out = Serializer::new(alloc, CountWrite::new());
-    value.serialize(alloc, &mut out)?;
-    let written = out.finish()?.count();
+    let (nodes, depth, written) = sizes_of(alloc, message)?;
     assert_eq!(rt; (nodes, depth, written), sizes);
     assert!(rt; nodes <= len.saturating_mul(2));
     assert!(rt; depth <= 255);
@@ -67,20 +78,44 @@ fn check_sizes(rt: &impl Abort, alloc: Global, message: &[u8], len: usize, sizes
     Ok(())
 }
 
+/// A template of one row in the row of another, and so on, 127 times.
+fn nested_templates(alloc: Global) -> Result<Vec<u8>, AllocError> {
+    let head = b"\x00\x02\0\0\0\0\x04\xf9\x04";
+    let layer = b"\x0b\x00\x03\x01\x0d\x03\x01a\x03\x01";
+    repeated(alloc, head, layer, 127, b"\x00\x03\x00")
+}
+
+/// A template of a hundred rows, each of one null.
+fn rows_of_nulls(alloc: Global) -> Result<Vec<u8>, AllocError> {
+    let head = b"\x00\x02\0\0\0\0\x03\x6e\x0b\x00\x03\x01\x0d\x03\x01a\x03\x64";
+    repeated(alloc, head, b"\x0a", 100, b"")
+}
+
+/// The same under a key of a hundred bytes.
+fn rows_under_a_long_key(alloc: Global) -> Result<Vec<u8>, AllocError> {
+    let head = b"\x00\x02\0\0\0\0\x04\xd1\x00\x0b\x00\x03\x01\x0d\x03\x64";
+    let keyed = repeated(alloc, head, b"a", 100, b"\x03\x64")?;
+    repeated(alloc, &keyed, b"\x0a", 100, b"")
+}
+
 #[test]
 fn values_are_within_the_bounds_of_their_messages(rt: HostRuntime) -> Tested {
     let alloc = rt.alloc();
     check_sizes(&rt, alloc, ROWS, 40, (9, 2, 61))?;
     check_sizes(&rt, alloc, RECORDED, 120, (8, 3, 120))?;
-    let head = b"\x00\x02\0\0\0\0\x04\xf9\x04";
-    let layer = b"\x0b\x00\x03\x01\x0d\x03\x01a\x03\x01";
-    let templates = repeated(alloc, head, layer, 127, b"\x00\x03\x00")?;
-    check_sizes(&rt, alloc, &templates, 1273, (255, 255, 1273))?;
-    let head = b"\x00\x02\0\0\0\0\x03\x6e\x0b\x00\x03\x01\x0d\x03\x01a\x03\x64";
-    let nulls = repeated(alloc, head, b"\x0a", 100, b"")?;
-    check_sizes(&rt, alloc, &nulls, 110, (201, 2, 803))?;
-    let head = b"\x00\x02\0\0\0\0\x04\xd1\x00\x0b\x00\x03\x01\x0d\x03\x64";
-    let keyed = repeated(alloc, head, b"a", 100, b"\x03\x64")?;
-    let long_key = repeated(alloc, &keyed, b"\x0a", 100, b"")?;
-    check_sizes(&rt, alloc, &long_key, 209, (201, 2, 10_703))
+    check_sizes(
+        &rt,
+        alloc,
+        &nested_templates(alloc)?,
+        1273,
+        (255, 255, 1273),
+    )?;
+    check_sizes(&rt, alloc, &rows_of_nulls(alloc)?, 110, (201, 2, 803))?;
+    check_sizes(
+        &rt,
+        alloc,
+        &rows_under_a_long_key(alloc)?,
+        209,
+        (201, 2, 10_703),
+    )
 }

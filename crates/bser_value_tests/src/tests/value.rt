@@ -1,52 +1,56 @@
 //! Values that are made, copied and compared.
-use serde_bser::bytestring::ByteString;
+use super::Tested;
+use bser_vectors::notation::parse_value;
 use serde_bser::value::Value;
 use std::alloc::{AllocError, Global};
 use std::collections::BTreeMap;
+use std::process::Abort;
 
-/// An object that holds an array of one value of each other variant.
-fn nested(alloc: Global, real: u64) -> Result<Value, AllocError> {
-    let bytes = Vec::from_slice(alloc, b"\xff")?;
-    let mut items = Vec::new(alloc);
-    items.push(Value::ByteString(ByteString::from_vec(bytes)))?;
-    items.push(Value::Integer(-5))?;
-    items.push(Value::Real(real))?;
-    items.push(Value::Bool(true))?;
-    items.push(Value::Null)?;
-    items.push(Value::from_text(alloc, "Tom")?)?;
-    let mut entries = BTreeMap::new(alloc);
-    let key = String::from_str(alloc, "items")?;
-    drop(entries.insert(key, Value::Array(items))?);
-    Ok(Value::Object(entries))
+/// An object that holds an array of one value of each other variant, in the notation.
+const NESTED: &str = "{6974656d73:[bff,i-5,r0000000000000001,t,n,s546f6d]}";
+
+/// The same with another real.
+const OTHER_REAL: &str = "{6974656d73:[bff,i-5,r0000000000000002,t,n,s546f6d]}";
+
+/// The integer that the number is as a value.
+fn integer_of(number: usize) -> Result<i64, &'static str> {
+    Value::from_usize(number)?.as_i64().ok_or("no integer")
 }
 
 #[test]
 fn an_integer_above_the_limit_is_refused(rt: HostRuntime) {
-    let refused = Value::from_usize(9223372036854775808);
-    assert!(rt; matches!(refused, Err("value is too large to represent as i64")));
-    let accepted = Value::from_usize(9223372036854775807);
-    assert!(rt; matches!(accepted, Ok(Value::Integer(9223372036854775807))));
+    let refused = Err("value is too large to represent as i64");
+    assert!(rt; integer_of(9223372036854775808) == refused);
+    assert!(rt; integer_of(9223372036854775807) == Ok(9223372036854775807));
+}
+
+/// Checks what a conversion gave.
+fn check_converted(rt: &impl Abort, value: Value, expected: Value) {
+    assert!(rt; value == expected);
+}
+
+/// A list of one value, which is null.
+fn one_null(alloc: Global) -> Result<Vec<Value>, AllocError> {
+    Ok(Vec::from_array(alloc, [Value::Null])?)
 }
 
 #[test]
 fn conversions_give_their_variants(rt: HostRuntime) -> Result<(), AllocError> {
     let alloc = rt.alloc();
-    assert!(rt; Value::from(true) == Value::Bool(true));
-    assert!(rt; Value::from(-5) == Value::Integer(-5));
-    let text = String::from_str(alloc, "Tom")?;
-    assert!(rt; Value::from(text) == Value::from_text(alloc, "Tom")?);
-    let given = Vec::from_array(alloc, [Value::Null])?;
-    let expected = Vec::from_array(alloc, [Value::Null])?;
-    assert!(rt; Value::from(given) == Value::Array(expected));
-    let given = BTreeMap::<String, Value>::new(alloc);
-    let expected = BTreeMap::new(alloc);
-    assert!(rt; Value::from(given) == Value::Object(expected));
+    check_converted(&rt, Value::from(true), Value::Bool(true));
+    check_converted(&rt, Value::from(-5), Value::Integer(-5));
+    let text = Value::from(String::from_str(alloc, "Tom")?);
+    check_converted(&rt, text, Value::from_text(alloc, "Tom")?);
+    let items = Value::from(one_null(alloc)?);
+    check_converted(&rt, items, Value::Array(one_null(alloc)?));
+    let entries = Value::from(BTreeMap::<String, Value>::new(alloc));
+    check_converted(&rt, entries, Value::Object(BTreeMap::new(alloc)));
     Ok(())
 }
 
 #[test]
-fn a_copy_is_equal(rt: HostRuntime) -> Result<(), AllocError> {
-    let value = nested(rt.alloc(), 1)?;
+fn a_copy_is_equal(rt: HostRuntime) -> Tested {
+    let value = parse_value(rt.alloc(), NESTED)?;
     let copy = value.try_clone(rt.alloc())?;
     assert!(rt; copy == value);
     copy.check_tree();
@@ -54,25 +58,25 @@ fn a_copy_is_equal(rt: HostRuntime) -> Result<(), AllocError> {
 }
 
 #[test]
-fn a_clone_is_equal(rt: HostRuntime) -> Result<(), AllocError> {
-    let value = nested(rt.alloc(), 1)?;
+fn a_clone_is_equal(rt: HostRuntime) -> Tested {
+    let value = parse_value(rt.alloc(), NESTED)?;
     let clone = value.clone()?;
     assert!(rt; clone == value);
-    assert!(rt; clone != nested(rt.alloc(), 2)?);
+    assert!(rt; clone != parse_value(rt.alloc(), OTHER_REAL)?);
     Ok(())
 }
 
 #[test]
-fn values_with_different_reals_differ(rt: HostRuntime) -> Result<(), AllocError> {
-    let value = nested(rt.alloc(), 1)?;
-    assert!(rt; value != nested(rt.alloc(), 2)?);
+fn values_with_different_reals_differ(rt: HostRuntime) -> Tested {
+    let value = parse_value(rt.alloc(), NESTED)?;
+    assert!(rt; value != parse_value(rt.alloc(), OTHER_REAL)?);
     assert!(rt; Value::Real(5) != Value::Integer(5));
     Ok(())
 }
 
 #[test]
-fn debug_prints_a_value(rt: HostRuntime) -> Result<(), AllocError> {
-    let value = nested(rt.alloc(), 1)?;
+fn debug_prints_a_value(rt: HostRuntime) -> Tested {
+    let value = parse_value(rt.alloc(), NESTED)?;
     let printed = format!(in rt.alloc(); "{value:?}")?;
     assert!(rt; printed.as_str().contains("Integer(-5)"), "{printed}");
     Ok(())

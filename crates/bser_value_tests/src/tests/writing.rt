@@ -1,14 +1,16 @@
 //! What is written for values, and what is left where a writer faults.
 use super::Tested;
+use super::checks::{check_bytes, check_written};
 use bser_vectors::devices::{Plan, PlannedWriter, Then};
 use bser_vectors::notation::parse_value;
 use serde_bser::device::Watched;
 use serde_bser::errors::Error;
 use serde_bser::ser::{serialize, serialize_to};
 use serde_bser::value::Value;
+use std::alloc::Global;
 use std::collections::BTreeMap;
 use std::io::ErrorKind;
-use std::result::Result;
+use std::process::Abort;
 
 #[test]
 fn keys_are_written_in_rising_order(rt: HostRuntime) -> Tested {
@@ -16,13 +18,9 @@ fn keys_are_written_in_rising_order(rt: HostRuntime) -> Tested {
     let mut entries = BTreeMap::new(alloc);
     drop(entries.insert(String::from_str(alloc, "b")?, Value::Integer(1))?);
     drop(entries.insert(String::from_str(alloc, "a")?, Value::Integer(2))?);
-    let mut writer = Watched::new(Vec::new(alloc));
-    serialize_to(alloc, &mut writer, &Value::Object(entries))?;
-    assert_eq!(rt;
-        writer.into_inner().as_slice(),
-        b"\x00\x02\0\0\0\0\x03\x0f\x01\x03\x02\x0d\x03\x01a\x03\x02\x0d\x03\x01b\x03\x01".as_slice()
-    );
-    Ok(())
+    let expected =
+        b"\x00\x02\0\0\0\0\x03\x0f\x01\x03\x02\x0d\x03\x01a\x03\x02\x0d\x03\x01b\x03\x01";
+    check_written(&rt, alloc, &Value::Object(entries), expected)
 }
 
 const TOM: &[u8] = b"\x00\x02\0\0\0\0\x03\x06\x0d\x03\x03Tom";
@@ -35,11 +33,35 @@ const ROWS_MESSAGE: &[u8] =
     b"\x00\x02\0\0\0\0\x03\x3d\x00\x03\x02\x01\x03\x03\x0d\x03\x03abc\x03\x7b\x0d\x03\x03def\x02\x03\x03bar\x0d\x03\x03ghi\x0a\x01\x03\x03\x0d\x03\x03abc\x04\xc8\x01\x0d\x03\x03def\x0a\x0d\x03\x03ghi\x04\x15\x03";
 
 /// Whether writing was refused by the writer's fault of this kind.
-fn is_fault(answer: &Result<(), Error>, wanted: ErrorKind) -> bool {
-    match answer {
-        Err(Error::Io(fault)) => fault.kind() == wanted,
+fn is_fault(error: &Error, wanted: ErrorKind) -> bool {
+    match error {
+        Error::Io(fault) => fault.kind() == wanted,
         _ => false,
     }
+}
+
+/// The same of an answer.
+fn is_refused(answer: &Result<(), Error>, wanted: ErrorKind) -> bool {
+    match answer {
+        Ok(()) => false,
+        Err(error) => is_fault(error, wanted),
+    }
+}
+
+/// Checks that a writer that stops after these bytes took them, and that its fault is the answer.
+fn check_stop(
+    rt: &impl Abort,
+    alloc: Global,
+    value: &Value,
+    taken: &[u8],
+    (then, kind): (Then, ErrorKind),
+) {
+    let whole = taken.len();
+    let plan = Plan::whole().up_to(whole, then);
+    let mut writer = Watched::new(PlannedWriter::new(alloc, plan));
+    let answer = serialize_to(alloc, &mut writer, value);
+    assert!(rt; is_refused(&answer, kind), "after {whole} bytes");
+    check_bytes(rt, writer.get_ref().taken(), taken);
 }
 
 #[test]
@@ -51,13 +73,9 @@ fn a_fault_at_each_byte_leaves_a_beginning(rt: HostRuntime) -> Tested {
         (Then::Faults(ErrorKind::BrokenPipe), ErrorKind::BrokenPipe),
         (Then::Faults(ErrorKind::Interrupted), ErrorKind::Interrupted),
     ];
-    for (then, kind) in stops {
+    for stop in stops {
         for whole in 0..ROWS_MESSAGE.len() {
-            let plan = Plan::whole().up_to(whole, then);
-            let mut writer = Watched::new(PlannedWriter::new(rt.alloc(), plan));
-            let answer = serialize_to(rt.alloc(), &mut writer, &value);
-            assert!(rt; is_fault(&answer, kind), "after {whole} bytes");
-            assert_eq!(rt; writer.get_ref().taken(), &ROWS_MESSAGE[..whole]);
+            check_stop(&rt, rt.alloc(), &value, &ROWS_MESSAGE[..whole], stop);
         }
     }
     Ok(())
@@ -68,8 +86,16 @@ fn a_message_is_written_a_byte_a_call(rt: HostRuntime) -> Tested {
     let value = parse_value(rt.alloc(), ROWS)?;
     let mut writer = Watched::new(PlannedWriter::new(rt.alloc(), Plan::pieces(1)));
     serialize_to(rt.alloc(), &mut writer, &value)?;
-    assert_eq!(rt; writer.get_ref().taken(), ROWS_MESSAGE);
+    check_bytes(&rt, writer.get_ref().taken(), ROWS_MESSAGE);
     Ok(())
+}
+
+/// Whether memory was refused, to the writer or to what calls it.
+fn is_want_of_memory(error: &Error) -> bool {
+    match error {
+        Error::OutOfMemory => true,
+        _ => is_fault(error, ErrorKind::OutOfMemory),
+    }
 }
 
 /// Each growth is granted where the tests run. Where one is refused, a beginning was written.
@@ -77,15 +103,11 @@ fn a_message_is_written_a_byte_a_call(rt: HostRuntime) -> Tested {
 fn a_message_that_is_refused_for_memory_leaves_a_beginning(rt: HostRuntime) -> Tested {
     let value = parse_value(rt.alloc(), ROWS)?;
     let mut writer = Watched::new(PlannedWriter::new(rt.alloc(), Plan::pieces(5)));
-    match serialize_to(rt.alloc(), &mut writer, &value) {
-        Ok(()) => assert_eq!(rt; writer.get_ref().taken(), ROWS_MESSAGE),
-        Err(Error::OutOfMemory) => {
-            assert!(rt; ROWS_MESSAGE.starts_with(writer.get_ref().taken()));
-        }
-        answer => {
-            assert!(rt; is_fault(&answer, ErrorKind::OutOfMemory));
-            assert!(rt; ROWS_MESSAGE.starts_with(writer.get_ref().taken()));
-        }
+    let answer = serialize_to(rt.alloc(), &mut writer, &value);
+    let taken = writer.get_ref().taken();
+    match &answer {
+        Ok(()) => check_bytes(&rt, taken, ROWS_MESSAGE),
+        Err(error) => assert!(rt; is_want_of_memory(error) && ROWS_MESSAGE.starts_with(taken)),
     }
     Ok(())
 }
@@ -94,15 +116,12 @@ fn a_message_that_is_refused_for_memory_leaves_a_beginning(rt: HostRuntime) -> T
 fn the_writer_is_handed_back_beside_its_fault(rt: HostRuntime) -> Tested {
     let value = Value::from_text(rt.alloc(), "Tom")?;
     let plan = Plan::whole().up_to(7, Then::FaultsOnce(ErrorKind::Other));
-    match serialize(
-        rt.alloc(),
-        Watched::new(PlannedWriter::new(rt.alloc(), plan)),
-        &value,
-    ) {
-        Ok(_) => return Err("not refused".into()),
+    let writer = Watched::new(PlannedWriter::new(rt.alloc(), plan));
+    match &serialize(rt.alloc(), writer, &value) {
+        Ok(_) => assert!(rt; false, "not refused"),
         Err((writer, error)) => {
-            assert!(rt; is_fault(&Err(error), ErrorKind::Other));
-            assert_eq!(rt; writer.get_ref().taken(), &TOM[..7]);
+            assert!(rt; is_fault(error, ErrorKind::Other));
+            check_bytes(&rt, writer.get_ref().taken(), &TOM[..7]);
         }
     }
     Ok(())
