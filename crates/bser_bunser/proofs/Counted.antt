@@ -11,8 +11,8 @@ use Rattle.bser_format.specs.declared.errors.Complaint.TheVariants.{NegativeLeng
 use Rattle.bser_named.specs.Named as named
 use Rattle.bser_named.specs.Named.{eof, refuses, reads, complain, and_then, ◌>>=◌}
 use Rattle.bser_named.specs.Clauses.{after_a_refusal}
-use Rattle.bser_read.specs.Window.{Window, AreOctets, Filled, Took, consumed}
-use Rattle.bser_read.proofs.Windows.{taken, took_filled, took_then, works}
+use Rattle.bser_source.specs.Window.{Window, AreOctets, Filled, Took, consumed}
+use Rattle.bser_source.proofs.Windows.{taken, took_filled, took_then, works}
 use Rattle.bser_bunser.specs.declared.refusal.Refused.{Refused}
 use Rattle.bser_bunser.specs.Refusal.{ShortOf}
 use Rattle.bser_bunser.specs.Names.{Names, NamesOrMemory, natural_of, bytes_after}

@@ -7,7 +7,7 @@ use Rattle.std.proofs.lemmas.Int.{of_z-to_z}
 use Rattle.std.proofs.lemmas.List.{take-append-drop, take-append-le, take_all, length-take-le, length-drop}
 use mir.Val.{Fits}
 use Rattle.bser_bunser.proofs.NumberBytes.{AreOf}
-use Rattle.bser_read.specs.Window.{Window, Took}
+use Rattle.bser_source.specs.Window.{Window, Took}
 use Rattle.bser_bunser.specs.Tagged.{TookNumber, TookBits}
 use Rattle.bser_bunser.proofs.Ints.{small_front}
 

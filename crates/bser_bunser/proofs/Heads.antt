@@ -7,8 +7,8 @@ use Rattle.std.proofs.lemmas.Slice.Eq.{bytes_eq-Decides}
 use Rattle.bser_format.specs.declared.errors.Error.{Error}
 use Rattle.bser_format.specs.declared.errors.Error.TheVariants.{DeInvalidMagic}
 use Rattle.bser_named.specs.Named as named
-use Rattle.bser_read.specs.Window.{Window, Took, Expects, with_limit}
-use Rattle.bser_read.proofs.Windows.{took_then}
+use Rattle.bser_source.specs.Window.{Window, Took, Expects, with_limit}
+use Rattle.bser_source.proofs.Windows.{took_then}
 use Rattle.bser_bunser.specs.Names.{Names}
 use Rattle.bser_bunser.specs.Tagged.{TookInt, TookHead}
 use Rattle.bser_bunser.proofs.Readers.{after_magic, after_four, head_after_magic, magic_after_four, other_magic}

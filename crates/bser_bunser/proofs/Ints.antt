@@ -13,7 +13,7 @@ use Rattle.bser_format.specs.declared.errors.Kind.TheVariants.{Integer}
 use Rattle.bser_bunser.proofs.NumberBytes.{AreOf}
 use Rattle.bser_named.specs.Named as named
 use Rattle.bser_named.specs.Named.{eof, refuses}
-use Rattle.bser_read.specs.Window.{Window, AreOctets, Grown, consumed}
+use Rattle.bser_source.specs.Window.{Window, AreOctets, Grown, consumed}
 use Rattle.bser_bunser.specs.Refusal.{ShortOf, unexpected_refusal}
 use Rattle.bser_bunser.specs.Names.{Names, IsCutInteger, CutsInteger}
 use Rattle.bser_bunser.specs.Prefixes.{NumberPrefix, IntTagged, CutInt, OtherTag, NegativeInt}

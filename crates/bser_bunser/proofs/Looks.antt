@@ -6,8 +6,8 @@ use Rattle.std.proofs.Math.Seq.{take-append-add}
 use Rattle.bser_format.specs.declared.errors.Error.{Error}
 use Rattle.bser_named.specs.Named.{Reader, Answer, reads, refuses, eof}
 use Rattle.bser_named.proofs.Steps.{Passes}
-use Rattle.bser_read.specs.Window.{Window, Grown, AreOctets, Filled, Took, consumed}
-use Rattle.bser_read.proofs.Windows.{grown_none, grown_then, taken_after, works}
+use Rattle.bser_source.specs.Window.{Window, Grown, AreOctets, Filled, Took, consumed}
+use Rattle.bser_source.proofs.Windows.{grown_none, grown_then, taken_after, works}
 use Rattle.bser_bunser.specs.Refusal.{ShortOf}
 use Rattle.bser_bunser.specs.Names.{Names}
 use Rattle.bser_bunser.specs.Tokens.{TooShort}

@@ -12,8 +12,8 @@ use Rattle.bser_format.specs.declared.errors.ReadCause.TheVariants.{Eof, Utf8, R
 use Rattle.bser_named.specs.Named as named
 use Rattle.bser_named.specs.Named.{eof, refuses, reads, and_then, ◌>>=◌}
 use Rattle.bser_named.proofs.Steps.{Passes}
-use Rattle.bser_read.specs.Window.{Window, left, Grown, Took}
-use Rattle.bser_read.proofs.Windows.{grown_none}
+use Rattle.bser_source.specs.Window.{Window, left, Grown, Took}
+use Rattle.bser_source.proofs.Windows.{grown_none}
 use Rattle.bser_bunser.specs.Refusal.{ShortOf}
 use Rattle.bser_bunser.specs.Names.{Agree, Blame, Excused, Excuses, MayBeLeft, MayCome, Outside, Blames, RefusedAs, Names}
 use Rattle.bser_bunser.specs.Tokens.{Rejects}

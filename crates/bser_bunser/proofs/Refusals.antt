@@ -5,10 +5,10 @@ use Rattle.bser_format.specs.Errors.{error_of}
 use Rattle.bser_format.specs.declared.errors.Error.{Error}
 use Rattle.bser_format.specs.declared.errors.ReadCause.{ReadCause}
 use Rattle.bser_format.specs.declared.errors.ReadCause.TheVariants.{Eof, Utf8, Reader, Memory, Failed}
-use Rattle.bser_source.specs.Refusal.{failures_after}
-use Rattle.bser_read.specs.Window.{Window, left, Took, closed}
-use Rattle.bser_read.specs.Refusal.{Excuse, Refused}
-use Rattle.bser_read.proofs.Windows.{left_took}
+use Rattle.bser_source.specs.Failures.{failures_after}
+use Rattle.bser_source.specs.Window.{Window, left, Took, closed}
+use Rattle.bser_source.specs.Refusal.{Excuse, Refused}
+use Rattle.bser_source.proofs.Windows.{left_took}
 use Rattle.bser_bunser.specs.Refusal.{cause_of, failures_by, Fails, ShortOf}
 
 -- ---- a refusal of the byte source

@@ -16,7 +16,7 @@ use Rattle.bser_named.specs.Named.{eof, refuses, reads, complain, and_then, ◌>
 use Rattle.bser_named.proofs.Agreement.{number_same, forgotten}
 use Rattle.bser_named.proofs.Steps.{Passes}
 use Rattle.bser_format.proofs.Fronts.{number_reads}
-use Rattle.bser_read.specs.Window.{Window, AreOctets, consumed}
+use Rattle.bser_source.specs.Window.{Window, AreOctets, consumed}
 use Rattle.bser_bunser.specs.Prefixes.{CutInt, BitsPrefix, IsLengthPrefix}
 use Rattle.bser_bunser.specs.Refusal.{unexpected_refusal}
 use Rattle.bser_bunser.specs.Names.{IsCutInteger}

@@ -9,7 +9,7 @@ use Rattle.bser_format.specs.declared.errors.Complaint.{Complaint}
 use Rattle.bser_format.specs.declared.errors.Complaint.TheVariants.{NegativeLength}
 use Rattle.bser_named.specs.Named as named
 use Rattle.bser_named.specs.Named.{◌>>=◌}
-use Rattle.bser_read.specs.Window.{Window, left}
+use Rattle.bser_source.specs.Window.{Window, left}
 
 -- bytes that may be those left: those buffered, and then what is known of the others
 pub record MayBeLeft (s : Window) (b : List ℕ) : Type 0 where

@@ -6,7 +6,7 @@ use Rattle.bser_format.specs.Message.{Head}
 use Rattle.bser_format.specs.declared.errors.Error.{Error}
 use Rattle.bser_format.specs.declared.errors.Error.TheVariants.{DeReaderError}
 use Rattle.bser_format.specs.declared.errors.ReadCause.TheVariants.{Failed}
-use Rattle.bser_read.specs.Window.{Window, Grown, Took, with_limit}
+use Rattle.bser_source.specs.Window.{Window, Grown, Took, with_limit}
 use Rattle.bser_bunser.specs.Prefixes.{IsIntPrefix}
 use Rattle.bser_bunser.specs.Tokens.{SpellsToken}
 use Rattle.bser_bunser.specs.declared.prefix.Prefix.TheVariants as prefixes

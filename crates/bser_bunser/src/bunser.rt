@@ -2,7 +2,7 @@
 ghost use Rattle.std.specs.Prelude.{◌≡◌, ◌≢◌, ◌≤◌, ◌<◌, ◌-◌, ◌^◌, pos, length, IfOk, IfErr, IfSome, IfNone, OnOk, OnErr, min};
 ghost use Rattle.bser_format.specs.Errors.{error_of};
 ghost use Rattle.bser_named.specs.Named.{next, front, int};
-ghost use Rattle.bser_read.specs.Window.{Filled, Peeks, Took, consumed, closed};
+ghost use Rattle.bser_source.specs.Window.{Filled, Peeks, Took, consumed, closed};
 ghost use Rattle.bser_bunser.specs.Names.{Names, CutsInteger};
 ghost use Rattle.bser_bunser.specs.Refusal.{ShortOf, Fails, unexpected_refusal};
 ghost use Rattle.bser_bunser.specs.Tagged.{bunser_window, bunser_source, refusal_of, TookInt, LooksForInt, TookToken};
@@ -17,7 +17,7 @@ pub use crate::bunser::pdu::PduInfo;
 use crate::prefix::{Look, Prefix, Token, Unexpected, int_prefix, token_prefix};
 use crate::refusal::{Answer, Refused};
 use bser_format::errors::{Complaint, Error, Kind, ReadCause, Result};
-use bser_read::read::{DeRead, count_octets};
+use bser_source::read::{DeRead, count_octets};
 use std::alloc::Global;
 
 /// Reads the head of a message, integers, tokens and counted bytes from a byte source.

@@ -6,10 +6,10 @@ mod sources;
 mod text;
 
 use bser_bunser::bunser::{Bunser, PduInfo};
-use bser_read::io_read::IoRead;
-use bser_read::read::DeRead;
 use bser_source::device::Watched;
-use bser_source::read::{Lending, Reference};
+use bser_source::io_read::IoRead;
+use bser_source::read::DeRead;
+use bser_source::reference::{Lending, Reference};
 use std::alloc::Global;
 use std::fmt::Debug;
 use std::io;

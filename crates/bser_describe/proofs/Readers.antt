@@ -4,7 +4,7 @@ use Rattle.std.proofs.lemmas.List.{append-nil}
 use Rattle.std.specs.Borrow.{GName}
 use Rattle.std.specs.Io.KnownBytes.{Consumes}
 use Rattle.bser_format.specs.Content.{Content, Meaning}
-use Rattle.bser_read.specs.Window.{Window}
+use Rattle.bser_source.specs.Window.{Window}
 use Rattle.bser_messages.specs.Messages.{ReadsMessage, TookMessage}
 use Rattle.bser_messages.proofs.Sources.{reader_fresh}
 

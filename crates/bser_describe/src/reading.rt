@@ -1,7 +1,7 @@
 //! Reading whole messages, with refusals that are described.
 ghost use Rattle.std.specs.Prelude.{◌≡◌, ◌≤◌, length, IfOk, IfErr, OnOk, ◌≢◌};
 ghost use Rattle.bser_format.specs.Errors.{error_of};
-ghost use Rattle.bser_due.specs.Reading.{TakesNoMemory};
+ghost use Rattle.bser_deserializer.specs.Reading.{TakesNoMemory};
 ghost use Rattle.bser_messages.specs.Messages.{BeginsWith, TookMessage, RefusesSlice, RefusesReader};
 ghost use Rattle.bser_describe.specs.Descriptions.{cause_of, place_of};
 
@@ -10,10 +10,10 @@ use crate::description::Description;
 use bser_deserializer::deserializer::{Deserializer, LEVELS};
 use bser_format::errors::{Error, ReadCause};
 use bser_messages::message::read_message;
-use bser_read::io_read::IoRead;
-use bser_read::read::DeRead;
-use bser_read::slice_read::SliceRead;
 use bser_source::device::Source;
+use bser_source::io_read::IoRead;
+use bser_source::read::DeRead;
+use bser_source::slice_read::SliceRead;
 use bser_types::deserialize::{Deserialize, DeserializeOwned};
 use std::alloc::Global;
 

@@ -10,8 +10,8 @@ use Rattle.bser_format.specs.declared.errors.Kind.TheVariants as kinds
 use Rattle.bser_format.specs.declared.errors.Kind.TheVariants.{NextItem, TemplateKey}
 use Rattle.bser_source.specs.Device.{one_more}
 use Rattle.std.proofs.KnownBytes.{Consumes-nil}
-use Rattle.bser_read.specs.Window.{Window, AreOctets, Within, Took, consumed}
-use Rattle.bser_read.proofs.Windows.{grown_none, taken_after, took_then}
+use Rattle.bser_source.specs.Window.{Window, AreOctets, Within, Took, consumed}
+use Rattle.bser_source.proofs.Windows.{grown_none, taken_after, took_then}
 use Rattle.bser_named.specs.Named.{Reader, reads, refuses, give, refuse, and_then, ◌>>=◌, next, count, many, text_of}
 use Rattle.bser_named.specs.DueReaders.{Seen, tag, is_tag, asked, items_at, pairs_at, rows_wanted, table_at}
 use Rattle.bser_named.proofs.Steps.{Passes, passes_then}
@@ -19,13 +19,13 @@ use Rattle.bser_named.proofs.Heads.{count_passes, keys_pass}
 use Rattle.bser_bunser.specs.Names.{Names}
 use Rattle.bser_bunser.specs.Refusal.{Fails}
 use Rattle.bser_bunser.specs.Tagged.{TookInt}
-use Rattle.bser_due.specs.State.{State, refused}
-use Rattle.bser_due.specs.Reading.{RefusesFront, NamesBy, NamesDue, IsRefusal, bare, owned, Needs}
-use Rattle.bser_due.specs.Dues.{IsValueDue}
-use Rattle.bser_due.specs.Parts.{CountedHead, ItemsHead, BeginsItems, BeginsPairs, ObjectHead}
-use Rattle.bser_due.specs.Access.{OpenItems, OpenPairs, OpensItems, OpensPairs, IsItemsHead, IsPairsHead}
-use Rattle.bser_due.proofs.Clean.{clean_asked, clean_items, clean_pairs}
-use Rattle.bser_due.proofs.Refusals.{by_name, names_any, names_by_untaken, fails_untaken}
+use Rattle.bser_deserializer.specs.State.{State, refused}
+use Rattle.bser_deserializer.specs.Reading.{RefusesFront, NamesBy, NamesDue, IsRefusal, bare, owned, Needs}
+use Rattle.bser_deserializer.specs.Dues.{IsValueDue}
+use Rattle.bser_deserializer.specs.Parts.{CountedHead, ItemsHead, BeginsItems, BeginsPairs, ObjectHead}
+use Rattle.bser_deserializer.specs.Access.{OpenItems, OpenPairs, OpensItems, OpensPairs, IsItemsHead, IsPairsHead}
+use Rattle.bser_deserializer.proofs.Clean.{clean_asked, clean_items, clean_pairs}
+use Rattle.bser_deserializer.proofs.Refusals.{by_name, names_any, names_by_untaken, fails_untaken}
 use Rattle.bser_deserializer.specs.View.{IsBefore}
 use Rattle.bser_deserializer.proofs.Tags.{grown_left, grown_fails}
 

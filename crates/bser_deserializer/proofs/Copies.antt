@@ -8,15 +8,15 @@ use Rattle.bser_format.specs.declared.errors.Error.TheVariants.{OutOfMemory}
 use Rattle.bser_named.specs.Named.{string}
 use Rattle.bser_named.specs.DueReaders.{is_key_tag}
 use Rattle.bser_named.specs.Asks.{asks_bytes, asks_string}
-use Rattle.bser_read.specs.Window.{Window, Took}
+use Rattle.bser_source.specs.Window.{Window, Took}
 use Rattle.bser_bunser.specs.Names.{NamesOrMemory, RefusedAs}
 use Rattle.bser_bunser.specs.Refusal.{Fails}
-use Rattle.bser_due.specs.Dues.{IsTagged}
-use Rattle.bser_due.specs.State.{State}
-use Rattle.bser_due.specs.Reading.{Asking, NamesBy, NamesAsked, OutsideBy, FillsReadably, Refuses, refusing, bare, owned}
-use Rattle.bser_due.specs.Askings.{asking_bytes, asking_string}
-use Rattle.bser_due.proofs.Refusals.{names_bare, names_by_more, fails_untaken, with_needs, by_name}
-use Rattle.bser_due.proofs.Clean.{Clean, clean_bytes, clean_texts}
+use Rattle.bser_deserializer.specs.Dues.{IsTagged}
+use Rattle.bser_deserializer.specs.State.{State}
+use Rattle.bser_deserializer.specs.Reading.{Asking, NamesBy, NamesAsked, OutsideBy, FillsReadably, Refuses, refusing, bare, owned}
+use Rattle.bser_deserializer.specs.Askings.{asking_bytes, asking_string}
+use Rattle.bser_deserializer.proofs.Refusals.{names_bare, names_by_more, fails_untaken, with_needs, by_name}
+use Rattle.bser_deserializer.proofs.Clean.{Clean, clean_bytes, clean_texts}
 use Rattle.bser_deserializer.proofs.Strings.{rest_refused, text_asked}
 
 -- what is refused where no memory is taken is refused so where it is

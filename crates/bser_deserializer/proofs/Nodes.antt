@@ -11,17 +11,17 @@ use Rattle.bser_named.specs.Named.{refuses, reads, and_then, eof, front}
 use Rattle.bser_named.specs.DueReaders.{Seen, tag, name, row, seen, stray_at, nothing_here, is_tag, is_key_tag}
 use Rattle.bser_named.specs.Clauses.{after_a_refusal}
 use Rattle.bser_named.proofs.Steps as steps
-use Rattle.bser_read.specs.Window.{Window, Peeks, closed, consumed}
+use Rattle.bser_source.specs.Window.{Window, Peeks, closed, consumed}
 use Rattle.bser_bunser.specs.Refusal.{Fails}
-use Rattle.bser_due.specs.declared.node.Node.{Node}
-use Rattle.bser_due.specs.declared.node.Node.TheVariants as kinds
-use Rattle.bser_due.specs.declared.due.Due as code
-use Rattle.bser_due.specs.declared.due.Due.TheVariants as due
-use Rattle.bser_due.specs.Dues.{IsValueDue, IsTagged, due_of, name_at}
-use Rattle.bser_due.specs.State.{State, past}
-use Rattle.bser_due.specs.Nodes.{node_at, tag_node, field_node, BeginsNode, SeesNode, Stands, TookNull}
-use Rattle.bser_due.specs.Reading.{RefusesFront, NamesBy, bare}
-use Rattle.bser_due.proofs.Clean.{clean_seen}
+use Rattle.bser_deserializer.specs.declared.node.Node.{Node}
+use Rattle.bser_deserializer.specs.declared.node.Node.TheVariants as kinds
+use Rattle.bser_deserializer.specs.declared.due.Due as code
+use Rattle.bser_deserializer.specs.declared.due.Due.TheVariants as due
+use Rattle.bser_deserializer.specs.Dues.{IsValueDue, IsTagged, due_of, name_at}
+use Rattle.bser_deserializer.specs.State.{State, past}
+use Rattle.bser_deserializer.specs.Nodes.{node_at, tag_node, field_node, BeginsNode, SeesNode, Stands, TookNull}
+use Rattle.bser_deserializer.specs.Reading.{RefusesFront, NamesBy, bare}
+use Rattle.bser_deserializer.proofs.Clean.{clean_seen}
 use Rattle.bser_deserializer.specs.View.{is_null_at}
 use Rattle.bser_deserializer.proofs.Tags.{front_refused, stray_fails, grown_left, nothing_kind, complained_fails, complained_names}
 use Rattle.bser_deserializer.proofs.Scalars.{tag_took, past_seen, null_filled}

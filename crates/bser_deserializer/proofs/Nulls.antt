@@ -4,13 +4,13 @@ use Rattle.std.proofs.lemmas.Bool.{eqb-true}
 use Rattle.bser_format.specs.Expected.{Due, nothing_due, node_due, key_due, field_due, name_due, row_due}
 use Rattle.bser_format.specs.declared.errors.Error.{Error}
 use Rattle.bser_named.specs.DueReaders.{tag, seen, stray_at}
-use Rattle.bser_read.specs.Window.{Window, Peeks, closed, consumed}
-use Rattle.bser_due.specs.declared.node.Node.{Node}
-use Rattle.bser_due.specs.declared.node.Node.TheVariants as kinds
-use Rattle.bser_due.specs.Dues.{IsValueDue}
-use Rattle.bser_due.specs.Nodes.{node_at, tag_node, field_node, BeginsNode, IsOther, TookNull}
-use Rattle.bser_due.specs.Reading.{RefusesFront, NamesBy, bare}
-use Rattle.bser_due.specs.State.{State, past, with_source}
+use Rattle.bser_source.specs.Window.{Window, Peeks, closed, consumed}
+use Rattle.bser_deserializer.specs.declared.node.Node.{Node}
+use Rattle.bser_deserializer.specs.declared.node.Node.TheVariants as kinds
+use Rattle.bser_deserializer.specs.Dues.{IsValueDue}
+use Rattle.bser_deserializer.specs.Nodes.{node_at, tag_node, field_node, BeginsNode, IsOther, TookNull}
+use Rattle.bser_deserializer.specs.Reading.{RefusesFront, NamesBy, bare}
+use Rattle.bser_deserializer.specs.State.{State, past, with_source}
 use Rattle.bser_deserializer.specs.View.{is_null_at, is_other_kind}
 use Rattle.bser_deserializer.proofs.Tags.{tagged_value}
 use Rattle.bser_deserializer.proofs.Nodes.{null_node, no_node_refused}

@@ -7,23 +7,23 @@ use Rattle.bser_format.specs.declared.errors.Error.{Error}
 use Rattle.bser_format.specs.declared.errors.Error.TheVariants.{DeCustom, OutOfMemory}
 use Rattle.bser_format.specs.declared.errors.Message.TheVariants.{Fixed}
 use Rattle.bser_format.specs.declared.errors.Complaint.TheVariants.{BorrowedFromCopying}
-use Rattle.bser_read.specs.Window.{Window, Grown}
-use Rattle.bser_read.proofs.Windows.{left_grown, hand_first}
+use Rattle.bser_source.specs.Window.{Window, Grown}
+use Rattle.bser_source.proofs.Windows.{left_grown, hand_first}
 use Rattle.bser_named.specs.Named as named
 use Rattle.bser_named.specs.Named.{Reader, reads, refuses, eof}
 use Rattle.bser_named.specs.DueReaders.{Seen, tag, asked, items_at, pairs_at, stray_at, wrong_type}
 use Rattle.bser_named.proofs.Steps.{Passes}
 use Rattle.bser_bunser.specs.Refusal.{Fails}
-use Rattle.bser_due.specs.Dues.{IsTagged, name_at, due_of}
-use Rattle.bser_due.specs.declared.due.Due as code
-use Rattle.bser_due.specs.declared.due.Due.TheVariants as due
-use Rattle.bser_due.specs.State.{State, with_source, refused}
+use Rattle.bser_deserializer.specs.Dues.{IsTagged, name_at, due_of}
+use Rattle.bser_deserializer.specs.declared.due.Due as code
+use Rattle.bser_deserializer.specs.declared.due.Due.TheVariants as due
+use Rattle.bser_deserializer.specs.State.{State, with_source, refused}
 use Rattle.bser_bunser.specs.Names.{Blame, RefusedAs}
-use Rattle.bser_due.specs.Reading.{RefusesFront, NamesBy, NamesDue, MayRefuse, OutsideBy, ExcusedBy, bare, owned, only_keys, refusing, Needs}
-use Rattle.bser_due.specs.Parts.{BeginsItems}
-use Rattle.bser_due.specs.Access.{OpenItems, OpenPairs, OpensItems, OpensPairs, IsItemsHead, IsArrayHead, IsPairsHead, RefusesItems, inside_items, inside_pairs}
-use Rattle.bser_due.proofs.Clean.{clean_items, clean_pairs}
-use Rattle.bser_due.proofs.Refusals.{excused_before, fails_before, names_bare, with_needs, narrower}
+use Rattle.bser_deserializer.specs.Reading.{RefusesFront, NamesBy, NamesDue, MayRefuse, OutsideBy, ExcusedBy, bare, owned, only_keys, refusing, Needs}
+use Rattle.bser_deserializer.specs.Parts.{BeginsItems}
+use Rattle.bser_deserializer.specs.Access.{OpenItems, OpenPairs, OpensItems, OpensPairs, IsItemsHead, IsArrayHead, IsPairsHead, RefusesItems, inside_items, inside_pairs}
+use Rattle.bser_deserializer.proofs.Clean.{clean_items, clean_pairs}
+use Rattle.bser_deserializer.proofs.Refusals.{excused_before, fails_before, names_bare, with_needs, narrower}
 use Rattle.bser_deserializer.specs.View.{SeesTag, value_here}
 use Rattle.bser_deserializer.proofs.Tags.{peeked_took, peeked_names, nothing_left, failed_names, tagged_value, key_tag_told, WantsValue, wants_value, value_refused, stray_refused}
 use Rattle.bser_deserializer.proofs.Containers.{RefusesHead, RefusesPairsHead, unequal, value_or_field, counted_rest, items_pass, pairs_pass, items_front, pairs_front, pairs_refused}

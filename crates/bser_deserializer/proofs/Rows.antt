@@ -17,16 +17,16 @@ use Rattle.bser_named.specs.NamedLaws.{HasTextKeys}
 use Rattle.bser_named.specs.Asks.{done, asks_any}
 use Rattle.bser_named.proofs.Agreement.{forgotten, value_same, field_same, no_skip}
 use Rattle.bser_named.proofs.TextKeys.{join, KeyedField, field_sifts, text_keys_sift}
-use Rattle.bser_read.specs.Window.{Took}
-use Rattle.bser_read.proofs.Windows.{took_then}
+use Rattle.bser_source.specs.Window.{Took}
+use Rattle.bser_source.proofs.Windows.{took_then}
 use Rattle.bser_bunser.specs.Refusal.{Fails}
 use Rattle.bser_events.specs.Events as events
 use Rattle.bser_events.specs.Events.{Event, TakesAll, more, none, entry_events, events as tree_events}
 use Rattle.bser_events.proofs.Takings.{takes_one, takes_then}
-use Rattle.bser_due.specs.State.{State, awaiting, past}
-use Rattle.bser_due.specs.Reading.{NamesBy, Refuses, owned}
-use Rattle.bser_due.specs.Askings.{asking_ignored}
-use Rattle.bser_due.proofs.Refusals.{fails_untaken, names_by_untaken}
+use Rattle.bser_deserializer.specs.State.{State, awaiting, past}
+use Rattle.bser_deserializer.specs.Reading.{NamesBy, Refuses, owned}
+use Rattle.bser_deserializer.specs.Askings.{asking_ignored}
+use Rattle.bser_deserializer.proofs.Refusals.{fails_untaken, names_by_untaken}
 use Rattle.bser_deserializer.proofs.WholeRows.{row_whole}
 use Rattle.bser_deserializer.specs.Any.{TookAny, TookField, TellsName, told_field}
 use Rattle.bser_deserializer.proofs.Told.{any_refused}

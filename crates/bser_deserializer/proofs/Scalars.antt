@@ -14,22 +14,22 @@ use Rattle.bser_format.specs.declared.errors.Error.{Error}
 use Rattle.bser_named.specs.Named as named
 use Rattle.bser_named.specs.Named.{refuses, reads, and_then, eof, front}
 use Rattle.bser_named.specs.DueReaders.{Seen, tag, asked, nothing_at, stray_at, value_tag, wrong_type, bool_at, integer_at, real_at, unit_at}
-use Rattle.bser_read.specs.Window.{Window, Took, Peeks, closed, consumed}
-use Rattle.bser_read.proofs.Windows.{took_by}
+use Rattle.bser_source.specs.Window.{Window, Took, Peeks, closed, consumed}
+use Rattle.bser_source.proofs.Windows.{took_by}
 use Rattle.bser_bunser.specs.Refusal.{Fails}
 use Rattle.bser_bunser.specs.Names.{Names, IsCutInteger, CutsInteger}
 use Rattle.bser_bunser.specs.Tagged.{TookInt, TookBits, NoInt}
 use Rattle.bser_bunser.specs.declared.prefix.Unexpected.TheVariants.{Tag}
 use Rattle.bser_bunser.proofs.Readers.{cut_front, cut_after, other_after}
 use Rattle.bser_bunser.proofs.Names.{blames_more}
-use Rattle.bser_due.specs.declared.due.Due as code
-use Rattle.bser_due.specs.declared.due.Due.TheVariants as due
-use Rattle.bser_due.specs.Dues.{IsValueDue, due_of, name_at}
-use Rattle.bser_due.specs.State.{State, past, with_source}
-use Rattle.bser_due.specs.Reading.{Answers, Asking, Refuses, NamesBy, NamesDue, bare}
-use Rattle.bser_due.specs.Askings.{asking_bool, asking_real, asking_unit, asking_integer}
-use Rattle.bser_due.proofs.Refusals.{names_any, fails_before}
-use Rattle.bser_due.proofs.Clean.{Clean, clean_bools, clean_reals, clean_units, clean_integers}
+use Rattle.bser_deserializer.specs.declared.due.Due as code
+use Rattle.bser_deserializer.specs.declared.due.Due.TheVariants as due
+use Rattle.bser_deserializer.specs.Dues.{IsValueDue, due_of, name_at}
+use Rattle.bser_deserializer.specs.State.{State, past, with_source}
+use Rattle.bser_deserializer.specs.Reading.{Answers, Asking, Refuses, NamesBy, NamesDue, bare}
+use Rattle.bser_deserializer.specs.Askings.{asking_bool, asking_real, asking_unit, asking_integer}
+use Rattle.bser_deserializer.proofs.Refusals.{names_any, fails_before}
+use Rattle.bser_deserializer.proofs.Clean.{Clean, clean_bools, clean_reals, clean_units, clean_integers}
 use Rattle.bser_deserializer.specs.View.{SeesTag, value_here, is_null_at}
 use Rattle.bser_deserializer.proofs.Tags.{WantsValue, wants_value, value_asked, no_value_asked, asking_refused, tagged_value, stray_fails, stray_kind, stray_asked, grown_fails, grown_left, peeked_took, peeked_names, nothing_left}
 

@@ -11,23 +11,23 @@ use Rattle.bser_format.specs.declared.errors.Error.{Error}
 use Rattle.bser_named.specs.Named.{Answer, Reader, reads, refuses, refuse, and_then, ◌>>=◌, eof, front, string, utf8, utf8_wanted, string_after, give}
 use Rattle.bser_named.specs.DueReaders.{Seen, tag, is_key_tag, seen, asked, bytes_at, text_at, nothing_at, stray_at, wrong_type}
 use Rattle.bser_named.specs.Asks.{done, asks_bytes, asks_string}
-use Rattle.bser_read.specs.Window.{Window, Filled, Peeks, Took, closed, consumed}
-use Rattle.bser_read.proofs.Windows.{took_by}
+use Rattle.bser_source.specs.Window.{Window, Filled, Peeks, Took, closed, consumed}
+use Rattle.bser_source.proofs.Windows.{took_by}
 use Rattle.bser_bunser.specs.Names.{Names, RefusedAs}
 use Rattle.bser_bunser.specs.Refusal.{Fails, failures_by}
 use Rattle.bser_bunser.specs.Tagged.{SpellsCounted}
 use Rattle.bser_bunser.specs.Tokens.{tag_of_string}
 use Rattle.bser_bunser.proofs.Readers.{string_there, front_there}
 use Rattle.bser_bunser.proofs.Names.{blames_more, blames_untaken, names_taken}
-use Rattle.bser_due.specs.Dues.{IsTagged, due_of}
-use Rattle.bser_due.specs.State.{State, refused}
-use Rattle.bser_due.specs.Reading.{NamesDue, Refuses, bare}
-use Rattle.bser_due.specs.Askings.{asking_bytes, asking_string}
-use Rattle.bser_due.specs.declared.due.Due as code
-use Rattle.bser_due.specs.declared.due.Due.TheVariants as dues
-use Rattle.bser_due.proofs.Refusals.{names_any, names_by_more, fails_closed, fails_untaken}
-use Rattle.bser_due.proofs.Dues.{past_names}
-use Rattle.bser_due.proofs.Clean.{clean_bytes, clean_texts}
+use Rattle.bser_deserializer.specs.Dues.{IsTagged, due_of}
+use Rattle.bser_deserializer.specs.State.{State, refused}
+use Rattle.bser_deserializer.specs.Reading.{NamesDue, Refuses, bare}
+use Rattle.bser_deserializer.specs.Askings.{asking_bytes, asking_string}
+use Rattle.bser_deserializer.specs.declared.due.Due as code
+use Rattle.bser_deserializer.specs.declared.due.Due.TheVariants as dues
+use Rattle.bser_deserializer.proofs.Refusals.{names_any, names_by_more, fails_closed, fails_untaken}
+use Rattle.bser_deserializer.proofs.Dues.{past_names}
+use Rattle.bser_deserializer.proofs.Clean.{clean_bytes, clean_texts}
 use Rattle.bser_deserializer.specs.Strings.{SpellsUnder, StringDue, TookBytes}
 use Rattle.bser_deserializer.proofs.Tags.{asking_refused, same_name, failed_names, stray_names, stray_fails}
 

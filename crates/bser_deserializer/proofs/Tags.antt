@@ -13,18 +13,18 @@ use Rattle.bser_named.specs.Named.{refuses, and_then, next}
 use Rattle.bser_named.specs.DueReaders.{Seen, tag, name, row, is_tag, is_key_tag, asked, nothing_here, nothing_at, stray_at, wrong_type}
 use Rattle.bser_named.specs.Clauses.{after_a_refusal}
 use Rattle.bser_named.proofs.Steps as steps
-use Rattle.bser_read.specs.Window.{Window, Grown, Filled, Peeks, Took, closed}
-use Rattle.bser_read.proofs.Windows.{took_grown}
+use Rattle.bser_source.specs.Window.{Window, Grown, Filled, Peeks, Took, closed}
+use Rattle.bser_source.proofs.Windows.{took_grown}
 use Rattle.bser_bunser.specs.Refusal.{Fails, failures_by}
 use Rattle.bser_bunser.proofs.Names.{left_now, left_before, known_rest}
-use Rattle.bser_due.specs.Dues.{IsValueDue, IsTagged, name_at, due_of}
-use Rattle.bser_due.specs.declared.due.Due as code
-use Rattle.bser_due.specs.declared.due.Due.TheVariants as due
-use Rattle.bser_due.specs.State.{State}
+use Rattle.bser_deserializer.specs.Dues.{IsValueDue, IsTagged, name_at, due_of}
+use Rattle.bser_deserializer.specs.declared.due.Due as code
+use Rattle.bser_deserializer.specs.declared.due.Due.TheVariants as due
+use Rattle.bser_deserializer.specs.State.{State}
 use Rattle.bser_bunser.specs.Names.{RefusedAs}
-use Rattle.bser_due.specs.Reading.{OutsideBy, IsRefusal, Asking, NamesBy, NamesDue, RefusesFront, FillsReadably, Refuses, bare, refusing, Needs}
-use Rattle.bser_due.proofs.Refusals.{names_bare, names_by_grown, names_by_more, no_failure, fails_closed, fails_before, with_needs, by_name}
-use Rattle.bser_due.proofs.Clean.{Clean, clean_asked}
+use Rattle.bser_deserializer.specs.Reading.{OutsideBy, IsRefusal, Asking, NamesBy, NamesDue, RefusesFront, FillsReadably, Refuses, bare, refusing, Needs}
+use Rattle.bser_deserializer.proofs.Refusals.{names_bare, names_by_grown, names_by_more, no_failure, fails_closed, fails_before, with_needs, by_name}
+use Rattle.bser_deserializer.proofs.Clean.{Clean, clean_asked}
 use Rattle.bser_deserializer.specs.View.{value_here}
 
 -- ---- refusals by a reader's name

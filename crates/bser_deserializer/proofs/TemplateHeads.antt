@@ -6,18 +6,18 @@ use Rattle.bser_format.specs.declared.errors.Error.{Error}
 use Rattle.bser_format.specs.declared.errors.Error.TheVariants.{DeInvalidStartByte, DeRecursionLimitExceeded}
 use Rattle.bser_format.specs.declared.errors.Kind.TheVariants.{Array, TemplateKeys, TemplateKey}
 use Rattle.bser_source.specs.Device.{one_more}
-use Rattle.bser_read.specs.Window.{Window, Peeks, Took, closed, consumed}
-use Rattle.bser_read.proofs.Windows.{took_filled, took_then}
+use Rattle.bser_source.specs.Window.{Window, Peeks, Took, closed, consumed}
+use Rattle.bser_source.proofs.Windows.{took_filled, took_then}
 use Rattle.bser_named.specs.Named.{Answer, Reader, reads, refuses, eof, and_then, ◌>>=◌, next, front, count, many, text_of}
 use Rattle.bser_named.specs.DueReaders.{tag, items_at, rows_wanted, table_at}
 use Rattle.bser_bunser.specs.Refusal.{Fails, ShortOf}
 use Rattle.bser_bunser.specs.Names.{Names}
-use Rattle.bser_due.specs.State.{State}
-use Rattle.bser_due.specs.Reading.{NamesBy, IsRefusal, owned}
-use Rattle.bser_due.specs.Tables.{TookPart, SpellsTable}
-use Rattle.bser_due.specs.Parts.{TemplateHead}
-use Rattle.bser_due.specs.Access.{OpensItems}
-use Rattle.bser_due.proofs.Refusals.{names_any, names_by_more, names_by_untaken, fails_untaken}
+use Rattle.bser_deserializer.specs.State.{State}
+use Rattle.bser_deserializer.specs.Reading.{NamesBy, IsRefusal, owned}
+use Rattle.bser_deserializer.specs.Tables.{TookPart, SpellsTable}
+use Rattle.bser_deserializer.specs.Parts.{TemplateHead}
+use Rattle.bser_deserializer.specs.Access.{OpensItems}
+use Rattle.bser_deserializer.proofs.Refusals.{names_any, names_by_more, names_by_untaken, fails_untaken}
 use Rattle.bser_deserializer.specs.Templates.{table}
 use Rattle.bser_deserializer.specs.View.{IsBefore}
 use Rattle.bser_deserializer.proofs.Tags.{grown_left, grown_fails}

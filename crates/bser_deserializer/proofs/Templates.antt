@@ -16,14 +16,14 @@ use Rattle.bser_named.specs.DueReaders.{is_key_tag, rows_wanted}
 use Rattle.bser_named.proofs.Agreement.{forgotten, bind_same, counted_same, many_same, text_of_same}
 use Rattle.bser_named.proofs.Steps.{Passes}
 use Rattle.bser_named.proofs.Heads.{count_passes}
-use Rattle.bser_read.specs.Window.{Window, Filled, Took}
-use Rattle.bser_read.proofs.Windows.{took_then}
+use Rattle.bser_source.specs.Window.{Window, Filled, Took}
+use Rattle.bser_source.proofs.Windows.{took_then}
 use Rattle.bser_bunser.specs.Names.{Names, RefusedAs}
 use Rattle.bser_bunser.specs.Tagged.{TookInt, TookCounted}
 use Rattle.bser_bunser.proofs.Names.{names_rejected, names_taken, blames_untaken}
-use Rattle.bser_due.specs.Reading.{NamesBy, owned}
-use Rattle.bser_due.specs.Tables.{TookPart, SpellsKeys, SpellsTable}
-use Rattle.bser_due.proofs.Refusals.{names_any, names_by_untaken}
+use Rattle.bser_deserializer.specs.Reading.{NamesBy, owned}
+use Rattle.bser_deserializer.specs.Tables.{TookPart, SpellsKeys, SpellsTable}
+use Rattle.bser_deserializer.proofs.Refusals.{names_any, names_by_untaken}
 use Rattle.bser_deserializer.specs.Templates.{keys_after_number, table}
 use Rattle.bser_deserializer.proofs.Strings.{key_tags, other_after, refused_after, no_text_after}
 

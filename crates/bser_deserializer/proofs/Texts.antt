@@ -12,13 +12,13 @@ use Rattle.bser_format.specs.Content.{byte_list}
 use Rattle.bser_format.specs.ReadsScalars.{string_bytes_of, utf8_of, reads_slice, reads_string}
 use Rattle.bser_format.specs.Expected.{Due, Fills, FillsNode, nothing_due, node_due, key_due, field_due, name_due, row_due}
 use Rattle.bser_named.specs.DueReaders.{is_key_tag}
-use Rattle.bser_read.specs.Window.{Window, Within, Took}
-use Rattle.bser_read.proofs.Windows.{took_then}
+use Rattle.bser_source.specs.Window.{Window, Within, Took}
+use Rattle.bser_source.proofs.Windows.{took_then}
 use Rattle.bser_bunser.specs.Tagged.{TookCounted}
 use Rattle.bser_bunser.specs.Tokens.{tag_of_string}
-use Rattle.bser_due.specs.Dues.{IsTagged, name_at}
-use Rattle.bser_due.specs.State.{State, past}
-use Rattle.bser_due.specs.Reading.{Answers}
+use Rattle.bser_deserializer.specs.Dues.{IsTagged, name_at}
+use Rattle.bser_deserializer.specs.State.{State, past}
+use Rattle.bser_deserializer.specs.Reading.{Answers}
 use Rattle.bser_deserializer.specs.Strings.{SpellsUnder, StringDue, TookBytes}
 use Rattle.bser_deserializer.proofs.Strings.{key_tags}
 

@@ -21,21 +21,21 @@ use Rattle.bser_named.specs.DueReaders.{tag, is_key_tag, bytes_at, wrong_type}
 use Rattle.bser_named.specs.Asks.{done, asks_bytes, asks_any}
 use Rattle.bser_named.proofs.Anything.{ignored_passes}
 use Rattle.bser_named.proofs.TextLaws.{reads_text_keys}
-use Rattle.bser_read.specs.Window.{Window, AreOctets, Filled, Took, consumed}
-use Rattle.bser_read.proofs.Windows.{took_grown}
+use Rattle.bser_source.specs.Window.{Window, AreOctets, Filled, Took, consumed}
+use Rattle.bser_source.proofs.Windows.{took_grown}
 use Rattle.bser_bunser.specs.Refusal.{Fails}
 use Rattle.bser_events.specs.Events as events
 use Rattle.bser_events.specs.Events.{Event, TakesAll}
 use Rattle.bser_events.specs.Found as found
 use Rattle.bser_events.proofs.Takings.{takes_one}
-use Rattle.bser_due.specs.declared.due.Due as code
-use Rattle.bser_due.specs.declared.due.Due.TheVariants as due
-use Rattle.bser_due.specs.Dues.{due_of, name_at}
-use Rattle.bser_due.specs.State.{State, past}
-use Rattle.bser_due.specs.Reading.{Answers, NamesBy, FillsReadably, Refuses, owned, bare}
-use Rattle.bser_due.specs.Askings.{asking_bytes, asking_ignored}
-use Rattle.bser_due.proofs.Clean.{clean_any}
-use Rattle.bser_due.proofs.Refusals.{by_name, names_bare, names_by_more}
+use Rattle.bser_deserializer.specs.declared.due.Due as code
+use Rattle.bser_deserializer.specs.declared.due.Due.TheVariants as due
+use Rattle.bser_deserializer.specs.Dues.{due_of, name_at}
+use Rattle.bser_deserializer.specs.State.{State, past}
+use Rattle.bser_deserializer.specs.Reading.{Answers, NamesBy, FillsReadably, Refuses, owned, bare}
+use Rattle.bser_deserializer.specs.Askings.{asking_bytes, asking_ignored}
+use Rattle.bser_deserializer.proofs.Clean.{clean_any}
+use Rattle.bser_deserializer.proofs.Refusals.{by_name, names_bare, names_by_more}
 use Rattle.bser_deserializer.specs.Any.{TookAny, TookValue, TookField, told_field, IsKeyDue}
 use Rattle.bser_deserializer.proofs.Strings.{key_tags, other_after, took_first, peeks_first}
 use Rattle.bser_deserializer.proofs.Tags.{peeked_names}

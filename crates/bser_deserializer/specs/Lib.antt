@@ -3,3 +3,17 @@ pub mod Strings
 pub mod Templates
 pub mod WholeRows
 pub mod Any
+pub mod State
+pub mod Dues
+pub mod Reading
+pub mod Askings
+pub mod Nodes
+pub mod Parts
+pub mod Access
+pub mod Tables
+pub mod Fields
+pub mod HoldsTexts
+pub mod HoldsLists
+pub mod HoldsMaps
+pub mod Holds
+pub mod Required

@@ -2,9 +2,9 @@
 use Rattle.std.specs.Prelude.{◌≡◌, ℕ, Bool, false, List, [], ◌∷◌, length}
 use Rattle.bser_format.specs.Grammar.{Format, Bytes, Never, Given, ◌then◌, SpellsCount}
 use Rattle.bser_format.specs.Expected.{Due, nothing_due, node_due, key_due, field_due, name_due, row_due}
-use Rattle.bser_read.specs.Window.{Took}
+use Rattle.bser_source.specs.Window.{Took}
 use Rattle.bser_bunser.specs.Tokens.{tag_of_string}
-use Rattle.bser_due.specs.State.{State, past}
+use Rattle.bser_deserializer.specs.State.{State, past}
 
 -- a string under the text's tag or the other, UTF-8 or not
 abbrev pub SpellsUnder : Bool → List ℕ → Format

@@ -3,7 +3,7 @@ use Rattle.std.specs.Prelude.{◌≡◌, ℕ, List, ◌∷◌, map, drop, Bool, 
 use Rattle.std.specs.declared.alloc.Global.{Global}
 use Rattle.std.specs.declared.vec.Vec.{Vec}
 use Rattle.bser_format.specs.declared.errors.Error.{Error}
-use Rattle.bser_read.specs.Window.{Window, Peeks}
+use Rattle.bser_source.specs.Window.{Window, Peeks}
 use Rattle.bser_format.specs.Expected.{node_due, field_due, name_due}
 use Rattle.bser_format.specs.Expected as expected
 use Rattle.bser_named.specs.Named.{Reader, ◌>>=◌, next}
@@ -12,15 +12,15 @@ use Rattle.bser_named.specs.Asks.{done}
 use Rattle.bser_named.specs.Clauses.{after_a_refusal, still_open}
 use Rattle.bser_bunser.specs.Refusal.{end_refusal}
 use Rattle.bser_bunser.specs.Tagged.{bunser_window, bunser_source, refusal_of}
-use Rattle.bser_due.specs.Access.{OpenItems, OpenPairs}
-use Rattle.bser_due.specs.Dues.{IsValueDue, due_of}
-use Rattle.bser_due.specs.Parts.{wanted_items, wanted_pairs}
-use Rattle.bser_due.specs.State.{State, with_source}
-use Rattle.bser_due.specs.declared.due.Due.{Due}
-use Rattle.bser_due.specs.declared.node.Node.{Node}
-use Rattle.bser_due.specs.declared.node.Node.TheVariants as kinds
-use Rattle.bser_due.specs.declared.frames.SeqHead.{SeqHead}
-use Rattle.bser_due.specs.declared.frames.MapHead.{MapHead}
+use Rattle.bser_deserializer.specs.Access.{OpenItems, OpenPairs}
+use Rattle.bser_deserializer.specs.Dues.{IsValueDue, due_of}
+use Rattle.bser_deserializer.specs.Parts.{wanted_items, wanted_pairs}
+use Rattle.bser_deserializer.specs.State.{State, with_source}
+use Rattle.bser_deserializer.specs.declared.due.Due.{Due}
+use Rattle.bser_deserializer.specs.declared.node.Node.{Node}
+use Rattle.bser_deserializer.specs.declared.node.Node.TheVariants as kinds
+use Rattle.bser_deserializer.specs.declared.frames.SeqHead.{SeqHead}
+use Rattle.bser_deserializer.specs.declared.frames.MapHead.{MapHead}
 use Rattle.bser_deserializer.specs.declared.deserializer.Deserializer.{Deserializer}
 use Rattle.bser_deserializer.specs.declared.note.Note.{Note}
 

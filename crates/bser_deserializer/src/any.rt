@@ -5,9 +5,9 @@ ghost use Rattle.bser_format.specs.Expected.{row_due};
 ghost use Rattle.bser_named.specs.Named.{field_of, with_text_keys};
 ghost use Rattle.bser_bunser.specs.Refusal.{Fails};
 ghost use Rattle.bser_events.specs.Told.{told};
-ghost use Rattle.bser_due.specs.Askings.{asking_ignored};
-ghost use Rattle.bser_due.specs.Reading.{NamesBy, Refuses, owned};
-ghost use Rattle.bser_due.specs.State.{awaiting, past, refused};
+ghost use Rattle.bser_deserializer.specs.Askings.{asking_ignored};
+ghost use Rattle.bser_deserializer.specs.Reading.{NamesBy, Refuses, owned};
+ghost use Rattle.bser_deserializer.specs.State.{awaiting, past, refused};
 ghost use Rattle.bser_deserializer.specs.Any.{TookAny, TookValue, TookField, TellsName, IsKeyDue};
 ghost use Rattle.bser_deserializer.specs.View.{state, refusal_in};
 
@@ -20,8 +20,8 @@ use bser_events::frame::Frame;
 use bser_events::reading::read_value;
 use bser_format::errors::{Error, ReadCause};
 use bser_format::header::BSER_SKIP;
-use bser_read::read::DeRead;
-use bser_source::read::Lending;
+use bser_source::read::DeRead;
+use bser_source::reference::Lending;
 use bser_source::text::as_text;
 use std::alloc::Global;
 

@@ -3,22 +3,22 @@ ghost use Rattle.std.specs.Prelude.{◌≡◌, ◌+◌, ◌++◌, [], ◌∷◌,
 ghost use Rattle.bser_format.specs.Expected.{nothing_due, row_due};
 ghost use Rattle.bser_source.specs.Device.{one_more};
 ghost use Rattle.bser_named.specs.DueReaders.{items_at, pairs_at};
-ghost use Rattle.bser_due.specs.Access.{OpensItems, OpensPairs, RefusesItems, RefusesPairs, KeysOutside, IsItemsHead, IsPairsHead, after_closing};
-ghost use Rattle.bser_due.specs.Parts.{wanted_items};
-ghost use Rattle.bser_due.specs.Reading.{RefusesFront, NamesDue, bare, owned};
-ghost use Rattle.bser_due.specs.State.{refused};
+ghost use Rattle.bser_deserializer.specs.Access.{OpensItems, OpensPairs, RefusesItems, RefusesPairs, KeysOutside, IsItemsHead, IsPairsHead, after_closing};
+ghost use Rattle.bser_deserializer.specs.Parts.{wanted_items};
+ghost use Rattle.bser_deserializer.specs.Reading.{RefusesFront, NamesDue, bare, owned};
+ghost use Rattle.bser_deserializer.specs.State.{refused};
 ghost use Rattle.bser_deserializer.specs.View.{state, refusal_in, items_head, pairs_head, IsBefore};
 
 use crate::cursor::Cursor;
 use crate::deserializer::{Deserializer, Due};
+pub use crate::frames::{MapHead, SeqHead};
 use crate::note::Wanted;
 use crate::template::take_table;
 use bser_bunser::refusal::Answer;
-pub use bser_due::frames::{MapHead, SeqHead};
 use bser_format::errors::{Error, Kind};
 use bser_format::header::{BSER_ARRAY, BSER_OBJECT, BSER_TEMPLATE};
-use bser_read::read::DeRead;
-use bser_source::read::Lending;
+use bser_source::read::DeRead;
+use bser_source::reference::Lending;
 use std::alloc::Global;
 use std::mem;
 

@@ -6,9 +6,9 @@ ghost use Rattle.bser_named.specs.DueReaders as due_readers;
 ghost use Rattle.bser_named.specs.DueReaders.{nothing_at, stray_at, wrong_type};
 ghost use Rattle.bser_named.specs.Named.{complain};
 ghost use Rattle.bser_bunser.specs.Refusal.{Fails};
-ghost use Rattle.bser_due.specs.Dues.{IsValueDue, name_at};
-ghost use Rattle.bser_due.specs.Reading.{NamesBy, NamesDue, bare};
-ghost use Rattle.bser_due.specs.State.{awaiting, refused};
+ghost use Rattle.bser_deserializer.specs.Dues.{IsValueDue, name_at};
+ghost use Rattle.bser_deserializer.specs.Reading.{NamesBy, NamesDue, bare};
+ghost use Rattle.bser_deserializer.specs.State.{awaiting, refused};
 ghost use Rattle.bser_deserializer.specs.View.{state, refusal_in, note_in, due_in, keys_in, value_here, SeesTag, IsNameDue, NoNameDue};
 
 use crate::deserializer::{Deserializer, Due};
@@ -16,8 +16,8 @@ use crate::note::{Finding, Wanted};
 use bser_bunser::refusal::{Answer, Refused};
 use bser_format::errors::{Complaint, Error, Kind, ReadCause};
 use bser_format::header::{BSER_BYTESTRING, BSER_SKIP, BSER_UTF8STRING};
-use bser_read::read::DeRead;
-use bser_source::read::Lending;
+use bser_source::read::DeRead;
+use bser_source::reference::Lending;
 
 /// What the crates above see and change of what is due: a [`Deserializer`].
 pub trait Cursor {

@@ -7,15 +7,15 @@ ghost use Rattle.bser_named.specs.Named as named;
 ghost use Rattle.bser_named.specs.Named.{complain};
 ghost use Rattle.bser_bunser.specs.Names.{Names};
 ghost use Rattle.bser_bunser.specs.Refusal.{Fails};
-ghost use Rattle.bser_due.specs.State.{Begins, IsAtEnd, refused};
+ghost use Rattle.bser_deserializer.specs.State.{Begins, IsAtEnd, refused};
 
+pub use crate::due::Due;
 use crate::note::Note;
 use bser_bunser::bunser::{Bunser, PduInfo};
 use bser_bunser::refusal::{Answer, Refused};
-pub use bser_due::due::Due;
 use bser_format::errors::{Complaint, Error, ReadCause, Result};
-use bser_read::read::DeRead;
-use bser_source::read::Lending;
+use bser_source::read::DeRead;
+use bser_source::reference::Lending;
 use std::alloc::Global;
 
 /// How deep a message may nest where no limit is given.

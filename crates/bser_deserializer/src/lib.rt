@@ -1,10 +1,15 @@
-//! The deserializer: what is left of a message, what is due, scalars, strings and opened containers.
+//! The deserializer: what is left of a message and what is due, as a state; scalars, strings and opened
+//! containers.
 #![tactic(auto)]
 
 pub mod any;
 pub mod container;
 pub mod cursor;
 pub mod deserializer;
+pub mod due;
+pub mod field;
+pub mod frames;
+pub mod node;
 pub mod note;
 pub mod scalar;
 pub mod string;

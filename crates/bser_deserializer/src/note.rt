@@ -2,13 +2,13 @@
 ghost use Rattle.std.specs.Prelude.{◌≡◌, ◌≢◌, ◌-◌, ◌^◌, min, pos, false, Some};
 ghost use Rattle.bser_named.specs.Clauses.{after_a_refusal};
 ghost use Rattle.bser_named.specs.Named.{complain};
-ghost use Rattle.bser_due.specs.State.{refused};
+ghost use Rattle.bser_deserializer.specs.State.{refused};
 ghost use Rattle.bser_deserializer.specs.View.{state, refusal_in, note_in};
 
 use crate::deserializer::Deserializer;
 use bser_bunser::refusal::{Answer, Refused};
 use bser_format::errors::{Complaint, EnumName, Error};
-use bser_read::read::DeRead;
+use bser_source::read::DeRead;
 
 /// The name of a field, of which as many bytes are kept as of an enum's name.
 pub type FieldName = EnumName;

@@ -3,23 +3,23 @@ ghost use Rattle.std.specs.Prelude.{◌≡◌, ◌≢◌, ℤ, Bool, pos, Some, 
 ghost use Rattle.bser_format.specs.Content.{one, truth, number};
 ghost use Rattle.bser_format.specs.ReadsScalars.{reads_bool, reads_unit, reads_integer, reads_signed, reads_real};
 ghost use Rattle.bser_named.specs.DueReaders.{seen};
-ghost use Rattle.bser_due.specs.Askings.{asking_bool, asking_real, asking_unit, asking_integer};
-ghost use Rattle.bser_due.specs.Dues.{IsTagged, IsValueDue};
-ghost use Rattle.bser_due.specs.Nodes.{tag_node, SeesNode, BeginsNode, TookNull, IsOther};
-ghost use Rattle.bser_due.specs.Reading.{Answers, Refuses, RefusesFront, NamesBy, bare};
+ghost use Rattle.bser_deserializer.specs.Askings.{asking_bool, asking_real, asking_unit, asking_integer};
+ghost use Rattle.bser_deserializer.specs.Dues.{IsTagged, IsValueDue};
+ghost use Rattle.bser_deserializer.specs.Nodes.{tag_node, SeesNode, BeginsNode, TookNull, IsOther};
+ghost use Rattle.bser_deserializer.specs.Reading.{Answers, Refuses, RefusesFront, NamesBy, bare};
 ghost use Rattle.bser_deserializer.specs.View.{state, refusal_in, is_null_at, is_other_kind};
 
 use crate::cursor::Cursor;
 use crate::deserializer::{Deserializer, Due};
+pub use crate::node::Node;
 use crate::note::Wanted;
 use bser_bunser::prefix::{Look, Unexpected};
 use bser_bunser::refusal::Answer;
-pub use bser_due::node::Node;
 use bser_format::errors::{Complaint, Error};
 use bser_format::header::{
     BSER_FALSE, BSER_NULL, BSER_REAL, BSER_SKIP, BSER_TEMPLATE, BSER_TRUE, BSER_UTF8STRING,
 };
-use bser_read::read::DeRead;
+use bser_source::read::DeRead;
 
 /// Whether a value with this tag is of a kind, and of another than null.
 #[inline(always)]

@@ -4,10 +4,10 @@ ghost use Rattle.bser_format.specs.Content.{byte_list};
 ghost use Rattle.bser_format.specs.ReadsScalars.{reads_slice, reads_string};
 ghost use Rattle.bser_format.specs.Errors.{error_of};
 ghost use Rattle.bser_source.specs.Refs.{bytes_of, is_lent, text_bytes, is_lent_text};
-ghost use Rattle.bser_due.specs.Askings.{asking_bytes, asking_string};
-ghost use Rattle.bser_due.specs.Dues.{IsTagged};
-ghost use Rattle.bser_due.specs.Reading.{Answers, Refuses, bare, owned};
-ghost use Rattle.bser_due.specs.State.{refused};
+ghost use Rattle.bser_deserializer.specs.Askings.{asking_bytes, asking_string};
+ghost use Rattle.bser_deserializer.specs.Dues.{IsTagged};
+ghost use Rattle.bser_deserializer.specs.Reading.{Answers, Refuses, bare, owned};
+ghost use Rattle.bser_deserializer.specs.State.{refused};
 ghost use Rattle.bser_deserializer.specs.Strings.{TookBytes};
 ghost use Rattle.bser_deserializer.specs.View.{state, refusal_in};
 
@@ -18,8 +18,8 @@ use bser_bunser::refusal::{Answer, Refused};
 use bser_format::bytestring::ByteString;
 use bser_format::errors::{Complaint, Error, ReadCause};
 use bser_format::header::BSER_UTF8STRING;
-use bser_read::read::DeRead;
-use bser_source::read::{Lending, LendsText, Reference, TextReference};
+use bser_source::read::DeRead;
+use bser_source::reference::{Lending, LendsText, Reference, TextReference};
 use bser_source::text::as_text;
 use std::alloc::Global;
 

@@ -5,16 +5,16 @@ ghost use Rattle.bser_format.specs.declared.errors.Kind.TheVariants.{TemplateKey
 ghost use Rattle.bser_named.specs.Named.{text_of, count, many};
 ghost use Rattle.bser_bunser.specs.Refusal.{Fails};
 ghost use Rattle.bser_bunser.specs.Tagged.{bunser_window, refusal_of};
-ghost use Rattle.bser_due.specs.Reading.{NamesBy, owned};
-ghost use Rattle.bser_due.specs.Tables.{TookPart, SpellsKeys, SpellsTable};
+ghost use Rattle.bser_deserializer.specs.Reading.{NamesBy, owned};
+ghost use Rattle.bser_deserializer.specs.Tables.{TookPart, SpellsKeys, SpellsTable};
 ghost use Rattle.bser_deserializer.specs.Templates.{keys_after_number, table};
 
 use crate::cursor::is_key_tag;
 use bser_bunser::bunser::Bunser;
 use bser_bunser::refusal::Answer;
 use bser_format::errors::{Complaint, Error, Kind};
-use bser_read::read::DeRead;
-use bser_source::read::Lending;
+use bser_source::read::DeRead;
+use bser_source::reference::Lending;
 use std::alloc::Global;
 
 /// Takes a template's key, and keeps it.

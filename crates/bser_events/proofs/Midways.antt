@@ -8,8 +8,8 @@ use Rattle.bser_format.specs.declared.errors.Error.TheVariants.{OutOfMemory}
 use Rattle.bser_format.specs.declared.errors.Kind.TheVariants.{MapKey}
 use Rattle.bser_named.specs.Named.{Reader, refuses, and_then, ◌>>=◌, text_of, field_of, with_text_keys}
 use Rattle.bser_named.proofs.Steps.{Continues}
-use Rattle.bser_read.specs.Window.{Window, Within, Took, closed}
-use Rattle.bser_read.proofs.Windows.{took_then}
+use Rattle.bser_source.specs.Window.{Window, Within, Took, closed}
+use Rattle.bser_source.proofs.Windows.{took_then}
 use Rattle.bser_bunser.specs.Refusal.{Fails}
 use Rattle.bser_bunser.specs.Names.{Names, RefusedAs}
 use Rattle.bser_bunser.specs.Tagged.{TookToken}

@@ -5,8 +5,8 @@ use Rattle.bser_format.specs.declared.errors.Error.{Error}
 use Rattle.bser_format.specs.declared.errors.Error.TheVariants.{OutOfMemory}
 use Rattle.bser_format.specs.declared.errors.Kind.TheVariants.{MapKey}
 use Rattle.bser_named.specs.Named.{Reader, text_of, field_of, with_text_keys}
-use Rattle.bser_read.specs.Window.{Window, AreOctets, Took, consumed, closed}
-use Rattle.bser_read.proofs.Windows.{taken, octets_rest}
+use Rattle.bser_source.specs.Window.{Window, AreOctets, Took, consumed, closed}
+use Rattle.bser_source.proofs.Windows.{taken, octets_rest}
 use Rattle.bser_events.specs.Events.{Event, TakesAll, key, events, part_events}
 use Rattle.bser_events.specs.Frames.{CountsDown, CountsOn, IsDone}
 use Rattle.bser_events.specs.Found.{Found, Refuses}

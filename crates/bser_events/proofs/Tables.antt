@@ -8,8 +8,8 @@ use Rattle.bser_format.specs.declared.errors.Error.TheVariants.{DeInvalidStartBy
 use Rattle.bser_format.specs.declared.errors.Kind.TheVariants as kinds
 use Rattle.bser_format.specs.declared.errors.Complaint.TheVariants.{NegativeCount, RowsWithoutKeys}
 use Rattle.bser_named.specs.Named.{Answer, Reader, reads, refuses, and_then, ◌>>=◌, give, front, count, many, complain, text_of, field_of, with_text_keys, rows_body, template_body}
-use Rattle.bser_read.specs.Window.{Window, Filled, Took, consumed, closed}
-use Rattle.bser_read.proofs.Windows.{took_then, took_filled}
+use Rattle.bser_source.specs.Window.{Window, Filled, Took, consumed, closed}
+use Rattle.bser_source.proofs.Windows.{took_then, took_filled}
 use Rattle.bser_bunser.specs.Refusal.{failures_by, Fails}
 use Rattle.bser_bunser.specs.Names.{Names, RefusedAs}
 use Rattle.bser_bunser.specs.Tagged.{TookInt}

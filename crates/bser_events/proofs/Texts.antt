@@ -7,8 +7,8 @@ use Rattle.bser_format.specs.declared.errors.Error.{Error}
 use Rattle.bser_format.specs.declared.errors.Error.TheVariants.{DeInvalidStartByte}
 use Rattle.bser_format.specs.declared.errors.Kind.{Kind}
 use Rattle.bser_named.specs.Named.{Answer, reads, refuses, and_then, give, refuse, front, string, utf8, utf8_wanted, text_of}
-use Rattle.bser_read.specs.Window.{Window, Filled, Took, consumed, closed}
-use Rattle.bser_read.proofs.Windows.{took_then, took_filled}
+use Rattle.bser_source.specs.Window.{Window, Filled, Took, consumed, closed}
+use Rattle.bser_source.proofs.Windows.{took_then, took_filled}
 use Rattle.bser_bunser.specs.Refusal.{Fails}
 use Rattle.bser_bunser.specs.Names.{Names, RefusedAs}
 use Rattle.bser_bunser.specs.Tagged.{TookCounted, TookSome}

@@ -6,7 +6,7 @@ use Rattle.bser_format.specs.declared.errors.Error.TheVariants.{OutOfMemory, DeR
 use Rattle.bser_format.specs.declared.errors.Kind.TheVariants as kinds
 use Rattle.bser_named.specs.Named.{Reader, reads, refuse, and_then, give, ◌>>=◌, next, front, utf8, text_of, field_of, many, with_text_keys}
 use Rattle.bser_named.specs.DueReaders.{less_one}
-use Rattle.bser_read.specs.Window.{Window, Filled, Took}
+use Rattle.bser_source.specs.Window.{Window, Filled, Took}
 use Rattle.bser_bunser.specs.Refusal.{Fails}
 use Rattle.bser_bunser.specs.Names.{Names}
 use Rattle.bser_bunser.specs.Tokens.{token, token_after, after_token}

@@ -2,7 +2,7 @@
 ghost use Rattle.std.specs.Prelude.{◌≡◌, ◌<◌, true, false, IfOk, OnOk, OnErr};
 ghost use Rattle.bser_format.specs.Errors.{error_of};
 ghost use Rattle.bser_named.specs.Named.{complain, utf8_wanted};
-ghost use Rattle.bser_read.specs.Window.{closed};
+ghost use Rattle.bser_source.specs.Window.{closed};
 ghost use Rattle.bser_bunser.specs.Refusal.{Fails};
 ghost use Rattle.bser_bunser.specs.Names.{Names};
 ghost use Rattle.bser_bunser.specs.Tagged.{bunser_window, refusal_of, TookToken};
@@ -17,7 +17,7 @@ use bser_bunser::prefix::Token;
 use bser_bunser::refusal::{Answer, Refused};
 use bser_format::errors::{Complaint, Error, Kind, ReadCause};
 use bser_format::header::{BSER_ARRAY, BSER_OBJECT, BSER_TEMPLATE};
-use bser_read::read::DeRead;
+use bser_source::read::DeRead;
 
 /// Tells the builder an event.
 #[inline(always)]

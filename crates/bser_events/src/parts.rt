@@ -27,7 +27,7 @@ use bser_bunser::prefix::Token;
 use bser_bunser::refusal::Answer;
 use bser_format::errors::Kind;
 use bser_format::header::{BSER_ARRAY, BSER_SKIP};
-use bser_read::read::DeRead;
+use bser_source::read::DeRead;
 
 /// Reads what follows a token where a value begins, and tells it. Answers the container that it
 /// opens, of which the parts are left.

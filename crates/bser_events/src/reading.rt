@@ -3,7 +3,7 @@
 ghost use Rattle.std.specs.Prelude.{◌≡◌, ◌⊎◌, ◌≤◌, ◌<◌, ◌++◌, ◌∷◌, [], true, length, vec_capacity, OnOk, OnErr};
 ghost use Rattle.bser_format.specs.declared.errors.Kind.TheVariants as kinds;
 ghost use Rattle.bser_named.specs.Named.{text_of, with_text_keys};
-ghost use Rattle.bser_read.specs.Window.{closed};
+ghost use Rattle.bser_source.specs.Window.{closed};
 ghost use Rattle.bser_bunser.specs.Tagged.{bunser_window, refusal_of};
 ghost use Rattle.bser_events.specs.Events as events;
 ghost use Rattle.bser_events.specs.Frames.{parts_of, left_events, IsSmall};
@@ -19,7 +19,7 @@ use crate::strings::read_key;
 use bser_bunser::bunser::Bunser;
 use bser_bunser::refusal::Answer;
 use bser_format::errors::{Error, Kind};
-use bser_read::read::DeRead;
+use bser_source::read::DeRead;
 
 /// Reads a value where `levels` levels are left, and tells the builder what it finds.
 ///

@@ -12,7 +12,7 @@ use bser_bunser::bunser::Bunser;
 use bser_bunser::refusal::Answer;
 use bser_format::errors::Kind;
 use bser_format::header::{BSER_BYTESTRING, BSER_UTF8STRING};
-use bser_read::read::DeRead;
+use bser_source::read::DeRead;
 use bser_source::text::as_text;
 
 /// Reads the bytes of a text, and tells it.

@@ -10,15 +10,15 @@ use Rattle.bser_format.specs.declared.errors.Error.{Error}
 use Rattle.bser_named.specs.Clauses.{after_a_refusal}
 use Rattle.bser_named.specs.Named.{give}
 use Rattle.bser_named.proofs.Options.{chained, when_some}
-use Rattle.bser_read.specs.Window.{closed}
-use Rattle.bser_due.specs.Askings.{asking_string}
-use Rattle.bser_due.specs.State.{State, refused}
-use Rattle.bser_due.specs.Reading.{Answers, Asking, Refuses, IsRefusal, bare, Needs}
-use Rattle.bser_due.specs.Parts.{pairs_left, pairs_after}
-use Rattle.bser_due.specs.Access.{OpenPairs, OpensPairs, RefusesPairs, IsKey, NoEntry, RefusesKey, IsValue, RefusesValue, ClosesPairs, LeavesPairs}
-use Rattle.bser_due.specs.Fields.{field_of, HoldsField}
-use Rattle.bser_due.specs.declared.field.Field.{Field}
-use Rattle.bser_due.proofs.Refusals.{unfit_here}
+use Rattle.bser_source.specs.Window.{closed}
+use Rattle.bser_deserializer.specs.Askings.{asking_string}
+use Rattle.bser_deserializer.specs.State.{State, refused}
+use Rattle.bser_deserializer.specs.Reading.{Answers, Asking, Refuses, IsRefusal, bare, Needs}
+use Rattle.bser_deserializer.specs.Parts.{pairs_left, pairs_after}
+use Rattle.bser_deserializer.specs.Access.{OpenPairs, OpensPairs, RefusesPairs, IsKey, NoEntry, RefusesKey, IsValue, RefusesValue, ClosesPairs, LeavesPairs}
+use Rattle.bser_deserializer.specs.Fields.{field_of, HoldsField}
+use Rattle.bser_deserializer.specs.declared.field.Field.{Field}
+use Rattle.bser_deserializer.proofs.Refusals.{unfit_here}
 use Rattle.bser_types.specs.Fold.{folds, comes_to, step_by_name, struct_of, read_once, either}
 use Rattle.bser_types.specs.Slots.{Keeps}
 use Rattle.bser_types.proofs.Objects.{Outlook, ReadsObjects, PairsLeft, ValueLeft, AtKey, AtValue, ReadsKeys, key_name, key_read, inside_start, inside_key, inside_value, inside_same, inside_end, opening_refused, key_refused, value_refused, part_refused}

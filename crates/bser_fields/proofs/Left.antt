@@ -23,10 +23,10 @@ use Rattle.bser_named.proofs.Enums.{key_there}
 use Rattle.bser_named.proofs.Options.{made}
 use Rattle.bser_named.proofs.Steps as steps
 use Rattle.bser_named.proofs.Steps.{Continues, first_read}
-use Rattle.bser_due.specs.Fields.{field_of}
-use Rattle.bser_due.specs.Parts.{pairs_left, pair_key, pair_value, pairs_after}
-use Rattle.bser_due.specs.declared.field.Field.{Field}
-use Rattle.bser_due.specs.declared.field.Field.TheVariants.{Known, Unknown}
+use Rattle.bser_deserializer.specs.Fields.{field_of}
+use Rattle.bser_deserializer.specs.Parts.{pairs_left, pair_key, pair_value, pairs_after}
+use Rattle.bser_deserializer.specs.declared.field.Field.{Field}
+use Rattle.bser_deserializer.specs.declared.field.Field.TheVariants.{Known, Unknown}
 use Rattle.bser_types.specs.Askings.{counted, counted_passes}
 use Rattle.bser_types.specs.Slots.{StructField, fill, fill_at, fill_field, or_absent, field_at_end}
 use Rattle.bser_types.proofs.ObjectFills.{same_key}

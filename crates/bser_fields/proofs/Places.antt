@@ -14,11 +14,11 @@ use Rattle.bser_named.specs.Named.{Answer, reads, refuses, refuse, give, and_the
 use Rattle.bser_named.specs.Asks.{Asks, value_at, value_by, asks_any}
 use Rattle.bser_named.specs.Asks as asks
 use Rattle.bser_named.specs.Clauses.{after_a_refusal}
-use Rattle.bser_due.specs.Askings.{asking_ignored}
-use Rattle.bser_due.specs.Reading.{Answers, Asking, FillsReadably, IsRefusal, NamesAsked, NamesBy, Refuses, owned, Needs}
-use Rattle.bser_due.specs.State.{State}
-use Rattle.bser_due.specs.declared.field.Field.TheVariants.{Unknown}
-use Rattle.bser_due.proofs.Refusals.{names_by_more, narrower, unfit_here}
+use Rattle.bser_deserializer.specs.Askings.{asking_ignored}
+use Rattle.bser_deserializer.specs.Reading.{Answers, Asking, FillsReadably, IsRefusal, NamesAsked, NamesBy, Refuses, owned, Needs}
+use Rattle.bser_deserializer.specs.State.{State}
+use Rattle.bser_deserializer.specs.declared.field.Field.TheVariants.{Unknown}
+use Rattle.bser_deserializer.proofs.Refusals.{names_by_more, narrower, unfit_here}
 use Rattle.bser_deserializer.proofs.Tags.{complained_names}
 use Rattle.bser_types.proofs.Naming.{names_by_wider}
 use Rattle.bser_types.proofs.Taken.{wider_needs}

@@ -6,16 +6,16 @@ use Rattle.std.specs.Str.{bytes_eq, is_utf8}
 use Rattle.bser_format.specs.Content.{Content}
 use Rattle.bser_format.specs.Expected.{field_due, name_due}
 use Rattle.bser_format.specs.declared.errors.Error.{Error}
-use Rattle.bser_due.specs.Access.{OpensPairs, after_closing}
-use Rattle.bser_due.specs.Dues.{name_at}
-use Rattle.bser_due.specs.Fields.{field_from, field_of}
-use Rattle.bser_due.specs.HoldsLists.{HoldsTuple}
-use Rattle.bser_due.specs.Parts.{wanted_pairs, pairs_left}
-use Rattle.bser_due.specs.Reading.{Answers, Asking, Refuses, Needs}
-use Rattle.bser_due.specs.State.{State, awaiting}
-use Rattle.bser_due.specs.declared.field.Field.{Field}
-use Rattle.bser_due.specs.declared.field.Field.TheVariants.{Known, Unknown}
-use Rattle.bser_due.specs.declared.frames.MapHead.{MapHead}
+use Rattle.bser_deserializer.specs.Access.{OpensPairs, after_closing}
+use Rattle.bser_deserializer.specs.Dues.{name_at}
+use Rattle.bser_deserializer.specs.Fields.{field_from, field_of}
+use Rattle.bser_deserializer.specs.HoldsLists.{HoldsTuple}
+use Rattle.bser_deserializer.specs.Parts.{wanted_pairs, pairs_left}
+use Rattle.bser_deserializer.specs.Reading.{Answers, Asking, Refuses, Needs}
+use Rattle.bser_deserializer.specs.State.{State, awaiting}
+use Rattle.bser_deserializer.specs.declared.field.Field.{Field}
+use Rattle.bser_deserializer.specs.declared.field.Field.TheVariants.{Known, Unknown}
+use Rattle.bser_deserializer.specs.declared.frames.MapHead.{MapHead}
 use Rattle.bser_deserializer.specs.View.{pairs_head}
 use Rattle.bser_types.specs.Slots.{StructField, fill, fill_at, fill_field, reads_struct, struct_needs, KeepsBoth, FinishesEach}
 use Rattle.bser_fields.specs.Asked.{place_known}

@@ -17,15 +17,15 @@ use Rattle.bser_named.specs.Asks.{Asks, Field, inside, value_by, struct_asked}
 use Rattle.bser_named.specs.Clauses.{after_a_refusal}
 use Rattle.bser_named.specs.TypeLaws.{PassEach}
 use Rattle.bser_named.proofs.Steps.{Continues, first_read}
-use Rattle.bser_read.specs.Window.{Took}
-use Rattle.bser_due.specs.Askings.{asking_string}
-use Rattle.bser_due.specs.State.{State, awaiting, past, refused}
-use Rattle.bser_due.specs.Reading.{Answers, Asking, NamesAsked, Refuses, bare, Needs}
-use Rattle.bser_due.specs.Parts.{BeginsPairs, pairs_left, pair_key, pair_value, pairs_after}
-use Rattle.bser_due.specs.Access.{OpenPairs, OpensPairs, RefusesPairs, IsKey, IsValue, ClosesPairs, pairs_in}
-use Rattle.bser_due.specs.Fields.{field_of, HoldsField}
-use Rattle.bser_due.specs.declared.field.Field as field
-use Rattle.bser_due.proofs.Refusals.{names_by_untaken, unfit_here}
+use Rattle.bser_source.specs.Window.{Took}
+use Rattle.bser_deserializer.specs.Askings.{asking_string}
+use Rattle.bser_deserializer.specs.State.{State, awaiting, past, refused}
+use Rattle.bser_deserializer.specs.Reading.{Answers, Asking, NamesAsked, Refuses, bare, Needs}
+use Rattle.bser_deserializer.specs.Parts.{BeginsPairs, pairs_left, pair_key, pair_value, pairs_after}
+use Rattle.bser_deserializer.specs.Access.{OpenPairs, OpensPairs, RefusesPairs, IsKey, IsValue, ClosesPairs, pairs_in}
+use Rattle.bser_deserializer.specs.Fields.{field_of, HoldsField}
+use Rattle.bser_deserializer.specs.declared.field.Field as field
+use Rattle.bser_deserializer.proofs.Refusals.{names_by_untaken, unfit_here}
 use Rattle.bser_deserializer.proofs.Containers.{pairs_pass}
 use Rattle.bser_deserializer.proofs.Texts.{took_nothing}
 use Rattle.bser_named.proofs.Options.{chained, when_some}

@@ -9,15 +9,15 @@ use Rattle.bser_format.specs.declared.errors.Error.{Error}
 use Rattle.bser_format.specs.declared.errors.Complaint.TheVariants.{TooFewItems}
 use Rattle.bser_named.specs.Named.{complain}
 use Rattle.bser_named.specs.Clauses.{after_a_refusal}
-use Rattle.bser_due.specs.Access.{OpenPairs, IsKey, after_closing, pairs_in}
-use Rattle.bser_due.specs.Askings.{asking_string}
-use Rattle.bser_due.specs.Fields.{HoldsField}
-use Rattle.bser_due.specs.HoldsLists.{HoldsTuple}
-use Rattle.bser_due.specs.Parts.{wanted_pairs, pairs_left, pair_key, pair_value, pairs_after}
-use Rattle.bser_due.specs.Reading.{Answers, Refuses, bare, Needs}
-use Rattle.bser_due.specs.State.{State, awaiting, past, refused}
-use Rattle.bser_due.specs.declared.field.Field.{Field}
-use Rattle.bser_due.specs.declared.frames.MapHead.{MapHead}
+use Rattle.bser_deserializer.specs.Access.{OpenPairs, IsKey, after_closing, pairs_in}
+use Rattle.bser_deserializer.specs.Askings.{asking_string}
+use Rattle.bser_deserializer.specs.Fields.{HoldsField}
+use Rattle.bser_deserializer.specs.HoldsLists.{HoldsTuple}
+use Rattle.bser_deserializer.specs.Parts.{wanted_pairs, pairs_left, pair_key, pair_value, pairs_after}
+use Rattle.bser_deserializer.specs.Reading.{Answers, Refuses, bare, Needs}
+use Rattle.bser_deserializer.specs.State.{State, awaiting, past, refused}
+use Rattle.bser_deserializer.specs.declared.field.Field.{Field}
+use Rattle.bser_deserializer.specs.declared.frames.MapHead.{MapHead}
 use Rattle.bser_deserializer.specs.View.{pairs_head}
 use Rattle.bser_types.specs.Slots.{StructField, fill_field, field_at_end, reads_struct, FinishesEach}
 use Rattle.bser_types.proofs.Pairs.{field_key, entry_key, field_value, entry_value, field_passed, entry_passed}

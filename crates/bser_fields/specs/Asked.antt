@@ -3,8 +3,8 @@ use Rattle.std.specs.Prelude.{ℕ, List, [], ◌∷◌, Option, Some, None}
 use Rattle.std.specs.Option.{is_some}
 use Rattle.bser_named.specs.Asks.{Asks}
 use Rattle.bser_named.specs.Asks as asks
-use Rattle.bser_due.specs.declared.field.Field.{Field}
-use Rattle.bser_due.specs.declared.field.Field.TheVariants.{Known, Unknown}
+use Rattle.bser_deserializer.specs.declared.field.Field.{Field}
+use Rattle.bser_deserializer.specs.declared.field.Field.TheVariants.{Known, Unknown}
 use Rattle.bser_types.specs.Slots.{StructField}
 
 -- a field whose type asks for this

@@ -2,7 +2,7 @@
 use Rattle.std.specs.Prelude.{ℕ, List, [], ◌∷◌, map, Option, Some, None, option_map}
 use Rattle.bser_named.specs.Asks.{Asks, asks_struct}
 use Rattle.bser_named.specs.TypeLaws.{PassEach}
-use Rattle.bser_due.specs.Reading.{Asking}
+use Rattle.bser_deserializer.specs.Reading.{Asking}
 use Rattle.bser_types.specs.Askings.{counted}
 use Rattle.bser_types.specs.Slots.{StructField, reads_struct}
 use Rattle.bser_fields.specs.Asked.{asked_fields}

@@ -7,12 +7,12 @@ use Rattle.bser_format.specs.Expected.{Fills, name_due}
 use Rattle.bser_format.specs.declared.errors.Error.{Error}
 use Rattle.bser_named.specs.Asks.{value_at, value_by}
 use Rattle.bser_named.specs.Clauses.{left_over}
-use Rattle.bser_read.specs.Window.{Took}
-use Rattle.bser_due.specs.Dues.{name_at}
-use Rattle.bser_due.specs.Fields.{field_of}
-use Rattle.bser_due.specs.Reading.{Answers, Asking, NamesBy, Refuses, RefusesFront, Needs}
-use Rattle.bser_due.specs.State.{State, past, refused}
-use Rattle.bser_due.specs.declared.field.Field.{Field}
+use Rattle.bser_source.specs.Window.{Took}
+use Rattle.bser_deserializer.specs.Dues.{name_at}
+use Rattle.bser_deserializer.specs.Fields.{field_of}
+use Rattle.bser_deserializer.specs.Reading.{Answers, Asking, NamesBy, Refuses, RefusesFront, Needs}
+use Rattle.bser_deserializer.specs.State.{State, past, refused}
+use Rattle.bser_deserializer.specs.declared.field.Field.{Field}
 use Rattle.bser_types.specs.Slots.{StructField, FillsStep}
 use Rattle.bser_fields.specs.Asked.{asked_field, asked_fields}
 use Rattle.bser_fields.specs.Askings.{AllAsked}

@@ -10,9 +10,9 @@ use Rattle.bser_named.specs.TypeLaws.{Passes, PassEach}
 use Rattle.bser_named.specs.Structs as plain
 use Rattle.bser_named.specs.Structs.{Slot, PassFields}
 use Rattle.bser_named.proofs.Structs.{struct_passes}
-use Rattle.bser_due.specs.Fields.{field_from, field_of}
-use Rattle.bser_due.specs.declared.field.Field.{Field}
-use Rattle.bser_due.specs.declared.field.Field.TheVariants.{Known, Unknown}
+use Rattle.bser_deserializer.specs.Fields.{field_from, field_of}
+use Rattle.bser_deserializer.specs.declared.field.Field.{Field}
+use Rattle.bser_deserializer.specs.declared.field.Field.TheVariants.{Known, Unknown}
 use Rattle.bser_types.specs.Askings.{counted, counted_passes}
 use Rattle.bser_types.specs.Fold.{folds, step_by_name, read_once}
 use Rattle.bser_types.specs.Slots.{StructField, with_found, fill, fill_at, fill_field, field_at_end, all_at_end, reads_struct}

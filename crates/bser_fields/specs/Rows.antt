@@ -1,14 +1,14 @@
 -- Fields of a row that are read one after another.
 use Rattle.std.specs.Prelude.{◌≡◌, ◌≤◌, ◌+◌, ℕ, zero, suc, true, List, ◌∷◌, length, Option}
 use Rattle.std.specs.Str.{is_utf8}
-use Rattle.bser_due.specs.Reading.{Needs}
+use Rattle.bser_deserializer.specs.Reading.{Needs}
 use Rattle.bser_format.specs.Expected.{field_due, name_due}
 use Rattle.bser_format.specs.declared.errors.Error.{Error}
-use Rattle.bser_due.specs.Dues.{name_at}
-use Rattle.bser_due.specs.Fields.{field_of}
-use Rattle.bser_due.specs.State.{State, awaiting}
-use Rattle.bser_due.specs.declared.field.Field.{Field}
-use Rattle.bser_due.specs.declared.field.Field.TheVariants.{Known, Unknown}
+use Rattle.bser_deserializer.specs.Dues.{name_at}
+use Rattle.bser_deserializer.specs.Fields.{field_of}
+use Rattle.bser_deserializer.specs.State.{State, awaiting}
+use Rattle.bser_deserializer.specs.declared.field.Field.{Field}
+use Rattle.bser_deserializer.specs.declared.field.Field.TheVariants.{Known, Unknown}
 use Rattle.bser_types.specs.Slots.{StructField, fill_field}
 use Rattle.bser_fields.specs.Asked.{place_known}
 use Rattle.bser_fields.specs.Askings.{AllAsked}

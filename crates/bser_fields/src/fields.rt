@@ -1,7 +1,7 @@
 //! Reading structs by their fields.
 ghost use Rattle.std.specs.Prelude.{map, IfOk, OnErr};
-ghost use Rattle.bser_due.specs.HoldsLists.{HoldsTuple};
-ghost use Rattle.bser_due.specs.Reading.{Answers, Refuses};
+ghost use Rattle.bser_deserializer.specs.HoldsLists.{HoldsTuple};
+ghost use Rattle.bser_deserializer.specs.Reading.{Answers, Refuses};
 ghost use Rattle.bser_deserializer.specs.View.{state, refusal_in};
 ghost use Rattle.bser_types.specs.Slots.{reads_struct, struct_needs};
 ghost use Rattle.bser_fields.specs.Askings.{asking_struct};
@@ -11,8 +11,8 @@ use crate::slots::Slots;
 use bser_bunser::refusal::Answer;
 use bser_deserializer::container::Containers;
 use bser_deserializer::deserializer::Deserializer;
-use bser_read::read::DeRead;
-use bser_source::read::LendsText;
+use bser_source::read::DeRead;
+use bser_source::reference::LendsText;
 use std::alloc::Global;
 
 /// What reads structs: a [`Deserializer`].

@@ -1,10 +1,10 @@
 //! A field of a struct, and what was read of it.
 ghost use Rattle.std.specs.Prelude.{◌≡◌, Option, Some, option_map, IfOk, OnOk, OnErr};
 ghost use Rattle.bser_format.specs.Content.{Content};
-ghost use Rattle.bser_due.specs.Holds.{HoldsOption};
+ghost use Rattle.bser_deserializer.specs.Holds.{HoldsOption};
 ghost use Rattle.bser_named.specs.Clauses.{left_over};
-ghost use Rattle.bser_due.specs.Reading.{Asking, Needs};
-ghost use Rattle.bser_due.specs.State.{refused};
+ghost use Rattle.bser_deserializer.specs.Reading.{Asking, Needs};
+ghost use Rattle.bser_deserializer.specs.State.{refused};
 ghost use Rattle.bser_deserializer.specs.View.{state, refusal_in};
 ghost use Rattle.bser_types.specs.Askings.{asking_option};
 ghost use Rattle.bser_types.specs.Slots.{StructField, required, optional, fill, KeepsField, FinishesField};
@@ -14,8 +14,8 @@ use bser_bunser::refusal::{Answer, Refused};
 use bser_deserializer::deserializer::Deserializer;
 use bser_deserializer::note::Finding;
 use bser_format::errors::Complaint;
-use bser_read::read::DeRead;
-use bser_source::read::LendsText;
+use bser_source::read::DeRead;
+use bser_source::reference::LendsText;
 use bser_types::deserialize::Deserialize;
 use std::alloc::Global;
 

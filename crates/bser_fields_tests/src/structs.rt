@@ -2,7 +2,7 @@
 //! field has is passed over.
 ghost use Rattle.std.specs.Prelude.{false, ◌||◌, [], ◌∷◌, None};
 ghost use Rattle.std.proofs.Common.{ap};
-ghost use Rattle.bser_due.specs.Reading.{bare};
+ghost use Rattle.bser_deserializer.specs.Reading.{bare};
 ghost use Rattle.bser_types.specs.Slots.{struct_needs};
 ghost use Rattle.bser_fields_tests.specs.Structs.{reads_file, HoldsFile, asking_file, reads_files, HoldsFiles, asking_files, reads_row, HoldsRow, asking_row};
 
@@ -10,8 +10,8 @@ use bser_bunser::refusal::Answer;
 use bser_deserializer::deserializer::Deserializer;
 use bser_fields::fields::ReadsFields;
 use bser_fields::slot::{Optional, Required};
-use bser_read::read::DeRead;
-use bser_source::read::LendsText;
+use bser_source::read::DeRead;
+use bser_source::reference::LendsText;
 use bser_types::deserialize::{Deserialize, OwnedShape, Shape};
 use std::alloc::Global;
 

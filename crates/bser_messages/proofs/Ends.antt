@@ -11,7 +11,7 @@ use Rattle.bser_named.specs.Named as named
 use Rattle.bser_named.specs.Named.{Reader, reads, refuses, give, refuse, complain, and_then, ends, ends_at}
 use Rattle.bser_named.proofs.Steps.{Passes}
 use Rattle.bser_bunser.specs.Refusal.{end_refusal}
-use Rattle.bser_due.specs.Reading.{IsRefusal}
+use Rattle.bser_deserializer.specs.Reading.{IsRefusal}
 
 -- ---- a head is short
 

@@ -7,10 +7,10 @@ use Rattle.bser_format.specs.declared.errors.Message.TheVariants.{Fixed}
 use Rattle.bser_format.specs.declared.errors.Complaint.TheVariants as complaints
 use Rattle.bser_format.specs.declared.errors.ReadCause.TheVariants.{Reader, Failed}
 use Rattle.bser_named.specs.Named as named
-use Rattle.bser_read.specs.Window.{Window, with_limit}
+use Rattle.bser_source.specs.Window.{Window, with_limit}
 use Rattle.bser_bunser.specs.Refusal.{Fails}
 use Rattle.bser_bunser.specs.Names.{Blame, MayBeLeft, RefusedAs}
-use Rattle.bser_due.specs.Reading.{OutsideBy, ExcusedBy, MayRefuse, NamesBy, RefusesFront, refusing, Needs}
+use Rattle.bser_deserializer.specs.Reading.{OutsideBy, ExcusedBy, MayRefuse, NamesBy, RefusesFront, refusing, Needs}
 
 pub left_within : (l : ℕ) (s : Window) (b : List ℕ) → MayBeLeft s b → MayBeLeft (with_limit l s) b
 left_within l s b m = record { more = m.more; whole = m.whole; known = m.known }

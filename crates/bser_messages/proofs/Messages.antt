@@ -15,17 +15,17 @@ use Rattle.bser_format.proofs.OneHead.{one_head}
 use Rattle.bser_named.specs.Named as named
 use Rattle.bser_named.specs.Named.{refuses}
 use Rattle.bser_named.specs.Clauses.{after_a_refusal, still_open}
-use Rattle.bser_read.specs.Window.{Window, Within, Took, left, with_limit}
-use Rattle.bser_read.proofs.Windows.{left_took, octets_then}
+use Rattle.bser_source.specs.Window.{Window, Within, Took, left, with_limit}
+use Rattle.bser_source.proofs.Windows.{left_took, octets_then}
 use Rattle.bser_bunser.specs.Tagged.{IsHead}
 use Rattle.bser_bunser.specs.Refusal.{Fails, end_refusal}
 use Rattle.bser_bunser.specs.Names.{Names}
 use Rattle.bser_bunser.proofs.Names.{known_rest, left_now, left_untaken}
 use Rattle.bser_bunser.proofs.Readers.{head_there}
-use Rattle.bser_due.specs.State.{State, Begins, IsAtEnd}
-use Rattle.bser_due.specs.Reading.{Answers, Asking, NamesAsked, NamesBy, Refuses, FillsReadably, IsRefusal, bare, Needs}
-use Rattle.bser_due.proofs.Clean.{clean_head}
-use Rattle.bser_due.proofs.Refusals.{first_part, sequel, with_needs, by_name, names_any, names_bare, names_by_more, names_by_untaken, no_failure}
+use Rattle.bser_deserializer.specs.State.{State, Begins, IsAtEnd}
+use Rattle.bser_deserializer.specs.Reading.{Answers, Asking, NamesAsked, NamesBy, Refuses, FillsReadably, IsRefusal, bare, Needs}
+use Rattle.bser_deserializer.proofs.Clean.{clean_head}
+use Rattle.bser_deserializer.proofs.Refusals.{first_part, sequel, with_needs, by_name, names_any, names_bare, names_by_more, names_by_untaken, no_failure}
 use Rattle.bser_deserializer.specs.View.{not_at_end}
 use Rattle.bser_messages.specs.Messages.{ReadsMessage, ReadsBody, IsReadableMessage, NamesMessage, BeginWithHead, RefusesBody, RefusesMessage}
 use Rattle.bser_messages.proofs.Limits.{left_within, names_within, refuses_within}

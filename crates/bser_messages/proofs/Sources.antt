@@ -13,12 +13,12 @@ use Rattle.bser_format.specs.declared.errors.Complaint.TheVariants as complaints
 use Rattle.bser_format.specs.declared.errors.ReadCause.TheVariants.{Reader, Failed}
 use Rattle.bser_source.specs.Device.{one_more, Blamed}
 use Rattle.bser_named.specs.Named as named
-use Rattle.bser_read.specs.Window.{Window, left}
-use Rattle.bser_read.specs.Slice.{slice_fresh}
+use Rattle.bser_source.specs.Window.{Window, left}
+use Rattle.bser_source.specs.Slice.{slice_fresh}
 use Rattle.bser_bunser.specs.Refusal.{failures_by}
 use Rattle.bser_bunser.specs.Names as bunser
 use Rattle.bser_bunser.specs.Names.{Agree, Blame, MayBeLeft, RefusedAs}
-use Rattle.bser_due.specs.Reading.{Asking, OutsideBy, ExcusedBy, MayRefuse, refusing, Needs}
+use Rattle.bser_deserializer.specs.Reading.{Asking, OutsideBy, ExcusedBy, MayRefuse, refusing, Needs}
 use Rattle.bser_messages.specs.Messages.{ReadsMessage, NamesMessage, RefusesMessage, IsMemory, NamesSlice, RefusesSlice, CountsFault, MayCome, IsReaderFault, IsOutside, NamesReader, RefusesReader, BeginWithHead}
 
 -- ---- slices

@@ -12,12 +12,12 @@ use Rattle.bser_format.specs.declared.errors.Error.TheVariants.{DeReaderError, O
 use Rattle.bser_format.specs.declared.errors.ReadCause.TheVariants.{Reader, Failed}
 use Rattle.bser_source.specs.Device.{Blamed}
 use Rattle.bser_named.specs.Named as named
-use Rattle.bser_read.specs.Window.{Window, Took, left, with_limit}
+use Rattle.bser_source.specs.Window.{Window, Took, left, with_limit}
 use Rattle.bser_bunser.specs.Refusal.{failures_by}
 use Rattle.bser_bunser.specs.Tagged.{IsHead}
-use Rattle.bser_due.specs.State.{State, Begins}
+use Rattle.bser_deserializer.specs.State.{State, Begins}
 use Rattle.bser_bunser.specs.Names.{Agree}
-use Rattle.bser_due.specs.Reading.{Answers, Asking, ExcusedBy, MayRefuse, NamesBy, RefusesFront, Needs}
+use Rattle.bser_deserializer.specs.Reading.{Answers, Asking, ExcusedBy, MayRefuse, NamesBy, RefusesFront, Needs}
 
 -- ---- what is read
 

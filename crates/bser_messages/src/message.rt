@@ -1,7 +1,7 @@
 //! Reading whole messages.
 ghost use Rattle.std.specs.Prelude.{◌≡◌, ◌≤◌, [], IfOk, IfErr, OnOk, OnErr, ◌≢◌, Some};
-ghost use Rattle.bser_read.specs.Window.{left};
-ghost use Rattle.bser_due.specs.Reading.{TakesNoMemory};
+ghost use Rattle.bser_source.specs.Window.{left};
+ghost use Rattle.bser_deserializer.specs.Reading.{TakesNoMemory};
 ghost use Rattle.bser_deserializer.specs.View.{state, refusal_in};
 ghost use Rattle.bser_messages.specs.Messages.{
   BeginWithHead,
@@ -18,11 +18,11 @@ ghost use Rattle.bser_messages.specs.Messages.{
 use bser_bunser::refusal::{Answer, Refused};
 use bser_deserializer::deserializer::{Deserializer, LEVELS};
 use bser_format::errors::{Error, Result};
-use bser_read::io_read::IoRead;
-use bser_read::read::DeRead;
-use bser_read::slice_read::SliceRead;
 use bser_source::device::Source;
-use bser_source::read::LendsText;
+use bser_source::io_read::IoRead;
+use bser_source::read::DeRead;
+use bser_source::reference::LendsText;
+use bser_source::slice_read::SliceRead;
 use bser_types::deserialize::{Deserialize, DeserializeOwned};
 use std::alloc::Global;
 

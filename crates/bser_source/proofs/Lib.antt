@@ -1,1 +1,5 @@
 pub mod Lists
+pub mod Windows
+pub mod Refusals
+pub mod Buffers
+pub mod Pulls

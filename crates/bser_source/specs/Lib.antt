@@ -1,5 +1,10 @@
 pub mod Device
 pub mod Watched
 pub mod Sinks
-pub mod Refusal
+pub mod Failures
 pub mod Refs
+pub mod Window
+pub mod Refusal
+pub mod Slice
+pub mod Pull
+pub mod Reader

@@ -4,10 +4,10 @@ use Rattle.bser_format.specs.Errors.{error_of}
 use Rattle.bser_format.specs.declared.errors.Error.{Error}
 use Rattle.bser_format.specs.declared.errors.Error.TheVariants.{OutOfMemory}
 use Rattle.bser_format.specs.declared.errors.ReadCause.TheVariants.{Utf8}
-use Rattle.bser_source.specs.declared.read.Reference.{Reference}
-use Rattle.bser_source.specs.declared.read.Reference.TheVariants.{Borrowed, Copied}
-use Rattle.bser_source.specs.declared.read.TextReference.{TextReference}
-use Rattle.bser_source.specs.declared.read.TextReference.TheVariants as texts
+use Rattle.bser_source.specs.declared.reference.Reference.{Reference}
+use Rattle.bser_source.specs.declared.reference.Reference.TheVariants.{Borrowed, Copied}
+use Rattle.bser_source.specs.declared.reference.TextReference.{TextReference}
+use Rattle.bser_source.specs.declared.reference.TextReference.TheVariants as texts
 
 -- the bytes
 abbrev pub bytes_of : {L : Type 0} → (L → List ℕ) → Reference L → List ℕ

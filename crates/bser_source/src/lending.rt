@@ -5,7 +5,7 @@ ghost use Rattle.bser_format.specs.declared.errors.ReadCause.TheVariants.{Utf8};
 ghost use Rattle.bser_format.specs.declared.errors.Error.TheVariants.{OutOfMemory};
 ghost use Rattle.bser_source.specs.Refs.{bytes_of, is_lent, text_bytes, is_lent_text, RefusesKept};
 
-use crate::read::{Reference, TextReference};
+use crate::reference::{Reference, TextReference};
 use crate::text::as_text;
 use bser_format::errors::{Error, ReadCause, Result};
 use std::alloc::Global;
@@ -151,7 +151,7 @@ impl<'a> LendsText for &'a [u8] {
 }
 
 /// What a source that copies lends: nothing, which stands for no bytes. No call of it answers
-/// [`Reference::Borrowed`](crate::read::Reference::Borrowed).
+/// [`Reference::Borrowed`](crate::reference::Reference::Borrowed).
 ///
 /// A type without values would say so by itself, but its calls could have no caller.
 #[derive(Clone, Copy)]

@@ -1,7 +1,12 @@
-//! Readers and writers that count their failures, what a byte source lends, and bytes as a text.
+//! What gives bytes and what takes them: readers and writers that count their failures, a window on the
+//! bytes left over a slice and over a reader, what is lent of them, and bytes as a text.
 #![tactic(auto)]
 
 pub mod device;
+pub mod io_read;
 mod lending;
+mod pull;
 pub mod read;
+pub mod reference;
+pub mod slice_read;
 pub mod text;

@@ -7,9 +7,9 @@ use Rattle.bser_format.specs.declared.errors.Error.TheVariants.{DeReaderError, O
 use Rattle.bser_format.specs.declared.errors.Complaint.TheVariants.{CountTooGreat}
 use Rattle.bser_format.specs.declared.errors.ReadCause.TheVariants.{Reader, Failed}
 use Rattle.bser_named.specs.Named as named
-use Rattle.bser_read.specs.Window.{Window, with_limit}
-use Rattle.bser_read.specs.Slice.{slice_fresh}
-use Rattle.bser_read.proofs.Windows.{left_took}
+use Rattle.bser_source.specs.Window.{Window, with_limit}
+use Rattle.bser_source.specs.Slice.{slice_fresh}
+use Rattle.bser_source.proofs.Windows.{left_took}
 use Rattle.bser_bunser.specs.Names.{Names, Outside, RefusedAs}
 use Rattle.bser_bunser.specs.Tagged.{TookHead}
 use Rattle.bser_messages.proofs.Ends.{head_length}

@@ -10,10 +10,10 @@ use Rattle.bser_format.specs.declared.errors.Error.TheVariants.{DeReaderError, O
 use Rattle.bser_format.specs.declared.errors.ReadCause.{ReadCause}
 use Rattle.bser_format.specs.declared.errors.ReadCause.TheVariants.{Eof, Utf8, Reader, Memory, Failed}
 use Rattle.bser_source.specs.Device.{Blamed}
-use Rattle.bser_read.specs.Refusal.{Refused}
-use Rattle.bser_read.specs.Window.{Window, Filled, left}
-use Rattle.bser_read.proofs.Windows.{left_grown, hand_first}
-use Rattle.bser_due.specs.Reading.{Asking, Needs}
+use Rattle.bser_source.specs.Refusal.{Refused}
+use Rattle.bser_source.specs.Window.{Window, Filled, left}
+use Rattle.bser_source.proofs.Windows.{left_grown, hand_first}
+use Rattle.bser_deserializer.specs.Reading.{Asking, Needs}
 use Rattle.bser_messages.specs.Messages.{NamesReader}
 use Rattle.bser_messages.proofs.Sources.{reader_fresh, blamed_more, fresh_itself, fresh_left}
 use Rattle.bser_streams.specs.Limited.{RefusesWithin}

@@ -5,9 +5,9 @@ use Rattle.std.specs.Borrow.{GName}
 use Rattle.std.specs.Io.KnownBytes.{Consumes}
 use Rattle.bser_format.specs.Content.{Content, Meaning}
 use Rattle.bser_format.specs.declared.errors.Error.{Error}
-use Rattle.bser_read.specs.Window.{Window, Took, left, with_limit}
+use Rattle.bser_source.specs.Window.{Window, Took, left, with_limit}
 use Rattle.bser_bunser.specs.Refusal.{failures_by}
-use Rattle.bser_due.specs.Reading.{Asking, ExcusedBy, bare, Needs}
+use Rattle.bser_deserializer.specs.Reading.{Asking, ExcusedBy, bare, Needs}
 use Rattle.bser_format.specs.Message.{Head}
 use Rattle.bser_messages.specs.Messages.{IsReaderFault}
 use Rattle.bser_messages.proofs.Ends.{head_length}

@@ -4,10 +4,10 @@ use Rattle.std.proofs.Math.Seq.{drop-append_seam, take-length}
 use Rattle.std.proofs.lemmas.List.{drop-drop, length-drop}
 use Rattle.bser_format.specs.Content.{Content, Meaning}
 use Rattle.bser_format.specs.declared.errors.Error.{Error}
-use Rattle.bser_read.specs.Window.{Window, with_limit}
-use Rattle.bser_read.specs.Slice.{slice_fresh}
-use Rattle.bser_read.proofs.Windows.{left_took}
-use Rattle.bser_due.specs.Reading.{Asking, ExcusedBy, bare, Needs}
+use Rattle.bser_source.specs.Window.{Window, with_limit}
+use Rattle.bser_source.specs.Slice.{slice_fresh}
+use Rattle.bser_source.proofs.Windows.{left_took}
+use Rattle.bser_deserializer.specs.Reading.{Asking, ExcusedBy, bare, Needs}
 use Rattle.bser_messages.proofs.Sources.{slice_excused, slice_refused}
 use Rattle.bser_streams.specs.Limited.{BeginsWithin, TookWithin, ReadsWithin, RefusesWithin, RefusesSliceWithin}
 

@@ -8,16 +8,16 @@ use Rattle.bser_format.specs.declared.errors.Error.TheVariants.{DeTooLong}
 use Rattle.bser_format.specs.Message.{Head}
 use Rattle.bser_format.proofs.OneHead.{one_head}
 use Rattle.bser_named.specs.Named as named
-use Rattle.bser_read.specs.Window.{Window, Grown, Took, with_limit}
-use Rattle.bser_read.proofs.Windows.{left_took, left_grown, took_grown}
+use Rattle.bser_source.specs.Window.{Window, Grown, Took, with_limit}
+use Rattle.bser_source.proofs.Windows.{left_took, left_grown, took_grown}
 use Rattle.bser_bunser.specs.Names.{Names}
 use Rattle.bser_bunser.specs.Refusal.{Fails, failures_by}
 use Rattle.bser_bunser.specs.Tagged.{IsHead}
 use Rattle.bser_bunser.proofs.Readers.{head_there}
-use Rattle.bser_due.specs.State.{State, Begins, IsAtEnd, refused}
-use Rattle.bser_due.specs.Reading.{Answers, Asking, ExcusedBy, MayRefuse, Refuses, bare, refusing, Needs}
-use Rattle.bser_due.proofs.Clean.{clean_head}
-use Rattle.bser_due.proofs.Refusals.{by_name, excused_before, names_any, names_by_grown}
+use Rattle.bser_deserializer.specs.State.{State, Begins, IsAtEnd, refused}
+use Rattle.bser_deserializer.specs.Reading.{Answers, Asking, ExcusedBy, MayRefuse, Refuses, bare, refusing, Needs}
+use Rattle.bser_deserializer.proofs.Clean.{clean_head}
+use Rattle.bser_deserializer.proofs.Refusals.{by_name, excused_before, names_any, names_by_grown}
 use Rattle.bser_deserializer.specs.View.{not_at_end}
 use Rattle.bser_messages.specs.Messages.{NamesMessage, RefusesBody, RefusesMessage}
 use Rattle.bser_messages.proofs.Messages.{head_refused, value_refused, end_refused, read_text}

@@ -5,9 +5,9 @@ use Rattle.bser_format.specs.Content.{Content, Meaning}
 use Rattle.bser_format.specs.Message.{Head}
 use Rattle.bser_format.specs.declared.errors.Error.{Error}
 use Rattle.bser_format.specs.declared.errors.Error.TheVariants.{DeTooLong}
-use Rattle.bser_read.specs.Window.{Window, Took, closed, left, with_limit}
-use Rattle.bser_due.specs.Reading.{Asking, ExcusedBy, bare, Needs}
-use Rattle.bser_due.specs.State.{State}
+use Rattle.bser_source.specs.Window.{Window, Took, closed, left, with_limit}
+use Rattle.bser_deserializer.specs.Reading.{Asking, ExcusedBy, bare, Needs}
+use Rattle.bser_deserializer.specs.State.{State}
 use Rattle.bser_messages.specs.Messages.{BeginsWith, TookMessage, ReadsMessage, ReadsBody, RefusesBody, RefusesMessage, RefusesSlice, RefusesReader, IsReaderFault}
 
 -- ---- what is read

@@ -3,7 +3,7 @@ use Rattle.std.specs.Prelude.{◌≡◌, ℕ, ◌+◌, ◌-◌, ◌^◌, min, Li
 use Rattle.std.specs.Io.KnownBytes.{IsAtEnd}
 use Rattle.bser_format.specs.Content.{Content, Meaning}
 use Rattle.bser_format.specs.declared.errors.Error.{Error}
-use Rattle.bser_due.specs.Reading.{Asking}
+use Rattle.bser_deserializer.specs.Reading.{Asking}
 use Rattle.bser_messages.specs.Messages.{IsReaderFault}
 use Rattle.bser_streams.specs.Limited.{TookWithin, RefusesReaderWithin}
 

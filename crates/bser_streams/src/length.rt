@@ -5,7 +5,7 @@ ghost use Rattle.bser_streams.specs.Lengths.{HasLength, IsLengthOfEach, RefusesL
 
 use bser_bunser::bunser::Bunser;
 use bser_format::errors::{Complaint, Error, ReadCause, Result};
-use bser_read::slice_read::SliceRead;
+use bser_source::slice_read::SliceRead;
 use std::alloc::Global;
 
 /// The length in bytes of the message that begins with `bytes`, its head and its body, at most

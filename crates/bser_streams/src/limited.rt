@@ -1,6 +1,6 @@
 //! Reading whole messages under limits of levels and of bytes.
 ghost use Rattle.std.specs.Prelude.{◌≡◌, ◌≢◌, ◌≤◌, [], length, drop, Some, IfOk, IfErr, OnErr};
-ghost use Rattle.bser_due.specs.Reading.{TakesNoMemory};
+ghost use Rattle.bser_deserializer.specs.Reading.{TakesNoMemory};
 ghost use Rattle.bser_deserializer.specs.View.{state, refusal_in};
 ghost use Rattle.bser_streams.specs.Limited.{
   BeginsWithin,
@@ -16,9 +16,9 @@ use crate::limits::Limits;
 use bser_bunser::refusal::{Answer, Refused};
 use bser_deserializer::deserializer::Deserializer;
 use bser_format::errors::{Error, Result};
-use bser_read::read::DeRead;
-use bser_read::slice_read::SliceRead;
-use bser_source::read::LendsText;
+use bser_source::read::DeRead;
+use bser_source::reference::LendsText;
+use bser_source::slice_read::SliceRead;
 use bser_types::deserialize::Deserialize;
 use std::alloc::Global;
 

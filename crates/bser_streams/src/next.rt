@@ -1,6 +1,6 @@
 //! The next message of a reader, or the end of its stream.
 ghost use Rattle.std.specs.Prelude.{◌≡◌, ◌≤◌, ◌^◌, ◌-◌, IfOk, IfErr, OnOk, ◌≢◌};
-ghost use Rattle.bser_due.specs.Reading.{TakesNoMemory};
+ghost use Rattle.bser_deserializer.specs.Reading.{TakesNoMemory};
 ghost use Rattle.bser_streams.specs.Limited.{TookWithin, RefusesReaderWithin};
 ghost use Rattle.bser_streams.specs.Streams.{IsNext, RefusesNext};
 
@@ -8,9 +8,9 @@ use crate::limited::read_within;
 use crate::limits::Limits;
 use bser_deserializer::deserializer::Deserializer;
 use bser_format::errors::{Error, ReadCause, Result};
-use bser_read::io_read::IoRead;
-use bser_read::read::DeRead;
 use bser_source::device::Source;
+use bser_source::io_read::IoRead;
+use bser_source::read::DeRead;
 use bser_types::deserialize::DeserializeOwned;
 use std::alloc::Global;
 

@@ -1,6 +1,6 @@
 //! The messages of a reader, one after the other.
 ghost use Rattle.std.specs.Prelude.{◌≡◌, ◌≢◌, ◌≤◌, ◌^◌, ◌-◌, true, false, IfOk, IfErr, OnOk, OnErr};
-ghost use Rattle.bser_due.specs.Reading.{TakesNoMemory};
+ghost use Rattle.bser_deserializer.specs.Reading.{TakesNoMemory};
 ghost use Rattle.bser_streams.specs.Streams.{IsNext, RefusesNext, counts_message};
 
 use crate::limits::Limits;

@@ -4,10 +4,10 @@ use Rattle.std.specs.Prelude.{◌||◌}
 use Rattle.bser_format.specs.Content.{Content, variant, Meaning}
 use Rattle.bser_format.specs.Enums.{Payload, unit, holds, reads_enum}
 use Rattle.bser_format.specs.declared.errors.Error.{Error}
-use Rattle.bser_due.specs.Access.{after_closing}
-use Rattle.bser_due.specs.Reading.{Answers, Asking, Refuses, Needs}
-use Rattle.bser_due.specs.State.{State, awaiting}
-use Rattle.bser_due.specs.declared.frames.MapHead.{MapHead}
+use Rattle.bser_deserializer.specs.Access.{after_closing}
+use Rattle.bser_deserializer.specs.Reading.{Answers, Asking, Refuses, Needs}
+use Rattle.bser_deserializer.specs.State.{State, awaiting}
+use Rattle.bser_deserializer.specs.declared.frames.MapHead.{MapHead}
 use Rattle.bser_types.specs.Slots.{any_lent, struct_needs}
 use Rattle.bser_variants.specs.EnumAccess.{enum_head}
 use Rattle.bser_variants.specs.Variants.{OpenEnum, name_alone, with_payload, OpensVariant, RefusesVariant, payload_due}

@@ -3,9 +3,9 @@ use Rattle.std.specs.Prelude.{◌≡◌, refl, false, ◌||◌, Bool, ℕ, List,
 use Rattle.bser_format.specs.Tree.{Tree}
 use Rattle.bser_written.specs.Written.{option_tree}
 use Rattle.bser_format.specs.Content.{Content, Meaning}
-use Rattle.bser_due.specs.Holds.{HoldsOption}
-use Rattle.bser_due.specs.HoldsLists.{HoldsTuple}
-use Rattle.bser_due.specs.Reading.{Asking, bare, Needs}
+use Rattle.bser_deserializer.specs.Holds.{HoldsOption}
+use Rattle.bser_deserializer.specs.HoldsLists.{HoldsTuple}
+use Rattle.bser_deserializer.specs.Reading.{Asking, bare, Needs}
 use Rattle.bser_types.specs.Askings.{asking_option}
 use Rattle.bser_types.specs.Slots.{StructField, reads_struct, struct_needs}
 use Rattle.bser_types.specs.Slots as slots

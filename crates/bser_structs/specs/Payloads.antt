@@ -1,10 +1,10 @@
 -- What the payload of a variant is read as, in a list over the variants.
 use Rattle.std.specs.Prelude.{ℕ, zero, suc, List, [], ◌∷◌, None}
 use Rattle.bser_format.specs.Content.{Content, one}
-use Rattle.bser_due.specs.Reading.{Needs}
+use Rattle.bser_deserializer.specs.Reading.{Needs}
 use Rattle.bser_format.specs.Enums.{Payload, unit, holds}
 use Rattle.bser_format.specs.declared.errors.Error.{Error}
-use Rattle.bser_due.specs.State.{State}
+use Rattle.bser_deserializer.specs.State.{State}
 use Rattle.bser_variants.specs.Variants.{OpenEnum, HoldsVariant, IsPayload, IsUnitVariant, RefusesPayload, RefusesUnitVariant}
 use Rattle.bser_structs.specs.declared.payloads.OneOf.{OneOf}
 use Rattle.bser_structs.specs.declared.payloads.OneOf.TheVariants.{First, Others}

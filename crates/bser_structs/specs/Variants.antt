@@ -6,7 +6,7 @@ use Rattle.bser_written.specs.Written.{variant_tree}
 use Rattle.bser_format.specs.Content.{Content, one, Meaning}
 use Rattle.bser_format.specs.Enums.{Payload, holds, reads_enum}
 use Rattle.bser_format.specs.Enums as enums
-use Rattle.bser_due.specs.Reading.{bare, Needs}
+use Rattle.bser_deserializer.specs.Reading.{bare, Needs}
 use Rattle.bser_types.specs.Slots.{struct_needs}
 use Rattle.bser_variants.specs.Variants.{HoldsVariant}
 use Rattle.bser_structs.specs.Fields.{Coding, FieldOf, required, optional, nullable, reads_fields, HoldsFields, fields_needs, asking_fields, fields_tree}

@@ -1,7 +1,7 @@
 //! The list of an enum's variants, and reading and writing an enum by it.
 ghost use Rattle.std.specs.Prelude.{◌≡◌, List, None, length, map, IfOk, OnErr};
 ghost use Rattle.bser_format.specs.Enums.{reads_enum};
-ghost use Rattle.bser_due.specs.Reading.{Answers, Refuses};
+ghost use Rattle.bser_deserializer.specs.Reading.{Answers, Refuses};
 ghost use Rattle.bser_deserializer.specs.View.{state, refusal_in};
 ghost use Rattle.bser_types.specs.Slots.{struct_needs};
 ghost use Rattle.bser_structs.specs.Payloads.{labelled};
@@ -10,8 +10,8 @@ ghost use Rattle.bser_structs.specs.Variants.{VariantOf};
 use crate::payloads::ReadPayloads;
 use bser_bunser::refusal::Answer;
 use bser_deserializer::deserializer::Deserializer;
-use bser_read::read::DeRead;
-use bser_source::read::LendsText;
+use bser_source::read::DeRead;
+use bser_source::reference::LendsText;
 use bser_variants::variant::open_variant;
 use std::alloc::Global;
 

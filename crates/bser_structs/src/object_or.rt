@@ -6,12 +6,12 @@ ghost use Rattle.bser_structs.specs.Objects.{HoldsObjectOr, object_or_tree};
 
 use bser_bunser::refusal::Answer;
 use bser_deserializer::deserializer::Deserializer;
-use bser_due::node::Node;
+use bser_deserializer::node::Node;
 use bser_format::errors::Result;
-use bser_read::read::DeRead;
 use bser_ser::{Serialize, Serializer};
 use bser_source::device::Sink;
-use bser_source::read::LendsText;
+use bser_source::read::DeRead;
+use bser_source::reference::LendsText;
 use bser_types::deserialize::{Deserialize, OwnedShape, Shape};
 use std::alloc::Global;
 

@@ -1,7 +1,7 @@
 //! The payloads of an enum's variants, one after another.
 ghost use Rattle.std.specs.Prelude.{◌<◌, ◌+◌, ℕ, List, [], ◌∷◌, length, IfOk, OnErr};
 ghost use Rattle.bser_format.specs.Content.{Content, variant};
-ghost use Rattle.bser_due.specs.Reading.{Needs};
+ghost use Rattle.bser_deserializer.specs.Reading.{Needs};
 ghost use Rattle.bser_format.specs.Enums.{Payload};
 ghost use Rattle.bser_deserializer.specs.View.{state, refusal_in};
 ghost use Rattle.bser_variants.specs.EnumAccess.{enum_head};
@@ -13,8 +13,8 @@ use bser_deserializer::container::MapHead;
 use bser_deserializer::cursor::Cursor;
 use bser_deserializer::deserializer::Deserializer;
 use bser_format::errors::Complaint;
-use bser_read::read::DeRead;
-use bser_source::read::LendsText;
+use bser_source::read::DeRead;
+use bser_source::reference::LendsText;
 use std::alloc::Global;
 use std::convert::Infallible;
 

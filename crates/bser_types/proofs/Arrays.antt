@@ -11,14 +11,14 @@ use Rattle.bser_source.specs.Device.{one_more}
 use Rattle.bser_named.specs.Named.{Reader, complain}
 use Rattle.bser_named.specs.DueReaders.{asked, items_at, less_one}
 use Rattle.bser_named.specs.Clauses.{left_over}
-use Rattle.bser_read.specs.Window.{Window, Took}
-use Rattle.bser_read.proofs.Windows.{took_then, left_took}
-use Rattle.bser_due.specs.State.{State, past, refused, awaiting}
-use Rattle.bser_due.specs.Reading.{Answers, Asking, NamesAsked, NamesBy, NamesDue, Refuses, RefusesFront, FillsReadably, IsRefusal, owned, Needs}
-use Rattle.bser_due.specs.Required.{LacksItem}
-use Rattle.bser_due.specs.Parts.{items_left, item_due, items_after}
-use Rattle.bser_due.specs.Access.{OpenItems, OpensItems, IsItemsHead, RefusesItems, inside_items, IsNextItem, RefusesItem, ClosesItems, KeysOutside, LeavesItems, after_closing}
-use Rattle.bser_due.proofs.Refusals.{first_part, sequel, unfit}
+use Rattle.bser_source.specs.Window.{Window, Took}
+use Rattle.bser_source.proofs.Windows.{took_then, left_took}
+use Rattle.bser_deserializer.specs.State.{State, past, refused, awaiting}
+use Rattle.bser_deserializer.specs.Reading.{Answers, Asking, NamesAsked, NamesBy, NamesDue, Refuses, RefusesFront, FillsReadably, IsRefusal, owned, Needs}
+use Rattle.bser_deserializer.specs.Required.{LacksItem}
+use Rattle.bser_deserializer.specs.Parts.{items_left, item_due, items_after}
+use Rattle.bser_deserializer.specs.Access.{OpenItems, OpensItems, IsItemsHead, RefusesItems, inside_items, IsNextItem, RefusesItem, ClosesItems, KeysOutside, LeavesItems, after_closing}
+use Rattle.bser_deserializer.proofs.Refusals.{first_part, sequel, unfit}
 use Rattle.bser_types.proofs.Taken.{wider_needs, wider_type}
 use Rattle.bser_types.proofs.Naming.{Asked, StepAsked, HeadAsked, FirstAsked, NoneAsked, asked_then, names_by_wider, head_named, part_named, none_named}
 use Rattle.bser_types.proofs.Within.{Within, within_then, DueAs, due_as, one_due}

@@ -13,15 +13,15 @@ use Rattle.bser_named.specs.Named.{Answer, Reader, reads, refuses, and_then}
 use Rattle.bser_named.specs.DueReaders.{Seen, tag, name, row, is_key_tag, seen, asked, items_at, less_one}
 use Rattle.bser_named.specs.Asks.{is_sequence, by_sight, asks_integer, asks_bytes, asks_vec, items_asked}
 use Rattle.bser_named.proofs.Sights.{array_tree, way}
-use Rattle.bser_due.specs.Askings.{asking_integer, asking_bytes}
-use Rattle.bser_due.specs.Nodes.{node_at, tag_node, SeesNode, BeginsNode}
-use Rattle.bser_due.specs.State.{State}
-use Rattle.bser_due.specs.Reading.{Answers, Refuses, RefusesFront, NamesBy, bare, owned}
-use Rattle.bser_due.specs.Holds.{HoldsSize}
-use Rattle.bser_due.specs.HoldsLists.{HoldsAll, HoldsList}
-use Rattle.bser_due.specs.HoldsTexts.{HoldsBytes}
-use Rattle.bser_due.specs.declared.node.Node.{Node}
-use Rattle.bser_due.specs.declared.node.Node.TheVariants as kinds
+use Rattle.bser_deserializer.specs.Askings.{asking_integer, asking_bytes}
+use Rattle.bser_deserializer.specs.Nodes.{node_at, tag_node, SeesNode, BeginsNode}
+use Rattle.bser_deserializer.specs.State.{State}
+use Rattle.bser_deserializer.specs.Reading.{Answers, Refuses, RefusesFront, NamesBy, bare, owned}
+use Rattle.bser_deserializer.specs.Holds.{HoldsSize}
+use Rattle.bser_deserializer.specs.HoldsLists.{HoldsAll, HoldsList}
+use Rattle.bser_deserializer.specs.HoldsTexts.{HoldsBytes}
+use Rattle.bser_deserializer.specs.declared.node.Node.{Node}
+use Rattle.bser_deserializer.specs.declared.node.Node.TheVariants as kinds
 use Rattle.bser_deserializer.proofs.Tags.{key_tag_told}
 use Rattle.bser_types.specs.Askings.{counted, asking_vec, asking_byte_string}
 use Rattle.bser_types.proofs.Naming.{HeadAsked}

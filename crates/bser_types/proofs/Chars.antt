@@ -15,10 +15,10 @@ use Rattle.bser_named.specs.Asks.{done, asks_string, asks_char}
 use Rattle.bser_named.specs.TypeLaws.{Passes}
 use Rattle.bser_named.proofs.Dues.{passes_by}
 use Rattle.bser_named.proofs.Strings.{texts_handled}
-use Rattle.bser_due.specs.State.{State, refused}
-use Rattle.bser_due.specs.Reading.{Answers, Refuses, IsRefusal, bare, copying}
-use Rattle.bser_due.specs.Askings.{asking_string, asking_char}
-use Rattle.bser_due.proofs.Clean.{Clean, clean_texts, clean_give, clean_refuse}
+use Rattle.bser_deserializer.specs.State.{State, refused}
+use Rattle.bser_deserializer.specs.Reading.{Answers, Refuses, IsRefusal, bare, copying}
+use Rattle.bser_deserializer.specs.Askings.{asking_string, asking_char}
+use Rattle.bser_deserializer.proofs.Clean.{Clean, clean_texts, clean_give, clean_refuse}
 use Rattle.bser_deserializer.proofs.Tags.{asking_refused}
 use Rattle.bser_types.proofs.Taken.{taken_refused}
 

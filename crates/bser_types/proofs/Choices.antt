@@ -11,11 +11,11 @@ use Rattle.bser_format.specs.Expected.{Due, Fills, nothing_due, node_due, key_du
 use Rattle.bser_format.specs.declared.errors.Error.{Error}
 use Rattle.bser_named.specs.Named.{Reader, reads, and_then, next}
 use Rattle.bser_named.specs.DueReaders.{Seen, tag, name, row, value_tag, key_tag, seen, is_key_tag}
-use Rattle.bser_due.specs.State.{State}
-use Rattle.bser_due.specs.Nodes.{node_at, tag_node, BeginsNode, SeesNode}
-use Rattle.bser_due.specs.Reading.{Answers, Asking, RefusesFront, Refuses, NamesBy, bare, Needs}
-use Rattle.bser_due.specs.declared.node.Node.{Node}
-use Rattle.bser_due.specs.declared.node.Node.TheVariants as kinds
+use Rattle.bser_deserializer.specs.State.{State}
+use Rattle.bser_deserializer.specs.Nodes.{node_at, tag_node, BeginsNode, SeesNode}
+use Rattle.bser_deserializer.specs.Reading.{Answers, Asking, RefusesFront, Refuses, NamesBy, bare, Needs}
+use Rattle.bser_deserializer.specs.declared.node.Node.{Node}
+use Rattle.bser_deserializer.specs.declared.node.Node.TheVariants as kinds
 use Rattle.bser_types.specs.Choices.{reads_object_or}
 use Rattle.bser_types.proofs.Taken.{wider_type}
 use Rattle.bser_types.proofs.Looks.{Tells, known_answers, known_refused, no_value, stands_seen}

@@ -4,11 +4,11 @@ use Rattle.std.proofs.lemmas.List.{map-append, length-append}
 use Rattle.std.specs.Prelude.{Option}
 use Rattle.bser_format.specs.Content.{Content, Meaning}
 use Rattle.bser_format.specs.declared.errors.Error.{Error}
-use Rattle.bser_due.specs.State.{State}
-use Rattle.bser_due.specs.Reading.{Answers, Asking, Refuses, Needs}
-use Rattle.bser_due.specs.Required.{RefusesRequired}
-use Rattle.bser_due.specs.Access.{OpenItems, OpensItems, RefusesItems, IsNextItem, ClosesItems, LeavesItems}
-use Rattle.bser_due.specs.HoldsLists.{HoldsAll, HoldsList, HoldsEach}
+use Rattle.bser_deserializer.specs.State.{State}
+use Rattle.bser_deserializer.specs.Reading.{Answers, Asking, Refuses, Needs}
+use Rattle.bser_deserializer.specs.Required.{RefusesRequired}
+use Rattle.bser_deserializer.specs.Access.{OpenItems, OpensItems, RefusesItems, IsNextItem, ClosesItems, LeavesItems}
+use Rattle.bser_deserializer.specs.HoldsLists.{HoldsAll, HoldsList, HoldsEach}
 use Rattle.bser_types.specs.Slots.{any_lent}
 use Rattle.bser_types.specs.Tuples.{Plain, tuple_needs}
 use Rattle.bser_types.specs.Arrays.{reads_array, equal_parts, asking_array}

@@ -9,7 +9,7 @@ use Rattle.std.specs.List.Sorted.{IsStrictlySortedBy}
 use Rattle.std.specs.Map.{lookup, KeepsOthers, IsKeyTest, AreApart}
 use Rattle.bser_format.specs.Content.{Content, byte_list, pair}
 use Rattle.bser_format.proofs.Entries.{put_rises, put_value, put_length}
-use Rattle.bser_due.specs.HoldsMaps.{HoldsAt, HoldsNames}
+use Rattle.bser_deserializer.specs.HoldsMaps.{HoldsAt, HoldsNames}
 
 -- a map that has no entry holds no pair
 pub names_start : {K V : Type 0} (name : K → List ℕ) (holds : V → Content → Type 0) → HoldsNames name holds [] []

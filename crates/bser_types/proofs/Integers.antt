@@ -15,11 +15,11 @@ use Rattle.bser_named.specs.DueReaders.{asked, integer_at}
 use Rattle.bser_named.specs.Clauses.{after_a_refusal}
 use Rattle.bser_named.specs.Asks.{in_range}
 use Rattle.bser_named.proofs.Integers.{integer_passes}
-use Rattle.bser_due.specs.State.{State, refused}
-use Rattle.bser_due.specs.Reading.{Answers, Refuses, bare}
-use Rattle.bser_due.specs.Holds.{HoldsNumber}
-use Rattle.bser_due.specs.Askings.{asking_integer}
-use Rattle.bser_due.proofs.Clean.{clean_integers}
+use Rattle.bser_deserializer.specs.State.{State, refused}
+use Rattle.bser_deserializer.specs.Reading.{Answers, Refuses, bare}
+use Rattle.bser_deserializer.specs.Holds.{HoldsNumber}
+use Rattle.bser_deserializer.specs.Askings.{asking_integer}
+use Rattle.bser_deserializer.proofs.Clean.{clean_integers}
 use Rattle.bser_types.proofs.Taken.{taken_refused}
 
 -- ---- an integer that the type does not hold

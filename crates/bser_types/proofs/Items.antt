@@ -9,7 +9,7 @@ use Rattle.bser_format.specs.Expand.{expand, expand_items, expand_rows}
 use Rattle.bser_format.specs.Plain.{Reader, give, ◌>>=◌, next, count, many, key}
 use Rattle.bser_format.specs.Expected.{Due, Fills, FillsNode, FillsItems, nothing_due, node_due, key_due, field_due, name_due, row_due, WantedItems, nodes, rows_over}
 use Rattle.bser_format.proofs.Fronts.{Reads, reads_then, reads_last, next_reads, count_reads, key_reads, many_all}
-use Rattle.bser_due.specs.Parts.{ArrayHead, TemplateHead, ItemsHead, BeginsItems}
+use Rattle.bser_deserializer.specs.Parts.{ArrayHead, TemplateHead, ItemsHead, BeginsItems}
 use Rattle.bser_types.proofs.Within.{one_front}
 
 -- ---- formats

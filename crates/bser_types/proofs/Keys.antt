@@ -2,13 +2,13 @@
 use Rattle.std.proofs.Common.{◌≡◌, ℕ, Bool, true, List, sym, ap, ◌∙◌}
 use Rattle.bser_format.specs.Content.{byte_list}
 use Rattle.bser_format.specs.ReadsScalars.{reads_string}
-use Rattle.bser_due.specs.State.{State}
-use Rattle.bser_due.specs.Reading.{Answers}
-use Rattle.bser_due.specs.Fields.{HoldsField, field_of}
-use Rattle.bser_due.specs.Dues.{name_at}
-use Rattle.bser_due.specs.Parts.{wanted_pairs, pair_key}
-use Rattle.bser_due.specs.Access.{OpenPairs, AwaitsKey}
-use Rattle.bser_due.specs.declared.field.Field.{Field}
+use Rattle.bser_deserializer.specs.State.{State}
+use Rattle.bser_deserializer.specs.Reading.{Answers}
+use Rattle.bser_deserializer.specs.Fields.{HoldsField, field_of}
+use Rattle.bser_deserializer.specs.Dues.{name_at}
+use Rattle.bser_deserializer.specs.Parts.{wanted_pairs, pair_key}
+use Rattle.bser_deserializer.specs.Access.{OpenPairs, AwaitsKey}
+use Rattle.bser_deserializer.specs.declared.field.Field.{Field}
 use Rattle.bser_types.proofs.Pairs.{field_key}
 
 -- the field of a name that was read

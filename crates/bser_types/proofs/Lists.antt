@@ -12,12 +12,12 @@ use Rattle.bser_named.specs.DueReaders.{asked, items_at, less_one}
 use Rattle.bser_named.specs.Asks.{Asks, all, items_asked}
 use Rattle.bser_named.proofs.Steps as steps
 use Rattle.bser_named.proofs.Steps.{Continues, first_read, part_read}
-use Rattle.bser_due.specs.State.{State, awaiting}
-use Rattle.bser_due.specs.Reading.{Answers, Asking, Refuses, Needs}
-use Rattle.bser_due.specs.Required.{RefusesRequired}
-use Rattle.bser_due.specs.Parts.{BeginsItems, items_left, item_due, items_after}
-use Rattle.bser_due.specs.Access.{OpenItems, OpensItems, RefusesItems, IsNextItem, ClosesItems, inside_items}
-use Rattle.bser_due.specs.HoldsLists.{HoldsAll, HoldsList}
+use Rattle.bser_deserializer.specs.State.{State, awaiting}
+use Rattle.bser_deserializer.specs.Reading.{Answers, Asking, Refuses, Needs}
+use Rattle.bser_deserializer.specs.Required.{RefusesRequired}
+use Rattle.bser_deserializer.specs.Parts.{BeginsItems, items_left, item_due, items_after}
+use Rattle.bser_deserializer.specs.Access.{OpenItems, OpensItems, RefusesItems, IsNextItem, ClosesItems, inside_items}
+use Rattle.bser_deserializer.specs.HoldsLists.{HoldsAll, HoldsList}
 use Rattle.bser_deserializer.proofs.Containers.{items_pass}
 use Rattle.bser_types.specs.Askings.{counted, asking_vec}
 use Rattle.bser_types.proofs.Naming.{Asked, StepAsked, HeadAsked, FirstAsked, asked_inside, part_passes}

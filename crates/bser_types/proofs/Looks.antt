@@ -10,14 +10,14 @@ use Rattle.bser_named.specs.Named.{reads, refuses, give, refuse}
 use Rattle.bser_named.specs.DueReaders.{Seen, tag, name, row, seen, is_tag, is_key_tag}
 use Rattle.bser_named.specs.Asks.{is_null, is_sequence}
 use Rattle.bser_named.proofs.Sights.{sight, null_tree, array_tree}
-use Rattle.bser_read.specs.Window.{Window, Grown, Took, left}
-use Rattle.bser_read.proofs.Windows.{grown_none, grown_later, took_grown, left_grown, hand_first}
-use Rattle.bser_due.specs.Dues.{IsTagged}
-use Rattle.bser_due.specs.State.{State, past}
-use Rattle.bser_due.specs.Nodes.{node_at, BeginsNode, Stands, SeesNode}
-use Rattle.bser_due.specs.Reading.{Answers, Asking, NamesAsked, RefusesFront, FillsReadably, Refuses, MayRefuse, NamesBy, bare, refusing, Needs}
-use Rattle.bser_due.specs.declared.node.Node.{Node}
-use Rattle.bser_due.proofs.Refusals.{fails_before, excused_bare, excused_before, names_bare, names_by_grown, named_excuse}
+use Rattle.bser_source.specs.Window.{Window, Grown, Took, left}
+use Rattle.bser_source.proofs.Windows.{grown_none, grown_later, took_grown, left_grown, hand_first}
+use Rattle.bser_deserializer.specs.Dues.{IsTagged}
+use Rattle.bser_deserializer.specs.State.{State, past}
+use Rattle.bser_deserializer.specs.Nodes.{node_at, BeginsNode, Stands, SeesNode}
+use Rattle.bser_deserializer.specs.Reading.{Answers, Asking, NamesAsked, RefusesFront, FillsReadably, Refuses, MayRefuse, NamesBy, bare, refusing, Needs}
+use Rattle.bser_deserializer.specs.declared.node.Node.{Node}
+use Rattle.bser_deserializer.proofs.Refusals.{fails_before, excused_bare, excused_before, names_bare, names_by_grown, named_excuse}
 use Rattle.bser_deserializer.proofs.Nodes.{node_passes}
 use Rattle.bser_types.proofs.Naming.{HeadAsked, head_named}
 

@@ -19,12 +19,12 @@ use Rattle.bser_named.specs.DueReaders.{asked, pairs_at}
 use Rattle.bser_named.specs.Asks.{Asks, all, each_name, map_asked, inside}
 use Rattle.bser_named.proofs.Steps as steps
 use Rattle.bser_named.proofs.Steps.{Continues, first_read}
-use Rattle.bser_read.specs.Window.{closed}
-use Rattle.bser_due.specs.State.{State, awaiting}
-use Rattle.bser_due.specs.Reading.{Answers, Asking, Refuses, Needs}
-use Rattle.bser_due.specs.Parts.{BeginsPairs, pairs_left, pair_key, pair_value, pairs_after}
-use Rattle.bser_due.specs.Access.{OpenPairs, OpensPairs, RefusesPairs, NoEntry, IsEntry, ClosesPairs}
-use Rattle.bser_due.specs.HoldsMaps.{HoldsEntries}
+use Rattle.bser_source.specs.Window.{closed}
+use Rattle.bser_deserializer.specs.State.{State, awaiting}
+use Rattle.bser_deserializer.specs.Reading.{Answers, Asking, Refuses, Needs}
+use Rattle.bser_deserializer.specs.Parts.{BeginsPairs, pairs_left, pair_key, pair_value, pairs_after}
+use Rattle.bser_deserializer.specs.Access.{OpenPairs, OpensPairs, RefusesPairs, NoEntry, IsEntry, ClosesPairs}
+use Rattle.bser_deserializer.specs.HoldsMaps.{HoldsEntries}
 use Rattle.bser_deserializer.proofs.Containers.{pairs_pass}
 use Rattle.bser_types.specs.Accesses.{RefusesEntry}
 use Rattle.bser_types.specs.Askings.{counted, asking_map}

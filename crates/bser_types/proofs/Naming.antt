@@ -9,12 +9,12 @@ use Rattle.bser_named.specs.Named.{Reader, refuses}
 use Rattle.bser_named.specs.Asks.{Asks}
 use Rattle.bser_named.proofs.Steps as steps
 use Rattle.bser_named.proofs.Steps.{Continues, goes_on}
-use Rattle.bser_read.specs.Window.{Window, Took}
+use Rattle.bser_source.specs.Window.{Window, Took}
 use Rattle.bser_bunser.specs.Names.{RefusedAs}
 use Rattle.bser_bunser.proofs.Names.{left_now, left_untaken, known_rest}
-use Rattle.bser_due.specs.State.{State}
-use Rattle.bser_due.specs.Reading.{Asking, NamesAsked, NamesBy, refusing, Needs}
-use Rattle.bser_due.proofs.Refusals.{names_by_untaken, names_by_more}
+use Rattle.bser_deserializer.specs.State.{State}
+use Rattle.bser_deserializer.specs.Reading.{Asking, NamesAsked, NamesBy, refusing, Needs}
+use Rattle.bser_deserializer.proofs.Refusals.{names_by_untaken, names_by_more}
 use Rattle.bser_types.specs.Askings.{counted}
 use Rattle.bser_types.proofs.Taken.{wider_outside}
 

@@ -12,13 +12,13 @@ use Rattle.bser_source.specs.Device.{one_more}
 use Rattle.bser_named.specs.Named.{Reader}
 use Rattle.bser_named.specs.DueReaders.{asked, pairs_at}
 use Rattle.bser_named.specs.Asks.{inside}
-use Rattle.bser_read.specs.Window.{Window, Took, closed}
-use Rattle.bser_read.proofs.Windows.{took_then}
-use Rattle.bser_due.specs.State.{State, past, awaiting}
-use Rattle.bser_due.specs.Reading.{Answers, Asking, NamesAsked, NamesBy, Refuses, RefusesFront, FillsReadably, bare, Needs}
-use Rattle.bser_due.specs.Parts.{pairs_left, pair_key, pair_value, pairs_after}
-use Rattle.bser_due.specs.Access.{OpenPairs, OpensPairs, IsPairsHead, RefusesPairs, inside_pairs, IsKey, NoEntry, RefusesKey, IsValue, RefusesValue, ClosesPairs, after_closing}
-use Rattle.bser_due.proofs.Refusals.{first_part, sequel, with_needs, names_bare}
+use Rattle.bser_source.specs.Window.{Window, Took, closed}
+use Rattle.bser_source.proofs.Windows.{took_then}
+use Rattle.bser_deserializer.specs.State.{State, past, awaiting}
+use Rattle.bser_deserializer.specs.Reading.{Answers, Asking, NamesAsked, NamesBy, Refuses, RefusesFront, FillsReadably, bare, Needs}
+use Rattle.bser_deserializer.specs.Parts.{pairs_left, pair_key, pair_value, pairs_after}
+use Rattle.bser_deserializer.specs.Access.{OpenPairs, OpensPairs, IsPairsHead, RefusesPairs, inside_pairs, IsKey, NoEntry, RefusesKey, IsValue, RefusesValue, ClosesPairs, after_closing}
+use Rattle.bser_deserializer.proofs.Refusals.{first_part, sequel, with_needs, names_bare}
 use Rattle.bser_types.proofs.Taken.{wider_type, no_room}
 use Rattle.bser_types.proofs.Naming.{Asked, StepAsked, HeadAsked, FirstAsked, asked_then, head_named, part_named}
 use Rattle.bser_types.proofs.Within.{Within, within_then, DueAs, due_as, one_due}

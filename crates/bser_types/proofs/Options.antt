@@ -10,12 +10,12 @@ use Rattle.bser_format.specs.declared.errors.Error.{Error}
 use Rattle.bser_named.specs.DueReaders.{Seen, tag, name, row, seen}
 use Rattle.bser_named.specs.Asks.{is_null, by_sight, asks_unit}
 use Rattle.bser_named.proofs.Sights.{null_tree, way}
-use Rattle.bser_due.specs.State.{State}
-use Rattle.bser_due.specs.Nodes.{node_at, tag_node, key_node, field_node, BeginsNode, IsOther}
-use Rattle.bser_due.specs.Reading.{Answers, Asking, RefusesFront, Refuses, NamesBy, bare, Needs}
-use Rattle.bser_due.specs.Holds.{HoldsOption}
-use Rattle.bser_due.specs.declared.node.Node.{Node}
-use Rattle.bser_due.specs.declared.node.Node.TheVariants as kinds
+use Rattle.bser_deserializer.specs.State.{State}
+use Rattle.bser_deserializer.specs.Nodes.{node_at, tag_node, key_node, field_node, BeginsNode, IsOther}
+use Rattle.bser_deserializer.specs.Reading.{Answers, Asking, RefusesFront, Refuses, NamesBy, bare, Needs}
+use Rattle.bser_deserializer.specs.Holds.{HoldsOption}
+use Rattle.bser_deserializer.specs.declared.node.Node.{Node}
+use Rattle.bser_deserializer.specs.declared.node.Node.TheVariants as kinds
 use Rattle.bser_types.specs.Askings.{asking_option}
 use Rattle.bser_types.proofs.Naming.{HeadAsked}
 use Rattle.bser_types.proofs.Looks.{SeenAsked, look_answers, look_refused, no_value}

@@ -6,11 +6,11 @@ use Rattle.bser_format.specs.Expected as expected
 use Rattle.bser_format.specs.declared.errors.Error.{Error}
 use Rattle.bser_format.specs.declared.errors.Complaint.TheVariants.{ValueOpen}
 use Rattle.bser_named.specs.Named.{complain}
-use Rattle.bser_due.specs.State.{State, awaiting}
-use Rattle.bser_due.specs.Parts.{wanted_pairs, pairs_left, pair_key, pair_value, pairs_after}
-use Rattle.bser_due.specs.Dues.{name_at}
-use Rattle.bser_due.specs.Access.{OpenPairs, pairs_in, AwaitsKey, OutOfTurn, RefusesKey, RefusesValue}
-use Rattle.bser_due.specs.Reading.{Asking, Refuses, Needs}
+use Rattle.bser_deserializer.specs.State.{State, awaiting}
+use Rattle.bser_deserializer.specs.Parts.{wanted_pairs, pairs_left, pair_key, pair_value, pairs_after}
+use Rattle.bser_deserializer.specs.Dues.{name_at}
+use Rattle.bser_deserializer.specs.Access.{OpenPairs, pairs_in, AwaitsKey, OutOfTurn, RefusesKey, RefusesValue}
+use Rattle.bser_deserializer.specs.Reading.{Asking, Refuses, Needs}
 use Rattle.bser_types.proofs.Taken.{failed_before}
 
 -- ---- what is due

@@ -6,11 +6,11 @@ use Rattle.std.specs.BTreeSet.{insert_key}
 use Rattle.bser_format.specs.Content.{Content, Meaning}
 use Rattle.bser_format.specs.ReadsHolders.{reads_vec}
 use Rattle.bser_format.specs.declared.errors.Error.{Error}
-use Rattle.bser_due.specs.State.{State}
-use Rattle.bser_due.specs.Parts.{items_left}
-use Rattle.bser_due.specs.Reading.{Answers, Asking, Needs}
-use Rattle.bser_due.specs.Required.{RefusesRequired}
-use Rattle.bser_due.specs.Access.{OpenItems, OpensItems, IsNextItem, ClosesItems}
+use Rattle.bser_deserializer.specs.State.{State}
+use Rattle.bser_deserializer.specs.Parts.{items_left}
+use Rattle.bser_deserializer.specs.Reading.{Answers, Asking, Needs}
+use Rattle.bser_deserializer.specs.Required.{RefusesRequired}
+use Rattle.bser_deserializer.specs.Access.{OpenItems, OpensItems, IsNextItem, ClosesItems}
 use Rattle.bser_types.specs.HoldsSets.{HoldsSet, insert_all}
 use Rattle.bser_types.proofs.Lists.{ReadsItems, RefusesList, items_start, items_next, items_end, item_lacks}
 

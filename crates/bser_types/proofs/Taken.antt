@@ -9,14 +9,14 @@ use Rattle.bser_format.specs.declared.errors.Complaint.TheVariants.{BorrowedFrom
 use Rattle.bser_format.specs.declared.errors.ReadCause.TheVariants.{Failed}
 use Rattle.bser_named.specs.Named.{refuses}
 use Rattle.bser_named.specs.Clauses.{after_a_refusal}
-use Rattle.bser_read.specs.Window.{Window, Took, closed}
+use Rattle.bser_source.specs.Window.{Window, Took, closed}
 use Rattle.bser_bunser.specs.Refusal.{Fails, failures_by}
 use Rattle.bser_bunser.proofs.Names.{known_rest, left_now, left_untaken}
-use Rattle.bser_due.specs.State.{State}
+use Rattle.bser_deserializer.specs.State.{State}
 use Rattle.bser_bunser.specs.Names.{Blame, RefusedAs}
-use Rattle.bser_due.specs.Reading.{Asking, ExcusedBy, MayRefuse, NamesAsked, OutsideBy, Refuses, RefusesFront, refusing, Needs}
-use Rattle.bser_due.proofs.Clean.{Clean}
-use Rattle.bser_due.proofs.Refusals.{excused_refusing, fails_untaken, fails_closed, no_failure}
+use Rattle.bser_deserializer.specs.Reading.{Asking, ExcusedBy, MayRefuse, NamesAsked, OutsideBy, Refuses, RefusesFront, refusing, Needs}
+use Rattle.bser_deserializer.proofs.Clean.{Clean}
+use Rattle.bser_deserializer.proofs.Refusals.{excused_refusing, fails_untaken, fails_closed, no_failure}
 use Rattle.bser_deserializer.proofs.Tags.{asking_refused}
 
 -- what was taken is refused by the type's name of it

@@ -15,12 +15,12 @@ use Rattle.bser_named.specs.DueReaders.{asked, items_at, less_one}
 use Rattle.bser_named.specs.Asks.{Asks, parts_asked, tuple_asked}
 use Rattle.bser_named.proofs.Steps as steps
 use Rattle.bser_named.proofs.Steps.{Continues, first_read}
-use Rattle.bser_due.specs.State.{State, awaiting}
-use Rattle.bser_due.specs.Reading.{Answers, Asking, Refuses, FillsReadably, only_keys, Needs}
-use Rattle.bser_due.specs.Required.{RefusesRequired}
-use Rattle.bser_due.specs.Parts.{BeginsItems, items_left, item_due, items_after}
-use Rattle.bser_due.specs.Access.{OpenItems, OpensItems, IsArrayHead, RefusesItems, IsNextItem, ClosesItems, LeavesItems, inside_items}
-use Rattle.bser_due.specs.HoldsLists.{HoldsEach, HoldsTuple}
+use Rattle.bser_deserializer.specs.State.{State, awaiting}
+use Rattle.bser_deserializer.specs.Reading.{Answers, Asking, Refuses, FillsReadably, only_keys, Needs}
+use Rattle.bser_deserializer.specs.Required.{RefusesRequired}
+use Rattle.bser_deserializer.specs.Parts.{BeginsItems, items_left, item_due, items_after}
+use Rattle.bser_deserializer.specs.Access.{OpenItems, OpensItems, IsArrayHead, RefusesItems, IsNextItem, ClosesItems, LeavesItems, inside_items}
+use Rattle.bser_deserializer.specs.HoldsLists.{HoldsEach, HoldsTuple}
 use Rattle.bser_deserializer.proofs.Containers.{items_pass}
 use Rattle.bser_types.specs.Slots.{any_lent}
 use Rattle.bser_types.specs.Askings.{counted, PartAskings, AllAsked, joined, all_asked, asking_parts, asking_tuple}

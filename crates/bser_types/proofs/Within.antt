@@ -9,8 +9,8 @@ use Rattle.bser_format.specs.Plain.{Reader, any_string, field_after, many, value
 use Rattle.bser_format.specs.Content.{Content, Meaning}
 use Rattle.bser_format.specs.Expected.{Due, Fills, nothing_due, node_due, key_due, field_due, name_due, row_due}
 use Rattle.bser_format.proofs.Fronts.{Reads, value_reads, any_string_reads, field_reads, fields_back, many_all}
-use Rattle.bser_due.specs.Reading.{FillsReadably}
-use Rattle.bser_due.specs.State.{State}
+use Rattle.bser_deserializer.specs.Reading.{FillsReadably}
+use Rattle.bser_deserializer.specs.State.{State}
 
 -- ---- parts of a whole
 

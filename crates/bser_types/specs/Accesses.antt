@@ -3,10 +3,10 @@ use Rattle.std.specs.Prelude.{◌⊎◌, ℕ, List, Option}
 use Rattle.std.specs.Borrow.{GName}
 use Rattle.bser_format.specs.Content.{Content, Meaning}
 use Rattle.bser_format.specs.declared.errors.Error.{Error}
-use Rattle.bser_read.specs.Window.{Window}
-use Rattle.bser_due.specs.Access.{OpenItems, OpenPairs, RefusesKey, RefusesLater}
-use Rattle.bser_due.specs.Reading.{Asking, Needs}
-use Rattle.bser_due.specs.State.{State}
+use Rattle.bser_source.specs.Window.{Window}
+use Rattle.bser_deserializer.specs.Access.{OpenItems, OpenPairs, RefusesKey, RefusesLater}
+use Rattle.bser_deserializer.specs.Reading.{Asking, Needs}
+use Rattle.bser_deserializer.specs.State.{State}
 use Rattle.bser_deserializer.specs.View.{state, refusal_in, items_head, pairs_head}
 use Rattle.bser_types.specs.declared.seq.SeqAccess.{SeqAccess}
 use Rattle.bser_types.specs.declared.map.MapAccess.{MapAccess}

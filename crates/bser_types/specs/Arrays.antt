@@ -2,7 +2,7 @@
 use Rattle.std.specs.Prelude.{ℕ, zero, suc, replicate, Option}
 use Rattle.bser_format.specs.Content.{Meaning}
 use Rattle.bser_format.specs.ReadsHolders.{reads_tuple}
-use Rattle.bser_due.specs.Reading.{Asking}
+use Rattle.bser_deserializer.specs.Reading.{Asking}
 use Rattle.bser_types.specs.Askings.{PartAskings, asking_tuple}
 
 -- an array of n items of this type

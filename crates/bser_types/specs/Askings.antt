@@ -9,7 +9,7 @@ use Rattle.bser_named.specs.TypeLaws.{Passes, PassEach}
 use Rattle.bser_named.proofs.Choices.{option_passes, byte_string_passes}
 use Rattle.bser_named.proofs.Lists.{vec_passes, tuple_passes}
 use Rattle.bser_named.proofs.Maps.{map_passes}
-use Rattle.bser_due.specs.Reading.{Asking}
+use Rattle.bser_deserializer.specs.Reading.{Asking}
 
 -- ---- inside a container
 

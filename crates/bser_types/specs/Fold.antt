@@ -3,9 +3,9 @@ use Rattle.std.specs.Prelude.{ℕ, true, List, [], ◌∷◌, Option, Some, None
 use Rattle.std.specs.Str.{is_utf8}
 use Rattle.bser_format.specs.Tree.{Tree, object, entries}
 use Rattle.bser_format.specs.Content.{Content, Meaning}
-use Rattle.bser_due.specs.Reading.{Needs}
-use Rattle.bser_due.specs.Fields.{field_of}
-use Rattle.bser_due.specs.declared.field.Field.{Field}
+use Rattle.bser_deserializer.specs.Reading.{Needs}
+use Rattle.bser_deserializer.specs.Fields.{field_of}
+use Rattle.bser_deserializer.specs.declared.field.Field.{Field}
 
 -- what the entries make of a, each by a step that may refuse
 abbrev pub folds : {A : Type 0} → (A → List ℕ → Tree → Option A) → A → List (List ℕ × Tree) → Option A

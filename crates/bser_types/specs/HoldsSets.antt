@@ -3,7 +3,7 @@ use Rattle.std.specs.Prelude.{◌≡◌, List, [], ◌∷◌}
 use Rattle.std.specs.declared.cmp.Ordering.{Ordering}
 use Rattle.std.specs.BTreeSet.{insert_key}
 use Rattle.bser_format.specs.Content.{Content}
-use Rattle.bser_due.specs.HoldsLists.{HoldsList}
+use Rattle.bser_deserializer.specs.HoldsLists.{HoldsList}
 
 -- one after another at its place in the order, unless an equal one is there
 abbrev pub insert_all : {A : Type 0} → (A → A → Ordering) → List A → List A → List A

@@ -6,15 +6,15 @@ use Rattle.bser_format.specs.ReadsHolders.{reads_option, list_of}
 use Rattle.bser_format.specs.ReadsAny.{reads_ignored}
 use Rattle.bser_format.specs.Expected.{Fills}
 use Rattle.bser_named.specs.Clauses.{left_over, out_of_turn}
-use Rattle.bser_read.specs.Window.{closed}
+use Rattle.bser_source.specs.Window.{closed}
 use Rattle.bser_format.specs.declared.errors.Error.{Error}
-use Rattle.bser_due.specs.State.{State}
-use Rattle.bser_due.specs.Reading.{Asking, Needs}
-use Rattle.bser_due.specs.Access.{OpenPairs, IsValue, RefusesValue}
+use Rattle.bser_deserializer.specs.State.{State}
+use Rattle.bser_deserializer.specs.Reading.{Asking, Needs}
+use Rattle.bser_deserializer.specs.Access.{OpenPairs, IsValue, RefusesValue}
 use Rattle.bser_types.specs.Fold.{struct_of, read_once}
-use Rattle.bser_due.specs.HoldsLists.{HoldsEach}
-use Rattle.bser_due.specs.declared.field.Field.{Field}
-use Rattle.bser_due.specs.declared.field.Field.TheVariants.{Known, Unknown}
+use Rattle.bser_deserializer.specs.HoldsLists.{HoldsEach}
+use Rattle.bser_deserializer.specs.declared.field.Field.{Field}
+use Rattle.bser_deserializer.specs.declared.field.Field.TheVariants.{Known, Unknown}
 
 -- ---- what a struct reads
 

@@ -1,7 +1,7 @@
 -- What a tuple needs, by its parts.
 use Rattle.std.specs.Prelude.{Bool, true, false, ◌||◌, List, [], ◌∷◌, Option, Some, None}
 use Rattle.bser_format.specs.Content.{Meaning, ReadsNoObject}
-use Rattle.bser_due.specs.Reading.{Needs}
+use Rattle.bser_deserializer.specs.Reading.{Needs}
 use Rattle.bser_types.specs.Slots.{any_lent}
 
 -- of each type that it reads no object, where that is known

@@ -7,7 +7,7 @@ use crate::map::MapAccess;
 use crate::seq::SeqAccess;
 use bser_deserializer::container::{MapHead, SeqHead};
 use bser_deserializer::deserializer::Deserializer;
-use bser_read::read::DeRead;
+use bser_source::read::DeRead;
 
 /// An access to the items of the array or template that this head opened.
 #[inline(always)]

@@ -1,7 +1,7 @@
 //! Opening containers: an array as an access to its items, an object as one to its entries.
 ghost use Rattle.std.specs.Prelude.{◌≡◌, IfOk, OnErr};
 ghost use Rattle.std.specs.Borrow.{sem, RestsIfErr};
-ghost use Rattle.bser_due.specs.Access.{OpensItems, RefusesItems, OpensPairs, RefusesPairs};
+ghost use Rattle.bser_deserializer.specs.Access.{OpensItems, RefusesItems, OpensPairs, RefusesPairs};
 ghost use Rattle.bser_types.specs.Accesses.{open_items, items_reference, open_pairs, pairs_reference};
 ghost use Rattle.bser_deserializer.specs.contracts.deserializer.Deserializer.{the_row};
 ghost use Rattle.bser_deserializer.specs.View.{state, refusal_in};
@@ -11,7 +11,7 @@ use crate::seq::SeqAccess;
 use bser_bunser::refusal::Answer;
 use bser_deserializer::container::Containers;
 use bser_deserializer::deserializer::Deserializer;
-use bser_read::read::DeRead;
+use bser_source::read::DeRead;
 use std::alloc::Global;
 
 /// What opens containers: a [`Deserializer`].

@@ -1,14 +1,14 @@
 //! Types that are read.
 ghost use Rattle.std.specs.Prelude.{◌≡◌, ◌≢◌, false, Option, IfOk, OnErr};
 ghost use Rattle.bser_format.specs.Content.{Content, Meaning, ReadsNoObject};
-ghost use Rattle.bser_due.specs.Reading.{Answers, Asking, Needs, Refuses, TakesNoMemory};
+ghost use Rattle.bser_deserializer.specs.Reading.{Answers, Asking, Needs, Refuses, TakesNoMemory};
 ghost use Rattle.bser_deserializer.specs.View.{state, refusal_in};
 
 use bser_bunser::refusal::Answer;
 use bser_deserializer::deserializer::Deserializer;
 use bser_format::errors::Error;
-use bser_read::read::DeRead;
-use bser_source::read::{LendsText, NoLoan};
+use bser_source::read::DeRead;
+use bser_source::reference::{LendsText, NoLoan};
 use std::alloc::Global;
 
 /// The meaning of a type that is read: which trees it reads, and what a value of it holds.

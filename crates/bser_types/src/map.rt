@@ -1,13 +1,13 @@
 //! Reading the entries of an object.
 ghost use Rattle.std.specs.Prelude.{◌≡◌, ◌<◌, Some, true, false, length, map, IfOk, OnOk, OnErr};
 ghost use Rattle.bser_format.specs.ReadsScalars.{reads_string};
-ghost use Rattle.bser_due.specs.Access.{AwaitsKey, AwaitsValue, OutOfTurn, NextKey, RefusesKey, NoEntry, IsValue, RefusesValue, NextEntry, ClosesPairs, LeavesPairs, pairs_in};
-ghost use Rattle.bser_due.specs.Askings.{asking_string};
-ghost use Rattle.bser_due.specs.Dues.{name_at};
-ghost use Rattle.bser_due.specs.Fields.{HoldsField};
-ghost use Rattle.bser_due.specs.Parts.{pairs_left, pairs_after};
-ghost use Rattle.bser_due.specs.Reading.{Answers, Refuses, bare};
-ghost use Rattle.bser_due.specs.State.{refused};
+ghost use Rattle.bser_deserializer.specs.Access.{AwaitsKey, AwaitsValue, OutOfTurn, NextKey, RefusesKey, NoEntry, IsValue, RefusesValue, NextEntry, ClosesPairs, LeavesPairs, pairs_in};
+ghost use Rattle.bser_deserializer.specs.Askings.{asking_string};
+ghost use Rattle.bser_deserializer.specs.Dues.{name_at};
+ghost use Rattle.bser_deserializer.specs.Fields.{HoldsField};
+ghost use Rattle.bser_deserializer.specs.Parts.{pairs_left, pairs_after};
+ghost use Rattle.bser_deserializer.specs.Reading.{Answers, Refuses, bare};
+ghost use Rattle.bser_deserializer.specs.State.{refused};
 ghost use Rattle.bser_deserializer.specs.View.{state, refusal_in};
 ghost use Rattle.bser_types.specs.Accesses.{RefusesEntry, open_pairs, pairs_reference, pairs_refusal};
 ghost use Rattle.bser_types.specs.Slots.{ReadsOnce, RefusesOnce};
@@ -17,10 +17,10 @@ use bser_bunser::refusal::{Answer, Refused};
 use bser_deserializer::container::{Containers, MapHead};
 use bser_deserializer::cursor::{Cursor, keys_of};
 use bser_deserializer::deserializer::Deserializer;
-use bser_due::field::{Field, find_field};
+use bser_deserializer::field::{Field, find_field};
 use bser_format::errors::{Complaint, Error};
-use bser_read::read::DeRead;
-use bser_source::read::{Lending, LendsText};
+use bser_source::read::DeRead;
+use bser_source::reference::{Lending, LendsText};
 use std::alloc::Global;
 
 /// The entries of an open object, or the fields of a template's row.

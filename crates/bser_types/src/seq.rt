@@ -1,9 +1,9 @@
 //! Reading the items of an array.
 ghost use Rattle.std.specs.Prelude.{◌≡◌, ◌<◌, IfOk, OnOk, OnErr};
-ghost use Rattle.bser_due.specs.Access.{NextItem, IsNextItem, RefusesItem, ClosesItems, LeavesItems, items_in};
-ghost use Rattle.bser_due.specs.Parts.{items_left, item_due, items_after};
-ghost use Rattle.bser_due.specs.Required.{RefusesRequired};
-ghost use Rattle.bser_due.specs.State.{awaiting, refused};
+ghost use Rattle.bser_deserializer.specs.Access.{NextItem, IsNextItem, RefusesItem, ClosesItems, LeavesItems, items_in};
+ghost use Rattle.bser_deserializer.specs.Parts.{items_left, item_due, items_after};
+ghost use Rattle.bser_deserializer.specs.Required.{RefusesRequired};
+ghost use Rattle.bser_deserializer.specs.State.{awaiting, refused};
 ghost use Rattle.bser_types.specs.Accesses.{open_items, items_reference, items_refusal};
 
 use crate::deserialize::Deserialize;
@@ -12,8 +12,8 @@ use bser_deserializer::container::{Containers, SeqHead};
 use bser_deserializer::cursor::Cursor;
 use bser_deserializer::deserializer::Deserializer;
 use bser_format::errors::{Complaint, Error};
-use bser_read::read::DeRead;
-use bser_source::read::LendsText;
+use bser_source::read::DeRead;
+use bser_source::reference::LendsText;
 use std::alloc::Global;
 
 /// The items of an open array or template.

@@ -12,11 +12,11 @@ use Rattle.bser_written.proofs.Settled.{filled_settles}
 use Rattle.bser_events.specs.Events.{events}
 use Rattle.bser_named.specs.Asks.{asks_any}
 use Rattle.bser_named.proofs.Anything.{value_passes}
-use Rattle.bser_due.specs.State.{State}
-use Rattle.bser_due.specs.Reading.{Answers, Refuses, FillsReadably, owned}
-use Rattle.bser_due.specs.Askings.{asking_ignored, asking_value}
-use Rattle.bser_due.proofs.Clean.{clean_any}
-use Rattle.bser_due.proofs.Refusals.{by_name}
+use Rattle.bser_deserializer.specs.State.{State}
+use Rattle.bser_deserializer.specs.Reading.{Answers, Refuses, FillsReadably, owned}
+use Rattle.bser_deserializer.specs.Askings.{asking_ignored, asking_value}
+use Rattle.bser_deserializer.proofs.Clean.{clean_any}
+use Rattle.bser_deserializer.proofs.Refusals.{by_name}
 use Rattle.bser_deserializer.specs.Any.{TookAny}
 use Rattle.bser_value.specs.Made.{unread, read_as}
 use Rattle.bser_value.specs.Shows.{Shows, Takes}

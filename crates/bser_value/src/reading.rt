@@ -1,16 +1,16 @@
 //! Reading a `Value`.
 ghost use Rattle.std.specs.Prelude.{refl, Some, None};
 ghost use Rattle.bser_format.specs.ReadsAny.{reads_value};
-ghost use Rattle.bser_due.specs.Askings.{asking_value};
-ghost use Rattle.bser_due.specs.Reading.{owned};
+ghost use Rattle.bser_deserializer.specs.Askings.{asking_value};
+ghost use Rattle.bser_deserializer.specs.Reading.{owned};
 ghost use Rattle.bser_value.specs.ValueView.{HoldsValue};
 
 use crate::builder::ValueBuilder;
 use crate::value::Value;
 use bser_bunser::refusal::Answer;
 use bser_deserializer::deserializer::Deserializer;
-use bser_read::read::DeRead;
-use bser_source::read::LendsText;
+use bser_source::read::DeRead;
+use bser_source::reference::LendsText;
 use bser_types::deserialize::{Deserialize, OwnedShape, Shape};
 use std::alloc::Global;
 

@@ -9,14 +9,14 @@ use Rattle.bser_format.specs.declared.errors.name.EnumName.{EnumName}
 use Rattle.bser_named.specs.Named.{Reader, refuses, refuse, and_then, ◌>>=◌}
 use Rattle.bser_named.specs.DueReaders.{is_key_tag, seen, less_one, variant_due, wrong_type}
 use Rattle.bser_named.specs.Asks.{Asks, Payloads, done, labels, payload, alone, payload_asked, is_object, asks_enum, inside}
-use Rattle.bser_read.specs.Window.{Window}
-use Rattle.bser_read.proofs.Windows.{took_then}
-use Rattle.bser_due.specs.Access.{OpenPairs, inside_pairs}
-use Rattle.bser_due.specs.Dues.{IsValueDue}
-use Rattle.bser_due.specs.Parts.{BeginsPairs, ObjectHead, pairs_left, pair_key, pair_value}
-use Rattle.bser_due.specs.Reading.{Answers, NamesBy, Needs}
-use Rattle.bser_due.specs.State.{State}
-use Rattle.bser_due.proofs.Refusals.{names_by_more, names_by_untaken}
+use Rattle.bser_source.specs.Window.{Window}
+use Rattle.bser_source.proofs.Windows.{took_then}
+use Rattle.bser_deserializer.specs.Access.{OpenPairs, inside_pairs}
+use Rattle.bser_deserializer.specs.Dues.{IsValueDue}
+use Rattle.bser_deserializer.specs.Parts.{BeginsPairs, ObjectHead, pairs_left, pair_key, pair_value}
+use Rattle.bser_deserializer.specs.Reading.{Answers, NamesBy, Needs}
+use Rattle.bser_deserializer.specs.State.{State}
+use Rattle.bser_deserializer.proofs.Refusals.{names_by_more, names_by_untaken}
 use Rattle.bser_deserializer.proofs.Containers.{tagged}
 use Rattle.bser_deserializer.proofs.Tags.{complained_names, key_tag_told}
 use Rattle.bser_variants.specs.EnumNames.{NamesEnum}

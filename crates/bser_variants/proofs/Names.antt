@@ -18,11 +18,11 @@ use Rattle.bser_named.specs.DueReaders.{Seen, is_key_tag, value_tag, key_tag, as
 use Rattle.bser_named.proofs.Heads.{count_passes}
 use Rattle.bser_named.proofs.Steps.{Passes}
 use Rattle.bser_named.proofs.Strings.{kept, looked}
-use Rattle.bser_due.specs.Dues.{IsValueDue}
-use Rattle.bser_due.specs.Fields.{field_from, field_of}
-use Rattle.bser_due.specs.Parts.{BeginsPairs, ObjectHead, pairs_left, pair_key}
-use Rattle.bser_due.specs.declared.field.Field.{Field}
-use Rattle.bser_due.specs.declared.field.Field.TheVariants.{Known, Unknown}
+use Rattle.bser_deserializer.specs.Dues.{IsValueDue}
+use Rattle.bser_deserializer.specs.Fields.{field_from, field_of}
+use Rattle.bser_deserializer.specs.Parts.{BeginsPairs, ObjectHead, pairs_left, pair_key}
+use Rattle.bser_deserializer.specs.declared.field.Field.{Field}
+use Rattle.bser_deserializer.specs.declared.field.Field.TheVariants.{Known, Unknown}
 use Rattle.bser_deserializer.proofs.Containers.{tagged, unequal}
 use Rattle.bser_deserializer.proofs.Tags.{key_tag_told}
 use Rattle.bser_variants.specs.Names.{place_due, only_place}

@@ -8,13 +8,13 @@ use Rattle.bser_format.specs.declared.errors.Error.{Error}
 use Rattle.bser_format.specs.declared.errors.Complaint.TheVariants.{UnknownVariant}
 use Rattle.bser_named.specs.Named.{refuse, complain}
 use Rattle.bser_named.specs.Clauses.{after_a_refusal}
-use Rattle.bser_due.specs.Dues.{IsValueDue}
-use Rattle.bser_due.specs.Fields.{HoldsField}
-use Rattle.bser_due.specs.Reading.{Answers, NamesBy, bare}
-use Rattle.bser_due.specs.State.{State, past}
-use Rattle.bser_due.specs.declared.field.Field.{Field}
-use Rattle.bser_due.specs.declared.field.Field.TheVariants.{Unknown}
-use Rattle.bser_due.proofs.Refusals.{names_by_untaken}
+use Rattle.bser_deserializer.specs.Dues.{IsValueDue}
+use Rattle.bser_deserializer.specs.Fields.{HoldsField}
+use Rattle.bser_deserializer.specs.Reading.{Answers, NamesBy, bare}
+use Rattle.bser_deserializer.specs.State.{State, past}
+use Rattle.bser_deserializer.specs.declared.field.Field.{Field}
+use Rattle.bser_deserializer.specs.declared.field.Field.TheVariants.{Unknown}
+use Rattle.bser_deserializer.proofs.Refusals.{names_by_untaken}
 use Rattle.bser_deserializer.specs.View.{SeesTag}
 use Rattle.bser_deserializer.proofs.Openings.{opened_pairs}
 use Rattle.bser_deserializer.proofs.Tags.{peeked_took, complained_names}

@@ -16,18 +16,18 @@ use Rattle.bser_format.specs.declared.errors.name.EnumName.{EnumName}
 use Rattle.bser_named.specs.Named.{Answer, Reader, reads, refuses, give, and_then, ◌>>=◌, complain, eof, next, count, string, utf8, text_of}
 use Rattle.bser_named.specs.DueReaders.{tag, is_key_tag, asked, pairs_at, text_at, place_from, variant_after, variant_of_row, variant_due}
 use Rattle.bser_named.specs.Asks.{done, asks_string}
-use Rattle.bser_read.specs.Window.{Window}
-use Rattle.bser_read.proofs.Windows.{grown_none}
+use Rattle.bser_source.specs.Window.{Window}
+use Rattle.bser_source.proofs.Windows.{grown_none}
 use Rattle.bser_bunser.specs.Refusal.{Fails}
-use Rattle.bser_due.specs.Access.{OpenPairs, OpensPairs, RefusesPairs}
-use Rattle.bser_due.specs.Dues.{IsValueDue, due_of, name_at}
-use Rattle.bser_due.specs.Parts.{BeginsPairs}
-use Rattle.bser_due.specs.Reading.{NamesBy, bare, Needs}
-use Rattle.bser_due.specs.State.{State, with_source}
-use Rattle.bser_due.specs.declared.due.Due as code
-use Rattle.bser_due.specs.declared.due.Due.TheVariants as due
-use Rattle.bser_due.proofs.Clean.{Clean, clean_give, clean_refuse, clean_then, clean_if, clean_utf8, clean_pairs, clean_bytes, clean_texts}
-use Rattle.bser_due.proofs.Refusals.{names_by_grown, by_name, names_by_more, names_by_untaken, narrower}
+use Rattle.bser_deserializer.specs.Access.{OpenPairs, OpensPairs, RefusesPairs}
+use Rattle.bser_deserializer.specs.Dues.{IsValueDue, due_of, name_at}
+use Rattle.bser_deserializer.specs.Parts.{BeginsPairs}
+use Rattle.bser_deserializer.specs.Reading.{NamesBy, bare, Needs}
+use Rattle.bser_deserializer.specs.State.{State, with_source}
+use Rattle.bser_deserializer.specs.declared.due.Due as code
+use Rattle.bser_deserializer.specs.declared.due.Due.TheVariants as due
+use Rattle.bser_deserializer.proofs.Clean.{Clean, clean_give, clean_refuse, clean_then, clean_if, clean_utf8, clean_pairs, clean_bytes, clean_texts}
+use Rattle.bser_deserializer.proofs.Refusals.{names_by_grown, by_name, names_by_more, names_by_untaken, narrower}
 use Rattle.bser_deserializer.specs.View.{SeesTag, IsBefore, NoNameDue, value_here}
 use Rattle.bser_deserializer.proofs.Containers.{unequal}
 use Rattle.bser_deserializer.proofs.Tags.{same_name, failed_names, grown_left, peeked_names, nothing_kind}

@@ -9,16 +9,16 @@ use Rattle.bser_format.specs.Enums.{Payload, unit, holds, named, by_name, reads_
 use Rattle.bser_format.specs.Expand.{key_tree}
 use Rattle.bser_format.specs.ReadsScalars.{utf8_of}
 use Rattle.bser_format.specs.declared.errors.Error.{Error}
-use Rattle.bser_due.specs.State.{State}
+use Rattle.bser_deserializer.specs.State.{State}
 use Rattle.bser_named.specs.Clauses.{after_a_refusal}
 use Rattle.bser_named.specs.DueReaders.{wrong_type}
-use Rattle.bser_due.specs.Reading.{Answers, Refuses, FillsReadably, IsRefusal, Needs}
-use Rattle.bser_due.specs.Fields.{field_from, field_of}
+use Rattle.bser_deserializer.specs.Reading.{Answers, Refuses, FillsReadably, IsRefusal, Needs}
+use Rattle.bser_deserializer.specs.Fields.{field_from, field_of}
 use Rattle.bser_variants.specs.Variants.{known_place, reads_place, HoldsPlace, LacksPayload}
-use Rattle.bser_due.specs.declared.field.Field.{Field}
-use Rattle.bser_due.specs.declared.field.Field.TheVariants.{Known, Unknown}
-use Rattle.bser_due.proofs.Refusals.{unfit}
-use Rattle.bser_read.proofs.Windows.{left_took}
+use Rattle.bser_deserializer.specs.declared.field.Field.{Field}
+use Rattle.bser_deserializer.specs.declared.field.Field.TheVariants.{Known, Unknown}
+use Rattle.bser_deserializer.proofs.Refusals.{unfit}
+use Rattle.bser_source.proofs.Windows.{left_took}
 use Rattle.bser_types.proofs.Within.{one_due}
 
 -- ---- names and places

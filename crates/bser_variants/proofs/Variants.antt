@@ -13,16 +13,16 @@ use Rattle.bser_format.specs.ReadsScalars.{reads_unit}
 use Rattle.bser_format.specs.declared.errors.Error.{Error}
 use Rattle.bser_named.specs.Named.{give}
 use Rattle.bser_named.specs.DueReaders.{is_key_tag}
-use Rattle.bser_read.specs.Window.{left}
-use Rattle.bser_read.proofs.Windows.{left_took}
-use Rattle.bser_due.specs.Askings.{asking_unit}
-use Rattle.bser_due.specs.Dues.{IsValueDue}
-use Rattle.bser_due.specs.State.{State, awaiting}
-use Rattle.bser_due.specs.Reading.{Answers, Asking, NamesAsked, Refuses, FillsReadably, bare, Needs}
-use Rattle.bser_due.specs.Parts.{BeginsPairs, ObjectHead, pairs_left, pair_key, pair_value, pairs_after}
-use Rattle.bser_due.specs.Access.{OpenPairs, IsKey, IsValue, ClosesPairs, pairs_in, after_closing}
-use Rattle.bser_due.specs.Fields.{field_of}
-use Rattle.bser_due.proofs.Refusals.{first_part, with_needs}
+use Rattle.bser_source.specs.Window.{left}
+use Rattle.bser_source.proofs.Windows.{left_took}
+use Rattle.bser_deserializer.specs.Askings.{asking_unit}
+use Rattle.bser_deserializer.specs.Dues.{IsValueDue}
+use Rattle.bser_deserializer.specs.State.{State, awaiting}
+use Rattle.bser_deserializer.specs.Reading.{Answers, Asking, NamesAsked, Refuses, FillsReadably, bare, Needs}
+use Rattle.bser_deserializer.specs.Parts.{BeginsPairs, ObjectHead, pairs_left, pair_key, pair_value, pairs_after}
+use Rattle.bser_deserializer.specs.Access.{OpenPairs, IsKey, IsValue, ClosesPairs, pairs_in, after_closing}
+use Rattle.bser_deserializer.specs.Fields.{field_of}
+use Rattle.bser_deserializer.proofs.Refusals.{first_part, with_needs}
 use Rattle.bser_deserializer.proofs.Containers.{counted_rest}
 use Rattle.bser_types.proofs.Taken.{wider_needs}
 use Rattle.bser_types.proofs.ObjectFills.{levels_inside, pairs_begin, pairs_only}

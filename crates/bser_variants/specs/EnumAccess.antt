@@ -1,9 +1,9 @@
 -- What callers see of an access to a variant.
 use Rattle.std.specs.Prelude.{ℕ, List, Option, Some, None}
 use Rattle.std.specs.Borrow.{MutBor}
-use Rattle.bser_read.specs.Window.{Window}
-use Rattle.bser_due.specs.State.{State}
-use Rattle.bser_due.specs.declared.frames.MapHead.{MapHead}
+use Rattle.bser_source.specs.Window.{Window}
+use Rattle.bser_deserializer.specs.State.{State}
+use Rattle.bser_deserializer.specs.declared.frames.MapHead.{MapHead}
 use Rattle.bser_deserializer.specs.View.{state}
 use Rattle.bser_deserializer.specs.declared.deserializer.Deserializer.{Deserializer}
 use Rattle.bser_variants.specs.Variants.{OpenVariant, OpenEnum, name_alone, with_payload, payload_due}

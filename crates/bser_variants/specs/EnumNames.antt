@@ -4,8 +4,8 @@ use Rattle.bser_format.specs.declared.errors.Error.{Error}
 use Rattle.bser_format.specs.declared.errors.name.EnumName.{EnumName}
 use Rattle.bser_named.specs.DueReaders.{variant_due}
 use Rattle.bser_named.specs.Asks.{Asks, Payloads, labels, payload, payload_asked, asks_enum}
-use Rattle.bser_due.specs.Reading.{Answers, NamesBy, Needs}
-use Rattle.bser_due.specs.State.{State}
+use Rattle.bser_deserializer.specs.Reading.{Answers, NamesBy, Needs}
+use Rattle.bser_deserializer.specs.State.{State}
 use Rattle.bser_variants.specs.Variants.{reads_place, HoldsPlace, LacksPayload, OpenVariant, OpensEntry}
 
 -- the enum's own name for what is due

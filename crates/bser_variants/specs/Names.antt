@@ -8,8 +8,8 @@ use Rattle.bser_format.specs.declared.errors.Complaint.TheVariants.{EnumObjectEn
 use Rattle.bser_format.specs.declared.errors.name.EnumName.{EnumName}
 use Rattle.bser_named.specs.Named.{Reader, refuse, ◌>>=◌, complain, text_of}
 use Rattle.bser_named.specs.DueReaders.{asked, text_at, place_from, variant_of_row, variant_due}
-use Rattle.bser_due.specs.Reading.{NamesBy, bare}
-use Rattle.bser_due.specs.State.{State}
+use Rattle.bser_deserializer.specs.Reading.{NamesBy, bare}
+use Rattle.bser_deserializer.specs.State.{State}
 
 -- the place of the name that is due alone
 abbrev pub place_due : ℕ → List (List ℕ) → Due → Reader ℕ

@@ -7,14 +7,14 @@ use Rattle.bser_format.specs.ReadsScalars.{utf8_of, reads_unit}
 use Rattle.bser_format.specs.declared.errors.Error.{Error}
 use Rattle.bser_named.specs.Clauses.{after_a_refusal}
 use Rattle.bser_named.specs.DueReaders.{wrong_type}
-use Rattle.bser_due.specs.Access.{OpenItems, OpensItems, RefusesItems, OpenPairs, OpensPairs, RefusesPairs, after_closing}
-use Rattle.bser_due.specs.Askings.{asking_unit}
-use Rattle.bser_due.specs.Fields.{field_of}
-use Rattle.bser_due.specs.Parts.{BeginsPairs, pairs_left, pair_key, pair_value}
-use Rattle.bser_due.specs.Reading.{Answers, Asking, Refuses, RefusesFront, FillsReadably, bare, Needs}
-use Rattle.bser_due.specs.State.{State, awaiting, refused}
-use Rattle.bser_due.specs.declared.field.Field.{Field}
-use Rattle.bser_due.specs.declared.field.Field.TheVariants.{Known, Unknown}
+use Rattle.bser_deserializer.specs.Access.{OpenItems, OpensItems, RefusesItems, OpenPairs, OpensPairs, RefusesPairs, after_closing}
+use Rattle.bser_deserializer.specs.Askings.{asking_unit}
+use Rattle.bser_deserializer.specs.Fields.{field_of}
+use Rattle.bser_deserializer.specs.Parts.{BeginsPairs, pairs_left, pair_key, pair_value}
+use Rattle.bser_deserializer.specs.Reading.{Answers, Asking, Refuses, RefusesFront, FillsReadably, bare, Needs}
+use Rattle.bser_deserializer.specs.State.{State, awaiting, refused}
+use Rattle.bser_deserializer.specs.declared.field.Field.{Field}
+use Rattle.bser_deserializer.specs.declared.field.Field.TheVariants.{Known, Unknown}
 use Rattle.bser_variants.specs.Names.{NamesVariant}
 
 -- ---- names

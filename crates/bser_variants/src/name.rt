@@ -2,10 +2,10 @@
 ghost use Rattle.std.specs.Prelude.{◌≡◌, map, IfOk, OnErr, OnOk};
 ghost use Rattle.bser_format.specs.ReadsScalars.{reads_string};
 ghost use Rattle.bser_bunser.specs.Refusal.{Fails};
-ghost use Rattle.bser_due.specs.Fields.{HoldsField};
-ghost use Rattle.bser_due.specs.Parts.{pairs_left, pair_key};
-ghost use Rattle.bser_due.specs.Reading.{Answers, NamesBy, bare};
-ghost use Rattle.bser_due.specs.State.{awaiting};
+ghost use Rattle.bser_deserializer.specs.Fields.{HoldsField};
+ghost use Rattle.bser_deserializer.specs.Parts.{pairs_left, pair_key};
+ghost use Rattle.bser_deserializer.specs.Reading.{Answers, NamesBy, bare};
+ghost use Rattle.bser_deserializer.specs.State.{awaiting};
 ghost use Rattle.bser_deserializer.specs.View.{state, refusal_in, pairs_head};
 ghost use Rattle.bser_variants.specs.Names.{place_due, only_place};
 ghost use Rattle.bser_variants.specs.Variants.{reads_place, HoldsPlace};
@@ -14,10 +14,10 @@ use bser_bunser::refusal::Answer;
 use bser_deserializer::container::MapHead;
 use bser_deserializer::cursor::{Cursor, keys_of, name_of};
 use bser_deserializer::deserializer::Deserializer;
-use bser_due::field::{Field, find_field};
+use bser_deserializer::field::{Field, find_field};
 use bser_format::errors::Complaint;
-use bser_read::read::DeRead;
-use bser_source::read::{Lending, LendsText};
+use bser_source::read::DeRead;
+use bser_source::reference::{Lending, LendsText};
 use std::alloc::Global;
 
 /// Reads the name that is due, as the first place in `variants` at which it stands.

@@ -1,7 +1,7 @@
 //! The payload of a variant, in an object or a row of one entry.
 ghost use Rattle.std.specs.Prelude.{◌≡◌, IfOk, OnErr};
-ghost use Rattle.bser_due.specs.Access.{RefusesItems, RefusesPairs};
-ghost use Rattle.bser_due.specs.State.{awaiting};
+ghost use Rattle.bser_deserializer.specs.Access.{RefusesItems, RefusesPairs};
+ghost use Rattle.bser_deserializer.specs.State.{awaiting};
 ghost use Rattle.bser_deserializer.specs.View.{state, refusal_in, items_head, pairs_head};
 ghost use Rattle.bser_variants.specs.EnumAccess.{variant_head};
 ghost use Rattle.bser_variants.specs.Variants.{OpensPayloadItems, OpensPayloadPairs, before_payload, payload_due};
@@ -10,7 +10,7 @@ use bser_bunser::refusal::Answer;
 use bser_deserializer::container::{Containers, MapHead, SeqHead};
 use bser_deserializer::cursor::Cursor;
 use bser_deserializer::deserializer::Deserializer;
-use bser_read::read::DeRead;
+use bser_source::read::DeRead;
 use std::alloc::Global;
 
 /// Makes the payload due.

@@ -3,9 +3,9 @@ ghost use Rattle.std.specs.Prelude.{◌≡◌, map, IfOk, OnErr};
 ghost use Rattle.bser_format.specs.Expected.{row_due};
 ghost use Rattle.bser_named.specs.DueReaders.{variant_of_row};
 ghost use Rattle.bser_bunser.specs.Refusal.{Fails};
-ghost use Rattle.bser_due.specs.Dues.{IsValueDue};
-ghost use Rattle.bser_due.specs.Reading.{NamesBy, bare};
-ghost use Rattle.bser_due.specs.State.{refused};
+ghost use Rattle.bser_deserializer.specs.Dues.{IsValueDue};
+ghost use Rattle.bser_deserializer.specs.Reading.{NamesBy, bare};
+ghost use Rattle.bser_deserializer.specs.State.{refused};
 ghost use Rattle.bser_deserializer.specs.View.{state, refusal_in, IsBefore};
 ghost use Rattle.bser_variants.specs.EnumAccess.{enum_head, variant_head};
 ghost use Rattle.bser_variants.specs.Names.{KeepsName, NamesVariant};
@@ -18,8 +18,8 @@ use bser_deserializer::cursor::Cursor;
 use bser_deserializer::deserializer::{Deserializer, Due};
 use bser_format::errors::{EnumName, Error, Kind};
 use bser_format::header::{BSER_BYTESTRING, BSER_OBJECT, BSER_UTF8STRING};
-use bser_read::read::DeRead;
-use bser_source::read::LendsText;
+use bser_source::read::DeRead;
+use bser_source::reference::LendsText;
 use std::alloc::Global;
 
 /// Reads the name of the variant that is due: its first place in `variants`, and the head of its

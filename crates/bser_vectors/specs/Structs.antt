@@ -3,10 +3,10 @@ use Rattle.std.specs.Prelude.{[], ◌∷◌, List, ℕ, codes, Option, Some, opt
 use Rattle.bser_format.specs.Content.{Content, Meaning}
 use Rattle.bser_format.specs.ReadsHolders.{reads_vec}
 use Rattle.bser_format.specs.ReadsScalars.{reads_signed, reads_unsigned, is_signed, is_unsigned}
-use Rattle.bser_due.specs.Askings.{asking_integer}
-use Rattle.bser_due.specs.Holds.{HoldsNumber, HoldsOption, HoldsSize}
-use Rattle.bser_due.specs.HoldsLists.{HoldsList, HoldsTuple}
-use Rattle.bser_due.specs.Reading.{Asking}
+use Rattle.bser_deserializer.specs.Askings.{asking_integer}
+use Rattle.bser_deserializer.specs.Holds.{HoldsNumber, HoldsOption, HoldsSize}
+use Rattle.bser_deserializer.specs.HoldsLists.{HoldsList, HoldsTuple}
+use Rattle.bser_deserializer.specs.Reading.{Asking}
 use Rattle.bser_types.specs.Askings.{asking_option, asking_vec}
 use Rattle.bser_types.specs.Slots.{StructField, required, optional, reads_struct}
 use Rattle.bser_fields.specs.Askings.{asking_struct}

@@ -1,7 +1,7 @@
 -- That a way of reading answers as a text says.
 use Rattle.std.specs.Prelude.{◌≡◌, ℕ, ◌+◌, List, length, Option, Some, Result, MatchResult, IsOk}
 use Rattle.bser_format.specs.Content.{Content, Meaning}
-use Rattle.bser_due.specs.Reading.{Needs}
+use Rattle.bser_deserializer.specs.Reading.{Needs}
 use Rattle.bser_format.specs.declared.errors.Error.{Error}
 use Rattle.serde_bser.specs.Messages.{BeginsWith, TookMessage, RefusesSlice, RefusesReader}
 use Rattle.serde_bser.specs.Reading.{Asking}

@@ -2,33 +2,33 @@
 
 pub mod field {
     //! What a struct's reading tells of a field's name.
-    pub use bser_due::field::Field;
+    pub use bser_deserializer::field::Field;
 }
 
 pub mod read {
     //! Byte sources, and what they lend.
-    pub use bser_read::io_read::IoRead;
-    pub use bser_read::read::DeRead;
-    pub use bser_read::slice_read::SliceRead;
-    pub use bser_source::read::{
+    pub use bser_source::io_read::IoRead;
+    pub use bser_source::read::DeRead;
+    pub use bser_source::reference::{
         Lending, LendingText, LendsFrom, LendsText, NoLoan, Reference, TextReference,
     };
+    pub use bser_source::slice_read::SliceRead;
 }
 
 pub use bser_bunser::bunser;
 pub use bser_bunser::bunser::{Bunser, PduInfo};
 pub use bser_bunser::refusal::{Answer, Refused};
 pub use bser_deserializer::deserializer::Deserializer;
-pub use bser_due::field::Field;
-pub use bser_due::node::Node;
+pub use bser_deserializer::field::Field;
+pub use bser_deserializer::node::Node;
 pub use bser_fields::fields::ReadsFields;
 pub use bser_fields::slot::{Optional, Required, Slot};
 pub use bser_fields::slots::Slots;
 pub use bser_messages::message::{from_reader, from_reader_within, from_slice, from_slice_within};
-pub use bser_read::io_read::IoRead;
-pub use bser_read::read::DeRead;
-pub use bser_read::slice_read::SliceRead;
-pub use bser_source::read::{Reference, TextReference};
+pub use bser_source::io_read::IoRead;
+pub use bser_source::read::DeRead;
+pub use bser_source::reference::{Reference, TextReference};
+pub use bser_source::slice_read::SliceRead;
 pub use bser_streams::limited::from_slice_limited;
 pub use bser_streams::limits::Limits;
 pub use bser_streams::next::from_reader_limited;

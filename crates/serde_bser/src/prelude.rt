@@ -4,8 +4,8 @@
 pub use bser_fields::fields::ReadsFields;
 pub use bser_fields::slot::Slot;
 pub use bser_fields::slots::Slots;
-pub use bser_read::read::DeRead;
-pub use bser_source::read::LendsText;
+pub use bser_source::read::DeRead;
+pub use bser_source::reference::LendsText;
 pub use bser_structs::enums::Variants;
 pub use bser_structs::fields::{Codec, Fields, ReadOnly, WriteOnly};
 pub use bser_structs::{put_enum, put_struct, read_enum, read_struct};

@@ -9,7 +9,7 @@ use crate::bunser::Bunser;
 use crate::prefix::{Look, Prefix, int_prefix};
 use crate::refusal::{Answer, Refused};
 use bser_format::errors::{Error, Kind, Result};
-use bser_read::read::{DeRead, count_octets};
+use bser_source::read::{DeRead, count_octets};
 
 /// As many bytes as the longest integer has: its tag, and eight.
 const LONGEST: usize = 9;

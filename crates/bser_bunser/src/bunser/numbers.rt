@@ -9,7 +9,7 @@ ghost use Rattle.bser_bunser.specs.Tagged.{bunser_window, refusal_of, TookNumber
 use crate::bunser::Bunser;
 use crate::refusal::{Answer, Refused};
 use bser_format::errors::{Error, Result};
-use bser_read::read::DeRead;
+use bser_source::read::DeRead;
 use byteorder::{ByteOrder, LittleEndian};
 
 impl<R: DeRead> Bunser<R> {

@@ -3,7 +3,7 @@ ghost use Rattle.std.specs.Prelude.{◌≡◌, ◌≢◌, ◌-◌, ◌^◌, ◌�
 ghost use Rattle.std.specs.Int.{w32, to_le_bytes};
 ghost use Rattle.bser_named.specs.Clauses.{after_a_refusal};
 ghost use Rattle.bser_named.specs.Named.{front, magic, head};
-ghost use Rattle.bser_read.specs.Window.{Took, Expects};
+ghost use Rattle.bser_source.specs.Window.{Took, Expects};
 ghost use Rattle.bser_bunser.specs.Names.{Names};
 ghost use Rattle.bser_bunser.specs.Refusal.{ShortOf, Fails, end_refusal};
 ghost use Rattle.bser_bunser.specs.Tagged.{bunser_window, refusal_of, TookHead, EndsAt};
@@ -11,7 +11,7 @@ ghost use Rattle.bser_bunser.specs.Tagged.{bunser_window, refusal_of, TookHead, 
 use crate::bunser::Bunser;
 use crate::refusal::{Answer, Refused};
 use bser_format::errors::{Complaint, Error, ReadCause, Result};
-use bser_read::read::DeRead;
+use bser_source::read::DeRead;
 use byteorder::{ByteOrder, LittleEndian};
 
 /// What stands in the head of a message.

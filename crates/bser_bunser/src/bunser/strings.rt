@@ -3,7 +3,7 @@ ghost use Rattle.std.specs.Prelude.{◌≡◌, ◌≢◌, ◌≤◌, ◌<◌, �
 ghost use Rattle.bser_source.specs.Refs.{bytes_of, is_lent};
 ghost use Rattle.bser_named.specs.Clauses.{after_a_refusal};
 ghost use Rattle.bser_named.specs.Named.{complain, front, size, count, string};
-ghost use Rattle.bser_read.specs.Window.{Took, closed};
+ghost use Rattle.bser_source.specs.Window.{Took, closed};
 ghost use Rattle.bser_bunser.specs.Names.{Names, NamesOrMemory, natural_of, bytes_after};
 ghost use Rattle.bser_bunser.specs.Refusal.{ShortOf, BytesRefused, CopyRefused, Fails};
 ghost use Rattle.bser_bunser.specs.Tagged.{
@@ -18,8 +18,8 @@ use crate::bunser::Bunser;
 use crate::prefix::short_length;
 use crate::refusal::{Answer, Refused};
 use bser_format::errors::{Complaint, Error, ReadCause, Result};
-use bser_read::read::{DeRead, WINDOW, count_octets};
-use bser_source::read::{Lending, Reference};
+use bser_source::read::{DeRead, WINDOW, count_octets};
+use bser_source::reference::{Lending, Reference};
 use std::alloc::Global;
 
 impl<R: DeRead> Bunser<R> {

@@ -6,8 +6,8 @@ use super::{
 use bser_bunser::bunser::{Bunser, PduInfo};
 use bser_format::errors::Result;
 use bser_format::header::EMPTY_HEADER;
-use bser_read::read::DeRead;
-use bser_read::slice_read::SliceRead;
+use bser_source::read::DeRead;
+use bser_source::slice_read::SliceRead;
 use std::alloc::Global;
 use std::process::Abort;
 

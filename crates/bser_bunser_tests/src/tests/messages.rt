@@ -4,8 +4,8 @@ use super::{
 };
 use bser_bunser::bunser::Bunser;
 use bser_bunser::prefix::{Look, Token, Unexpected};
-use bser_read::read::DeRead;
-use bser_read::slice_read::SliceRead;
+use bser_source::read::DeRead;
+use bser_source::slice_read::SliceRead;
 use std::alloc::Global;
 use std::process::Abort;
 

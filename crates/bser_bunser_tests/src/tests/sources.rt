@@ -1,7 +1,7 @@
 //! Byte sources.
 use super::{check_bytes, check_equal, check_given, check_refused, source_of};
-use bser_read::read::DeRead;
-use bser_read::slice_read::SliceRead;
+use bser_source::read::DeRead;
+use bser_source::slice_read::SliceRead;
 use std::alloc::Global;
 use std::process::Abort;
 

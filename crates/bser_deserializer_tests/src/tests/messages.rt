@@ -4,11 +4,11 @@ use bser_bunser::refusal::Answer;
 use bser_deserializer::container::Containers;
 use bser_deserializer::cursor::Cursor;
 use bser_deserializer::deserializer::Deserializer;
+use bser_deserializer::frames::{MapHead, SeqHead};
 use bser_deserializer::scalar::Node;
-use bser_due::frames::{MapHead, SeqHead};
 use bser_format::errors::Result;
-use bser_read::read::DeRead;
-use bser_source::read::LendsText;
+use bser_source::read::DeRead;
+use bser_source::reference::LendsText;
 use std::alloc::Global;
 use std::process::Abort;
 

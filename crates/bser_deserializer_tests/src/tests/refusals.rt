@@ -3,9 +3,9 @@ use super::{ASKS, Ask, Name, ends_by, is_refused_by, keeps, make_due, reader_of}
 use bser_deserializer::cursor::Cursor;
 use bser_deserializer::deserializer::{Deserializer, Due};
 use bser_format::errors::{Complaint, Kind, Result};
-use bser_read::read::DeRead;
-use bser_read::slice_read::SliceRead;
-use bser_source::read::LendsText;
+use bser_source::read::DeRead;
+use bser_source::reference::LendsText;
+use bser_source::slice_read::SliceRead;
 use std::alloc::Global;
 use std::process::Abort;
 

@@ -7,11 +7,11 @@ use bser_deserializer::container::Containers;
 use bser_deserializer::cursor::Cursor;
 use bser_deserializer::deserializer::{Deserializer, Due};
 use bser_format::errors::{Complaint, Error, ReadCause, Result};
-use bser_read::io_read::IoRead;
-use bser_read::read::DeRead;
-use bser_read::slice_read::SliceRead;
 use bser_source::device::Watched;
-use bser_source::read::LendsText;
+use bser_source::io_read::IoRead;
+use bser_source::read::DeRead;
+use bser_source::reference::LendsText;
+use bser_source::slice_read::SliceRead;
 use std::alloc::Global;
 use std::process::Abort;
 

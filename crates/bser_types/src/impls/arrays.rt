@@ -1,7 +1,7 @@
 //! Arrays of a fixed length, which are read as tuples of equal parts. A template is read as the
 //! array of its rows.
 ghost use Rattle.std.specs.Prelude.{true, false, refl, Some};
-ghost use Rattle.bser_due.specs.HoldsLists.{HoldsList};
+ghost use Rattle.bser_deserializer.specs.HoldsLists.{HoldsList};
 ghost use Rattle.bser_types.specs.Arrays.{reads_array, asking_array};
 
 use crate::container::ReadsContainers;
@@ -9,8 +9,8 @@ use crate::deserialize::{Deserialize, OwnedShape, Shape};
 use bser_bunser::refusal::Answer;
 use bser_deserializer::deserializer::Deserializer;
 use bser_format::errors::Error;
-use bser_read::read::DeRead;
-use bser_source::read::LendsText;
+use bser_source::read::DeRead;
+use bser_source::reference::LendsText;
 use std::alloc::Global;
 
 /// An array of `N` items. Fewer are refused by [`Complaint::TooFewItems`], more by

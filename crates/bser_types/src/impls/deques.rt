@@ -1,7 +1,7 @@
 //! Queues. A template is read as the array of its rows.
 ghost use Rattle.std.specs.Prelude.{true, false, refl, Some, option_map};
 ghost use Rattle.bser_format.specs.ReadsHolders.{reads_vec};
-ghost use Rattle.bser_due.specs.HoldsLists.{HoldsList};
+ghost use Rattle.bser_deserializer.specs.HoldsLists.{HoldsList};
 ghost use Rattle.bser_types.specs.Askings.{asking_vec};
 
 use crate::container::ReadsContainers;
@@ -9,8 +9,8 @@ use crate::deserialize::{Deserialize, OwnedShape, Shape};
 use bser_bunser::refusal::Answer;
 use bser_deserializer::deserializer::Deserializer;
 use bser_format::errors::Error;
-use bser_read::read::DeRead;
-use bser_source::read::LendsText;
+use bser_source::read::DeRead;
+use bser_source::reference::LendsText;
 use std::alloc::Global;
 use std::collections::VecDeque;
 

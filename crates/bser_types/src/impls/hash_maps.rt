@@ -2,7 +2,7 @@
 ghost use Rattle.std.specs.Prelude.{◌||◌, None, true, false};
 ghost use Rattle.std.proofs.Common.{ap, ◌∙◌};
 ghost use Rattle.bser_format.specs.ReadsHolders.{reads_map};
-ghost use Rattle.bser_due.specs.HoldsMaps.{HoldsHashMap};
+ghost use Rattle.bser_deserializer.specs.HoldsMaps.{HoldsHashMap};
 ghost use Rattle.bser_types.specs.Askings.{asking_map};
 
 use crate::container::ReadsContainers;
@@ -11,8 +11,8 @@ use crate::impls::keys::MapKey;
 use bser_bunser::refusal::Answer;
 use bser_deserializer::deserializer::Deserializer;
 use bser_format::errors::Error;
-use bser_read::read::DeRead;
-use bser_source::read::LendsText;
+use bser_source::read::DeRead;
+use bser_source::reference::LendsText;
 use std::alloc::Global;
 use std::collections::HashMap;
 

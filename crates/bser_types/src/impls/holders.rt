@@ -1,6 +1,6 @@
 //! Reading types that hold another.
 ghost use Rattle.std.specs.Prelude.{◌≡◌, true, false, option_map};
-ghost use Rattle.bser_due.specs.Holds.{HoldsBox, HoldsOption};
+ghost use Rattle.bser_deserializer.specs.Holds.{HoldsBox, HoldsOption};
 ghost use Rattle.bser_format.specs.Content.{just};
 ghost use Rattle.bser_format.specs.ReadsHolders.{reads_option};
 ghost use Rattle.bser_types.specs.Askings.{asking_option};
@@ -11,8 +11,8 @@ use bser_bunser::refusal::Answer;
 use bser_deserializer::cursor::Cursor;
 use bser_deserializer::deserializer::Deserializer;
 use bser_format::errors::Error;
-use bser_read::read::DeRead;
-use bser_source::read::LendsText;
+use bser_source::read::DeRead;
+use bser_source::reference::LendsText;
 use std::alloc::Global;
 
 /// A null or a skipped field is `None`.

@@ -2,16 +2,16 @@
 ghost use Rattle.std.specs.Prelude.{◌≡◌, refl, Some, None, OnOk, OnErr};
 ghost use Rattle.bser_format.specs.Content.{one};
 ghost use Rattle.bser_format.specs.ReadsAny.{reads_ignored};
-ghost use Rattle.bser_due.specs.Askings.{asking_ignored};
-ghost use Rattle.bser_due.specs.Reading.{Answers, Refuses, owned};
+ghost use Rattle.bser_deserializer.specs.Askings.{asking_ignored};
+ghost use Rattle.bser_deserializer.specs.Reading.{Answers, Refuses, owned};
 ghost use Rattle.bser_deserializer.specs.View.{state, refusal_in};
 
 use crate::deserialize::{Deserialize, OwnedShape, Shape};
 use bser_bunser::refusal::Answer;
 use bser_deserializer::deserializer::Deserializer;
 pub use bser_events::builder::Ignored;
-use bser_read::read::DeRead;
-use bser_source::read::LendsText;
+use bser_source::read::DeRead;
+use bser_source::reference::LendsText;
 use std::alloc::Global;
 
 impl Shape for Ignored {

@@ -3,10 +3,10 @@ ghost use Rattle.std.specs.Prelude.{◌≡◌, refl, Some};
 ghost use Rattle.bser_format.specs.ReadsScalars.{is_signed, is_unsigned, reads_signed, reads_unsigned};
 ghost use Rattle.bser_named.specs.Clauses.{after_a_refusal};
 ghost use Rattle.bser_named.specs.Named.{complain};
-ghost use Rattle.bser_due.specs.Askings.{asking_integer};
-ghost use Rattle.bser_due.specs.Reading.{bare};
-ghost use Rattle.bser_due.specs.Holds.{HoldsNumber, HoldsSize};
-ghost use Rattle.bser_due.specs.State.{refused};
+ghost use Rattle.bser_deserializer.specs.Askings.{asking_integer};
+ghost use Rattle.bser_deserializer.specs.Reading.{bare};
+ghost use Rattle.bser_deserializer.specs.Holds.{HoldsNumber, HoldsSize};
+ghost use Rattle.bser_deserializer.specs.State.{refused};
 ghost use Rattle.bser_deserializer.specs.View.{state, refusal_in};
 
 use crate::deserialize::{Deserialize, OwnedShape, Shape};
@@ -14,8 +14,8 @@ use bser_bunser::refusal::{Answer, Refused};
 use bser_deserializer::deserializer::Deserializer;
 use bser_deserializer::note::Finding;
 use bser_format::errors::Complaint;
-use bser_read::read::DeRead;
-use bser_source::read::LendsText;
+use bser_source::read::DeRead;
+use bser_source::reference::LendsText;
 use std::alloc::Global;
 
 /// Refuses an integer that the type does not hold, and notes it.

@@ -1,16 +1,16 @@
 //! Reading truth values, reals and `()`.
 ghost use Rattle.std.specs.Prelude.{refl, Some};
 ghost use Rattle.bser_format.specs.ReadsScalars.{reads_bool, reads_unit, reads_real};
-ghost use Rattle.bser_due.specs.Askings.{asking_bool, asking_real, asking_unit};
-ghost use Rattle.bser_due.specs.Reading.{bare};
-ghost use Rattle.bser_due.specs.Holds.{HoldsTruth, HoldsOne};
+ghost use Rattle.bser_deserializer.specs.Askings.{asking_bool, asking_real, asking_unit};
+ghost use Rattle.bser_deserializer.specs.Reading.{bare};
+ghost use Rattle.bser_deserializer.specs.Holds.{HoldsTruth, HoldsOne};
 ghost use Rattle.bser_types.specs.HoldsReals.{HoldsReal};
 
 use crate::deserialize::{Deserialize, OwnedShape, Shape};
 use bser_bunser::refusal::Answer;
 use bser_deserializer::deserializer::Deserializer;
-use bser_read::read::DeRead;
-use bser_source::read::LendsText;
+use bser_source::read::DeRead;
+use bser_source::reference::LendsText;
 use std::alloc::Global;
 
 /// The 64 bits of a real.

@@ -2,20 +2,20 @@
 ghost use Rattle.std.specs.Prelude.{◌≡◌, refl, Some, chars, string_bytes};
 ghost use Rattle.std.specs.Cow.{cow_str_bytes};
 ghost use Rattle.bser_format.specs.ReadsScalars.{reads_slice, reads_string, reads_byte_string, reads_char, one_char};
-ghost use Rattle.bser_due.specs.HoldsTexts.{HoldsBytes, HoldsChar, char_content};
-ghost use Rattle.bser_due.specs.Askings.{asking_bytes, asking_string, asking_char};
-ghost use Rattle.bser_due.specs.Reading.{copying, owned, lending};
+ghost use Rattle.bser_deserializer.specs.HoldsTexts.{HoldsBytes, HoldsChar, char_content};
+ghost use Rattle.bser_deserializer.specs.Askings.{asking_bytes, asking_string, asking_char};
+ghost use Rattle.bser_deserializer.specs.Reading.{copying, owned, lending};
 ghost use Rattle.bser_types.specs.Askings.{asking_byte_string};
 
 use crate::deserialize::{Deserialize, OwnedShape, Shape};
 use bser_bunser::refusal::Answer;
 use bser_deserializer::cursor::Cursor;
 use bser_deserializer::deserializer::Deserializer;
-use bser_due::node::Node;
+use bser_deserializer::node::Node;
 use bser_format::bytestring::ByteString;
 use bser_format::errors::{Complaint, Error};
-use bser_read::read::DeRead;
-use bser_source::read::{LendsFrom, LendsText, TextReference};
+use bser_source::read::DeRead;
+use bser_source::reference::{LendsFrom, LendsText, TextReference};
 use std::alloc::Global;
 use std::borrow::CowStr;
 

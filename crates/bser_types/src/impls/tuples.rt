@@ -4,7 +4,7 @@
 //! reads no object no template is read, so that memory is taken only where the tuple is refused.
 ghost use Rattle.std.specs.Prelude.{◌||◌, true, false, refl, Some, [], ◌∷◌};
 ghost use Rattle.bser_format.specs.ReadsHolders.{reads_tuple};
-ghost use Rattle.bser_due.specs.HoldsLists.{HoldsTuple};
+ghost use Rattle.bser_deserializer.specs.HoldsLists.{HoldsTuple};
 ghost use Rattle.bser_types.specs.Askings.{asking_tuple};
 ghost use Rattle.bser_types.specs.Slots.{any_lent};
 ghost use Rattle.bser_types.specs.Tuples.{tuple_needs};
@@ -14,8 +14,8 @@ use crate::container::ReadsContainers;
 use crate::deserialize::{Deserialize, OwnedShape, Shape};
 use bser_bunser::refusal::Answer;
 use bser_deserializer::deserializer::Deserializer;
-use bser_read::read::DeRead;
-use bser_source::read::LendsText;
+use bser_source::read::DeRead;
+use bser_source::reference::LendsText;
 use std::alloc::Global;
 
 /// An array of one item. None is refused by [`Complaint::TooFewItems`], more by

@@ -1,8 +1,8 @@
 -- The key at the place that is due.
 use Rattle.std.proofs.Common.{◌≡◌, ◌∙◌, ◌≤◌, ◌<◌, sym, ap, map, arith, length, rules}
 use Rattle.std.proofs.lemmas.List.{length-map}
-use Rattle.bser_due.specs.Dues.{due_of}
-use Rattle.bser_due.specs.declared.due.Due.TheVariants as dues
+use Rattle.bser_deserializer.specs.Dues.{due_of}
+use Rattle.bser_deserializer.specs.declared.due.Due.TheVariants as dues
 use Rattle.bser_deserializer.proofs.Strings.{named_only, past_no_name}
 use Rattle.bser_deserializer.proofs.Texts.{named_at}
 use Rattle.bser_deserializer.proofs.cursor.name_of.Goals.{then-ne-via-then-ne, then-ne-via-else-ne+then-from-len, then-ne-via-else-ne+else-from-len+then-is_failed}

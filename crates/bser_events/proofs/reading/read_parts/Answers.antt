@@ -2,7 +2,7 @@ use Rattle.std.proofs.Common.{◌≡◌, ◌∷◌, not, arith, refl, sym, ap, s
 use Rattle.std.specs.Prelude.{reverse}
 use Rattle.std.proofs.lemmas.Result.{err_from_is_err_and}
 use Rattle.std.proofs.Math.Facts.{Fits-lt-pow}
-use Rattle.bser_read.proofs.Windows.{octets_each}
+use Rattle.bser_source.proofs.Windows.{octets_each}
 use Rattle.bser_events.specs.Frames.{parts_of, left_events}
 use Rattle.bser_events.specs.Found.{value_rest}
 use Rattle.bser_events.specs.Events.{events}

@@ -1,6 +1,6 @@
 use Rattle.std.proofs.Common.{◌≡◌, ◌≤◌, ◌∷◌, length, vec_capacity}
 use Rattle.std.specs.Prelude.{reverse}
-use Rattle.bser_read.specs.Window.{Window, AreOctets, consumed}
+use Rattle.bser_source.specs.Window.{Window, AreOctets, consumed}
 use Rattle.bser_bunser.specs.Tagged.{bunser_window}
 use Rattle.bser_events.specs.Frames.{parts_of, left_events, IsSmall}
 use Rattle.bser_events.specs.declared.frame.Parts.{Parts}

@@ -1,13 +1,13 @@
 use Rattle.std.proofs.Common.{◌≡◌, ◌<◌, List, ℕ, map, Option, arith}
 use Rattle.std.proofs.lemmas.Result.{err_from_is_err_and}
-use Rattle.bser_due.specs.Reading.{Needs}
-use Rattle.bser_due.specs.State.{State}
-use Rattle.bser_due.specs.declared.frames.MapHead.{MapHead}
+use Rattle.bser_deserializer.specs.Reading.{Needs}
+use Rattle.bser_deserializer.specs.State.{State}
+use Rattle.bser_deserializer.specs.declared.frames.MapHead.{MapHead}
 use Rattle.bser_deserializer.specs.View.{state, refusal_in}
 use Rattle.bser_types.specs.Slots.{StructField, struct_needs}
 use Rattle.bser_fields.specs.Askings.{AllAsked, all_asked}
 use Rattle.bser_fields.proofs.Structs.{struct_start}
-use Rattle.bser_due.specs.Parts.{wanted_pairs, pairs_left}
+use Rattle.bser_deserializer.specs.Parts.{wanted_pairs, pairs_left}
 use Rattle.bser_fields.proofs.Turns.{both_ok, all_err, object_over, object_step, object_refused, object_name_refused, struct_ended, struct_lacks}
 use Rattle.bser_fields.proofs.entries.read_object.Goals as goal
 

@@ -1,6 +1,6 @@
 use Rattle.std.proofs.Common.{◌≡◌, List, map, false}
-use Rattle.bser_due.specs.Access.{OpensPairs}
-use Rattle.bser_due.specs.State.{State}
+use Rattle.bser_deserializer.specs.Access.{OpensPairs}
+use Rattle.bser_deserializer.specs.State.{State}
 use Rattle.bser_deserializer.specs.View.{state, pairs_head}
 use Rattle.bser_types.specs.Slots.{StructField}
 use Rattle.bser_fields.specs.Askings.{all_asked}

@@ -1,8 +1,8 @@
 use Rattle.std.proofs.Common.{◌≡◌, ◌≤◌, ◌∙◌, List, ℕ, length, map, Option, ap, arith}
 use Rattle.std.proofs.lemmas.List.{length-map}
 use Rattle.std.proofs.lemmas.Result.{err_from_is_err_and}
-use Rattle.bser_due.specs.Reading.{Needs}
-use Rattle.bser_due.specs.State.{State}
+use Rattle.bser_deserializer.specs.Reading.{Needs}
+use Rattle.bser_deserializer.specs.State.{State}
 use Rattle.bser_deserializer.specs.View.{state, refusal_in}
 use Rattle.bser_types.specs.Slots.{struct_needs}
 use Rattle.bser_fields.specs.Askings.{AllAsked, all_asked}

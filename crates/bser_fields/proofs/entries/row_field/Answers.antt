@@ -1,7 +1,7 @@
 use Rattle.std.proofs.Common.{◌<◌, ◌∙◌, List, ℕ, map, length, ap, arith}
 use Rattle.std.proofs.lemmas.List.{length-map}
 use Rattle.std.proofs.lemmas.Str.{is_utf8-from_IsUtf8}
-use Rattle.bser_due.specs.Fields.{field_of}
+use Rattle.bser_deserializer.specs.Fields.{field_of}
 use Rattle.bser_deserializer.proofs.Texts.{named_at}
 use Rattle.bser_fields.proofs.entries.row_field.Goals as goal
 

@@ -1,4 +1,4 @@
-use Rattle.bser_due.proofs.FieldNames.{other_lengths}
+use Rattle.bser_deserializer.proofs.FieldNames.{other_lengths}
 use Rattle.bser_fields.proofs.slots.is_same.Goals as goal
 
 pub returns-then-known-name : goal.returns-then-known-name

@@ -4,7 +4,7 @@ use Rattle.std.proofs.lemmas.List.{length-map}
 use Rattle.std.proofs.lemmas.Result.{err_from_is_err_and}
 use Rattle.std.specs.Borrow.{Bor}
 use Rattle.bser_format.specs.Enums.{Payload}
-use Rattle.bser_due.specs.State.{State}
+use Rattle.bser_deserializer.specs.State.{State}
 use Rattle.bser_deserializer.specs.View.{state, refusal_in}
 use Rattle.bser_deserializer.proofs.Openings.{if_ok, if_err}
 use Rattle.bser_variants.specs.EnumAccess.{enum_head}

@@ -1,7 +1,7 @@
 use Rattle.std.proofs.Common.{◌<◌, ◌∙◌, List, ℕ, map, length, refl, ap, arith}
 use Rattle.std.proofs.lemmas.List.{length-map}
-use Rattle.bser_due.specs.Fields.{field_of}
-use Rattle.bser_due.specs.State.{State}
+use Rattle.bser_deserializer.specs.Fields.{field_of}
+use Rattle.bser_deserializer.specs.State.{State}
 use Rattle.bser_deserializer.specs.View.{state}
 use Rattle.bser_deserializer.proofs.Texts.{name_taken, named_at, text_answer}
 use Rattle.bser_types.proofs.Keys.{field_named}

@@ -1,6 +1,6 @@
 -- The key of a row's field is due by its place.
 use Rattle.std.proofs.Common.{ap}
-use Rattle.bser_due.specs.State.{State, awaiting}
+use Rattle.bser_deserializer.specs.State.{State, awaiting}
 use Rattle.bser_deserializer.specs.View.{state}
 use Rattle.bser_types.proofs.Pairs.{field_key}
 use Rattle.bser_variants.proofs.name.await_first_key.Goals as goal

@@ -1,8 +1,8 @@
 -- A key of a row is a text already.
 use Rattle.std.proofs.Common.{◌∙◌, List, ℕ, map, refl, ap}
 use Rattle.std.proofs.lemmas.Result.{err_from_is_err_and}
-use Rattle.bser_due.specs.Fields.{field_of}
-use Rattle.bser_due.specs.State.{State}
+use Rattle.bser_deserializer.specs.Fields.{field_of}
+use Rattle.bser_deserializer.specs.State.{State}
 use Rattle.bser_deserializer.specs.View.{state}
 use Rattle.bser_deserializer.proofs.Texts.{name_taken, text_answer}
 use Rattle.bser_types.proofs.Keys.{field_named}

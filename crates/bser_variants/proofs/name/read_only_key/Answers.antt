@@ -3,10 +3,10 @@ use Rattle.std.proofs.Common.{◌≡◌, ◌∙◌, List, ℕ, map, sym, subst}
 use Rattle.bser_format.specs.Expected.{WantedPairs}
 use Rattle.bser_format.specs.declared.errors.Complaint.TheVariants.{EnumObjectEntries}
 use Rattle.bser_named.specs.Named.{complain}
-use Rattle.bser_due.specs.Parts.{pairs_left, pair_key}
-use Rattle.bser_due.specs.Reading.{NamesBy, bare}
-use Rattle.bser_due.specs.State.{State, awaiting}
-use Rattle.bser_due.proofs.Refusals.{names_by_more}
+use Rattle.bser_deserializer.specs.Parts.{pairs_left, pair_key}
+use Rattle.bser_deserializer.specs.Reading.{NamesBy, bare}
+use Rattle.bser_deserializer.specs.State.{State, awaiting}
+use Rattle.bser_deserializer.proofs.Refusals.{names_by_more}
 use Rattle.bser_deserializer.specs.View.{state, refusal_in, pairs_head}
 use Rattle.bser_deserializer.proofs.Openings.{if_err}
 use Rattle.bser_deserializer.proofs.Tags.{complained_names}

@@ -1,7 +1,7 @@
 use Rattle.std.proofs.Common.{subst}
 use Rattle.std.proofs.lemmas.Result.{err_from_is_err_and}
-use Rattle.bser_due.specs.Access.{RefusesPairs}
-use Rattle.bser_due.specs.State.{State}
+use Rattle.bser_deserializer.specs.Access.{RefusesPairs}
+use Rattle.bser_deserializer.specs.State.{State}
 use Rattle.bser_deserializer.specs.View.{state, refusal_in}
 use Rattle.bser_variants.proofs.payload.open_payload_pairs.Goals as goal
 

@@ -1,8 +1,8 @@
 -- An object of one entry, and its key.
 use Rattle.std.proofs.Common.{◌∙◌, List, ℕ, map, sym}
 use Rattle.std.proofs.lemmas.Result.{err_from_is_err_and}
-use Rattle.bser_due.specs.Access.{OpenPairs}
-use Rattle.bser_due.specs.State.{State}
+use Rattle.bser_deserializer.specs.Access.{OpenPairs}
+use Rattle.bser_deserializer.specs.State.{State}
 use Rattle.bser_deserializer.specs.View.{state, pairs_head}
 use Rattle.bser_variants.proofs.Refused.{deep_names, head_names, key_names}
 use Rattle.bser_variants.proofs.variant.open_object.Goals as goal

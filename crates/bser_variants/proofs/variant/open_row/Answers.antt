@@ -1,8 +1,8 @@
 -- The key of the row's only field.
 use Rattle.std.proofs.Common.{map}
 use Rattle.std.proofs.lemmas.Result.{err_from_is_err_and}
-use Rattle.bser_due.specs.Access.{OpenPairs}
-use Rattle.bser_due.specs.State.{State}
+use Rattle.bser_deserializer.specs.Access.{OpenPairs}
+use Rattle.bser_deserializer.specs.State.{State}
 use Rattle.bser_deserializer.specs.View.{state, pairs_head}
 use Rattle.bser_variants.proofs.Refused.{row_key_names}
 use Rattle.bser_variants.proofs.variant.open_row.Goals as goal

@@ -1,7 +1,7 @@
 -- The tag tells which form the variant has.
 use Rattle.std.proofs.Common.{List, ℕ, map, rules}
 use Rattle.std.proofs.lemmas.Result.{err_from_is_err_and}
-use Rattle.bser_due.specs.State.{State}
+use Rattle.bser_deserializer.specs.State.{State}
 use Rattle.bser_deserializer.specs.View.{state}
 use Rattle.bser_variants.specs.EnumAccess.{variant_head}
 use Rattle.bser_variants.proofs.Opened.{place_looked, entry_looked}

@@ -2,8 +2,8 @@
 use Rattle.std.proofs.Common.{◌≡◌, ◌∙◌, List, ℕ, map, sym, ap, refl}
 use Rattle.std.proofs.lemmas.Result.{err_from_is_err_and}
 use Rattle.bser_format.specs.Expected.{row_due}
-use Rattle.bser_due.specs.Dues.{due_of}
-use Rattle.bser_due.specs.State.{State}
+use Rattle.bser_deserializer.specs.Dues.{due_of}
+use Rattle.bser_deserializer.specs.State.{State}
 use Rattle.bser_deserializer.specs.View.{state}
 use Rattle.bser_variants.proofs.Refused.{both_err, variant_refused, due_row_names, due_names}
 use Rattle.bser_variants.proofs.variant.open_variant.Goals as goal

@@ -1,5 +1,5 @@
 use Rattle.std.proofs.Common.{◌≤◌, ◌<◌, length, arith, ap, subst}
-use Rattle.bser_read.specs.Window.{AreOctets}
+use Rattle.bser_source.specs.Window.{AreOctets}
 use Rattle.bser_bunser.proofs.Counted.{took_buffered}
 use Rattle.bser_bunser.proofs.bunser.Bunser.bytes.Goals as goal
 

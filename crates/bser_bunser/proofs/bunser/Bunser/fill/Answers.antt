@@ -1,7 +1,7 @@
 -- As many bytes are buffered already.
 use Rattle.std.proofs.Common.{refl, ◌≤◌, length, arith, ap, subst}
-use Rattle.bser_read.specs.Window.{AreOctets}
-use Rattle.bser_read.proofs.Windows.{filled_here, works}
+use Rattle.bser_source.specs.Window.{AreOctets}
+use Rattle.bser_source.proofs.Windows.{filled_here, works}
 use Rattle.bser_bunser.proofs.bunser.Bunser.fill.Goals as goal
 
 pub returns-then-n-count_octets-clause-ok : goal.returns-then-n-count_octets-clause-ok

@@ -1,6 +1,6 @@
 use Rattle.std.proofs.Common.{◌≤◌, length, arith, ap, sym, subst, ◌∙◌}
 use Rattle.std.proofs.lemmas.Result.{err_from_is_err_and}
-use Rattle.bser_read.specs.Window.{AreOctets}
+use Rattle.bser_source.specs.Window.{AreOctets}
 use Rattle.bser_bunser.proofs.Counted.{passing, passing_on, passing_short, passing_names}
 use Rattle.bser_bunser.proofs.bunser.Bunser.pass_on.Goals as goal
 

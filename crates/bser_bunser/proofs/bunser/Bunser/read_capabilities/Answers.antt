@@ -1,5 +1,5 @@
 use Rattle.std.proofs.Common.{rules, ℕ, ◌<◌, get_or, subst, sym}
-use Rattle.bser_read.specs.Window.{Took}
+use Rattle.bser_source.specs.Window.{Took}
 use Rattle.bser_bunser.proofs.NumberBytes.{bytes_of_32}
 use Rattle.bser_bunser.proofs.bunser.Bunser.read_capabilities.Goals as goal
 

@@ -1,8 +1,8 @@
 -- What stands there is an array or a template.
 use Rattle.std.proofs.Common.{rules}
 use Rattle.std.proofs.lemmas.Result.{err_from_is_err_and}
-use Rattle.bser_due.specs.Reading.{bare}
-use Rattle.bser_due.specs.State.{State}
+use Rattle.bser_deserializer.specs.Reading.{bare}
+use Rattle.bser_deserializer.specs.State.{State}
 use Rattle.bser_deserializer.specs.View.{state}
 use Rattle.bser_deserializer.proofs.Openings.{if_ok, if_err, opened_items, refused_items, bare_items, table_items, no_items_tag, other_items_tag}
 use Rattle.bser_deserializer.proofs.container.DeserializerContainers.open_items.Goals as goal

@@ -1,8 +1,8 @@
 -- What stands there is an object, or a row is due.
 use Rattle.std.proofs.Common.{◌∙◌, map, refl, sym, rules}
 use Rattle.std.proofs.lemmas.Result.{err_from_is_err_and}
-use Rattle.bser_due.specs.Reading.{bare}
-use Rattle.bser_due.specs.State.{State}
+use Rattle.bser_deserializer.specs.Reading.{bare}
+use Rattle.bser_deserializer.specs.State.{State}
 use Rattle.bser_deserializer.specs.View.{state}
 use Rattle.bser_deserializer.proofs.Openings.{if_ok, if_err, opened_pairs, refused_pairs, other_pairs_tag, no_pairs_tag, failed_pairs}
 use Rattle.bser_deserializer.proofs.container.DeserializerContainers.open_pairs.Goals as goal

@@ -1,8 +1,8 @@
 use Rattle.std.proofs.Common.{◌<◌, ◌≤◌, ◌∙◌, sym, ap, map, length, arith}
 use Rattle.std.proofs.lemmas.Bool.{ltb-true, ltb-false}
 use Rattle.std.proofs.lemmas.List.{length-map}
-use Rattle.bser_due.specs.Dues.{due_of}
-use Rattle.bser_due.proofs.Dues.{past_names, at_name}
+use Rattle.bser_deserializer.specs.Dues.{due_of}
+use Rattle.bser_deserializer.proofs.Dues.{past_names, at_name}
 use Rattle.bser_deserializer.proofs.deserializer.Deserializer.is_due.Goals as goal
 
 pub returns-in-Name-clause-none : goal.returns-in-Name-clause-none

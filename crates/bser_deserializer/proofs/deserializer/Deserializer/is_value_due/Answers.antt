@@ -1,5 +1,5 @@
 use Rattle.std.proofs.Common.{rules, map}
-use Rattle.bser_due.proofs.Dues.{no_value_due}
+use Rattle.bser_deserializer.proofs.Dues.{no_value_due}
 use Rattle.bser_deserializer.proofs.deserializer.Deserializer.is_value_due.Goals as goal
 
 pub returns-else-eq-clause-no : goal.returns-else-eq-clause-no

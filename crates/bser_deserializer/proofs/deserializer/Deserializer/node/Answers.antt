@@ -1,8 +1,8 @@
 use Rattle.std.proofs.Common.{refl, map, sym, ap, ◌∙◌}
 use Rattle.bser_named.specs.DueReaders.{tag}
-use Rattle.bser_due.specs.State.{State}
-use Rattle.bser_due.specs.Dues.{IsTagged}
-use Rattle.bser_due.proofs.Dues.{untagged}
+use Rattle.bser_deserializer.specs.State.{State}
+use Rattle.bser_deserializer.specs.Dues.{IsTagged}
+use Rattle.bser_deserializer.proofs.Dues.{untagged}
 use Rattle.bser_deserializer.specs.View.{state}
 use Rattle.bser_deserializer.proofs.Nodes.{no_node_refused}
 use Rattle.bser_deserializer.proofs.Tags.{peeked, tagged_due}

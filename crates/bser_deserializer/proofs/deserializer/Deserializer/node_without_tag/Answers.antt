@@ -1,6 +1,6 @@
 use Rattle.std.proofs.Common.{map, sym, ap, ◌∙◌}
-use Rattle.bser_due.specs.State.{State}
-use Rattle.bser_due.specs.Dues.{due_of}
+use Rattle.bser_deserializer.specs.State.{State}
+use Rattle.bser_deserializer.specs.Dues.{due_of}
 use Rattle.bser_deserializer.specs.View.{state}
 use Rattle.bser_deserializer.proofs.Nodes.{key_here, key_seen, row_seen, nothing_refused}
 use Rattle.bser_deserializer.proofs.deserializer.Deserializer.node_without_tag.Goals as goal

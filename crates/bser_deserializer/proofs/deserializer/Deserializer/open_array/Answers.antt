@@ -1,8 +1,8 @@
 -- An array's head is its tag and its count.
 use Rattle.std.proofs.Common.{◌≡◌, ◌∙◌, ◌+◌, ap, sym, subst}
 use Rattle.std.proofs.lemmas.Result.{err_from_is_err_and}
-use Rattle.bser_due.specs.Reading.{bare}
-use Rattle.bser_due.specs.State.{State}
+use Rattle.bser_deserializer.specs.Reading.{bare}
+use Rattle.bser_deserializer.specs.State.{State}
 use Rattle.bser_deserializer.specs.View.{state, IsBefore}
 use Rattle.bser_deserializer.proofs.Containers.{no_level_array, array_refused, refused_items_in, opens_items_in, opens_array}
 use Rattle.bser_deserializer.proofs.deserializer.Deserializer.open_array.Goals as goal

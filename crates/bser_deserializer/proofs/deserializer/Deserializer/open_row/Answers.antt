@@ -1,5 +1,5 @@
 -- A row has no bytes of its own.
-use Rattle.bser_due.specs.State.{State}
+use Rattle.bser_deserializer.specs.State.{State}
 use Rattle.bser_deserializer.specs.View.{state}
 use Rattle.bser_deserializer.proofs.Containers.{opens_row}
 use Rattle.bser_deserializer.proofs.deserializer.Deserializer.open_row.Goals as goal

@@ -1,8 +1,8 @@
 -- A template's head is its two tags and its table.
 use Rattle.std.proofs.Common.{◌≡◌, ◌∙◌, ◌+◌, ap, sym, subst}
 use Rattle.std.proofs.lemmas.Result.{err_from_is_err_and}
-use Rattle.bser_due.specs.Reading.{owned}
-use Rattle.bser_due.specs.State.{State}
+use Rattle.bser_deserializer.specs.Reading.{owned}
+use Rattle.bser_deserializer.specs.State.{State}
 use Rattle.bser_deserializer.specs.View.{state, IsBefore}
 use Rattle.bser_deserializer.proofs.Tags.{peeked}
 use Rattle.bser_deserializer.proofs.Containers.{no_level_template, refused_items_in, opens_items_in}

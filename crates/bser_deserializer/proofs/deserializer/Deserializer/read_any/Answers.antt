@@ -2,8 +2,8 @@
 use Rattle.std.proofs.Common.{◌≡◌, ap, map}
 use Rattle.bser_events.proofs.Outcomes.{both_ok, both_err}
 use Rattle.bser_format.specs.Expected.{node_due, field_due}
-use Rattle.bser_due.specs.State.{State}
-use Rattle.bser_due.specs.Dues.{due_of}
+use Rattle.bser_deserializer.specs.State.{State}
+use Rattle.bser_deserializer.specs.Dues.{due_of}
 use Rattle.bser_deserializer.specs.View.{state}
 use Rattle.bser_deserializer.proofs.Told.{key_is, any_value, any_value_refused, any_field, any_field_refused}
 use Rattle.bser_deserializer.proofs.deserializer.Deserializer.read_any.Goals as goal

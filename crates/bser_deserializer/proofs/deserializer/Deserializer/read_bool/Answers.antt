@@ -2,8 +2,8 @@ use Rattle.std.proofs.Common.{refl}
 use Rattle.std.proofs.lemmas.Result.{err_from_is_err_and}
 use Rattle.bser_format.specs.ReadsScalars.{reads_bool}
 use Rattle.bser_named.specs.DueReaders.{bool_at}
-use Rattle.bser_due.specs.Askings.{asking_bool}
-use Rattle.bser_due.specs.State.{State}
+use Rattle.bser_deserializer.specs.Askings.{asking_bool}
+use Rattle.bser_deserializer.specs.State.{State}
 use Rattle.bser_deserializer.specs.View.{state}
 use Rattle.bser_deserializer.proofs.Scalars.{no_tag_refused, asks_for_bool, wants_bool, other_tag_refused, other_bool, bool_read}
 use Rattle.bser_deserializer.proofs.deserializer.Deserializer.read_bool.Goals as goal

@@ -1,8 +1,8 @@
 -- A copy of bytes is UTF-8 under a text's tag, or refused.
 use Rattle.std.proofs.Common.{◌∙◌, sym}
 use Rattle.bser_format.specs.ReadsScalars.{reads_slice}
-use Rattle.bser_due.specs.Askings.{asking_bytes}
-use Rattle.bser_due.specs.State.{State}
+use Rattle.bser_deserializer.specs.Askings.{asking_bytes}
+use Rattle.bser_deserializer.specs.State.{State}
 use Rattle.bser_deserializer.specs.View.{state}
 use Rattle.bser_deserializer.proofs.Strings.{told_bad, told_good, bytes_not_utf8}
 use Rattle.bser_deserializer.proofs.Texts.{bytes_answer}

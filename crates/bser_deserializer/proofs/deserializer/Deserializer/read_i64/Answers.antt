@@ -5,8 +5,8 @@ use mir.Val.{SFits}
 use Rattle.std.proofs.lemmas.Int.{to_z-of_z}
 use Rattle.bser_format.specs.ReadsScalars.{reads_integer}
 use Rattle.bser_named.specs.DueReaders.{integer_at}
-use Rattle.bser_due.specs.Askings.{asking_integer}
-use Rattle.bser_due.specs.State.{State}
+use Rattle.bser_deserializer.specs.Askings.{asking_integer}
+use Rattle.bser_deserializer.specs.State.{State}
 use Rattle.bser_deserializer.specs.View.{state}
 use Rattle.bser_deserializer.proofs.Scalars.{no_value_refused, asks_for_integer, wants_integer, integer_read}
 use Rattle.bser_deserializer.proofs.deserializer.Deserializer.read_i64.Goals as goal

@@ -5,11 +5,11 @@ use Rattle.std.proofs.lemmas.Int.{to_z-of_z}
 use Rattle.std.proofs.lemmas.Result.{err_from_is_err_and}
 use Rattle.bser_format.specs.ReadsScalars.{reads_integer}
 use Rattle.bser_named.specs.DueReaders.{integer_at}
-use Rattle.bser_read.specs.Window.{Window}
+use Rattle.bser_source.specs.Window.{Window}
 use Rattle.bser_bunser.specs.Tagged.{LooksForInt, bunser_window}
 use Rattle.bser_bunser.specs.declared.prefix.Look.TheVariants.{Unexpected}
-use Rattle.bser_due.specs.Askings.{asking_integer}
-use Rattle.bser_due.specs.State.{State}
+use Rattle.bser_deserializer.specs.Askings.{asking_integer}
+use Rattle.bser_deserializer.specs.State.{State}
 use Rattle.bser_deserializer.specs.View.{state}
 use Rattle.bser_deserializer.proofs.Scalars.{due_refused, asks_for_integer, cut_names, integer_read, no_int_refused}
 use Rattle.bser_deserializer.proofs.deserializer.Deserializer.read_i64_on.Goals as goal

@@ -1,6 +1,6 @@
 use Rattle.std.proofs.Common.{refl, subst}
-use Rattle.bser_due.specs.State.{State}
-use Rattle.bser_due.specs.Nodes.{SeesNode}
+use Rattle.bser_deserializer.specs.State.{State}
+use Rattle.bser_deserializer.specs.Nodes.{SeesNode}
 use Rattle.bser_deserializer.specs.View.{state}
 use Rattle.bser_deserializer.proofs.Nodes.{null_read}
 use Rattle.bser_deserializer.proofs.deserializer.Deserializer.read_no_value.Goals as goal

@@ -1,6 +1,6 @@
 -- A null is taken by its tag, and another value left.
 use Rattle.std.proofs.Common.{refl, sym, ap, ◌∙◌}
-use Rattle.bser_due.specs.State.{State}
+use Rattle.bser_deserializer.specs.State.{State}
 use Rattle.bser_deserializer.specs.View.{state}
 use Rattle.bser_deserializer.proofs.Tags.{peeked}
 use Rattle.bser_deserializer.proofs.Nulls.{other_seen, stray_refused, null_tag_taken}

@@ -3,8 +3,8 @@ use Rattle.std.proofs.Common.{◌∙◌, not, subst, ap, IsUtf8, string_bytes}
 use Rattle.std.proofs.lemmas.Str.{IsUtf8-string_bytes}
 use Rattle.std.proofs.lemmas.Result.{err_from_is_err_and}
 use Rattle.bser_format.specs.ReadsScalars.{reads_string}
-use Rattle.bser_due.specs.Askings.{asking_string}
-use Rattle.bser_due.specs.State.{State}
+use Rattle.bser_deserializer.specs.Askings.{asking_string}
+use Rattle.bser_deserializer.specs.State.{State}
 use Rattle.bser_deserializer.specs.View.{state}
 use Rattle.bser_deserializer.proofs.Strings.{text_not_utf8}
 use Rattle.bser_deserializer.proofs.Texts.{text_answer}

@@ -1,7 +1,7 @@
 -- Bytes that were taken are a text, or refused.
 use Rattle.std.proofs.lemmas.Result.{err_from_is_err_and}
 use Rattle.bser_source.specs.Refs.{text_bytes}
-use Rattle.bser_due.specs.State.{State}
+use Rattle.bser_deserializer.specs.State.{State}
 use Rattle.bser_deserializer.specs.View.{state}
 use Rattle.bser_deserializer.proofs.Strings.{text_refused, text_not_utf8}
 use Rattle.bser_deserializer.proofs.Texts.{text_answer}

@@ -2,8 +2,8 @@ use Rattle.std.proofs.Common.{sym, refl, ◌∙◌}
 use Rattle.std.proofs.lemmas.Result.{err_from_is_err_and}
 use Rattle.bser_format.specs.ReadsScalars.{reads_unit}
 use Rattle.bser_named.specs.DueReaders.{unit_at}
-use Rattle.bser_due.specs.Askings.{asking_unit}
-use Rattle.bser_due.specs.State.{State}
+use Rattle.bser_deserializer.specs.Askings.{asking_unit}
+use Rattle.bser_deserializer.specs.State.{State}
 use Rattle.bser_deserializer.specs.View.{state}
 use Rattle.bser_deserializer.proofs.Scalars.{no_tag_refused, asks_for_unit, wants_unit, no_null_refused, unit_read}
 use Rattle.bser_deserializer.proofs.deserializer.Deserializer.read_unit.Goals as goal

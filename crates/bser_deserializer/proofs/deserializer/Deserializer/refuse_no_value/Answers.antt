@@ -1,8 +1,8 @@
 use Rattle.std.proofs.Common.{sym, ap, subst, refl, map}
 use Rattle.bser_named.specs.DueReaders.{nothing_at, asked, wrong_type, nothing_here}
-use Rattle.bser_due.specs.State.{State}
-use Rattle.bser_due.specs.Dues.{due_of, IsTagged}
-use Rattle.bser_due.specs.Reading.{NamesDue, bare}
+use Rattle.bser_deserializer.specs.State.{State}
+use Rattle.bser_deserializer.specs.Dues.{due_of, IsTagged}
+use Rattle.bser_deserializer.specs.Reading.{NamesDue, bare}
 use Rattle.bser_deserializer.specs.View.{state}
 use Rattle.bser_deserializer.proofs.Tags.{peeked, stray_names, complained_names, complained_fails, nothing_kind, untagged_asked}
 use Rattle.bser_deserializer.proofs.deserializer.Deserializer.refuse_no_value.Goals as goal

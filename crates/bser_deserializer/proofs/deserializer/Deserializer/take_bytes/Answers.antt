@@ -2,8 +2,8 @@
 use Rattle.std.proofs.Common.{◌∙◌, sym, ap, refl, map}
 use Rattle.std.proofs.lemmas.Result.{err_from_is_err_and}
 use Rattle.bser_bunser.specs.Tagged.{bunser_window}
-use Rattle.bser_due.specs.State.{State, with_source, past}
-use Rattle.bser_due.proofs.Dues.{untagged}
+use Rattle.bser_deserializer.specs.State.{State, with_source, past}
+use Rattle.bser_deserializer.proofs.Dues.{untagged}
 use Rattle.bser_deserializer.specs.View.{state}
 use Rattle.bser_deserializer.proofs.Strings.{tagged, took_first, look_refused, other_refused, rest_refused}
 use Rattle.bser_deserializer.proofs.Texts.{string_taken}

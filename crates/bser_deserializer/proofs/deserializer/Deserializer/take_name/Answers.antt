@@ -1,7 +1,7 @@
 -- A row's key is lent, or copied.
 use Rattle.std.proofs.Common.{◌≡◌, Bool, true, false, List, ℕ, refl, inl, inr, ◌⊎◌}
 use Rattle.bser_format.specs.Expected.{name_due}
-use Rattle.bser_due.specs.State.{State}
+use Rattle.bser_deserializer.specs.State.{State}
 use Rattle.bser_deserializer.specs.View.{state, NoNameDue}
 use Rattle.bser_deserializer.proofs.Strings.{no_name_refused}
 use Rattle.bser_deserializer.proofs.Texts.{name_taken}

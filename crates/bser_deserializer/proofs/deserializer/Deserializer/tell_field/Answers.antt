@@ -1,7 +1,7 @@
 -- A field is a value, or a skip.
 use Rattle.std.proofs.Common.{ap}
 use Rattle.bser_events.proofs.Outcomes.{each_ok, each_err, both_ok}
-use Rattle.bser_due.specs.State.{State}
+use Rattle.bser_deserializer.specs.State.{State}
 use Rattle.bser_deserializer.proofs.Told.{value_field, skipped_field, field_names}
 use Rattle.bser_deserializer.proofs.deserializer.Deserializer.tell_field.Goals as goal
 

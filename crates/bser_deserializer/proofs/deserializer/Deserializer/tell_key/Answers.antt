@@ -3,7 +3,7 @@ use Rattle.std.proofs.Common.{◌≡◌, ◌∙◌, sym}
 use Rattle.std.proofs.lemmas.Result.{err_from_is_err_and}
 use Rattle.bser_events.proofs.Outcomes.{both_ok}
 use Rattle.bser_source.specs.Refs.{bytes_of}
-use Rattle.bser_due.specs.State.{State}
+use Rattle.bser_deserializer.specs.State.{State}
 use Rattle.bser_deserializer.specs.View.{state}
 use Rattle.bser_deserializer.proofs.Told.{any_key_refused, any_text_key, any_bytes_key}
 use Rattle.bser_deserializer.proofs.deserializer.Deserializer.tell_key.Goals as goal

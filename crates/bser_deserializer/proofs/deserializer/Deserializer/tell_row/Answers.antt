@@ -6,8 +6,8 @@ use Rattle.bser_events.proofs.Outcomes.{both_ok}
 use Rattle.bser_format.specs.declared.errors.Error.{Error}
 use Rattle.bser_named.specs.Named.{field_of, with_text_keys}
 use Rattle.bser_bunser.specs.Refusal.{Fails}
-use Rattle.bser_due.specs.State.{State, past}
-use Rattle.bser_due.specs.Reading.{NamesBy, owned}
+use Rattle.bser_deserializer.specs.State.{State, past}
+use Rattle.bser_deserializer.specs.Reading.{NamesBy, owned}
 use Rattle.bser_deserializer.specs.Any.{TookField}
 use Rattle.bser_deserializer.specs.View.{state, refusal_in}
 use Rattle.bser_deserializer.proofs.Rows.{row_begins, row_goes_on, row_ends, next_refused}

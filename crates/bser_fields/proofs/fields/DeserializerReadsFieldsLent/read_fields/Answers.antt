@@ -1,9 +1,9 @@
 use Rattle.std.proofs.Common.{◌≡◌, List, ℕ, true, length, map, Option}
 use Rattle.std.proofs.lemmas.Bool.{not-false}
 use Rattle.std.proofs.lemmas.Result.{err_from_is_err_and}
-use Rattle.bser_due.specs.Reading.{Needs}
-use Rattle.bser_due.specs.State.{State}
-use Rattle.bser_due.specs.declared.frames.MapHead.{MapHead}
+use Rattle.bser_deserializer.specs.Reading.{Needs}
+use Rattle.bser_deserializer.specs.State.{State}
+use Rattle.bser_deserializer.specs.declared.frames.MapHead.{MapHead}
 use Rattle.bser_deserializer.specs.View.{state, refusal_in}
 use Rattle.bser_types.specs.Slots.{StructField, struct_needs}
 use Rattle.bser_fields.specs.Askings.{AllAsked, all_asked}

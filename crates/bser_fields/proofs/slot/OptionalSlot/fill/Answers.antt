@@ -1,7 +1,7 @@
 use Rattle.std.proofs.Common.{option_map}
-use Rattle.bser_due.specs.Holds.{HoldsOption}
+use Rattle.bser_deserializer.specs.Holds.{HoldsOption}
 use Rattle.bser_types.specs.Askings.{asking_option}
-use Rattle.bser_due.specs.State.{State}
+use Rattle.bser_deserializer.specs.State.{State}
 use Rattle.bser_deserializer.specs.View.{state}
 use Rattle.bser_deserializer.proofs.Openings.{if_ok, if_err}
 use Rattle.bser_types.specs.Slots.{optional}

@@ -1,5 +1,5 @@
 use Rattle.std.proofs.Common.{List, ℕ, length, map}
-use Rattle.bser_due.specs.State.{State}
+use Rattle.bser_deserializer.specs.State.{State}
 use Rattle.bser_deserializer.specs.View.{state}
 use Rattle.bser_fields.proofs.Rows.{one_key}
 use Rattle.bser_fields.proofs.slots.Tuple2Slots.are_in_turn.Goals as goal

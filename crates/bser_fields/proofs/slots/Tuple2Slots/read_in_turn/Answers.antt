@@ -1,5 +1,5 @@
 use Rattle.std.proofs.Common.{List, length, Option, Some}
-use Rattle.bser_due.specs.State.{State}
+use Rattle.bser_deserializer.specs.State.{State}
 use Rattle.bser_deserializer.specs.View.{state, refusal_in}
 use Rattle.bser_types.specs.Slots.{StructField, FinishesField, FinishesEach}
 use Rattle.bser_fields.specs.Askings.{AllAsked, all_asked}

@@ -1,5 +1,5 @@
 use Rattle.std.proofs.lemmas.Result.{err_from_is_err_and}
-use Rattle.bser_due.specs.State.{State}
+use Rattle.bser_deserializer.specs.State.{State}
 use Rattle.bser_deserializer.specs.View.{state}
 use Rattle.bser_fields.proofs.Places.{none_refused}
 use Rattle.bser_fields.proofs.slots.UnitSlots.fill_at.Goals as goal

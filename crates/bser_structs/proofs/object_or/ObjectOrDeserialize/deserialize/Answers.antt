@@ -2,10 +2,10 @@
 use Rattle.std.proofs.Common.{◌||◌, true, false, refl, subst}
 use Rattle.std.proofs.lemmas.Bool.{or_left, or_right}
 use Rattle.std.proofs.lemmas.Result.{err_from_is_err_and}
-use Rattle.bser_due.specs.Reading.{Needs}
-use Rattle.bser_due.specs.State.{State}
-use Rattle.bser_due.specs.Nodes.{SeesNode}
-use Rattle.bser_due.specs.declared.node.Node.TheVariants as kinds
+use Rattle.bser_deserializer.specs.Reading.{Needs}
+use Rattle.bser_deserializer.specs.State.{State}
+use Rattle.bser_deserializer.specs.Nodes.{SeesNode}
+use Rattle.bser_deserializer.specs.declared.node.Node.TheVariants as kinds
 use Rattle.bser_deserializer.specs.View.{state}
 use Rattle.bser_types.proofs.Taken.{wider_type}
 use Rattle.bser_types.proofs.Choices.{neither_seen, object_answers, object_refused, other_answers, other_refused}

@@ -1,4 +1,4 @@
-use Rattle.bser_due.specs.State.{State}
+use Rattle.bser_deserializer.specs.State.{State}
 use Rattle.bser_deserializer.specs.View.{state}
 use Rattle.bser_structs.proofs.Places.{held_read}
 use Rattle.bser_structs.proofs.payload.NewtypeReadPayload.read.Goals as goal

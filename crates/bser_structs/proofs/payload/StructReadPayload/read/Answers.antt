@@ -1,7 +1,7 @@
 use Rattle.std.proofs.Common.{ℕ, List, map}
 use Rattle.std.specs.Borrow.{Bor}
-use Rattle.bser_due.specs.HoldsLists.{HoldsTuple}
-use Rattle.bser_due.specs.State.{State}
+use Rattle.bser_deserializer.specs.HoldsLists.{HoldsTuple}
+use Rattle.bser_deserializer.specs.State.{State}
 use Rattle.bser_deserializer.specs.View.{state}
 use Rattle.bser_types.specs.Slots.{reads_struct}
 use Rattle.bser_structs.proofs.Places.{held_read}

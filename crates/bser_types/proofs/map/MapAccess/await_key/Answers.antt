@@ -1,5 +1,5 @@
 use Rattle.std.proofs.Common.{◌≡◌, ap, List, ℕ, map, sym, ◌∙◌, arith}
-use Rattle.bser_due.specs.Dues.{name_at}
+use Rattle.bser_deserializer.specs.Dues.{name_at}
 use Rattle.bser_types.specs.Accesses.{open_pairs}
 use Rattle.bser_types.proofs.Pairs.{awaits_key, field_key}
 use Rattle.bser_types.proofs.map.MapAccess.await_key.Goals as goal

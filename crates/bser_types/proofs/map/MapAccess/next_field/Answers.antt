@@ -1,9 +1,9 @@
 use Rattle.std.proofs.Common.{refl, Some}
 use Rattle.std.proofs.lemmas.Result.{err_from_is_err_and}
 use Rattle.bser_format.specs.ReadsScalars.{reads_string}
-use Rattle.bser_due.specs.Access.{OpenPairs}
-use Rattle.bser_due.specs.Askings.{asking_string}
-use Rattle.bser_due.specs.Reading.{bare}
+use Rattle.bser_deserializer.specs.Access.{OpenPairs}
+use Rattle.bser_deserializer.specs.Askings.{asking_string}
+use Rattle.bser_deserializer.specs.Reading.{bare}
 use Rattle.bser_types.specs.Accesses.{open_pairs}
 use Rattle.bser_types.proofs.Keys.{row_awaited}
 use Rattle.bser_types.proofs.Pairs.{key_refused}

@@ -1,5 +1,5 @@
 use Rattle.std.proofs.lemmas.Result.{err_from_is_err_and}
-use Rattle.bser_due.specs.Access.{OpenPairs}
+use Rattle.bser_deserializer.specs.Access.{OpenPairs}
 use Rattle.bser_types.specs.Accesses.{open_pairs}
 use Rattle.bser_types.proofs.Pairs.{value_out_of_turn}
 use Rattle.bser_types.proofs.map.MapAccess.next_value.Goals as goal

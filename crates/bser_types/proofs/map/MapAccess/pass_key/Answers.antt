@@ -1,5 +1,5 @@
 use Rattle.std.proofs.Common.{List, ℕ, map, ap}
-use Rattle.bser_due.specs.Access.{OpenPairs, pairs_in}
+use Rattle.bser_deserializer.specs.Access.{OpenPairs, pairs_in}
 use Rattle.bser_types.specs.Accesses.{open_pairs}
 use Rattle.bser_types.proofs.Pairs.{field_passed, entry_passed}
 use Rattle.bser_types.proofs.map.MapAccess.pass_key.Goals as goal

@@ -4,9 +4,9 @@ use Rattle.std.proofs.lemmas.Result.{err_from_is_err_and}
 use Rattle.bser_format.specs.Content.{one}
 use Rattle.bser_format.specs.ReadsScalars.{reads_unit}
 use Rattle.bser_format.specs.declared.errors.Error.{Error}
-use Rattle.bser_due.specs.Askings.{asking_unit}
-use Rattle.bser_due.specs.Reading.{Answers, Refuses, bare}
-use Rattle.bser_due.specs.State.{State}
+use Rattle.bser_deserializer.specs.Askings.{asking_unit}
+use Rattle.bser_deserializer.specs.Reading.{Answers, Refuses, bare}
+use Rattle.bser_deserializer.specs.State.{State}
 use Rattle.bser_deserializer.specs.View.{state, refusal_in}
 use Rattle.bser_variants.proofs.variant_access.VariantAccess.unit_variant.Goals as goal
 

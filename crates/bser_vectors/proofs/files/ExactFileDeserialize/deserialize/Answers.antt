@@ -1,7 +1,7 @@
 use Rattle.std.proofs.Common.{◌≡◌, ◌∙◌, sym, ap, subst, refl, Option, Some, None}
 use Rattle.std.proofs.lemmas.Result.{err_from_is_err_and}
 use Rattle.bser_format.specs.Content.{Content, list, content, no_contents}
-use Rattle.bser_due.specs.Reading.{Needs}
+use Rattle.bser_deserializer.specs.Reading.{Needs}
 use Rattle.bser_named.specs.DueReaders.{wrong_type}
 use Rattle.serde_bser.specs.State.{State}
 use Rattle.serde_bser.specs.View.{state}

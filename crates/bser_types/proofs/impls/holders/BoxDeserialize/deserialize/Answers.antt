@@ -1,7 +1,7 @@
 -- A value that is refused is refused in a box, which needs more.
 use Rattle.std.proofs.Common.{refl}
 use Rattle.std.proofs.lemmas.Result.{err_from_is_err_and}
-use Rattle.bser_due.specs.State.{State}
+use Rattle.bser_deserializer.specs.State.{State}
 use Rattle.bser_deserializer.specs.View.{state}
 use Rattle.bser_types.proofs.Taken.{wider_type}
 use Rattle.bser_types.proofs.impls.holders.BoxDeserialize.deserialize.Goals as goal

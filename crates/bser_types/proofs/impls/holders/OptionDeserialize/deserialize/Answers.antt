@@ -1,7 +1,7 @@
 -- What is not null is read by the type inside.
 use Rattle.std.proofs.lemmas.Result.{err_from_is_err_and}
-use Rattle.bser_due.specs.State.{State}
-use Rattle.bser_due.specs.Nodes.{IsOther}
+use Rattle.bser_deserializer.specs.State.{State}
+use Rattle.bser_deserializer.specs.Nodes.{IsOther}
 use Rattle.bser_deserializer.specs.View.{state}
 use Rattle.bser_types.proofs.Options.{nothing_seen, something_refused, something_answers}
 use Rattle.bser_types.proofs.impls.holders.OptionDeserialize.deserialize.Goals as goal

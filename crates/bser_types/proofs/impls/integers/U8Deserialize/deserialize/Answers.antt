@@ -5,7 +5,7 @@ use mir.Val.{SFits, to_z, of_z}
 use Rattle.std.proofs.lemmas.Int.{ints}
 use Rattle.std.proofs.lemmas.Result.{err_from_is_err_and}
 use Rattle.bser_format.specs.ReadsScalars.{is_unsigned}
-use Rattle.bser_due.specs.State.{State}
+use Rattle.bser_deserializer.specs.State.{State}
 use Rattle.bser_deserializer.specs.View.{state}
 use Rattle.bser_types.proofs.Integers.{out_of_range, unsigned_fits}
 use Rattle.bser_types.proofs.impls.integers.U8Deserialize.deserialize.Goals as goal

@@ -1,8 +1,8 @@
 use Rattle.std.proofs.Common.{◌∙◌, ◌<◌, sym, refl, arith}
 use Rattle.std.proofs.lemmas.Result.{err_from_is_err_and}
-use Rattle.bser_due.specs.State.{State}
-use Rattle.bser_due.specs.Parts.{items_left}
-use Rattle.bser_due.specs.Access.{OpenItems}
+use Rattle.bser_deserializer.specs.State.{State}
+use Rattle.bser_deserializer.specs.Parts.{items_left}
+use Rattle.bser_deserializer.specs.Access.{OpenItems}
 use Rattle.bser_deserializer.specs.View.{state}
 use Rattle.bser_types.specs.Accesses.{open_items}
 use Rattle.bser_types.proofs.Lists.{items_start, items_next, items_end, list_refused, item_lacks}

@@ -1,9 +1,9 @@
 use Rattle.std.proofs.Common.{◌∙◌, sym, refl, ap}
 use Rattle.std.proofs.lemmas.Result.{err_from_is_err_and}
-use Rattle.bser_due.specs.HoldsMaps.{HoldsEntries, HoldsMap}
-use Rattle.bser_due.specs.State.{State}
+use Rattle.bser_deserializer.specs.HoldsMaps.{HoldsEntries, HoldsMap}
+use Rattle.bser_deserializer.specs.State.{State}
 use Rattle.bser_deserializer.specs.View.{state}
-use Rattle.bser_due.specs.Access.{OpenPairs}
+use Rattle.bser_deserializer.specs.Access.{OpenPairs}
 use Rattle.bser_types.specs.Accesses.{open_pairs}
 use Rattle.bser_types.proofs.Maps.{HoldsPairs, map_start, map_entry, map_end, map_refused, entry_refused, entry_fewer, holds_insert, insert_refused}
 use Rattle.bser_types.proofs.impls.maps.BTreeMapDeserialize.deserialize.Invariants.{types}

@@ -1,9 +1,9 @@
 use Rattle.std.proofs.Common.{◌≡◌}
-use Rattle.bser_due.specs.HoldsMaps.{HoldsEntries}
-use Rattle.bser_due.specs.State.{State}
+use Rattle.bser_deserializer.specs.HoldsMaps.{HoldsEntries}
+use Rattle.bser_deserializer.specs.State.{State}
 use Rattle.bser_deserializer.specs.View.{state}
 use Rattle.bser_types.specs.Accesses.{open_pairs}
-use Rattle.bser_due.specs.Parts.{pairs_left}
+use Rattle.bser_deserializer.specs.Parts.{pairs_left}
 use Rattle.bser_types.proofs.Maps.{MapOf, AtEntry}
 use Rattle.bser_types.proofs.impls.maps.BTreeMapDeserialize.deserialize.Given as goal
 

@@ -1,9 +1,9 @@
 -- An array is read as a list of bytes, and any other value as a string.
 use Rattle.std.proofs.Common.{subst}
 use Rattle.std.proofs.lemmas.Result.{err_from_is_err_and}
-use Rattle.bser_due.specs.State.{State}
-use Rattle.bser_due.specs.Nodes.{SeesNode}
-use Rattle.bser_due.specs.declared.node.Node.TheVariants as kinds
+use Rattle.bser_deserializer.specs.State.{State}
+use Rattle.bser_deserializer.specs.Nodes.{SeesNode}
+use Rattle.bser_deserializer.specs.declared.node.Node.TheVariants as kinds
 use Rattle.bser_deserializer.specs.View.{state}
 use Rattle.bser_deserializer.proofs.Openings.{if_ok, if_err}
 use Rattle.bser_types.proofs.ByteLists.{nothing_seen, array_answers, array_refused, string_answers, string_refused}

@@ -4,7 +4,7 @@ use Rattle.std.specs.Prelude.{chars}
 use Rattle.std.proofs.lemmas.Result.{err_from_is_err_and}
 use Rattle.bser_source.specs.Refs.{text_bytes}
 use Rattle.bser_format.specs.ReadsScalars.{one_char}
-use Rattle.bser_due.specs.State.{State}
+use Rattle.bser_deserializer.specs.State.{State}
 use Rattle.bser_deserializer.specs.View.{state}
 use Rattle.bser_types.proofs.Chars.{char_refused, not_one_char}
 use Rattle.bser_types.proofs.impls.strings.CharDeserialize.deserialize.Goals as goal

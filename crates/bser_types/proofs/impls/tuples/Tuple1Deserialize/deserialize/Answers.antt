@@ -1,7 +1,7 @@
 use Rattle.std.proofs.Common.{◌∙◌, sym, refl, [], ◌∷◌}
 use Rattle.std.proofs.lemmas.Result.{err_from_is_err_and}
-use Rattle.bser_due.specs.State.{State}
-use Rattle.bser_due.specs.Access.{OpenItems}
+use Rattle.bser_deserializer.specs.State.{State}
+use Rattle.bser_deserializer.specs.Access.{OpenItems}
 use Rattle.bser_deserializer.specs.View.{state}
 use Rattle.bser_types.specs.Accesses.{open_items}
 use Rattle.bser_types.proofs.Tuples.{TupleOf, parts_start, parts_next, parts_end, tuple_refused, parts_refused, parts_many}

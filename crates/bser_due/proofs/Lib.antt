@@ -1,4 +1,0 @@
-pub mod Refusals
-pub mod Clean
-pub mod FieldNames
-pub mod Dues

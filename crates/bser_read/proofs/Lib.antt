@@ -1,4 +1,0 @@
-pub mod Windows
-pub mod Refusals
-pub mod Buffers
-pub mod Pulls

@@ -1,5 +1,0 @@
-pub mod Window
-pub mod Refusal
-pub mod Slice
-pub mod Pull
-pub mod Reader
