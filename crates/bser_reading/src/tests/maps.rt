@@ -35,10 +35,10 @@ fn check_entry<K: MapKey>(
 }
 
 /// Checks how many keys the message's map has, and what it has under this one.
-fn check_read<K: MapKey + Deserialize<&'static [u8]>>(
+fn check_read<'a, K: MapKey + Deserialize<&'a [u8]>>(
     rt: &impl Abort,
     alloc: Global,
-    message: &'static [u8],
+    message: &'a [u8],
     len: usize,
     key: &K,
     value: Option<u8>,
