@@ -10,3 +10,4 @@ pub mod Escapes
 pub mod Strays
 pub mod Cuts
 pub mod KeyNames
+pub mod EnumNames

@@ -1,5 +1,5 @@
 //! The name of an enum, as an error keeps it.
-ghost use Rattle.std.specs.Prelude.{◌≡◌, ◌≤◌, ◌<◌, ◌++◌, List, ℕ, length, take, IsUtf8};
+ghost use Rattle.std.specs.Prelude.{◌≡◌, ◌≤◌, ◌<◌, ◌++◌, List, ℕ, length, take, IsUtf8, Some};
 ghost use Rattle.std.specs.Str.{IsCharBoundary};
 
 use std::fmt;
@@ -15,7 +15,7 @@ pub struct EnumName {
 }
 
 impl EnumName {
-    ghost use Rattle.bser_format.specs.EnumName.{kept};
+    ghost use Rattle.bser_format.specs.EnumName.{kept, kept_whole};
 
     /// How many bytes of a name are kept.
     pub const CAPACITY: usize = 60;
@@ -26,6 +26,7 @@ impl EnumName {
         ensures front { (rest : List ℕ) × (name.now ≡ kept result ++ rest) }
         ensures longest { (i : ℕ) → length (kept result) < i → i ≤ 60
             → ¬ (IsCharBoundary name.now i) }
+        ensures known { (enum : EnumName) → kept_whole name.now ≡ Some enum → result ≡ enum }
     {
         let end = name.floor_char_boundary(Self::CAPACITY);
         let front = &name[..end];
