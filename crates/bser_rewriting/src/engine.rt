@@ -1,5 +1,5 @@
 //! One message in, and its canonical or its compact message out.
-ghost use Rattle.std.specs.Prelude.{OnOk, IfErr};
+ghost use Rattle.std.specs.Prelude.{◌≡◌, OnOk, IfErr};
 ghost use Rattle.bser_written.specs.Compact.{fold_templates};
 ghost use Rattle.bser_rewriting.specs.Canon.{Rewrote, RefusesRewriting, canonical_form};
 
@@ -22,6 +22,8 @@ pub fn canon<R: Source, W: Sink>(alloc: Global, reader: &mut R, writer: &mut W) 
     ensures ok { OnOk result
         (Rewrote canonical_form ⟦<Value as Shape>⟧.reads R.remaining W.took
         reader.old reader.new writer.old writer.new) }
+    ensures reader_kept { OnOk result (R.failures reader.new ≡ R.failures reader.old) }
+    ensures writer_kept { OnOk result (W.failures writer.new ≡ W.failures writer.old) }
     ensures refused { IfErr result
         (RefusesRewriting canonical_form ⟦<Value as Shape>⟧.reads
         ⟦<Value as Shape>⟧.asks R.remaining R.failures W.took
@@ -42,6 +44,8 @@ pub fn canon_compact<R: Source, W: Sink>(
     ensures ok { OnOk result
         (Rewrote fold_templates ⟦<Value as Shape>⟧.reads R.remaining W.took
         reader.old reader.new writer.old writer.new) }
+    ensures reader_kept { OnOk result (R.failures reader.new ≡ R.failures reader.old) }
+    ensures writer_kept { OnOk result (W.failures writer.new ≡ W.failures writer.old) }
     ensures refused { IfErr result
         (RefusesRewriting fold_templates ⟦<Value as Shape>⟧.reads
         ⟦<Value as Shape>⟧.asks R.remaining R.failures W.took
