@@ -14,9 +14,10 @@ use std::alloc::Global;
 /// message of that value. What follows the message is left in the reader.
 ///
 /// Answers `Ok` exactly where a front of the bytes left is such a message, want of memory, faults
-/// that the reader or the writer counted and a body above `i64::MAX` bytes aside. Where reading is
-/// refused, nothing is written; where writing is refused, the writer took a beginning of the
-/// message, or nothing where its body could not be measured.
+/// that the reader or the writer counted and a body above `i64::MAX` bytes aside; neither counts a
+/// failure then. Where reading is refused, nothing is written; where writing is refused, the reader
+/// counted no failure, and the writer took a beginning of the message, or nothing where its body
+/// could not be measured.
 #[tactic(auto, using(crate::proofs::Writing::writing_refused))]
 pub fn canon<R: Source, W: Sink>(alloc: Global, reader: &mut R, writer: &mut W) -> Result<()>
     ensures ok { OnOk result
