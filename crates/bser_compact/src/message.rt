@@ -1,5 +1,5 @@
 //! Whole messages in the compact form.
-ghost use Rattle.std.specs.Prelude.{Some, OnOk, OnErr, IfErr};
+ghost use Rattle.std.specs.Prelude.{◌≡◌, Some, OnOk, OnErr, IfErr};
 ghost use Rattle.bser_ser.specs.Message.{Wrote, Missed};
 ghost use Rattle.bser_ser.specs.Sent.{Sent};
 ghost use Rattle.bser_compact.specs.Texts.{compact_tree, Breaks, value_text, items_text, entries_text, rows_text, row_text};
@@ -30,6 +30,7 @@ pub fn serialize_compact<W: Sink>(
     value: &Value,
 ) -> bser_format::errors::Result<()>
     ensures ok { OnOk result (Wrote W.took (Some (compact_tree value.now)) writer.old writer.new) }
+    ensures kept { OnOk result (W.failures writer.new ≡ W.failures writer.old) }
     ensures err { IfErr result
         (Missed W.took W.answered W.failures
         (Some (compact_tree value.now)) writer.old writer.new) }

@@ -5,10 +5,10 @@ use Rattle.bser_format.specs.Grammar.{Format}
 use Rattle.bser_format.specs.Content.{Content, Meaning}
 use Rattle.bser_format.specs.Expected.{Fills}
 use Rattle.bser_format.specs.declared.errors.Error.{Error}
-use Rattle.bser_format.specs.declared.errors.Error.TheVariants.{DeCustom, DeReaderError, OutOfMemory}
+use Rattle.bser_format.specs.declared.errors.Error.TheVariants.{DeCustom, DeReaderError, DeTooLong, SerCustom, SerNeedSize, SerU64TooBig, Io, OutOfMemory}
 use Rattle.bser_format.specs.declared.errors.Message.TheVariants.{Fixed}
 use Rattle.bser_format.specs.declared.errors.Complaint.TheVariants.{BorrowedFromCopying}
-use Rattle.bser_format.specs.declared.errors.ReadCause.TheVariants.{Reader}
+use Rattle.bser_format.specs.declared.errors.ReadCause.TheVariants.{Reader, Memory}
 use Rattle.bser_named.specs.Named as named
 use Rattle.bser_named.specs.Named.{refuses}
 use Rattle.bser_named.specs.DueReaders.{Seen, asked}
@@ -81,11 +81,17 @@ ExcusedBy needs n OutOfMemory s = (s.lends ≡ false) ⊎ (needs.memory ≡ true
 ExcusedBy needs n (DeCustom (Fixed BorrowedFromCopying)) s = (s.lends ≡ false) × (needs.lent ≡ true)
 ExcusedBy needs n e s = Excused n e s
 
--- a refusal by the bytes, the type, the order of the calls or an earlier refusal
+-- a refusal by the bytes, the type, the order of the calls or an earlier refusal; none is an error of writing, or of a limit of bytes
 abbrev pub IsRefusal : Error → Type 0
 IsRefusal OutOfMemory = ⊥
 IsRefusal (DeReaderError (Reader fault)) = ⊥
+IsRefusal (DeReaderError Memory) = ⊥
 IsRefusal (DeCustom (Fixed BorrowedFromCopying)) = ⊥
+IsRefusal (DeTooLong announced most) = ⊥
+IsRefusal (SerCustom msg) = ⊥
+IsRefusal (SerNeedSize kind) = ⊥
+IsRefusal (SerU64TooBig v) = ⊥
+IsRefusal (Io fault) = ⊥
 IsRefusal _ = Unit {0}
 
 -- a refusal that these needs and this source leave room for

@@ -51,6 +51,9 @@ impl<R: DeRead + Drop> Deserializer<R> {
     pub fn new(alloc: Global, read: R) -> Result<Self>
         ensures ok { IfOk result (λ d. Begins 128 (R.window read) (state R.window R.Lent.kept d)) }
         ensures names { IfErr result (λ e. Names named.head e (R.window read)) }
+        ensures before { (R.window read).failed ≡ true
+            → IfErr result (λ e. e ≡ error_of ReadCause.Failed) }
+        ensures memory { IfErr result (λ e. e ≢ Error.OutOfMemory) }
     {
         Self::with_limit(alloc, LEVELS, read)
     }
@@ -63,6 +66,9 @@ impl<R: DeRead + Drop> Deserializer<R> {
         ensures ok { IfOk result (λ d. Begins limit (R.window read)
             (state R.window R.Lent.kept d)) }
         ensures names { IfErr result (λ e. Names named.head e (R.window read)) }
+        ensures before { (R.window read).failed ≡ true
+            → IfErr result (λ e. e ≡ error_of ReadCause.Failed) }
+        ensures memory { IfErr result (λ e. e ≢ Error.OutOfMemory) }
     {
         let mut from = Self::unread(alloc, read);
         match from.read_head(limit) {

@@ -18,8 +18,8 @@ use Rattle.bser_source.specs.Slice.{slice_fresh}
 use Rattle.bser_bunser.specs.Refusal.{failures_by}
 use Rattle.bser_bunser.specs.Names as bunser
 use Rattle.bser_bunser.specs.Names.{Agree, Blame, MayBeLeft, RefusedAs}
-use Rattle.bser_deserializer.specs.Reading.{Asking, OutsideBy, ExcusedBy, MayRefuse, refusing, Needs}
-use Rattle.bser_messages.specs.Messages.{ReadsMessage, NamesMessage, RefusesMessage, IsMemory, NamesSlice, RefusesSlice, CountsFault, MayCome, IsReaderFault, IsOutside, NamesReader, RefusesReader, BeginWithHead}
+use Rattle.bser_deserializer.specs.Reading.{Asking, OutsideBy, ExcusedBy, IsRefusal, MayRefuse, refusing, Needs}
+use Rattle.bser_messages.specs.Messages.{ReadsMessage, NamesMessage, RefusesMessage, IsMemory, NamesSlice, RefusesSlice, MayCome, IsReaderFault, IsOutside, NamesReader, RefusesReader, BeginWithHead}
 
 -- ---- slices
 
@@ -62,10 +62,15 @@ slice_memory needs e bytes may is = go (subst (λ f. MayRefuse needs f (slice_fr
     go (inl h) = absurd h
     go (inr h) = either_is needs.memory needs.keys ((slice_excused (refusing needs) 0 OutOfMemory bytes h).needed)
 
+slice_may : (needs : Needs) (e : Error) (bytes : List ℕ) → MayRefuse needs e (slice_fresh bytes) → IsRefusal e ⊎ (e ≡ OutOfMemory)
+slice_may needs e bytes (inl h) = inl h
+slice_may needs e bytes (inr h) = inr ((slice_excused (refusing needs) 0 e bytes h).memory)
+
 pub slice_refused : (n : ℕ) (reads : Meaning) (asks : Option (Asking reads)) (needs : Needs) (e : Error) (bytes : List ℕ) (a t : Window) → a ≡ slice_fresh bytes → RefusesMessage n reads asks needs e a t → RefusesSlice n reads asks needs e bytes
 slice_refused n reads asks needs e bytes a t fresh v =
     let u : RefusesMessage n reads asks needs e (slice_fresh bytes) t = subst (λ w. RefusesMessage n reads asks needs e w t) fresh v in
     record {
+      may = slice_may needs e bytes u.may;
       names = slice_named n needs asks e bytes u.names;
       excuse = λ text rest c readable known. slice_excused needs (length text) e bytes (u.excuse text rest (c, readable) (ap Some (append-nil bytes ∙ known)));
       memory = slice_memory needs e bytes u.may;
@@ -96,10 +101,6 @@ blamed_more n = go (nat_lt n (2 ^ 64 - 1)) refl
     go : (small : Bool) → nat_lt n (2 ^ 64 - 1) ≡ small → Blamed n (cond small (n + 1) n)
     go true e = inl (omega arith)
     go false e = inr (omega (arith, ltb-false n (2 ^ 64 - 1) e))
-
-fault_counted : (e : Error) (before after : ℕ) → after ≡ failures_by e before → CountsFault before after e
-fault_counted (DeReaderError (Reader fault)) before after same = subst (Blamed before) (sym same) (blamed_more before)
-fault_counted _ before after same = tt
 
 -- what may be left of a reader
 reader_left : (remaining : Option (List ℕ)) (failures : ℕ) (through : Option GName) (b : List ℕ) → MayBeLeft (reader_fresh remaining failures through) b → MayCome remaining b
@@ -134,6 +135,11 @@ reader_excused needs n (DeReaderError Failed) remaining before after through own
 reader_excused needs n (DeReaderError Failed) remaining before after through owned same short (inr h) = absurd (omega (arith, h.1, short))
 reader_excused needs n _ remaining before after through owned same short h = absurd h
 
+reader_may : (needs : Needs) (e : Error) (remaining : Option (List ℕ)) (before after : ℕ) (through : Option GName) → needs.lent ≡ false → after ≡ failures_by e before
+    → MayRefuse needs e (reader_fresh remaining before through) → IsRefusal e ⊎ IsReaderFault before after e
+reader_may needs e remaining before after through owned same (inl h) = inl h
+reader_may needs e remaining before after through owned same (inr h) = inr (reader_excused (refusing needs) 0 e remaining before after through owned same (omega arith) h)
+
 reader_named : {R : Meaning} (n : ℕ) (needs : Needs) (asks : Option (Asking R)) (e : Error) (remaining : Option (List ℕ)) (before after : ℕ) (through : Option GName) → needs.lent ≡ false → after ≡ failures_by e before
     → NamesMessage n needs asks e (reader_fresh remaining before through) → NamesReader n asks e remaining before after
 reader_named n needs None e remaining before after through owned same h = tt
@@ -145,9 +151,9 @@ pub reader_refused : (n : ℕ) (reads : Meaning) (asks : Option (Asking reads)) 
 reader_refused n reads asks needs e a t owned fresh v =
     let u : RefusesMessage n reads asks needs e (reader_fresh a.beyond a.failures a.through) t = subst (λ w. RefusesMessage n reads asks needs e w t) fresh v in
     record {
+      may = reader_may needs e a.beyond a.failures t.failures a.through owned v.failures u.may;
       names = reader_named n needs asks e a.beyond a.failures t.failures a.through owned v.failures u.names;
       excuse = λ text rest c readable known. reader_excused needs (length text) e a.beyond a.failures t.failures a.through owned v.failures readable.message.short (u.excuse text rest (c, readable) (fresh_left a.beyond a.failures a.through (text ++ rest) known));
-      counted = fault_counted e a.failures t.failures v.failures;
     }
 
 -- a head in front of what is left of a reader

@@ -17,7 +17,7 @@ use Rattle.bser_bunser.specs.Refusal.{failures_by}
 use Rattle.bser_bunser.specs.Tagged.{IsHead}
 use Rattle.bser_deserializer.specs.State.{State, Begins}
 use Rattle.bser_bunser.specs.Names.{Agree}
-use Rattle.bser_deserializer.specs.Reading.{Answers, Asking, ExcusedBy, MayRefuse, NamesBy, RefusesFront, Needs}
+use Rattle.bser_deserializer.specs.Reading.{Answers, Asking, ExcusedBy, IsRefusal, MayRefuse, NamesBy, RefusesFront, Needs}
 
 -- ---- what is read
 
@@ -101,8 +101,9 @@ abbrev pub NamesSlice : {R : Meaning} → ℕ → Option (Asking R) → Error �
 NamesSlice n None e bytes = Unit {0}
 NamesSlice n (Some a) e bytes = (named.message (a.asks 0 n node_due) bytes ≡ named.refuses e) ⊎ (e ≡ OutOfMemory)
 
--- a refusal of a slice: no front of it is a message that the type reads, or memory was refused to a type that takes some to read a value; want of memory is named only by a type that may take some
+-- a refusal of a slice: no front of it is a message that the type reads, or memory was refused to a type that takes some to read a value; want of memory is named only by a type that may take some, and else the bytes or the type are to blame
 pub record RefusesSlice (n : ℕ) (reads : Meaning) (asks : Option (Asking reads)) (needs : Needs) (e : Error) (bytes : List ℕ) : Type 0 where
+  pub may : IsRefusal e ⊎ (e ≡ OutOfMemory)
   pub names : NamesSlice n asks e bytes
   pub excuse : (text rest : List ℕ) (c : Content) → ReadsMessageAs n reads text c → bytes ≡ text ++ rest → IsMemory needs e
   pub memory : e ≡ OutOfMemory → (needs.memory ≡ true) ⊎ (needs.keys ≡ true)
@@ -114,11 +115,6 @@ abbrev pub IsReaderFault : ℕ → ℕ → Error → Type 0
 IsReaderFault before after OutOfMemory = Unit {0}
 IsReaderFault before after (DeReaderError (Reader fault)) = Blamed before after
 IsReaderFault before after _ = ⊥
-
--- a fault of the reader is answered only where it counted a failure
-abbrev pub CountsFault : ℕ → ℕ → Error → Type 0
-CountsFault before after (DeReaderError (Reader fault)) = Blamed before after
-CountsFault before after _ = Unit {0}
 
 -- bytes that the reader may still give
 abbrev pub MayCome : Option (List ℕ) → List ℕ → Type 0
@@ -143,8 +139,8 @@ NamesReader n (Some a) e left before after =
     ((b : List ℕ) × MayCome left b × (named.message (a.asks 0 n node_due) b ≡ named.refuses e))
     ⊎ IsOutside (named.message (a.asks 0 n node_due)) left before after e
 
--- a refusal of a reader: no front of the bytes left is a message that the type reads, or memory was refused or the reader failed
+-- a refusal of a reader: no front of the bytes left is a message that the type reads, or memory was refused or the reader failed; a type that holds nothing lent is told of no loan
 pub record RefusesReader (n : ℕ) (reads : Meaning) (asks : Option (Asking reads)) (e : Error) (left : Option (List ℕ)) (before after : ℕ) : Type 0 where
+  pub may : IsRefusal e ⊎ IsReaderFault before after e
   pub names : NamesReader n asks e left before after
   pub excuse : (text rest : List ℕ) (c : Content) → ReadsMessageAs n reads text c → left ≡ Some (text ++ rest) → IsReaderFault before after e
-  pub counted : CountsFault before after e

@@ -28,12 +28,13 @@ pub record Unread {R W : Type 0} (reads : Meaning) (asks : Option (Asking reads)
   pub untouched : after ≡ before
 
 -- exactly one message was taken, which reads as a value, and the writing of that value was refused
-pub record Unwritten {R W : Type 0} (form : Tree → Tree) (reads : Meaning) (left : R → Option (List ℕ)) (took : W → W → List ℕ → Type 0) (answered : Answering W) (faults : W → ℕ) (old new : R) (before after : W) (e : Error) : Type 0 where
+pub record Unwritten {R W : Type 0} (form : Tree → Tree) (reads : Meaning) (left : R → Option (List ℕ)) (failures : R → ℕ) (took : W → W → List ℕ → Type 0) (answered : Answering W) (faults : W → ℕ) (old new : R) (before after : W) (e : Error) : Type 0 where
   pub value : Value
   pub read : TookMessage 128 reads HoldsValue (left old) (left new) value
+  pub kept : failures new ≡ failures old
   pub missed : Missed took answered faults (Some (form (tree_of value))) before after e
 
 -- a refusal, of the reading or of the writing
 abbrev pub RefusesRewriting : {R W : Type 0} → (Tree → Tree) → (reads : Meaning) → Option (Asking reads) → (R → Option (List ℕ)) → (R → ℕ) → (W → W → List ℕ → Type 0) → Answering W → (W → ℕ) → R → R → W → W → Error → Type 0
 RefusesRewriting form reads asks left failures took answered faults old new before after e =
-    Unread reads asks left failures old new before after e ⊎ Unwritten form reads left took answered faults old new before after e
+    Unread reads asks left failures old new before after e ⊎ Unwritten form reads left failures took answered faults old new before after e

@@ -1,5 +1,5 @@
 //! One message in, and its canonical or its compact message out.
-ghost use Rattle.std.specs.Prelude.{OnOk, IfErr};
+ghost use Rattle.std.specs.Prelude.{◌≡◌, OnOk, IfErr};
 ghost use Rattle.bser_written.specs.Compact.{fold_templates};
 ghost use Rattle.bser_rewriting.specs.Canon.{Rewrote, RefusesRewriting, canonical_form};
 
@@ -14,14 +14,17 @@ use std::alloc::Global;
 /// message of that value. What follows the message is left in the reader.
 ///
 /// Answers `Ok` exactly where a front of the bytes left is such a message, want of memory, faults
-/// that the reader or the writer counted and a body above `i64::MAX` bytes aside. Where reading is
-/// refused, nothing is written; where writing is refused, the writer took a beginning of the
-/// message, or nothing where its body could not be measured.
+/// that the reader or the writer counted and a body above `i64::MAX` bytes aside; neither counts a
+/// failure then. Where reading is refused, nothing is written; where writing is refused, the reader
+/// counted no failure, and the writer took a beginning of the message, or nothing where its body
+/// could not be measured.
 #[tactic(auto, using(crate::proofs::Writing::writing_refused))]
 pub fn canon<R: Source, W: Sink>(alloc: Global, reader: &mut R, writer: &mut W) -> Result<()>
     ensures ok { OnOk result
         (Rewrote canonical_form ⟦<Value as Shape>⟧.reads R.remaining W.took
         reader.old reader.new writer.old writer.new) }
+    ensures reader_kept { OnOk result (R.failures reader.new ≡ R.failures reader.old) }
+    ensures writer_kept { OnOk result (W.failures writer.new ≡ W.failures writer.old) }
     ensures refused { IfErr result
         (RefusesRewriting canonical_form ⟦<Value as Shape>⟧.reads
         ⟦<Value as Shape>⟧.asks R.remaining R.failures W.took
@@ -42,6 +45,8 @@ pub fn canon_compact<R: Source, W: Sink>(
     ensures ok { OnOk result
         (Rewrote fold_templates ⟦<Value as Shape>⟧.reads R.remaining W.took
         reader.old reader.new writer.old writer.new) }
+    ensures reader_kept { OnOk result (R.failures reader.new ≡ R.failures reader.old) }
+    ensures writer_kept { OnOk result (W.failures writer.new ≡ W.failures writer.old) }
     ensures refused { IfErr result
         (RefusesRewriting fold_templates ⟦<Value as Shape>⟧.reads
         ⟦<Value as Shape>⟧.asks R.remaining R.failures W.took

@@ -49,6 +49,8 @@ pub fn run<R: Source, W: Sink, E: Sink>(
     ensures done { result ≡ DONE →
         Rewrote (asked args.now) ⟦<Value as Shape>⟧.reads R.remaining W.took
         reader.old reader.new writer.old writer.new }
+    ensures reader_kept { result ≡ DONE → R.failures reader.new ≡ R.failures reader.old }
+    ensures writer_kept { result ≡ DONE → W.failures writer.new ≡ W.failures writer.old }
     ensures quiet { result ≡ DONE → errors.new ≡ errors.old }
     ensures told { result ≡ REFUSED → PutsReport E.took E.failures errors.old errors.new }
     ensures refused { result ≡ REFUSED →
@@ -102,6 +104,8 @@ fn rewrite<R: Source, W: Sink>(
     ensures ok { OnOk result
         (Rewrote (in_form form) ⟦<Value as Shape>⟧.reads R.remaining W.took
         reader.old reader.new writer.old writer.new) }
+    ensures reader_kept { OnOk result (R.failures reader.new ≡ R.failures reader.old) }
+    ensures writer_kept { OnOk result (W.failures writer.new ≡ W.failures writer.old) }
     ensures refused { IfErr result
         (RefusesRewriting (in_form form) ⟦<Value as Shape>⟧.reads
         ⟦<Value as Shape>⟧.asks R.remaining R.failures W.took

@@ -52,7 +52,7 @@ first_fails n m reads asks (Reader fault) remaining new failures through b some 
     record {
       refused = inr (record {
         announced = λ c k text rest h known. inr blamed;
-        refused = record { names = names_fault n asks fault remaining failures b.failures blamed; excuse = λ text rest c readable known. blamed; counted = blamed };
+        refused = record { may = inr blamed; names = names_fault n asks fault remaining failures b.failures blamed; excuse = λ text rest c readable known. blamed };
       });
       some = λ known. blamed;
     }

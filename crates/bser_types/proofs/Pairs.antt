@@ -74,6 +74,16 @@ failed_else : (failed : Bool) → (failed ≡ false → ⊥) → failed ≡ true
 failed_else true h = refl
 failed_else false h = absurd (h refl)
 
+-- a key where a value is due, or after a refusal
+pub key_out_of_turn : (reads : Meaning) (asks : Option (Asking reads)) (needs : Needs) (e : Error) (old new : OpenPairs) → OutOfTurn e old.state new.state
+    → (old.state.source.failed ≡ false → old.pending ≡ true) → RefusesKey reads asks needs e old new.state
+key_out_of_turn reads asks needs e old new out turn = record {
+  counted = λ working read. absurd (let p = turn working in cc);
+  refuses = λ read. failed_before reads asks needs e (complain ValueOpen) (awaiting (pair_key old.wanted) old.state) new.state
+      (failed_else old.state.source.failed (λ working. let p = turn working in cc)) out.name (ap (λ (s : State). s.source) out.state);
+  turn = λ pending. out;
+}
+
 -- a value where a key is due, or after a refusal
 pub value_out_of_turn : (reads : Meaning) (asks : Option (Asking reads)) (needs : Needs) (e : Error) (old new : OpenPairs) → OutOfTurn e old.state new.state
     → (old.state.source.failed ≡ false → old.pending ≡ false) → RefusesValue reads asks needs e old new.state

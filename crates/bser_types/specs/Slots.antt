@@ -6,9 +6,8 @@ use Rattle.bser_format.specs.ReadsHolders.{reads_option, list_of}
 use Rattle.bser_format.specs.ReadsAny.{reads_ignored}
 use Rattle.bser_format.specs.Expected.{Fills}
 use Rattle.bser_named.specs.Clauses.{left_over, out_of_turn}
-use Rattle.bser_source.specs.Window.{closed}
 use Rattle.bser_format.specs.declared.errors.Error.{Error}
-use Rattle.bser_deserializer.specs.State.{State}
+use Rattle.bser_deserializer.specs.State.{State, refused}
 use Rattle.bser_deserializer.specs.Reading.{Asking, Needs}
 use Rattle.bser_deserializer.specs.Access.{OpenPairs, IsValue, RefusesValue}
 use Rattle.bser_types.specs.Fold.{struct_of, read_once}
@@ -128,7 +127,7 @@ read_twice a = if a.pending then left_over a.state.source.failed else out_of_tur
 -- there is a value already
 pub record RefusesTwice (e : Error) (old : OpenPairs) (new : State) : Type 0 where
   pub name : e ≡ read_twice old
-  pub source : new.source ≡ closed old.state.source
+  pub state : new ≡ refused old.state
 
 -- the value is refused, or there is one already
 abbrev pub RefusesOnce : {A : Type 0} → (reads : Meaning) → Option (Asking reads) → Needs → Error → Option A → OpenPairs → State → Type 0
