@@ -116,16 +116,16 @@ abbrev RefusesSome : Option AskedPayload → List Needs → Error → OpenEnum �
 RefusesSome None needs e v z = ⊥
 RefusesSome (Some q) needs e v z = RefusesOne q needs e v z
 
-refused_at : (names : List (List ℕ)) (ps : List Payload) (as : PayloadAskings ps) (needs : List Needs) (place : ℕ) (q : AskedPayload) (e : Error) (v : OpenEnum) (z : State) → asked_at place (labelled names ps) (labelled_askings names ps as) ≡ Some q
-    → RefusesPayloadAt ps as needs place e v z → RefusesOne q needs e v z
-refused_at [] ps as needs place q e v z there r = absurd cc
-refused_at (n ∷ ns) [] as needs place q e v z there r = absurd r
-refused_at (n ∷ ns) (p ∷ ps) as [] place q e v z there r = absurd r
-refused_at (n ∷ ns) (p ∷ ps) as (m ∷ ms) zero q e v z there r =
-    let first : RefusesOne (asking p as.0) (m ∷ ms) e v z = record { some = m; lent = lent_first m.lent (any_lent ms); refuses = r } in
+refused_at : (names : List (List ℕ)) (ps : List Payload) (qs : PayloadAskings ps) (needs : List Needs) (place : ℕ) (q : AskedPayload) (e : Error) (v : OpenEnum) (z : State) → asked_at place (labelled names ps) (labelled_askings names ps qs) ≡ Some q
+    → RefusesPayloadAt ps qs needs place e v z → RefusesOne q needs e v z
+refused_at [] ps qs needs place q e v z there r = absurd cc
+refused_at (n ∷ ns) [] qs needs place q e v z there r = absurd r
+refused_at (n ∷ ns) (p ∷ ps) qs [] place q e v z there r = absurd r
+refused_at (n ∷ ns) (p ∷ ps) qs (m ∷ ms) zero q e v z there r =
+    let first : RefusesOne (asking p qs.0) (m ∷ ms) e v z = record { some = m; lent = lent_first m.lent (any_lent ms); refuses = r } in
     subst (λ (s : Option AskedPayload). RefusesSome s (m ∷ ms) e v z) there first
-refused_at (n ∷ ns) (p ∷ ps) as (m ∷ ms) (suc place) q e v z there r =
-    let o : RefusesOne q ms e v z = refused_at ns ps as.1 ms place q e v z there r in
+refused_at (n ∷ ns) (p ∷ ps) qs (m ∷ ms) (suc place) q e v z there r =
+    let o : RefusesOne q ms e v z = refused_at ns ps qs.1 ms place q e v z there r in
     record {
       some = o.some;
       lent = λ l. lent_later m.lent (any_lent ms) (o.lent l);
@@ -138,10 +138,10 @@ one_read : {B : Type 0} (vs : List (List ℕ × Payload)) (held : B → Content 
 one_read vs held o z v place unit y there opens r = unit_found vs held o z v place y there opens r.0 r.1
 one_read vs held o z v place (holds T) y there opens r = payload_found vs T (λ _ c. held y (variant place c)) held o z v place (tt {0}) y there opens r (λ c h. h)
 
-one_refused : (name : List ℕ) (vs : List (List ℕ × Payload)) (as : VariantAskings vs) (needs : List Needs) (e : Error) (o z : State) (v : OpenEnum) (place : ℕ) (p : Payload) (a : PayloadAsking p) → asked_at place vs as ≡ Some (asking p a) → OpensVariant (names_of vs) o v place
-    → RefusesOne (asking p a) needs e v z → Refuses (reads_enum vs) (asking_enum name vs as) (struct_needs needs) e o z
-one_refused name vs as needs e o z v place unit a there opens r = unit_refused name vs as (struct_needs needs) e o z v place there opens r.refuses
-one_refused name vs as needs e o z v place (holds T) a there opens r = payload_refused name vs as T a r.some (struct_needs needs) e o z v place r.lent (λ b. refl) (λ b. refl) there opens r.refuses
+one_refused : (name : List ℕ) (vs : List (List ℕ × Payload)) (qs : VariantAskings vs) (needs : List Needs) (e : Error) (o z : State) (v : OpenEnum) (place : ℕ) (p : Payload) (a : PayloadAsking p) → asked_at place vs qs ≡ Some (asking p a) → OpensVariant (names_of vs) o v place
+    → RefusesOne (asking p a) needs e v z → Refuses (reads_enum vs) (asking_enum name vs qs) (struct_needs needs) e o z
+one_refused name vs qs needs e o z v place unit a there opens r = unit_refused name vs qs (struct_needs needs) e o z v place there opens r.refuses
+one_refused name vs qs needs e o z v place (holds T) a there opens r = payload_refused name vs qs T a r.some (struct_needs needs) e o z v place r.lent (λ b. refl) (λ b. refl) there opens r.refuses
 
 -- a variant whose name was read, with its payload
 record Opened (names : List (List ℕ)) (ps : List Payload) (o : State) (v : OpenEnum) (place : ℕ) : Type 0 where
@@ -162,10 +162,10 @@ place_known names ps o v place same opens =
     place_inside names ps place u.payload u.there
 
 -- no name is read
-pub name_refused : (name : List ℕ) (names : List (List ℕ)) (ps : List Payload) (as : PayloadAskings ps) (needs : List Needs) (e : Error) (o z : State) → length names ≡ length ps → RefusesVariant name names e o z
-    → Refuses (reads_enum (labelled names ps)) (asking_labelled name names ps as) (struct_needs needs) e o z
-name_refused name names ps as needs e o z same r =
-    enum_refused name (labelled names ps) (labelled_askings names ps as) (struct_needs needs) e o z (subst (λ (ns : List (List ℕ)). RefusesVariant name ns e o z) (sym (all_labelled names ps same)) r)
+pub name_refused : (name : List ℕ) (names : List (List ℕ)) (ps : List Payload) (qs : PayloadAskings ps) (needs : List Needs) (e : Error) (o z : State) → length names ≡ length ps → RefusesVariant name names e o z
+    → Refuses (reads_enum (labelled names ps)) (asking_labelled name names ps qs) (struct_needs needs) e o z
+name_refused name names ps qs needs e o z same r =
+    enum_refused name (labelled names ps) (labelled_askings names ps qs) (struct_needs needs) e o z (subst (λ (ns : List (List ℕ)). RefusesVariant name ns e o z) (sym (all_labelled names ps same)) r)
 
 -- the variant at a place was read
 pub place_read : {B : Type 0} (names : List (List ℕ)) (ps : List Payload) (held : B → Content → Type 0) (o z : State) (v : OpenEnum) (place : ℕ) (y : B) → length names ≡ length ps → OpensVariant names o v place → IsPayloadAt ps place (λ c. held y (variant (0 + place) c)) v z → Answers (reads_enum (labelled names ps)) held o z y
@@ -176,12 +176,12 @@ place_read names ps held o z v place y same opens r =
     one_read (labelled names ps) held o z v place u.payload y u.there u.opens (read_at names ps place u.payload (λ c. held y (variant place c)) v z u.there there)
 
 -- the variant at a place is refused
-pub place_refused : (name : List ℕ) (names : List (List ℕ)) (ps : List Payload) (as : PayloadAskings ps) (needs : List Needs) (e : Error) (o z : State) (v : OpenEnum) (place : ℕ) → length names ≡ length ps → OpensVariant names o v place → RefusesPayloadAt ps as needs place e v z
-    → Refuses (reads_enum (labelled names ps)) (asking_labelled name names ps as) (struct_needs needs) e o z
-place_refused name names ps as needs e o z v place same opens r =
+pub place_refused : (name : List ℕ) (names : List (List ℕ)) (ps : List Payload) (qs : PayloadAskings ps) (needs : List Needs) (e : Error) (o z : State) (v : OpenEnum) (place : ℕ) → length names ≡ length ps → OpensVariant names o v place → RefusesPayloadAt ps qs needs place e v z
+    → Refuses (reads_enum (labelled names ps)) (asking_labelled name names ps qs) (struct_needs needs) e o z
+place_refused name names ps qs needs e o z v place same opens r =
     let u : Opened names ps o v place = opened names ps o v place same opens in
-    let q = place_asked place (labelled names ps) (labelled_askings names ps as) u.payload u.there in
-    one_refused name (labelled names ps) (labelled_askings names ps as) needs e o z v place q.0.payload q.0.asks q.1 u.opens (refused_at names ps as needs place q.0 e v z q.1 r)
+    let q = place_asked place (labelled names ps) (labelled_askings names ps qs) u.payload u.there in
+    one_refused name (labelled names ps) (labelled_askings names ps qs) needs e o z v place q.0.payload q.0.asks q.1 u.opens (refused_at names ps qs needs place q.0 e v z q.1 r)
 
 -- ---- the first and the others
 

@@ -39,11 +39,11 @@ PayloadAskings (p ∷ ps) = PayloadAsking p × PayloadAskings ps
 -- the payload of the variant at this place is refused, as its type's needs allow
 abbrev pub RefusesPayloadAt : (ps : List Payload) → PayloadAskings ps → List Needs → ℕ → Error
     → OpenEnum → State → Type 0
-RefusesPayloadAt [] as ns place e old new = ⊥
-RefusesPayloadAt (p ∷ ps) as [] place e old new = ⊥
-RefusesPayloadAt (p ∷ ps) as (n ∷ ns) zero e old new = RefusesPayloadOf p as.0 n e old new
-RefusesPayloadAt (p ∷ ps) as (n ∷ ns) (suc place) e old new =
-    RefusesPayloadAt ps as.1 ns place e old new
+RefusesPayloadAt [] qs ns place e old new = ⊥
+RefusesPayloadAt (p ∷ ps) qs [] place e old new = ⊥
+RefusesPayloadAt (p ∷ ps) qs (n ∷ ns) zero e old new = RefusesPayloadOf p qs.0 n e old new
+RefusesPayloadAt (p ∷ ps) qs (n ∷ ns) (suc place) e old new =
+    RefusesPayloadAt ps qs.1 ns place e old new
 
 -- the value of the variant at this place, or of one of the others, which come after it
 abbrev pub HoldsOneOf : {A B : Type 0} → (A → Content → Type 0) → (ℕ → B → Content → Type 0)
@@ -59,11 +59,11 @@ labelled _ _ = []
 -- what the payload under each name asks for
 abbrev pub labelled_askings : (ns : List (List ℕ)) → (ps : List Payload) → PayloadAskings ps
     → VariantAskings (labelled ns ps)
-labelled_askings [] ps as = tt
-labelled_askings (n ∷ ns) [] as = tt
-labelled_askings (n ∷ ns) (p ∷ ps) as = (as.0, labelled_askings ns ps as.1)
+labelled_askings [] ps qs = tt
+labelled_askings (n ∷ ns) [] qs = tt
+labelled_askings (n ∷ ns) (p ∷ ps) qs = (qs.0, labelled_askings ns ps qs.1)
 
 -- what names the refusals of an enum of this name, whose variants have these names and payloads
 abbrev pub asking_labelled : (name : List ℕ) → (ns : List (List ℕ)) → (ps : List Payload)
     → PayloadAskings ps → Option (Asking (reads_enum (labelled ns ps)))
-asking_labelled name ns ps as = asking_enum name (labelled ns ps) (labelled_askings ns ps as)
+asking_labelled name ns ps qs = asking_enum name (labelled ns ps) (labelled_askings ns ps qs)

@@ -40,21 +40,21 @@ asking p a = record { payload = p; asks = a }
 
 -- the payload of the variant at this place, and what it asks for
 abbrev pub asked_at : ℕ → (ws : List (List ℕ × Payload)) → VariantAskings ws → Option AskedPayload
-asked_at n [] as = None
-asked_at zero (w ∷ ws) as = Some (asking w.1 as.0)
-asked_at (suc n) (w ∷ ws) as = asked_at n ws as.1
+asked_at n [] qs = None
+asked_at zero (w ∷ ws) qs = Some (asking w.1 qs.0)
+asked_at (suc n) (w ∷ ws) qs = asked_at n ws qs.1
 
 -- it is the payload there
-pub asked_payload : (place : ℕ) (ws : List (List ℕ × Payload)) (as : VariantAskings ws) (q : AskedPayload) → asked_at place ws as ≡ Some q → payload_at place ws ≡ Some q.payload
-asked_payload place [] as q e = absurd cc
-asked_payload zero (w ∷ ws) as q e = ap (option_map (λ (a : AskedPayload). a.payload)) e
-asked_payload (suc n) (w ∷ ws) as q e = asked_payload n ws as.1 q e
+pub asked_payload : (place : ℕ) (ws : List (List ℕ × Payload)) (qs : VariantAskings ws) (q : AskedPayload) → asked_at place ws qs ≡ Some q → payload_at place ws ≡ Some q.payload
+asked_payload place [] qs q e = absurd cc
+asked_payload zero (w ∷ ws) qs q e = ap (option_map (λ (a : AskedPayload). a.payload)) e
+asked_payload (suc n) (w ∷ ws) qs q e = asked_payload n ws qs.1 q e
 
 -- each payload there asks for something, or tells of no names
-pub place_asked : (place : ℕ) (ws : List (List ℕ × Payload)) (as : VariantAskings ws) (p : Payload) → payload_at place ws ≡ Some p → (q : AskedPayload) × (asked_at place ws as ≡ Some q)
-place_asked place [] as p e = absurd cc
-place_asked zero (w ∷ ws) as p e = (asking w.1 as.0, refl)
-place_asked (suc n) (w ∷ ws) as p e = place_asked n ws as.1 p e
+pub place_asked : (place : ℕ) (ws : List (List ℕ × Payload)) (qs : VariantAskings ws) (p : Payload) → payload_at place ws ≡ Some p → (q : AskedPayload) × (asked_at place ws qs ≡ Some q)
+place_asked place [] qs p e = absurd cc
+place_asked zero (w ∷ ws) qs p e = (asking w.1 qs.0, refl)
+place_asked (suc n) (w ∷ ws) qs p e = place_asked n ws qs.1 p e
 
 -- what is asked for inside, where it is told
 abbrev inside_of : {p : Payload} → Option (AskedInside p) → Option Asks
@@ -92,12 +92,12 @@ later_there w ws place q r (Some b) (Some m) others all =
     let h = others m refl in
     record { inside = h.inside; told = h.told; there = ap (λ (t : Option (AllAsked (w ∷ ws))). payload (suc place) (asks_of t)) (sym all) ∙ h.there }
 
-asked_there : (place : ℕ) (ws : List (List ℕ × Payload)) (as : VariantAskings ws) (r : AllAsked ws) (q : AskedPayload) → all_asked ws as ≡ Some r → asked_at place ws as ≡ Some q → AskedThere place ws r q
-asked_there place [] as r q all there = absurd cc
-asked_there zero (w ∷ ws) as r q all there =
-    subst (SomeThere 0 (w ∷ ws) r) there (first_there w ws as.0 r (asked_inside w.1 as.0) (all_asked ws as.1) refl all)
-asked_there (suc n) (w ∷ ws) as r q all there =
-    later_there w ws n q r (asked_inside w.1 as.0) (all_asked ws as.1) (λ t is. asked_there n ws as.1 t q is there) all
+asked_there : (place : ℕ) (ws : List (List ℕ × Payload)) (qs : VariantAskings ws) (r : AllAsked ws) (q : AskedPayload) → all_asked ws qs ≡ Some r → asked_at place ws qs ≡ Some q → AskedThere place ws r q
+asked_there place [] qs r q all there = absurd cc
+asked_there zero (w ∷ ws) qs r q all there =
+    subst (SomeThere 0 (w ∷ ws) r) there (first_there w ws qs.0 r (asked_inside w.1 qs.0) (all_asked ws qs.1) refl all)
+asked_there (suc n) (w ∷ ws) qs r q all there =
+    later_there w ws n q r (asked_inside w.1 qs.0) (all_asked ws qs.1) (λ t is. asked_there n ws qs.1 t q is there) all
 
 -- ---- the enum
 
@@ -109,20 +109,20 @@ same_labels (v ∷ vs) [] fit = absurd fit
 same_labels (v ∷ vs) (w ∷ ws) fit = ap (λ l. l ∷ labels vs) fit.0 ∙ ap (λ ls. w.0 ∷ ls) (same_labels vs ws fit.2)
 
 -- the enum is to be named where its name is kept whole and all payloads tell
-enum_named : (name : List ℕ) (ws : List (List ℕ × Payload)) (as : VariantAskings ws) (needs : Needs) (e : Error) (s : State) → ((enum : EnumName) (r : AllAsked ws) → kept_whole name ≡ Some enum → all_asked ws as ≡ Some r → NamesEnum needs enum r.asks e s)
-    → NamesAsked needs (asking_enum name ws as) e s
-enum_named name ws as needs e s tells = at (kept_whole name) (all_asked ws as) refl refl
+enum_named : (name : List ℕ) (ws : List (List ℕ × Payload)) (qs : VariantAskings ws) (needs : Needs) (e : Error) (s : State) → ((enum : EnumName) (r : AllAsked ws) → kept_whole name ≡ Some enum → all_asked ws qs ≡ Some r → NamesEnum needs enum r.asks e s)
+    → NamesAsked needs (asking_enum name ws qs) e s
+enum_named name ws qs needs e s tells = at (kept_whole name) (all_asked ws qs) refl refl
   where
-    at : (k : Option EnumName) (q : Option (AllAsked ws)) → kept_whole name ≡ k → all_asked ws as ≡ q → NamesAsked needs (asking_kept k q) e s
+    at : (k : Option EnumName) (q : Option (AllAsked ws)) → kept_whole name ≡ k → all_asked ws qs ≡ q → NamesAsked needs (asking_kept k q) e s
     at None q i j = tt
     at (Some enum) None i j = tt
     at (Some enum) (Some r) i j = tells enum r i j
 
 -- a name that is refused
-pub variant_asked : (name : List ℕ) (ws : List (List ℕ × Payload)) (as : VariantAskings ws) (needs : Needs) (e : Error) (s : State) → NamesVariant name (names_of ws) e s → NamesAsked needs (asking_enum name ws as) e s
-variant_asked name ws as needs e s (enum, keeps, named) = enum_named name ws as needs e s told
+pub variant_asked : (name : List ℕ) (ws : List (List ℕ × Payload)) (qs : VariantAskings ws) (needs : Needs) (e : Error) (s : State) → NamesVariant name (names_of ws) e s → NamesAsked needs (asking_enum name ws qs) e s
+variant_asked name ws qs needs e s (enum, keeps, named) = enum_named name ws qs needs e s told
   where
-    told : (only : EnumName) (r : AllAsked ws) → kept_whole name ≡ Some only → all_asked ws as ≡ Some r → NamesEnum needs only r.asks e s
+    told : (only : EnumName) (r : AllAsked ws) → kept_whole name ≡ Some only → all_asked ws qs ≡ Some r → NamesEnum needs only r.asks e s
     told only r i j =
         let whole : NamesBy bare (variant_due only s.opened s.levels (names_of ws) s.due) e s.source = subst (λ (n : EnumName). NamesBy bare (variant_due n s.opened s.levels (names_of ws) s.due) e s.source) (keeps.known only i) named in
         let labelled : NamesBy bare (variant_due only s.opened s.levels (labels r.asks) s.due) e s.source = subst (λ (ns : List (List ℕ)). NamesBy bare (variant_due only s.opened s.levels ns s.due) e s.source) (sym (same_labels r.asks ws r.passes)) whole in
@@ -134,13 +134,13 @@ some_inside T None b is = absurd cc
 some_inside T (Some t) b is = (counted t.asks, ap (λ (c : Option (AskedInside (holds T))). inside_of c) (sym is))
 
 -- a name alone where there has to be a payload
-pub lacking_asked : (name : List ℕ) (ws : List (List ℕ × Payload)) (as : VariantAskings ws) (T : Meaning) (tells : Option (Asking T)) (needs : Needs) (e : Error) (o v z : State) (place : ℕ) → asked_at place ws as ≡ Some (asking (holds T) tells)
-    → Answers (reads_place (names_of ws)) HoldsPlace o v place → LacksPayload e v z → NamesAsked needs (asking_enum name ws as) e o
-lacking_asked name ws as T tells needs e o v z place there a lacks = enum_named name ws as needs e o told
+pub lacking_asked : (name : List ℕ) (ws : List (List ℕ × Payload)) (qs : VariantAskings ws) (T : Meaning) (tells : Option (Asking T)) (needs : Needs) (e : Error) (o v z : State) (place : ℕ) → asked_at place ws qs ≡ Some (asking (holds T) tells)
+    → Answers (reads_place (names_of ws)) HoldsPlace o v place → LacksPayload e v z → NamesAsked needs (asking_enum name ws qs) e o
+lacking_asked name ws qs T tells needs e o v z place there a lacks = enum_named name ws qs needs e o told
   where
-    told : (enum : EnumName) (r : AllAsked ws) → kept_whole name ≡ Some enum → all_asked ws as ≡ Some r → NamesEnum needs enum r.asks e o
+    told : (enum : EnumName) (r : AllAsked ws) → kept_whole name ≡ Some enum → all_asked ws qs ≡ Some r → NamesEnum needs enum r.asks e o
     told enum r i j =
-        let b = asked_there place ws as r (asking (holds T) tells) j there in
+        let b = asked_there place ws qs r (asking (holds T) tells) j there in
         let some = some_inside T tells b.inside b.told in
         let known : Answers (reads_place (labels r.asks)) HoldsPlace o v place = subst (λ (ns : List (List ℕ)). Answers (reads_place ns) HoldsPlace o v place) (sym (same_labels r.asks ws r.passes)) a in
         lacking_named enum r.asks some.0 needs e o v z place (b.there ∙ some.1) known lacks
@@ -181,17 +181,17 @@ opened_inside : (w : WantedPairs) (o : State) (r : Window) → (inside_pairs w o
 opened_inside (entries_of_object k) o r = refl
 opened_inside (fields_of_row ks) o r = refl
 
-pub payload_named_so : (name : List ℕ) (ws : List (List ℕ × Payload)) (as : VariantAskings ws) (p : Payload) (a : PayloadAsking p) (needs : Needs) (e : Error) (o : State) (v : OpenVariant) (place : ℕ) → asked_at place ws as ≡ Some (asking p a)
-    → OpensEntry (names_of ws) o v place → NamesAsked needs (telling p a) e (before_payload v) → NamesAsked needs (asking_enum name ws as) e o
-payload_named_so name ws as p a needs e o v place there h named = enum_named name ws as needs e o told
+pub payload_named_so : (name : List ℕ) (ws : List (List ℕ × Payload)) (qs : VariantAskings ws) (p : Payload) (a : PayloadAsking p) (needs : Needs) (e : Error) (o : State) (v : OpenVariant) (place : ℕ) → asked_at place ws qs ≡ Some (asking p a)
+    → OpensEntry (names_of ws) o v place → NamesAsked needs (telling p a) e (before_payload v) → NamesAsked needs (asking_enum name ws qs) e o
+payload_named_so name ws qs p a needs e o v place there h named = enum_named name ws qs needs e o told
   where
     counts : v.state.opened ≡ one_more o.opened
     counts =
         ap (λ (s : State). s.opened) h.key.state ∙ ap (λ (s : State). s.opened) h.opens.state ∙ opened_inside h.inside.wanted o h.inside.state.source
 
-    told : (enum : EnumName) (r : AllAsked ws) → kept_whole name ≡ Some enum → all_asked ws as ≡ Some r → NamesEnum needs enum r.asks e o
+    told : (enum : EnumName) (r : AllAsked ws) → kept_whole name ≡ Some enum → all_asked ws qs ≡ Some r → NamesEnum needs enum r.asks e o
     told enum r i j =
-        let b = asked_there place ws as r (asking p a) j there in
+        let b = asked_there place ws qs r (asking p a) j there in
         let opens : OpensEntry (labels r.asks) o v place = subst (λ (ns : List (List ℕ)). OpensEntry ns o v place) (sym (same_labels r.asks ws r.passes)) h in
         let said = payload_told p a b.inside needs e o.opened v h.inside.wanted b.told h.payload counts named in
         payload_named enum r.asks needs e o v place opens (subst (λ (P : Option Asks). NamesBy needs (payload_asked P (suc o.opened) v.state.levels v.payload) e v.state.source) (sym b.there) said)

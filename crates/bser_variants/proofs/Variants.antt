@@ -107,10 +107,10 @@ entry_begins vs s all k u d filled read =
     )
 
 -- where no variant begins, no enum is due
-pub enum_refused : (name : List ℕ) (vs : List (List ℕ × Payload)) (as : VariantAskings vs) (needs : Needs) (e : Error) (s z : State) → RefusesVariant name (names_of vs) e s z → Refuses (reads_enum vs) (asking_enum name vs as) needs e s z
-enum_refused name vs as needs e s z u =
-    first_part needs (BeginsVariant (names_of vs) s) (FillsReadably (reads_enum vs) s) (NamesAsked needs (asking_enum name vs as) e s) (NamesAsked needs (asking_enum name vs as) e s) e s.source z.source split (λ n. n)
-    (with_needs needs (BeginsVariant (names_of vs) s) (NamesVariant name (names_of vs) e s) (NamesAsked needs (asking_enum name vs as) e s) e s.source z.source (variant_asked name vs as needs e s) u)
+pub enum_refused : (name : List ℕ) (vs : List (List ℕ × Payload)) (qs : VariantAskings vs) (needs : Needs) (e : Error) (s z : State) → RefusesVariant name (names_of vs) e s z → Refuses (reads_enum vs) (asking_enum name vs qs) needs e s z
+enum_refused name vs qs needs e s z u =
+    first_part needs (BeginsVariant (names_of vs) s) (FillsReadably (reads_enum vs) s) (NamesAsked needs (asking_enum name vs qs) e s) (NamesAsked needs (asking_enum name vs qs) e s) e s.source z.source split (λ n. n)
+    (with_needs needs (BeginsVariant (names_of vs) s) (NamesVariant name (names_of vs) e s) (NamesAsked needs (asking_enum name vs qs) e s) e s.source z.source (variant_asked name vs qs needs e s) u)
   where
     split : (all : List ℕ) → FillsReadably (reads_enum vs) s all → (first : List ℕ) × (second : List ℕ) × (all ≡ first ++ second) × BeginsVariant (names_of vs) s first
     split all f = at (forms vs f.tree f.content f.read)
@@ -268,18 +268,18 @@ no_name_there vs n key_due w t c head all rest ys h f read e = h
 no_name_there vs n (name_due k) w t c head all rest ys h f read e = h
 
 -- the payload of an object is refused
-entry_refused : (name : List ℕ) (vs : List (List ℕ × Payload)) (as : VariantAskings vs) (p : Payload) (a : PayloadAsking p) (some needs : Needs) (e : Error) (o z : State) (v : OpenVariant) (place : ℕ) → (some.lent ≡ true → needs.lent ≡ true)
-    → (some.memory ≡ true → needs.memory ≡ true) → (some.memory || some.keys ≡ true → needs.memory || needs.keys ≡ true) → asked_at place vs as ≡ Some (asking p a)
-    → OpensEntry (names_of vs) o v place → Refuses (reading p) (telling p a) some e (before_payload v) z → Refuses (reads_enum vs) (asking_enum name vs as) needs e o z
-entry_refused name vs as p a some needs e o z v place lent memory takes there h refuses = record {
+entry_refused : (name : List ℕ) (vs : List (List ℕ × Payload)) (qs : VariantAskings vs) (p : Payload) (a : PayloadAsking p) (some needs : Needs) (e : Error) (o z : State) (v : OpenVariant) (place : ℕ) → (some.lent ≡ true → needs.lent ≡ true)
+    → (some.memory ≡ true → needs.memory ≡ true) → (some.memory || some.keys ≡ true → needs.memory || needs.keys ≡ true) → asked_at place vs qs ≡ Some (asking p a)
+    → OpensEntry (names_of vs) o v place → Refuses (reading p) (telling p a) some e (before_payload v) z → Refuses (reads_enum vs) (asking_enum name vs qs) needs e o z
+entry_refused name vs qs p a some needs e o z v place lent memory takes there h refuses = record {
   fails = u.fails;
   may = u.may;
-  names = payload_named_so name vs as p a needs e o v place there h wide.names;
+  names = payload_named_so name vs qs p a needs e o v place there h wide.names;
   excuse = λ text rest f known. u.excuse text rest (fit text rest f known) known;
 }
   where
     i : Entered vs o v place p h.inside
-    i = entered vs o v place p (asked_payload place vs as (asking p a) there) h
+    i = entered vs o v place p (asked_payload place vs qs (asking p a) there) h
 
     t : OpenPairs
     t = after_key h.inside v
@@ -335,20 +335,20 @@ unit_found vs held o z (name_alone s) place y there opens is keeps = bare_found 
 unit_found vs held o z (with_payload v) place y there opens is keeps =
     entry_found vs (λ _ c. c ≡ one) held o z v place unit (tt {0}) y there opens is (λ c h. subst (λ d. held y (variant place d)) (sym h) keeps)
 
-pub unit_refused : (name : List ℕ) (vs : List (List ℕ × Payload)) (as : VariantAskings vs) (needs : Needs) (e : Error) (o z : State) (v : OpenEnum) (place : ℕ) → asked_at place vs as ≡ Some (asking unit tt) → OpensVariant (names_of vs) o v place
-    → RefusesUnitVariant e v z → Refuses (reads_enum vs) (asking_enum name vs as) needs e o z
-unit_refused name vs as needs e o z (name_alone s) place there opens refuses = absurd refuses
-unit_refused name vs as needs e o z (with_payload v) place there opens refuses = entry_refused name vs as unit tt bare needs e o z v place (λ b. absurd cc) (λ b. absurd cc) (λ b. absurd cc) there opens refuses
+pub unit_refused : (name : List ℕ) (vs : List (List ℕ × Payload)) (qs : VariantAskings vs) (needs : Needs) (e : Error) (o z : State) (v : OpenEnum) (place : ℕ) → asked_at place vs qs ≡ Some (asking unit tt) → OpensVariant (names_of vs) o v place
+    → RefusesUnitVariant e v z → Refuses (reads_enum vs) (asking_enum name vs qs) needs e o z
+unit_refused name vs qs needs e o z (name_alone s) place there opens refuses = absurd refuses
+unit_refused name vs qs needs e o z (with_payload v) place there opens refuses = entry_refused name vs qs unit tt bare needs e o z v place (λ b. absurd cc) (λ b. absurd cc) (λ b. absurd cc) there opens refuses
 
 pub payload_found : {A B : Type 0} (vs : List (List ℕ × Payload)) (T : Meaning) (holding : A → Content → Type 0) (held : B → Content → Type 0) (o z : State) (v : OpenEnum) (place : ℕ) (x : A) (y : B) → payload_at place vs ≡ Some (holds T)
     → OpensVariant (names_of vs) o v place → IsPayload T holding v z x → ((c : Content) → holding x c → held y (variant place c)) → Answers (reads_enum vs) held o z y
 payload_found vs T holding held o z (name_alone s) place x y there opens is keeps = absurd is
 payload_found vs T holding held o z (with_payload v) place x y there opens is keeps = entry_found vs holding held o z v place (holds T) x y there opens is keeps
 
-pub payload_refused : (name : List ℕ) (vs : List (List ℕ × Payload)) (as : VariantAskings vs) (T : Meaning) (tells : Option (Asking T)) (some needs : Needs) (e : Error) (o z : State) (v : OpenEnum) (place : ℕ) → (some.lent ≡ true → needs.lent ≡ true)
-    → (some.memory ≡ true → needs.memory ≡ true) → (some.memory || some.keys ≡ true → needs.memory || needs.keys ≡ true) → asked_at place vs as ≡ Some (asking (holds T) tells)
-    → OpensVariant (names_of vs) o v place → RefusesPayload T tells some e v z → Refuses (reads_enum vs) (asking_enum name vs as) needs e o z
-payload_refused name vs as T tells some needs e o z (name_alone s) place lent memory takes there opens refuses =
-    bare_refused vs (asking_enum name vs as) T needs e o s z place (asked_payload place vs as (asking (holds T) tells) there) opens refuses
-    (lacking_asked name vs as T tells needs e o s z place there opens refuses)
-payload_refused name vs as T tells some needs e o z (with_payload v) place lent memory takes there opens refuses = entry_refused name vs as (holds T) tells some needs e o z v place lent memory takes there opens refuses
+pub payload_refused : (name : List ℕ) (vs : List (List ℕ × Payload)) (qs : VariantAskings vs) (T : Meaning) (tells : Option (Asking T)) (some needs : Needs) (e : Error) (o z : State) (v : OpenEnum) (place : ℕ) → (some.lent ≡ true → needs.lent ≡ true)
+    → (some.memory ≡ true → needs.memory ≡ true) → (some.memory || some.keys ≡ true → needs.memory || needs.keys ≡ true) → asked_at place vs qs ≡ Some (asking (holds T) tells)
+    → OpensVariant (names_of vs) o v place → RefusesPayload T tells some e v z → Refuses (reads_enum vs) (asking_enum name vs qs) needs e o z
+payload_refused name vs qs T tells some needs e o z (name_alone s) place lent memory takes there opens refuses =
+    bare_refused vs (asking_enum name vs qs) T needs e o s z place (asked_payload place vs qs (asking (holds T) tells) there) opens refuses
+    (lacking_asked name vs qs T tells needs e o s z place there opens refuses)
+payload_refused name vs qs T tells some needs e o z (with_payload v) place lent memory takes there opens refuses = entry_refused name vs qs (holds T) tells some needs e o z v place lent memory takes there opens refuses

@@ -53,8 +53,8 @@ joined _ _ = None
 
 -- what all payloads ask for, where they all tell
 abbrev pub all_asked : (ws : List (List ℕ × Payload)) → VariantAskings ws → Option (AllAsked ws)
-all_asked [] as = Some (record { asks = []; passes = tt })
-all_asked (w ∷ ws) as = joined (asked_inside w.1 as.0) (all_asked ws as.1)
+all_asked [] qs = Some (record { asks = []; passes = tt })
+all_asked (w ∷ ws) qs = joined (asked_inside w.1 qs.0) (all_asked ws qs.1)
 
 -- ---- enums
 
@@ -73,4 +73,4 @@ asking_kept _ _ = None
 -- an enum of this name and these variants, where its name is kept whole and all payloads tell
 abbrev pub asking_enum : (name : List ℕ) → (ws : List (List ℕ × Payload)) → VariantAskings ws
     → Option (Asking (reads_enum ws))
-asking_enum name ws as = asking_kept (kept_whole name) (all_asked ws as)
+asking_enum name ws qs = asking_kept (kept_whole name) (all_asked ws qs)
