@@ -1,5 +1,5 @@
 -- What the type of an object refuses, and the other type of anything else, is refused by its name.
-use Rattle.std.proofs.Common.{◌≡◌, Bool, true, false, List, ℕ, Option, Some, None, ap, ◌∙◌}
+use Rattle.std.proofs.Common.{◌≡◌, true, false, Option, Some, None, ap, ◌∙◌}
 use Rattle.bser_format.specs.Content.{Meaning}
 use Rattle.bser_named.specs.DueReaders.{Seen, seen}
 use Rattle.bser_named.specs.Asks.{by_sight}

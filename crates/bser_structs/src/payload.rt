@@ -40,7 +40,7 @@ pub trait ReadPayload<L: LendsText> {
     ghost needs: { Needs };
 
     // what names its refusals, where its type tells of names
-    ghost asks: { (p : Self) → PayloadAsking (Self.payload p) };
+    ghost asks: { (p : Self) → PayloadAsking (payload p) };
 
     /// Reads the payload of the variant whose name was read, in the object or row of this head, or
     /// of a name that stands alone, and closes the object.

@@ -40,7 +40,7 @@ pub trait ReadPayloads<L: LendsText> {
     ghost needs: { List Needs };
 
     // what names the refusals of each of them, where its type tells of names
-    ghost asks: { (t : Self) → PayloadAskings (Self.payloads t) };
+    ghost asks: { (t : Self) → PayloadAskings (payloads t) };
 
     /// Reads the payload of the variant at this place.
     ///

@@ -1,6 +1,5 @@
 -- What names the refusals of an enum, by what its payloads ask for.
-use Rattle.std.specs.Prelude.{◌≡◌, refl, ℕ, List, [], ◌∷◌, Option, Some, None}
-use Rattle.bser_format.specs.Content.{Meaning}
+use Rattle.std.specs.Prelude.{refl, ℕ, List, [], ◌∷◌, Option, Some, None}
 use Rattle.bser_format.specs.EnumName.{kept_whole}
 use Rattle.bser_format.specs.Enums.{Payload, unit, holds, reads_enum}
 use Rattle.bser_format.specs.declared.errors.name.EnumName.{EnumName}
