@@ -9,11 +9,13 @@ use Rattle.bser_deserializer.specs.Reading.{Answers, Asking, Refuses, Needs}
 use Rattle.bser_deserializer.specs.State.{State, awaiting}
 use Rattle.bser_deserializer.specs.declared.frames.MapHead.{MapHead}
 use Rattle.bser_types.specs.Slots.{any_lent, struct_needs}
+use Rattle.bser_variants.specs.Askings.{PayloadAsking, VariantAskings, asking_enum}
 use Rattle.bser_variants.specs.EnumAccess.{enum_head}
 use Rattle.bser_variants.specs.Variants.{OpenEnum, name_alone, with_payload, OpensVariant, RefusesVariant, payload_due}
+use Rattle.bser_variants.proofs.Askings.{AskedPayload, asking, asked_at, place_asked}
 use Rattle.bser_variants.proofs.VariantNames.{payload_at, names_of}
 use Rattle.bser_variants.proofs.Variants.{place_there, enum_refused, unit_found, unit_refused, payload_found, payload_refused}
-use Rattle.bser_structs.specs.Payloads.{IsPayloadOf, RefusesPayloadOf, IsPayloadAt, RefusesPayloadAt, labelled}
+use Rattle.bser_structs.specs.Payloads.{IsPayloadOf, RefusesPayloadOf, IsPayloadAt, PayloadAskings, RefusesPayloadAt, labelled, labelled_askings, asking_labelled}
 
 -- ---- one payload
 
@@ -37,10 +39,8 @@ held_read T held h o m b z x due a closed =
     }
 
 -- the same, where it is refused
-pub held_refused : (T : Meaning) (asks : Option (Asking T)) (needs : Needs) (e : Error) (h : MapHead) (o m z : State) → m ≡ awaiting (payload_due h.row) o → Refuses T asks needs e m z → RefusesPayloadOf (holds T) needs e (enum_head (Some h) o) z
-held_refused T asks needs e h o m z due r =
-    let at : Refuses T asks needs e (awaiting (payload_due h.row) o) z = subst (λ (s : State). Refuses T asks needs e s z) due r in
-    record { fails = at.fails; may = at.may; names = tt; excuse = at.excuse }
+pub held_refused : (T : Meaning) (asks : Option (Asking T)) (needs : Needs) (e : Error) (h : MapHead) (o m z : State) → m ≡ awaiting (payload_due h.row) o → Refuses T asks needs e m z → RefusesPayloadOf (holds T) asks needs e (enum_head (Some h) o) z
+held_refused T asks needs e h o m z due r = subst (λ (s : State). Refuses T asks needs e s z) due r
 
 -- what is kept of a payload may be told in other words
 kept_as : (p : Payload) (K L : Content → Type 0) (v : OpenEnum) (z : State) → ((c : Content) → K c → L c) → IsPayloadOf p K v z → IsPayloadOf p L v z
@@ -106,24 +106,26 @@ lent_later true b e = refl
 lent_later false b e = e
 
 -- a payload is refused, whose type needs no more than all do
-record RefusesOne (p : Payload) (needs : List Needs) (e : Error) (v : OpenEnum) (z : State) : Type 0 where
+record RefusesOne (q : AskedPayload) (needs : List Needs) (e : Error) (v : OpenEnum) (z : State) : Type 0 where
   some : Needs
   lent : some.lent ≡ true → any_lent needs ≡ true
-  refuses : RefusesPayloadOf p some e v z
+  refuses : RefusesPayloadOf q.payload q.asks some e v z
 
-refused_at : (names : List (List ℕ)) (ps : List Payload) (needs : List Needs) (place : ℕ) (p : Payload) (e : Error) (v : OpenEnum) (z : State) → payload_at place (labelled names ps) ≡ Some p → RefusesPayloadAt ps needs place e v z → RefusesOne p needs e v z
-refused_at [] ps needs place p e v z there r = absurd cc
-refused_at (n ∷ ns) [] needs place p e v z there r = absurd r
-refused_at (n ∷ ns) (q ∷ ps) [] place p e v z there r = absurd r
-refused_at (n ∷ ns) (q ∷ ps) (m ∷ ms) zero p e v z there r =
-    let same : q ≡ p = cc in
-    record {
-      some = m;
-      lent = lent_first m.lent (any_lent ms);
-      refuses = subst (λ (s : Payload). RefusesPayloadOf s m e v z) same r;
-    }
-refused_at (n ∷ ns) (q ∷ ps) (m ∷ ms) (suc place) p e v z there r =
-    let o : RefusesOne p ms e v z = refused_at ns ps ms place p e v z there r in
+-- the same of one that is there
+abbrev RefusesSome : Option AskedPayload → List Needs → Error → OpenEnum → State → Type 0
+RefusesSome None needs e v z = ⊥
+RefusesSome (Some q) needs e v z = RefusesOne q needs e v z
+
+refused_at : (names : List (List ℕ)) (ps : List Payload) (qs : PayloadAskings ps) (needs : List Needs) (place : ℕ) (q : AskedPayload) (e : Error) (v : OpenEnum) (z : State) → asked_at place (labelled names ps) (labelled_askings names ps qs) ≡ Some q
+    → RefusesPayloadAt ps qs needs place e v z → RefusesOne q needs e v z
+refused_at [] ps qs needs place q e v z there r = absurd cc
+refused_at (n ∷ ns) [] qs needs place q e v z there r = absurd r
+refused_at (n ∷ ns) (p ∷ ps) qs [] place q e v z there r = absurd r
+refused_at (n ∷ ns) (p ∷ ps) qs (m ∷ ms) zero q e v z there r =
+    let first : RefusesOne (asking p qs.0) (m ∷ ms) e v z = record { some = m; lent = lent_first m.lent (any_lent ms); refuses = r } in
+    subst (λ (s : Option AskedPayload). RefusesSome s (m ∷ ms) e v z) there first
+refused_at (n ∷ ns) (p ∷ ps) qs (m ∷ ms) (suc place) q e v z there r =
+    let o : RefusesOne q ms e v z = refused_at ns ps qs.1 ms place q e v z there r in
     record {
       some = o.some;
       lent = λ l. lent_later m.lent (any_lent ms) (o.lent l);
@@ -136,9 +138,10 @@ one_read : {B : Type 0} (vs : List (List ℕ × Payload)) (held : B → Content 
 one_read vs held o z v place unit y there opens r = unit_found vs held o z v place y there opens r.0 r.1
 one_read vs held o z v place (holds T) y there opens r = payload_found vs T (λ _ c. held y (variant place c)) held o z v place (tt {0}) y there opens r (λ c h. h)
 
-one_refused : (vs : List (List ℕ × Payload)) (needs : List Needs) (e : Error) (o z : State) (v : OpenEnum) (place : ℕ) (p : Payload) → payload_at place vs ≡ Some p → OpensVariant (names_of vs) o v place → RefusesOne p needs e v z → Refuses (reads_enum vs) None (struct_needs needs) e o z
-one_refused vs needs e o z v place unit there opens r = unit_refused vs (struct_needs needs) e o z v place there opens r.refuses
-one_refused vs needs e o z v place (holds T) there opens r = payload_refused vs T None r.some (struct_needs needs) e o z v place r.lent (λ b. refl) (λ b. refl) there opens r.refuses
+one_refused : (name : List ℕ) (vs : List (List ℕ × Payload)) (qs : VariantAskings vs) (needs : List Needs) (e : Error) (o z : State) (v : OpenEnum) (place : ℕ) (p : Payload) (a : PayloadAsking p) → asked_at place vs qs ≡ Some (asking p a) → OpensVariant (names_of vs) o v place
+    → RefusesOne (asking p a) needs e v z → Refuses (reads_enum vs) (asking_enum name vs qs) (struct_needs needs) e o z
+one_refused name vs qs needs e o z v place unit a there opens r = unit_refused name vs qs (struct_needs needs) e o z v place there opens r.refuses
+one_refused name vs qs needs e o z v place (holds T) a there opens r = payload_refused name vs qs T a r.some (struct_needs needs) e o z v place r.lent (λ b. refl) (λ b. refl) there opens r.refuses
 
 -- a variant whose name was read, with its payload
 record Opened (names : List (List ℕ)) (ps : List Payload) (o : State) (v : OpenEnum) (place : ℕ) : Type 0 where
@@ -159,9 +162,10 @@ place_known names ps o v place same opens =
     place_inside names ps place u.payload u.there
 
 -- no name is read
-pub name_refused : (name : List ℕ) (names : List (List ℕ)) (ps : List Payload) (needs : List Needs) (e : Error) (o z : State) → length names ≡ length ps → RefusesVariant name names e o z → Refuses (reads_enum (labelled names ps)) None (struct_needs needs) e o z
-name_refused name names ps needs e o z same r =
-    enum_refused name (labelled names ps) (struct_needs needs) e o z (subst (λ (ns : List (List ℕ)). RefusesVariant name ns e o z) (sym (all_labelled names ps same)) r)
+pub name_refused : (name : List ℕ) (names : List (List ℕ)) (ps : List Payload) (qs : PayloadAskings ps) (needs : List Needs) (e : Error) (o z : State) → length names ≡ length ps → RefusesVariant name names e o z
+    → Refuses (reads_enum (labelled names ps)) (asking_labelled name names ps qs) (struct_needs needs) e o z
+name_refused name names ps qs needs e o z same r =
+    enum_refused name (labelled names ps) (labelled_askings names ps qs) (struct_needs needs) e o z (subst (λ (ns : List (List ℕ)). RefusesVariant name ns e o z) (sym (all_labelled names ps same)) r)
 
 -- the variant at a place was read
 pub place_read : {B : Type 0} (names : List (List ℕ)) (ps : List Payload) (held : B → Content → Type 0) (o z : State) (v : OpenEnum) (place : ℕ) (y : B) → length names ≡ length ps → OpensVariant names o v place → IsPayloadAt ps place (λ c. held y (variant (0 + place) c)) v z → Answers (reads_enum (labelled names ps)) held o z y
@@ -172,10 +176,12 @@ place_read names ps held o z v place y same opens r =
     one_read (labelled names ps) held o z v place u.payload y u.there u.opens (read_at names ps place u.payload (λ c. held y (variant place c)) v z u.there there)
 
 -- the variant at a place is refused
-pub place_refused : (names : List (List ℕ)) (ps : List Payload) (needs : List Needs) (e : Error) (o z : State) (v : OpenEnum) (place : ℕ) → length names ≡ length ps → OpensVariant names o v place → RefusesPayloadAt ps needs place e v z → Refuses (reads_enum (labelled names ps)) None (struct_needs needs) e o z
-place_refused names ps needs e o z v place same opens r =
+pub place_refused : (name : List ℕ) (names : List (List ℕ)) (ps : List Payload) (qs : PayloadAskings ps) (needs : List Needs) (e : Error) (o z : State) (v : OpenEnum) (place : ℕ) → length names ≡ length ps → OpensVariant names o v place → RefusesPayloadAt ps qs needs place e v z
+    → Refuses (reads_enum (labelled names ps)) (asking_labelled name names ps qs) (struct_needs needs) e o z
+place_refused name names ps qs needs e o z v place same opens r =
     let u : Opened names ps o v place = opened names ps o v place same opens in
-    one_refused (labelled names ps) needs e o z v place u.payload u.there u.opens (refused_at names ps needs place u.payload e v z u.there r)
+    let q = place_asked place (labelled names ps) (labelled_askings names ps qs) u.payload u.there in
+    one_refused name (labelled names ps) (labelled_askings names ps qs) needs e o z v place q.0.payload q.0.asks q.1 u.opens (refused_at names ps qs needs place q.0 e v z q.1 r)
 
 -- ---- the first and the others
 

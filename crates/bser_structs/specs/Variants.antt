@@ -6,18 +6,20 @@ use Rattle.bser_written.specs.Written.{variant_tree}
 use Rattle.bser_format.specs.Content.{Content, one, Meaning}
 use Rattle.bser_format.specs.Enums.{Payload, holds, reads_enum}
 use Rattle.bser_format.specs.Enums as enums
-use Rattle.bser_deserializer.specs.Reading.{bare, Needs}
+use Rattle.bser_deserializer.specs.Reading.{Asking, bare, Needs}
 use Rattle.bser_types.specs.Slots.{struct_needs}
+use Rattle.bser_variants.specs.Askings.{PayloadAsking, VariantAskings, asking_enum}
 use Rattle.bser_variants.specs.Variants.{HoldsVariant}
 use Rattle.bser_structs.specs.Fields.{Coding, FieldOf, required, optional, nullable, reads_fields, HoldsFields, fields_needs, asking_fields, fields_tree}
 
 -- ---- variants
 
--- a variant of an enum: its name, what its payload is read as, which values are of it, and what they hold and are written as
+-- a variant of an enum: its name, what its payload is read as and asks for, which values are of it, and what they hold and are written as
 pub record VariantOf (A : Type 0) : Type 1 where
   pub name : List ℕ
   pub payload : Payload
   pub needs : Needs
+  pub asks : PayloadAsking payload
   pub is : A → Bool
   pub holds : A → Content → Type 0
   pub tree : A → Option Tree
@@ -29,6 +31,7 @@ unit name is =
       name = name;
       payload = enums.unit;
       needs = bare;
+      asks = tt;
       is = is;
       holds = λ _ c. c ≡ one;
       tree = λ _. Some (text name);
@@ -46,6 +49,7 @@ newtype name part type =
       name = name;
       payload = holds type.reads;
       needs = type.needs;
+      asks = type.asks;
       is = λ v. is_some (part v);
       holds = λ v. HoldsPart type.holds (part v);
       tree = λ v. option_and_then (λ x. variant_tree name (type.tree x)) (part v);
@@ -101,9 +105,13 @@ with_fields name fs part = newtype name part (fields_coding fs)
 
 -- ---- enums
 
+-- the names of the variants, each with its payload
+abbrev pub payloads_of : {A : Type 0} → List (VariantOf A) → List (List ℕ × Payload)
+payloads_of fs = map (λ f. (f.name, f.payload)) fs
+
 -- the name of one of these variants, with its payload
 abbrev pub reads_variants : {A : Type 0} → List (VariantOf A) → Meaning
-reads_variants fs = reads_enum (map (λ f. (f.name, f.payload)) fs)
+reads_variants fs = reads_enum (payloads_of fs)
 
 -- one of two
 abbrev pub OneOrOther : Bool → (Content → Type 0) → (Content → Type 0) → Content → Type 0
@@ -123,6 +131,16 @@ HoldsVariants fs v c = HoldsFrom 0 fs v c
 -- what reading the variants needs
 abbrev pub variants_needs : {A : Type 0} → List (VariantOf A) → Needs
 variants_needs fs = struct_needs (map (λ f. f.needs) fs)
+
+-- what each payload asks for, where its type tells of names
+abbrev pub each_payload : {A : Type 0} → (fs : List (VariantOf A)) → VariantAskings (payloads_of fs)
+each_payload [] = tt
+each_payload (f ∷ fs) = (f.asks, each_payload fs)
+
+-- what names the refusals of the enum of this name, where all its payloads tell and it has at most 60 bytes
+abbrev pub asking_variants : {A : Type 0} → List ℕ → (fs : List (VariantOf A))
+    → Option (Asking (reads_variants fs))
+asking_variants name fs = asking_enum name (payloads_of fs) (each_payload fs)
 
 -- the tree that the enum is written as
 abbrev pub variants_tree : {A : Type 0} → List (VariantOf A) → A → Option Tree

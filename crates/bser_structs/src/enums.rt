@@ -1,10 +1,10 @@
 //! The list of an enum's variants, and reading and writing an enum by it.
-ghost use Rattle.std.specs.Prelude.{◌≡◌, List, None, length, map, IfOk, OnErr};
+ghost use Rattle.std.specs.Prelude.{◌≡◌, List, length, map, IfOk, OnErr};
 ghost use Rattle.bser_format.specs.Enums.{reads_enum};
 ghost use Rattle.bser_deserializer.specs.Reading.{Answers, Refuses};
 ghost use Rattle.bser_deserializer.specs.View.{state, refusal_in};
 ghost use Rattle.bser_types.specs.Slots.{struct_needs};
-ghost use Rattle.bser_structs.specs.Payloads.{labelled};
+ghost use Rattle.bser_structs.specs.Payloads.{labelled, asking_labelled};
 ghost use Rattle.bser_structs.specs.Variants.{VariantOf};
 
 use crate::payloads::ReadPayloads;
@@ -44,7 +44,8 @@ where
         (state R.window R.Lent.kept from.old) (state R.window R.Lent.kept from.new)) }
     ensures refused { OnErr result (Refuses
         (reads_enum (labelled (map (λ r. r.now) names.now) (P.payloads payloads.now)))
-        None (struct_needs P.needs) (refusal_in from.new)
+        (asking_labelled name.now (map (λ r. r.now) names.now) (P.payloads payloads.now)
+        (P.asks payloads.now)) (struct_needs P.needs) (refusal_in from.new)
         (state R.window R.Lent.kept from.old) (state R.window R.Lent.kept from.new)) }
 {
     let (place, head) = open_variant(from, alloc, name, names)?;

@@ -2,7 +2,7 @@
 ghost use Rattle.std.specs.Prelude.{◌||◌, None, true, false};
 ghost use Rattle.std.proofs.Common.{ap, ◌∙◌};
 ghost use Rattle.bser_types.specs.Choices.{reads_object_or};
-ghost use Rattle.bser_structs.specs.Objects.{HoldsObjectOr, object_or_tree};
+ghost use Rattle.bser_structs.specs.Objects.{HoldsObjectOr, asking_object_or, object_or_tree};
 
 use bser_bunser::refusal::Answer;
 use bser_deserializer::deserializer::Deserializer;
@@ -41,7 +41,7 @@ impl<O: Shape, T: Shape> Shape for ObjectOr<O, T> {
       copied = true;
     } };
 
-    ghost asks = { None };
+    ghost asks = { asking_object_or O.asks T.asks };
 
     ghost plain = { None };
 }

@@ -6,6 +6,8 @@ ghost use Rattle.bser_deserializer.specs.HoldsLists.{HoldsTuple};
 ghost use Rattle.bser_deserializer.specs.Reading.{bare, Needs};
 ghost use Rattle.bser_deserializer.specs.View.{state, refusal_in};
 ghost use Rattle.bser_types.specs.Slots.{reads_struct, struct_needs};
+ghost use Rattle.bser_fields.specs.Askings.{asking_struct};
+ghost use Rattle.bser_variants.specs.Askings.{PayloadAsking};
 ghost use Rattle.bser_variants.specs.EnumAccess.{enum_head};
 ghost use Rattle.bser_structs.specs.Payloads.{IsPayloadOf, RefusesPayloadOf};
 
@@ -37,6 +39,9 @@ pub trait ReadPayload<L: LendsText> {
     // what reading it needs
     ghost needs: { Needs };
 
+    // what names its refusals, where its type tells of names
+    ghost asks: { (p : Self) → PayloadAsking (payload p) };
+
     /// Reads the payload of the variant whose name was read, in the object or row of this head, or
     /// of a name that stands alone, and closes the object.
     ///
@@ -50,8 +55,8 @@ pub trait ReadPayload<L: LendsText> {
     ) -> Answer<Self::Value>
         ensures found { IfOk result (λ v. IsPayloadOf (payload self.now) (Self.holds v)
             (enum_head head (state R.window L.kept from.old)) (state R.window L.kept from.new)) }
-        ensures refused { OnErr result (RefusesPayloadOf (payload self.now) Self.needs
-            (refusal_in from.new)
+        ensures refused { OnErr result (RefusesPayloadOf (payload self.now) (asks self.now)
+            Self.needs (refusal_in from.new)
             (enum_head head (state R.window L.kept from.old)) (state R.window L.kept from.new)) };
 }
 
@@ -67,6 +72,8 @@ impl<L: LendsText> ReadPayload<L> for Unit {
     ghost holds = { λ _ c. c ≡ one };
 
     ghost needs = { bare };
+
+    ghost asks = { λ _. tt };
 
     #[inline(always)]
     fn read<R: DeRead<Lent = L>>(
@@ -98,6 +105,8 @@ impl<L: LendsText, T: Deserialize<L>> ReadPayload<L> for Newtype<T> {
 
     ghost needs = { T.needs };
 
+    ghost asks = { λ _. T.asks };
+
     #[inline(always)]
     fn read<R: DeRead<Lent = L>>(
         &self,
@@ -127,6 +136,8 @@ impl<'n, L: LendsText, F: Slots<L>> ReadPayload<L> for Struct<'n, F> {
     ghost holds = { λ v. HoldsTuple (F.holds v) };
 
     ghost needs = { struct_needs F.needs };
+
+    ghost asks = { λ p. asking_struct (map (λ r. r.now) p.0.now) F.fields F.asks };
 
     #[inline(always)]
     fn read<R: DeRead<Lent = L>>(

@@ -5,7 +5,7 @@ ghost use Rattle.bser_deserializer.specs.Reading.{Needs};
 ghost use Rattle.bser_format.specs.Enums.{Payload};
 ghost use Rattle.bser_deserializer.specs.View.{state, refusal_in};
 ghost use Rattle.bser_variants.specs.EnumAccess.{enum_head};
-ghost use Rattle.bser_structs.specs.Payloads.{IsPayloadAt, RefusesPayloadAt, HoldsOneOf};
+ghost use Rattle.bser_structs.specs.Payloads.{IsPayloadAt, PayloadAskings, RefusesPayloadAt, HoldsOneOf};
 
 use crate::payload::ReadPayload;
 use bser_bunser::refusal::Answer;
@@ -39,6 +39,9 @@ pub trait ReadPayloads<L: LendsText> {
     // what reading each of them needs
     ghost needs: { List Needs };
 
+    // what names the refusals of each of them, where its type tells of names
+    ghost asks: { (t : Self) → PayloadAskings (payloads t) };
+
     /// Reads the payload of the variant at this place.
     ///
     /// Refused as [`ReadPayload::read`] is, and where there is no such place; the deserializer then
@@ -54,7 +57,8 @@ pub trait ReadPayloads<L: LendsText> {
             (λ c. Self.holds first v (variant (first + place) c))
             (enum_head head (state R.window L.kept from.old)) (state R.window L.kept from.new)) }
         ensures refused { OnErr result (place < length (payloads self.now)
-            → RefusesPayloadAt (payloads self.now) Self.needs place (refusal_in from.new)
+            → RefusesPayloadAt (payloads self.now) (asks self.now) Self.needs place
+            (refusal_in from.new)
             (enum_head head (state R.window L.kept from.old)) (state R.window L.kept from.new)) };
 }
 
@@ -66,6 +70,8 @@ impl<L: LendsText> ReadPayloads<L> for () {
     ghost holds = { λ _ _ _. ⊥ };
 
     ghost needs = { [] };
+
+    ghost asks = { λ _. tt };
 
     #[inline(always)]
     fn read_at<R: DeRead<Lent = L>>(
@@ -87,6 +93,8 @@ impl<L: LendsText, A: ReadPayload<L>, P: ReadPayloads<L>> ReadPayloads<L> for (A
     ghost holds = { HoldsOneOf A.holds P.holds };
 
     ghost needs = { A.needs ∷ P.needs };
+
+    ghost asks = { λ t. (A.asks t.0, P.asks t.1) };
 
     #[inline(always)]
     fn read_at<R: DeRead<Lent = L>>(

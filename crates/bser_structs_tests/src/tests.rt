@@ -11,7 +11,7 @@ use bser_structs_types::rows::Row;
 use bser_structs_types::signed::Shift;
 use serde_bser::bytestring::ByteString;
 use serde_bser::de::ObjectOr;
-use serde_bser::errors::{Complaint, Error, Message, Result};
+use serde_bser::errors::{Complaint, EnumName, Error, Kind, Message, Result};
 use serde_bser::from_slice;
 use serde_bser::prelude::*;
 use serde_bser::ser::{Serialize, to_vec};
@@ -389,6 +389,55 @@ fn a_payload_that_is_not_as_its_variant_is_refused(rt: HostRuntime) {
     let bytes = b"\x00\x02\0\0\0\0\x03\x16\x01\x03\x01\x0d\x03\x05Named\x01\x03\x01\
 \x0d\x03\x03def\x03\x05";
     check_choice_refused(&rt, alloc, bytes, Complaint::TooFewItems);
+}
+
+#[test]
+fn another_kind_is_refused_with_the_enums_name(rt: HostRuntime) {
+    let choice = Kind::Enum(EnumName::new("Choice"));
+    let bytes = b"\x00\x02\0\0\0\0\x03\x01\x0a";
+    check_stray::<Choice<String>>(&rt, rt.alloc(), bytes, (choice, 0x0a));
+    let bytes = b"\x00\x02\0\0\0\0\x03\x03\x00\x03\x00";
+    check_stray::<Choice<String>>(&rt, rt.alloc(), bytes, (choice, 0x00));
+}
+
+/// A byte that cannot stand there, and what it was looked at for.
+type Stray = (Kind, u8);
+
+/// Checks that the message is refused at this byte, from a slice and byte by byte.
+fn check_stray<'a, T: DeserializeOwned + Deserialize<&'a [u8]>>(
+    rt: &impl Abort,
+    alloc: Global,
+    bytes: &'a [u8],
+    stray: Stray,
+) {
+    assert_eq!(rt; stray_of(&from_slice::<T>(alloc, bytes)), Some(stray));
+    assert_eq!(rt; stray_of(&read_one_by_one::<T>(alloc, bytes)), Some(stray));
+}
+
+/// The byte that the answer is refused at.
+fn stray_of<T>(answer: &Result<T>) -> Option<Stray> {
+    match answer {
+        Err(Error::DeInvalidStartByte { kind, byte }) => Some((*kind, *byte)),
+        _ => None,
+    }
+}
+
+#[test]
+fn the_first_fault_of_a_payload_is_told(rt: HostRuntime) {
+    let bytes = b"\x00\x02\0\0\0\0\x03\x0a\x01\x03\x01\x0d\x03\x03One\x0e";
+    check_stray::<Choice<String>>(&rt, rt.alloc(), bytes, (Kind::NextItem, 0x0e));
+    check_choice_or_stray(&rt, rt.alloc(), bytes, (Kind::NextItem, 0x0e));
+}
+
+#[test]
+fn the_first_fault_of_either_type_is_told(rt: HostRuntime) {
+    let bytes = b"\x00\x02\0\0\0\0\x03\x01\x0e";
+    check_choice_or_stray(&rt, rt.alloc(), bytes, (Kind::NextItem, 0x0e));
+}
+
+/// Checks that the message is refused as a choice or a text at this byte.
+fn check_choice_or_stray(rt: &impl Abort, alloc: Global, bytes: &[u8], stray: Stray) {
+    check_stray::<ObjectOr<Choice<String>, String>>(rt, alloc, bytes, stray);
 }
 
 #[test]

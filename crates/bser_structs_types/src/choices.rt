@@ -1,7 +1,7 @@
 //! An enum with a variant of each form, read and written.
 ghost use Rattle.std.specs.Prelude.{codes, [], ◌∷◌, true, false, Some, None, refl};
 ghost use Rattle.bser_structs.specs.Fields.{none_lent};
-ghost use Rattle.bser_structs.specs.Variants.{unit, newtype, with_fields, no_fields, with_required, with_optional, reads_variants, HoldsVariants, variants_needs, variants_tree};
+ghost use Rattle.bser_structs.specs.Variants.{unit, newtype, with_fields, no_fields, with_required, with_optional, reads_variants, HoldsVariants, variants_needs, asking_variants, variants_tree};
 
 use serde_bser::de::{Answer, Deserializer};
 use serde_bser::device::Sink;
@@ -41,7 +41,7 @@ impl<S: Shape + Serialize> Shape for Choice<S> {
 
     ghost needs = { variants_needs ⟦<Choice<S> as Variants>⟧.variants };
 
-    ghost asks = { None };
+    ghost asks = { asking_variants (codes "Choice") ⟦<Choice<S> as Variants>⟧.variants };
 
     ghost plain = { None };
 }

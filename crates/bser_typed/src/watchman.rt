@@ -1,7 +1,7 @@
 //! Recorded answers of a Watchman server: how many files each holds.
 ghost use Rattle.std.specs.Prelude.{[], ◌∷◌, None};
 ghost use Rattle.serde_bser.specs.Slots.{struct_needs};
-ghost use Rattle.bser_typed.specs.Watchman.{reads_name, HoldsName, reads_names, HoldsNames};
+ghost use Rattle.bser_typed.specs.Watchman.{reads_name, HoldsName, asking_name, reads_names, HoldsNames, asking_names};
 
 use anyhow::{Context, Result};
 use serde_bser::de::{Answer, Deserializer, Required};
@@ -23,7 +23,7 @@ impl<S: Shape> Shape for FileName<S> {
 
     ghost needs = { struct_needs (S.needs ∷ []) };
 
-    ghost asks = { None };
+    ghost asks = { asking_name S.asks };
 
     ghost plain = { None };
 }
@@ -51,7 +51,7 @@ impl<S: Shape> Shape for FileNames<S> {
 
     ghost needs = { struct_needs (struct_needs (S.needs ∷ []) ∷ []) };
 
-    ghost asks = { None };
+    ghost asks = { asking_names S.asks };
 
     ghost plain = { None };
 }

@@ -11,22 +11,19 @@ use Rattle.bser_format.specs.Expected.{Due, Fills, nothing_due, node_due, key_du
 use Rattle.bser_format.specs.declared.errors.Error.{Error}
 use Rattle.bser_named.specs.Named.{Reader, reads, and_then, next}
 use Rattle.bser_named.specs.DueReaders.{Seen, tag, name, row, value_tag, key_tag, seen, is_key_tag}
+use Rattle.bser_named.specs.Asks.{Asks}
+use Rattle.bser_named.specs.TypeLaws.{Passes}
+use Rattle.bser_named.proofs.Sights.{way}
 use Rattle.bser_deserializer.specs.State.{State}
 use Rattle.bser_deserializer.specs.Nodes.{node_at, tag_node, BeginsNode, SeesNode}
 use Rattle.bser_deserializer.specs.Reading.{Answers, Asking, RefusesFront, Refuses, NamesBy, bare, Needs}
 use Rattle.bser_deserializer.specs.declared.node.Node.{Node}
 use Rattle.bser_deserializer.specs.declared.node.Node.TheVariants as kinds
-use Rattle.bser_types.specs.Choices.{reads_object_or}
-use Rattle.bser_types.proofs.Taken.{wider_type}
-use Rattle.bser_types.proofs.Looks.{Tells, known_answers, known_refused, no_value, stands_seen}
+use Rattle.bser_types.specs.Choices.{reads_object_or, is_pairs, asks_object_or}
+use Rattle.bser_types.proofs.Naming.{HeadAsked}
+use Rattle.bser_types.proofs.Looks.{Tells, SeenAsked, known_answers, known_refused, no_value, stands_seen}
 
 -- ---- what is seen tells objects from the others
-
--- an object, or a row
-abbrev is_pairs : Seen → Bool
-is_pairs (tag t) = t == 0x01
-is_pairs (name k) = false
-is_pairs (row ks) = true
 
 abbrev object_tree : Tree → Bool
 object_tree (object es) = true
@@ -212,18 +209,42 @@ other_answers O T holds_in holds_out s mid t k v w sees other holds a =
     known_answers T (reads_object_or O T) holds_in holds_out s mid t k v w (λ u. object_tree u ≡ is_object (Some k)) sees (object_told s mid k sees)
     (λ u c is read held. (c, by_other O T u (is ∙ other_kind k other) ∙ read, holds c held)) a
 
+-- what was seen of an object, and what of anything else
+pub object_seen : (s mid : State) → (sees : SeesNode s mid kinds.Object) → is_pairs sees.seen ≡ true
+object_seen s mid sees = kind_tells s.due sees.seen kinds.Object sees.kind
+
+pub other_seen : (s mid : State) (k : Node) → (sees : SeesNode s mid k) → (k ≡ kinds.Object → ⊥) → is_pairs sees.seen ≡ false
+other_seen s mid k sees other = kind_tells s.due sees.seen k sees.kind ∙ other_kind k other
+
 -- the first type refused an object
-pub object_refused : (O T : Meaning) (tells : Option (Asking O)) (needs : Needs) (s mid z : State) (e : Error) → SeesNode s mid kinds.Object → Refuses O tells needs e mid z → Refuses (reads_object_or O T) None needs e s z
-object_refused O T tells needs s mid z e sees u =
-    known_refused needs O (reads_object_or O T) tells None s mid z kinds.Object e (λ t. object_tree t ≡ true) sees (object_told s mid kinds.Object sees)
-    (λ t c is read. (c, sym (by_object O T t is) ∙ read)) tt u
+pub object_refused : (O T : Meaning) (tells : Option (Asking O)) (asks : Option (Asking (reads_object_or O T))) (needs : Needs) (s mid z : State) (e : Error) → (sees : SeesNode s mid kinds.Object) → SeenAsked asks tells s sees.seen → Refuses O tells needs e mid z
+    → Refuses (reads_object_or O T) asks needs e s z
+object_refused O T tells asks needs s mid z e sees asked u =
+    known_refused needs O (reads_object_or O T) tells asks s mid z kinds.Object e (λ t. object_tree t ≡ true) sees (object_told s mid kinds.Object sees)
+    (λ t c is read. (c, sym (by_object O T t is) ∙ read)) asked u
 
 -- the second type refused anything else
-pub other_refused : (O T : Meaning) (tells : Option (Asking T)) (needs : Needs) (s mid z : State) (k : Node) (e : Error) → SeesNode s mid k → (k ≡ kinds.Object → ⊥) → Refuses T tells needs e mid z → Refuses (reads_object_or O T) None needs e s z
-other_refused O T tells needs s mid z k e sees other u =
-    known_refused needs T (reads_object_or O T) tells None s mid z k e (λ t. object_tree t ≡ is_object (Some k)) sees (object_told s mid k sees)
-    (λ t c is read. (c, sym (by_other O T t (is ∙ other_kind k other)) ∙ read)) tt u
+pub other_refused : (O T : Meaning) (tells : Option (Asking T)) (asks : Option (Asking (reads_object_or O T))) (needs : Needs) (s mid z : State) (k : Node) (e : Error) → (sees : SeesNode s mid k) → (k ≡ kinds.Object → ⊥) → SeenAsked asks tells s sees.seen
+    → Refuses T tells needs e mid z → Refuses (reads_object_or O T) asks needs e s z
+other_refused O T tells asks needs s mid z k e sees other asked u =
+    known_refused needs T (reads_object_or O T) tells asks s mid z k e (λ t. object_tree t ≡ is_object (Some k)) sees (object_told s mid k sees)
+    (λ t c is read. (c, sym (by_other O T t (is ∙ other_kind k other)) ∙ read)) asked u
 
 -- where nothing is seen, neither type reads
-pub neither_seen : (O T : Meaning) (needs : Needs) (s z : State) (e : Error) → RefusesFront bare (BeginsNode s.due) (NamesBy bare (seen s.opened s.due) e s.source) e s.source z.source → Refuses (reads_object_or O T) None needs e s z
-neither_seen O T needs s z e u = no_value needs (reads_object_or O T) None s z e tt u
+pub neither_seen : (O T : Meaning) (asks : Option (Asking (reads_object_or O T))) (needs : Needs) (s z : State) (e : Error) → HeadAsked asks s (seen s.opened s.due) → RefusesFront bare (BeginsNode s.due) (NamesBy bare (seen s.opened s.due) e s.source) e s.source z.source
+    → Refuses (reads_object_or O T) asks needs e s z
+neither_seen O T asks needs s z e asked u = no_value needs (reads_object_or O T) asks s z e asked u
+
+-- ---- what is passed over
+
+-- what is read as the one or the other is passed over, where both types pass over what they read
+pub object_or_passes : (A B : Asks) (O T : Meaning) → Passes A O → Passes B T → Passes (asks_object_or A B) (reads_object_or O T)
+object_or_passes A B O T first second o n d u c b x f r = at (object_tree u) refl
+  where
+    at : (k : Bool) → object_tree u ≡ k → asks_object_or A B o n d (b ++ x) ≡ reads tt x
+    at true is =
+        let s = sight o n d u b f in
+        way is_pairs (A o n d) (B o n d) (seen o d (b ++ x)) s.shown (s.left x) (b ++ x) true (s.sees x) (s.pairs ∙ is) ∙ first o n d u c b x f (sym (by_object O T u is) ∙ r)
+    at false is =
+        let s = sight o n d u b f in
+        way is_pairs (A o n d) (B o n d) (seen o d (b ++ x)) s.shown (s.left x) (b ++ x) false (s.sees x) (s.pairs ∙ is) ∙ second o n d u c b x f (sym (by_other O T u is) ∙ r)

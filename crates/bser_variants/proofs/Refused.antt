@@ -1,10 +1,11 @@
 -- Refusals where an enum is due, by their names.
-use Rattle.std.proofs.Common.{◌≡◌, ◌<◌, ◌≤◌, ℕ, zero, suc, Bool, true, false, nat_eq, nat_lt, ◌||◌, List, [], ◌∷◌, ◌++◌, take, drop, length, append_assoc, append-nil, refl, sym, ap, subst, ◌∙◌, arith, inl, inr, ◌⊎◌, IsUtf8}
+use Rattle.std.proofs.Common.{◌≡◌, ◌<◌, ◌≤◌, ◌-◌, ℕ, zero, suc, Bool, true, false, nat_eq, nat_lt, ◌||◌, List, [], ◌∷◌, ◌++◌, take, drop, length, replicate, Option, Some, None, append_assoc, append-nil, refl, sym, ap, subst, ◌∙◌, arith, inl, inr, ◌⊎◌, IsUtf8}
 use Rattle.std.specs.Prelude.{Result, Ok, Err, OnErr}
 use Rattle.std.proofs.lemmas.Grind.{merely}
-use Rattle.std.proofs.Math.Seq.{take-length}
+use Rattle.std.proofs.Math.Seq.{take-length, take-append_seam}
 use Rattle.std.proofs.lemmas.Bool.{ltb-true, ltb-false}
 use Rattle.std.proofs.lemmas.Str.{IsUtf8-nil}
+use Rattle.bser_format.specs.EnumName.{kept, kept_whole}
 use Rattle.bser_format.specs.Expected.{Due, nothing_due, node_due, key_due, field_due, name_due, row_due, WantedPairs, entries_of_object, fields_of_row}
 use Rattle.bser_format.specs.Plain.{is_positive}
 use Rattle.bser_format.specs.declared.errors.Error.{Error}
@@ -13,6 +14,7 @@ use Rattle.bser_format.specs.declared.errors.Kind.TheVariants as kinds
 use Rattle.bser_format.specs.declared.errors.Kind.TheVariants.{MapKey}
 use Rattle.bser_format.specs.declared.errors.Complaint.TheVariants.{UnknownVariant, EnumObjectEntries}
 use Rattle.bser_format.specs.declared.errors.name.EnumName.{EnumName}
+use Rattle.bser_format.proofs.EnumNames.{whole_known}
 use Rattle.bser_named.specs.Named.{Answer, Reader, reads, refuses, give, and_then, ◌>>=◌, complain, eof, next, count, string, utf8, text_of}
 use Rattle.bser_named.specs.DueReaders.{tag, is_key_tag, asked, pairs_at, text_at, place_from, variant_after, variant_of_row, variant_due}
 use Rattle.bser_named.specs.Asks.{done, asks_string}
@@ -99,22 +101,35 @@ variant_refused name vs e s z fails (enum, keeps, named) =
 
 -- ---- the enum's name
 
+-- a name that is kept whole
+kept_name : (name : List ℕ) (enum : EnumName) → kept_whole name ≡ Some enum → kept enum ≡ name
+kept_name name enum is =
+    let w = whole_known name enum is in
+    ap (λ n. take n enum.bytes) w.len ∙ ap (take (length name)) w.bytes ∙ take-append_seam name (replicate (60 - length name) 0)
+
 -- an error may keep any text as an enum's name
 pub some_enum : (name : List ℕ) → IsUtf8 name → (enum : EnumName) × KeepsName name enum
-some_enum name text = go (nat_lt 60 (length name)) refl
+some_enum name text = at (kept_whole name) refl
   where
-    go : (b : Bool) → nat_lt 60 (length name) ≡ b → (enum : EnumName) × KeepsName name enum
-    go false h =
+    other : kept_whole name ≡ None → (b : Bool) → nat_lt 60 (length name) ≡ b → (enum : EnumName) × KeepsName name enum
+    other none false h =
         let whole : take (length name) name ≡ name = take-length name in
         let within : length name ≤ 60 = ltb-false 60 (length name) h in (
           record { bytes = name; len = length name; within = within; text = merely (subst IsUtf8 (sym whole) text) },
-          record { whole = λ le. whole; front = ([], sym (append-nil (take (length name) name) ∙ whole)) },
+          record { whole = λ le. whole; front = ([], sym (append-nil (take (length name) name) ∙ whole)); known = λ only is. absurd (let no : None ≡ Some only = sym none ∙ is in cc) },
         )
-    go true h =
+    other none true h =
         let long : 60 < length name = ltb-true 60 (length name) h in (
           record { bytes = []; len = 0; within = omega arith; text = merely IsUtf8-nil },
-          record { whole = λ le. absurd (omega (arith, le, long)); front = (name, refl) },
+          record { whole = λ le. absurd (omega (arith, le, long)); front = (name, refl); known = λ only is. absurd (let no : None ≡ Some only = sym none ∙ is in cc) },
         )
+
+    at : (k : Option EnumName) → kept_whole name ≡ k → (enum : EnumName) × KeepsName name enum
+    at (Some enum) is = (
+      enum,
+      record { whole = λ le. kept_name name enum is; front = ([], sym (append-nil (take enum.len enum.bytes) ∙ kept_name name enum is)); known = λ only same. let both : Some enum ≡ Some only = sym is ∙ same in cc },
+    )
+    at None is = other is (nat_lt 60 (length name)) refl
 
 -- what names no enum is named so
 pub named_so : (name : List ℕ) (vs : List (List ℕ)) (e : Error) (s : State) → IsUtf8 name → ((enum : EnumName) → NamesBy bare (variant_due enum s.opened s.levels vs s.due) e s.source) → NamesVariant name vs e s

@@ -12,7 +12,7 @@ use Rattle.bser_format.specs.declared.errors.Error.{Error}
 use Rattle.bser_deserializer.specs.State.{State}
 use Rattle.bser_named.specs.Clauses.{after_a_refusal}
 use Rattle.bser_named.specs.DueReaders.{wrong_type}
-use Rattle.bser_deserializer.specs.Reading.{Answers, Refuses, FillsReadably, IsRefusal, Needs}
+use Rattle.bser_deserializer.specs.Reading.{Answers, Asking, NamesAsked, Refuses, FillsReadably, IsRefusal, Needs}
 use Rattle.bser_deserializer.specs.Fields.{field_from, field_of}
 use Rattle.bser_variants.specs.Variants.{known_place, reads_place, HoldsPlace, LacksPayload}
 use Rattle.bser_deserializer.specs.declared.field.Field.{Field}
@@ -118,10 +118,10 @@ bare_found vs held o v z place y there a same keeps =
     })
 
 -- another variant is not read from its name alone
-pub bare_refused : (vs : List (List ℕ × Payload)) (T : Meaning) (needs : Needs) (e : Error) (o v z : State) (place : ℕ) → payload_at place vs ≡ Some (holds T) → Answers (reads_place (names_of vs)) HoldsPlace o v place → LacksPayload e v z
-    → Refuses (reads_enum vs) None needs e o z
-bare_refused vs T needs e o v z place there a lacks =
-    unfit needs (FillsReadably (reads_enum vs) o) Unit e o.source v.source z.source a.text (subst IsRefusal (sym (lacks.name ∙ ap (λ b. after_a_refusal b wrong_type) a.took.failed)) tt) a.took (ap (λ (s : State). s.source) lacks.state) tt
+pub bare_refused : (vs : List (List ℕ × Payload)) (asks : Option (Asking (reads_enum vs))) (T : Meaning) (needs : Needs) (e : Error) (o v z : State) (place : ℕ) → payload_at place vs ≡ Some (holds T) → Answers (reads_place (names_of vs)) HoldsPlace o v place → LacksPayload e v z
+    → NamesAsked needs asks e o → Refuses (reads_enum vs) asks needs e o z
+bare_refused vs asks T needs e o v z place there a lacks named =
+    unfit needs (FillsReadably (reads_enum vs) o) (NamesAsked needs asks e o) e o.source v.source z.source a.text (subst IsRefusal (sym (lacks.name ∙ ap (λ b. after_a_refusal b wrong_type) a.took.failed)) tt) a.took (ap (λ (s : State). s.source) lacks.state) named
     (λ all rest f known.
     let r = left_took o.source v.source a.text (all ++ rest) a.took known in
     let same = one_due o.levels o.due f.tree a.tree all a.text rest r.0 f.filled a.filled r.2 in

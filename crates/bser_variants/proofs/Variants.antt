@@ -1,4 +1,4 @@
--- An enum that is read variant by variant, of a type that tells of no names.
+-- An enum that is read variant by variant.
 use Rattle.std.proofs.Common.{◌≡◌, ℕ, pos, Bool, true, false, ◌||◌, List, [], ◌∷◌, ◌++◌, length, Option, Some, None, option_map, option_and_then, append_assoc, refl, sym, ap, subst, ◌∙◌, arith, inl, inr, ◌⊎◌, cond}
 use Rattle.std.proofs.lemmas.List.{append-nil}
 use Rattle.std.specs.Prelude.{if◌then◌else◌}
@@ -9,13 +9,11 @@ use Rattle.bser_format.specs.Content.{Content, one, number, variant, Meaning}
 use Rattle.bser_format.specs.Enums.{Payload, unit, holds, named, by_name, by_entry, reads_enum}
 use Rattle.bser_format.specs.Expand.{key_tree}
 use Rattle.bser_format.specs.Expected.{Due, Fills, FillsPairs, nothing_due, node_due, key_due, field_due, name_due, row_due, WantedPairs, entries_of_object, fields_of_row}
-use Rattle.bser_format.specs.ReadsScalars.{reads_unit}
 use Rattle.bser_format.specs.declared.errors.Error.{Error}
 use Rattle.bser_named.specs.Named.{give}
 use Rattle.bser_named.specs.DueReaders.{is_key_tag}
 use Rattle.bser_source.specs.Window.{left}
 use Rattle.bser_source.proofs.Windows.{left_took}
-use Rattle.bser_deserializer.specs.Askings.{asking_unit}
 use Rattle.bser_deserializer.specs.Dues.{IsValueDue}
 use Rattle.bser_deserializer.specs.State.{State, awaiting}
 use Rattle.bser_deserializer.specs.Reading.{Answers, Asking, NamesAsked, Refuses, FillsReadably, bare, Needs}
@@ -24,11 +22,13 @@ use Rattle.bser_deserializer.specs.Access.{OpenPairs, IsKey, IsValue, ClosesPair
 use Rattle.bser_deserializer.specs.Fields.{field_of}
 use Rattle.bser_deserializer.proofs.Refusals.{first_part, with_needs}
 use Rattle.bser_deserializer.proofs.Containers.{counted_rest}
-use Rattle.bser_types.proofs.Taken.{wider_needs}
+use Rattle.bser_types.proofs.Taken.{wider_type}
 use Rattle.bser_types.proofs.ObjectFills.{levels_inside, pairs_begin, pairs_only}
 use Rattle.bser_types.proofs.Objects.{Outlook, ReadsObjects, AtValue, ValueLeft, first_key, key_name, key_read, inside_start, inside_key, inside_value, inside_end, part_refused}
+use Rattle.bser_variants.specs.Askings.{PayloadAsking, VariantAskings, asking_enum}
 use Rattle.bser_variants.specs.Names.{NamesVariant}
 use Rattle.bser_variants.specs.Variants.{known_place, reads_place, HoldsPlace, BeginsEntry, BeginsVariant, RefusesVariant, OpenVariant, OpenEnum, name_alone, with_payload, OpensEntry, OpensVariant, before_payload, ReadsPayload, IsPayload, IsUnitVariant, RefusesPayload, RefusesUnitVariant}
+use Rattle.bser_variants.proofs.Askings.{reading, telling, asking, asked_at, asked_payload, variant_asked, lacking_asked, payload_named_so}
 use Rattle.bser_variants.proofs.Names.{name_first}
 use Rattle.bser_variants.proofs.VariantNames.{payload_at, names_of, found_by, bare_reads, key_reads, text_key, bare_found, bare_refused}
 
@@ -106,10 +106,10 @@ entry_begins vs s all k u d filled read =
     )
 
 -- where no variant begins, no enum is due
-pub enum_refused : (name : List ℕ) (vs : List (List ℕ × Payload)) (needs : Needs) (e : Error) (s z : State) → RefusesVariant name (names_of vs) e s z → Refuses (reads_enum vs) None needs e s z
-enum_refused name vs needs e s z u =
-    first_part needs (BeginsVariant (names_of vs) s) (FillsReadably (reads_enum vs) s) Unit Unit e s.source z.source split (λ n. n)
-    (with_needs needs (BeginsVariant (names_of vs) s) (NamesVariant name (names_of vs) e s) Unit e s.source z.source (λ n. tt) u)
+pub enum_refused : (name : List ℕ) (vs : List (List ℕ × Payload)) (qs : VariantAskings vs) (needs : Needs) (e : Error) (s z : State) → RefusesVariant name (names_of vs) e s z → Refuses (reads_enum vs) (asking_enum name vs qs) needs e s z
+enum_refused name vs qs needs e s z u =
+    first_part needs (BeginsVariant (names_of vs) s) (FillsReadably (reads_enum vs) s) (NamesAsked needs (asking_enum name vs qs) e s) (NamesAsked needs (asking_enum name vs qs) e s) e s.source z.source split (λ n. n)
+    (with_needs needs (BeginsVariant (names_of vs) s) (NamesVariant name (names_of vs) e s) (NamesAsked needs (asking_enum name vs qs) e s) e s.source z.source (variant_asked name vs qs needs e s) u)
   where
     split : (all : List ℕ) → FillsReadably (reads_enum vs) s all → (first : List ℕ) × (second : List ℕ) × (all ≡ first ++ second) × BeginsVariant (names_of vs) s first
     split all f = at (forms vs f.tree f.content f.read)
@@ -121,11 +121,6 @@ enum_refused name vs needs e s z u =
             (p.0, p.1, p.2, inr p.3)
 
 -- ---- an object of one entry
-
--- what a payload is read by
-abbrev pub reading : Payload → Meaning
-reading unit = reads_unit
-reading (holds T) = T
 
 by_reading : (t : Tree) (place : ℕ) (p : Payload) → by_entry t (place, p) ≡ option_map (variant place) (reading p t)
 by_reading t place unit = refl
@@ -272,18 +267,18 @@ no_name_there vs n key_due w t c head all rest ys h f read e = h
 no_name_there vs n (name_due k) w t c head all rest ys h f read e = h
 
 -- the payload of an object is refused
-entry_refused : (vs : List (List ℕ × Payload)) (p : Payload) (tells : Option (Asking (reading p))) (some needs : Needs) (e : Error) (o z : State) (v : OpenVariant) (place : ℕ) → (some.lent ≡ true → needs.lent ≡ true) → (some.memory ≡ true → needs.memory ≡ true)
-    → (some.memory || some.keys ≡ true → needs.memory || needs.keys ≡ true) → payload_at place vs ≡ Some p
-    → OpensEntry (names_of vs) o v place → Refuses (reading p) tells some e (before_payload v) z → Refuses (reads_enum vs) None needs e o z
-entry_refused vs p tells some needs e o z v place lent memory takes there h refuses = record {
+entry_refused : (name : List ℕ) (vs : List (List ℕ × Payload)) (qs : VariantAskings vs) (p : Payload) (a : PayloadAsking p) (some needs : Needs) (e : Error) (o z : State) (v : OpenVariant) (place : ℕ) → (some.lent ≡ true → needs.lent ≡ true)
+    → (some.memory ≡ true → needs.memory ≡ true) → (some.memory || some.keys ≡ true → needs.memory || needs.keys ≡ true) → asked_at place vs qs ≡ Some (asking p a)
+    → OpensEntry (names_of vs) o v place → Refuses (reading p) (telling p a) some e (before_payload v) z → Refuses (reads_enum vs) (asking_enum name vs qs) needs e o z
+entry_refused name vs qs p a some needs e o z v place lent memory takes there h refuses = record {
   fails = u.fails;
   may = u.may;
-  names = tt;
+  names = payload_named_so name vs qs p a needs e o v place there h wide.names;
   excuse = λ text rest f known. u.excuse text rest (fit text rest f known) known;
 }
   where
     i : Entered vs o v place p h.inside
-    i = entered vs o v place p there h
+    i = entered vs o v place p (asked_payload place vs qs (asking p a) there) h
 
     t : OpenPairs
     t = after_key h.inside v
@@ -297,10 +292,12 @@ entry_refused vs p tells some needs e o z v place lent memory takes there h refu
         let filled : Fills v.state.levels v.payload l.value l.filled.front = subst (λ q. Fills v.state.levels q l.value l.filled.front) (sym (h.payload ∙ after_value h.inside.wanted)) l.filled.first in
         (l.filled.front, l.filled.rest, l.filled.whole, record { tree = l.value; content = d.0; filled = filled; read = d.1 })
 
+    wide : Refuses (reading p) (telling p a) needs e (before_payload v) z
+    wide = wider_type (reading p) (telling p a) some needs e (before_payload v) z lent memory takes refuses
+
     u : Refuses (of_object vs) None needs e o z
     u =
-        part_refused needs (of_object vs) None (ValueLeft (one_entry vs) i.name t.state.levels t.wanted) (give tt) W (NamesAsked some tells e (before_payload v)) e o z t i.inside first (λ n. tt)
-        (wider_needs some needs W (NamesAsked some tells e (before_payload v)) (NamesAsked some tells e (before_payload v)) e v.state.source z.source lent memory takes (λ n. n) refuses)
+        part_refused needs (of_object vs) None (ValueLeft (one_entry vs) i.name t.state.levels t.wanted) (give tt) W (NamesAsked needs (telling p a) e (before_payload v)) e o z t i.inside first (λ n. tt) wide
 
     fit : (all rest : List ℕ) → FillsReadably (reads_enum vs) o all → left o.source ≡ Some (all ++ rest) → FillsReadably (of_object vs) o all
     fit all rest f known = at (forms vs f.tree f.content f.read)
@@ -337,17 +334,20 @@ unit_found vs held o z (name_alone s) place y there opens is keeps = bare_found 
 unit_found vs held o z (with_payload v) place y there opens is keeps =
     entry_found vs (λ _ c. c ≡ one) held o z v place unit (tt {0}) y there opens is (λ c h. subst (λ d. held y (variant place d)) (sym h) keeps)
 
-pub unit_refused : (vs : List (List ℕ × Payload)) (needs : Needs) (e : Error) (o z : State) (v : OpenEnum) (place : ℕ) → payload_at place vs ≡ Some unit → OpensVariant (names_of vs) o v place → RefusesUnitVariant e v z → Refuses (reads_enum vs) None needs e o z
-unit_refused vs needs e o z (name_alone s) place there opens refuses = absurd refuses
-unit_refused vs needs e o z (with_payload v) place there opens refuses = entry_refused vs unit (Some asking_unit) bare needs e o z v place (λ b. absurd cc) (λ b. absurd cc) (λ b. absurd cc) there opens refuses
+pub unit_refused : (name : List ℕ) (vs : List (List ℕ × Payload)) (qs : VariantAskings vs) (needs : Needs) (e : Error) (o z : State) (v : OpenEnum) (place : ℕ) → asked_at place vs qs ≡ Some (asking unit tt) → OpensVariant (names_of vs) o v place
+    → RefusesUnitVariant e v z → Refuses (reads_enum vs) (asking_enum name vs qs) needs e o z
+unit_refused name vs qs needs e o z (name_alone s) place there opens refuses = absurd refuses
+unit_refused name vs qs needs e o z (with_payload v) place there opens refuses = entry_refused name vs qs unit tt bare needs e o z v place (λ b. absurd cc) (λ b. absurd cc) (λ b. absurd cc) there opens refuses
 
 pub payload_found : {A B : Type 0} (vs : List (List ℕ × Payload)) (T : Meaning) (holding : A → Content → Type 0) (held : B → Content → Type 0) (o z : State) (v : OpenEnum) (place : ℕ) (x : A) (y : B) → payload_at place vs ≡ Some (holds T)
     → OpensVariant (names_of vs) o v place → IsPayload T holding v z x → ((c : Content) → holding x c → held y (variant place c)) → Answers (reads_enum vs) held o z y
 payload_found vs T holding held o z (name_alone s) place x y there opens is keeps = absurd is
 payload_found vs T holding held o z (with_payload v) place x y there opens is keeps = entry_found vs holding held o z v place (holds T) x y there opens is keeps
 
-pub payload_refused : (vs : List (List ℕ × Payload)) (T : Meaning) (tells : Option (Asking T)) (some needs : Needs) (e : Error) (o z : State) (v : OpenEnum) (place : ℕ) → (some.lent ≡ true → needs.lent ≡ true) → (some.memory ≡ true → needs.memory ≡ true)
-    → (some.memory || some.keys ≡ true → needs.memory || needs.keys ≡ true) → payload_at place vs ≡ Some (holds T)
-    → OpensVariant (names_of vs) o v place → RefusesPayload T tells some e v z → Refuses (reads_enum vs) None needs e o z
-payload_refused vs T tells some needs e o z (name_alone s) place lent memory takes there opens refuses = bare_refused vs T needs e o s z place there opens refuses
-payload_refused vs T tells some needs e o z (with_payload v) place lent memory takes there opens refuses = entry_refused vs (holds T) tells some needs e o z v place lent memory takes there opens refuses
+pub payload_refused : (name : List ℕ) (vs : List (List ℕ × Payload)) (qs : VariantAskings vs) (T : Meaning) (tells : Option (Asking T)) (some needs : Needs) (e : Error) (o z : State) (v : OpenEnum) (place : ℕ) → (some.lent ≡ true → needs.lent ≡ true)
+    → (some.memory ≡ true → needs.memory ≡ true) → (some.memory || some.keys ≡ true → needs.memory || needs.keys ≡ true) → asked_at place vs qs ≡ Some (asking (holds T) tells)
+    → OpensVariant (names_of vs) o v place → RefusesPayload T tells some e v z → Refuses (reads_enum vs) (asking_enum name vs qs) needs e o z
+payload_refused name vs qs T tells some needs e o z (name_alone s) place lent memory takes there opens refuses =
+    bare_refused vs (asking_enum name vs qs) T needs e o s z place (asked_payload place vs qs (asking (holds T) tells) there) opens refuses
+    (lacking_asked name vs qs T tells needs e o s z place there opens refuses)
+payload_refused name vs qs T tells some needs e o z (with_payload v) place lent memory takes there opens refuses = entry_refused name vs qs (holds T) tells some needs e o z v place lent memory takes there opens refuses

@@ -1,6 +1,6 @@
 -- What names the refusals of an enum's name.
-use Rattle.std.specs.Prelude.{◌≡◌, ◌≤◌, ℕ, List, ◌++◌, length, ◌==◌, if◌then◌else◌}
-use Rattle.bser_format.specs.EnumName.{kept}
+use Rattle.std.specs.Prelude.{◌≡◌, ◌≤◌, ℕ, List, ◌++◌, length, Some, ◌==◌, if◌then◌else◌}
+use Rattle.bser_format.specs.EnumName.{kept, kept_whole}
 use Rattle.bser_format.specs.Expected.{Due, name_due, WantedPairs, entries_of_object, fields_of_row}
 use Rattle.bser_format.specs.declared.errors.Error.{Error}
 use Rattle.bser_format.specs.declared.errors.Kind.TheVariants.{MapKey}
@@ -22,10 +22,11 @@ only_place vs (entries_of_object n) =
     (if n == 1 then text_of MapKey else refuse (complain EnumObjectEntries)) >>= place_from 0 vs
 only_place vs (fields_of_row ks) = variant_of_row vs ks
 
--- what an error keeps of an enum's name: the whole, or a front of one that is long
+-- what an error keeps of an enum's name: the whole, and in one form, or a front of one that is long
 pub record KeepsName (name : List ℕ) (enum : EnumName) : Type 0 where
   pub whole : length name ≤ 60 → kept enum ≡ name
   pub front : (rest : List ℕ) × (name ≡ kept enum ++ rest)
+  pub known : (only : EnumName) → kept_whole name ≡ Some only → enum ≡ only
 
 -- the name of a variant is refused where an enum of this name is due
 abbrev pub NamesVariant : List ℕ → List (List ℕ) → Error → State → Type 0

@@ -4,7 +4,7 @@ ghost use Rattle.std.specs.Prelude.{false, ◌||◌, [], ◌∷◌, None};
 ghost use Rattle.std.proofs.Common.{ap};
 ghost use Rattle.serde_bser.specs.HoldsLists.{HoldsTuple};
 ghost use Rattle.serde_bser.specs.Slots.{struct_needs};
-ghost use Rattle.bser_vectors.specs.Enums.{reads_parts, asking_parts, reads_test_enum, HoldsTestEnum, reads_enum_row, HoldsEnumRow};
+ghost use Rattle.bser_vectors.specs.Enums.{reads_parts, asking_parts, reads_test_enum, HoldsTestEnum, asking_test_enum, reads_enum_row, HoldsEnumRow, asking_enum_row};
 
 use serde_bser::de::{Answer, Deserializer, Required};
 use serde_bser::prelude::*;
@@ -26,7 +26,7 @@ impl<S: Shape> Shape for TestEnum<S> {
 
     ghost needs = { struct_needs (S.needs ∷ []) };
 
-    ghost asks = { None };
+    ghost asks = { asking_test_enum S.asks };
 
     ghost plain = { None };
 }
@@ -111,7 +111,7 @@ impl<S: Shape> Shape for EnumRow<S> {
 
     ghost needs = { struct_needs (struct_needs (S.needs ∷ []) ∷ []) };
 
-    ghost asks = { None };
+    ghost asks = { asking_enum_row S.asks };
 
     ghost plain = { None };
 }

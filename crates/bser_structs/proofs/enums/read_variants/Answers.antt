@@ -20,7 +20,7 @@ returns-in_err-place-clause-refused g c =
     let o : State = state g.R.DeRead.window g.R.Lent.Lending.kept c.args.from.now in
     let z : State = state g.R.DeRead.window g.R.Lent.Lending.kept c.open_variant.new.from in
     let p = err_from_is_err_and c.from_residual.result c.from_residual.ensures.1 in
-    rw p.1 (name_refused c.args.name.now names ps g.P.ReadPayloads.needs (refusal_in c.open_variant.new.from) o z same c.in_err-place.ensures.refused)
+    rw p.1 (name_refused c.args.name.now names ps (g.P.ReadPayloads.asks c.args.payloads.now) g.P.ReadPayloads.needs (refusal_in c.open_variant.new.from) o z same c.in_err-place.ensures.refused)
 
 pub returns-clause-found : goal.returns-clause-found
 returns-clause-found g c =
@@ -40,4 +40,4 @@ returns-clause-refused g c =
     let o : State = state g.R.DeRead.window g.R.Lent.Lending.kept c.args.from.now in
     let v : OpenEnum = enum_head c.in_ok-place.head (state g.R.DeRead.window g.R.Lent.Lending.kept c.open_variant.new.from) in
     let z : State = state g.R.DeRead.window g.R.Lent.Lending.kept c.read_at.new.from in
-    if_err _ _ c.read_at.result (λ r. place_refused names ps g.P.ReadPayloads.needs (refusal_in c.read_at.new.from) o z v c.in_ok-place.place same c.in_ok-place.ensures.found (r (place_known names ps o v c.in_ok-place.place same c.in_ok-place.ensures.found))) c.read_at.ensures.refused
+    if_err _ _ c.read_at.result (λ r. place_refused c.args.name.now names ps (g.P.ReadPayloads.asks c.args.payloads.now) g.P.ReadPayloads.needs (refusal_in c.read_at.new.from) o z v c.in_ok-place.place same c.in_ok-place.ensures.found (r (place_known names ps o v c.in_ok-place.place same c.in_ok-place.ensures.found))) c.read_at.ensures.refused

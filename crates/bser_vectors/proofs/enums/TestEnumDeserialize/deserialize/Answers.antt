@@ -15,7 +15,9 @@ use Rattle.serde_bser.specs.Variants.{OpenEnum}
 use Rattle.serde_bser.specs.View.{state}
 use Rattle.serde_bser.proofs.VariantNames.{payload_at}
 use Rattle.serde_bser.proofs.Variants.{place_there, enum_refused, unit_found, unit_refused, payload_found, payload_refused}
-use Rattle.bser_vectors.specs.Enums.{reads_parts, test_variants}
+use Rattle.bser_variants.specs.Askings.{VariantAskings}
+use Rattle.bser_variants.proofs.Askings.{asked_at}
+use Rattle.bser_vectors.specs.Enums.{reads_parts, test_variants, test_askings}
 use Rattle.bser_vectors.proofs.enums.TestEnumDeserialize.deserialize.Goals as goal
 
 -- the place after the first three is the fourth
@@ -39,19 +41,20 @@ pub returns-in_err-variant-clause-refused : goal.returns-in_err-variant-clause-r
 returns-in_err-variant-clause-refused g c =
     let p = err_from_is_err_and c.from_residual.result c.from_residual.ensures.1 in
     let needs : Needs = struct_needs (g.S.Shape.needs ∷ []) in
-    rw p.1 (enum_refused (codes "TestEnum") (test_variants g.S.Shape.reads) needs _ (state g.R.DeRead.window g.L.Lending.kept c.args.from.now)
+    rw p.1 (enum_refused (codes "TestEnum") (test_variants g.S.Shape.reads) (test_askings g.S.Shape.asks) needs _ (state g.R.DeRead.window g.L.Lending.kept c.args.from.now)
     (state g.R.DeRead.window g.L.Lending.kept c.read_enum.follows.lender-at-none) (rw c.in_err-variant.was at c.read_enum.follows.holds-at-none))
 
 pub returns-in_err-unit_variant-in-0-clause-refused : goal.returns-in_err-unit_variant-in-0-clause-refused
 returns-in_err-unit_variant-in-0-clause-refused g c =
     let vs : List (List ℕ × Payload) = test_variants g.S.Shape.reads in
+    let qs : VariantAskings vs = test_askings g.S.Shape.asks in
     let needs : Needs = struct_needs (g.S.Shape.needs ∷ []) in
     let o : State = state g.R.DeRead.window g.L.Lending.kept c.args.from.now in
     let v : OpenEnum = open_enum g.R.DeRead.window g.L.Lending.kept c.in_ok-variant.variant in
     let z : State = state g.R.DeRead.window g.L.Lending.kept c.unit_variant.new.self.0 in
     let p = err_from_is_err_and c.from_residual-in_err-unit_variant-in-0.result c.from_residual-in_err-unit_variant-in-0.ensures.1 in
     rw (p.1, c.from-in-0-1.given.1 (sym c.in_ok-variant.ensures.same_reference))
-    (unit_refused vs needs _ o z v c.in_ok-variant.variant.place (ap (λ n. payload_at n vs) (sym c.place.ensures ∙ c.in-0.is)) c.in_ok-variant.ensures.found c.in_err-unit_variant-in-0.ensures.refused)
+    (unit_refused (codes "TestEnum") vs qs needs _ o z v c.in_ok-variant.variant.place (ap (λ n. asked_at n vs qs) (sym c.place.ensures ∙ c.in-0.is)) c.in_ok-variant.ensures.found c.in_err-unit_variant-in-0.ensures.refused)
 
 pub returns-in_ok-unit_variant-in-0-clause-found : goal.returns-in_ok-unit_variant-in-0-clause-found
 returns-in_ok-unit_variant-in-0-clause-found g c =
@@ -65,13 +68,14 @@ returns-in_ok-unit_variant-in-0-clause-found g c =
 pub returns-in_err-value-in-1-clause-refused : goal.returns-in_err-value-in-1-clause-refused
 returns-in_err-value-in-1-clause-refused g c =
     let vs : List (List ℕ × Payload) = test_variants g.S.Shape.reads in
+    let qs : VariantAskings vs = test_askings g.S.Shape.asks in
     let needs : Needs = struct_needs (g.S.Shape.needs ∷ []) in
     let o : State = state g.R.DeRead.window g.L.Lending.kept c.args.from.now in
     let v : OpenEnum = open_enum g.R.DeRead.window g.L.Lending.kept c.in_ok-variant.variant in
     let z : State = state g.R.DeRead.window g.L.Lending.kept c.newtype_variant.new.self.0 in
     let p = err_from_is_err_and c.from_residual-in_err-value-in-1.result c.from_residual-in_err-value-in-1.ensures.1 in
     rw (p.1, c.from-in-1-1.given.1 (sym c.in_ok-variant.ensures.same_reference))
-    (payload_refused vs g.S.Shape.reads g.S.Shape.asks g.S.Shape.needs needs _ o z v c.in_ok-variant.variant.place (lends_one g.S.Shape.needs.lent) (λ b. refl) (λ b. refl) (ap (λ n. payload_at n vs) (sym c.place.ensures ∙ c.in-1.is)) c.in_ok-variant.ensures.found c.in_err-value-in-1.ensures.refused)
+    (payload_refused (codes "TestEnum") vs qs g.S.Shape.reads g.S.Shape.asks g.S.Shape.needs needs _ o z v c.in_ok-variant.variant.place (lends_one g.S.Shape.needs.lent) (λ b. refl) (λ b. refl) (ap (λ n. asked_at n vs qs) (sym c.place.ensures ∙ c.in-1.is)) c.in_ok-variant.ensures.found c.in_err-value-in-1.ensures.refused)
 
 pub returns-in_ok-value-in-1-clause-found : goal.returns-in_ok-value-in-1-clause-found
 returns-in_ok-value-in-1-clause-found g c =
@@ -86,13 +90,14 @@ returns-in_ok-value-in-1-clause-found g c =
 pub returns-in_err-first-in-2-clause-refused : goal.returns-in_err-first-in-2-clause-refused
 returns-in_err-first-in-2-clause-refused g c =
     let vs : List (List ℕ × Payload) = test_variants g.S.Shape.reads in
+    let qs : VariantAskings vs = test_askings g.S.Shape.asks in
     let needs : Needs = struct_needs (g.S.Shape.needs ∷ []) in
     let o : State = state g.R.DeRead.window g.L.Lending.kept c.args.from.now in
     let v : OpenEnum = open_enum g.R.DeRead.window g.L.Lending.kept c.in_ok-variant.variant in
     let z : State = state g.R.DeRead.window g.L.Lending.kept c.newtype_variant-in-2.new.self.0 in
     let p = err_from_is_err_and c.from_residual-in_err-first-in-2.result c.from_residual-in_err-first-in-2.ensures.1 in
     rw (p.1, c.from-in-2-1.given.1 (sym c.in_ok-variant.ensures.same_reference))
-    (payload_refused vs (reads_tuple (g.S.Shape.reads ∷ g.S.Shape.reads ∷ [])) _ (tuple_needs (g.S.Shape.needs ∷ g.S.Shape.needs ∷ []) (g.S.Shape.reads ∷ g.S.Shape.reads ∷ []) (g.S.Shape.plain, (g.S.Shape.plain, tt))) needs _ o z v c.in_ok-variant.variant.place (lends_two g.S.Shape.needs.lent) (λ b. refl) (λ b. refl) (ap (λ n. payload_at n vs) (sym c.place.ensures ∙ c.in-2.is)) c.in_ok-variant.ensures.found
+    (payload_refused (codes "TestEnum") vs qs (reads_tuple (g.S.Shape.reads ∷ g.S.Shape.reads ∷ [])) _ (tuple_needs (g.S.Shape.needs ∷ g.S.Shape.needs ∷ []) (g.S.Shape.reads ∷ g.S.Shape.reads ∷ []) (g.S.Shape.plain, (g.S.Shape.plain, tt))) needs _ o z v c.in_ok-variant.variant.place (lends_two g.S.Shape.needs.lent) (λ b. refl) (λ b. refl) (ap (λ n. asked_at n vs qs) (sym c.place.ensures ∙ c.in-2.is)) c.in_ok-variant.ensures.found
     c.in_err-first-in-2.ensures.refused)
 
 pub returns-in_ok-first-in-2-clause-found : goal.returns-in_ok-first-in-2-clause-found
@@ -108,6 +113,7 @@ returns-in_ok-first-in-2-clause-found g c =
 pub returns-in_err-abc-in_default-clause-refused : goal.returns-in_err-abc-in_default-clause-refused
 returns-in_err-abc-in_default-clause-refused g c =
     let vs : List (List ℕ × Payload) = test_variants g.S.Shape.reads in
+    let qs : VariantAskings vs = test_askings g.S.Shape.asks in
     let needs : Needs = struct_needs (g.S.Shape.needs ∷ []) in
     let o : State = state g.R.DeRead.window g.L.Lending.kept c.args.from.now in
     let v : OpenEnum = open_enum g.R.DeRead.window g.L.Lending.kept c.in_ok-variant.variant in
@@ -117,7 +123,7 @@ returns-in_err-abc-in_default-clause-refused g c =
     let other = c.in_default.in_default-own.rest in
     let fourth : c.in_ok-variant.variant.place ≡ 3 = last_place g.S.Shape.reads c.in_ok-variant.variant.place there.0 (λ e. other.0.0.1 (c.place.ensures ∙ e)) (λ e. other.0.1 (c.place.ensures ∙ e)) (λ e. other.1 (c.place.ensures ∙ e)) there.1 in
     rw (p.1, c.from-in_default-1.given.1 (sym c.in_ok-variant.ensures.same_reference))
-    (payload_refused vs (reads_parts g.S.Shape.reads) _ _ needs _ o z v c.in_ok-variant.variant.place (lends_two g.S.Shape.needs.lent) (λ b. refl) (λ b. refl) (ap (λ n. payload_at n vs) fourth) c.in_ok-variant.ensures.found
+    (payload_refused (codes "TestEnum") vs qs (reads_parts g.S.Shape.reads) _ _ needs _ o z v c.in_ok-variant.variant.place (lends_two g.S.Shape.needs.lent) (λ b. refl) (λ b. refl) (ap (λ n. asked_at n vs qs) fourth) c.in_ok-variant.ensures.found
     c.in_err-abc-in_default.ensures.refused)
 
 pub returns-in_ok-abc-in_default-clause-found : goal.returns-in_ok-abc-in_default-clause-found
