@@ -1,7 +1,7 @@
 -- What the serializing of a value leaves.
-use Rattle.std.specs.Prelude.{◌≡◌, ℕ, List, ◌++◌, Option, Some, None}
+use Rattle.std.specs.Prelude.{◌≡◌, ℕ, List, ◌++◌, Option, Some, None, IfSome}
 use Rattle.bser_format.specs.Tree.{Tree}
-use Rattle.bser_format.specs.Canonical.{canonical_body, canonical_key}
+use Rattle.bser_format.specs.Canonical.{canonical_body, canonical_key, IsWritable}
 use Rattle.bser_format.specs.declared.errors.Error.{Error}
 use Rattle.bser_ser.specs.Sent.{Sent, Refused, IsExcuse}
 use Rattle.bser_ser.specs.Stopped.{Answering}
@@ -11,6 +11,10 @@ use Rattle.bser_ser.specs.declared.serializer.Serializer.{Serializer}
 abbrev pub text_of : Option Tree → Option (List ℕ)
 text_of None = None
 text_of (Some t) = Some (canonical_body t)
+
+-- where there is a tree, each of its numbers and counts is in its range, and each text is UTF-8
+abbrev pub CanBeWritten : Option Tree → Type 0
+CanBeWritten m = IfSome m IsWritable
 
 -- one text and then the other, where both are there
 abbrev pub then : Option (List ℕ) → Option (List ℕ) → Option (List ℕ)

@@ -1,7 +1,7 @@
 -- What the writing of a whole message leaves.
 use Rattle.std.specs.Prelude.{◌≡◌, ℕ, ℤ, pos, ◌<◌, ◌^◌, List, ◌++◌, length, Option, Some, None, ⊤, ◌⊎◌}
 use Rattle.bser_format.specs.Tree.{Tree}
-use Rattle.bser_format.specs.Canonical.{canonical_body, canonical_message}
+use Rattle.bser_format.specs.Canonical.{canonical_body, canonical_message, IsWritable}
 use Rattle.bser_format.specs.declared.errors.Error.{Error}
 use Rattle.bser_format.specs.declared.errors.Error.TheVariants.{OutOfMemory, Io}
 use Rattle.bser_ser.specs.Sent.{IsExcuse, IsTooMany}
@@ -27,10 +27,10 @@ abbrev pub IsUnmeasured : Option Tree → Error → Type 0
 IsUnmeasured None e = IsNoFault e
 IsUnmeasured (Some t) e = (e ≡ OutOfMemory) ⊎ IsTooMany (length (canonical_body t)) e
 
--- there is a tree, its body is not too long, and the writer took its canonical message and nothing else
+-- there is a tree that can be written, its body is not too long, and the writer took its canonical message and nothing else
 abbrev pub Wrote : {S : Type 0} → (S → S → List ℕ → Type 0) → Option Tree → S → S → Type 0
 Wrote took None old new = ⊥
-Wrote took (Some t) old new = took old new (canonical_message t) × (length (canonical_body t) < 2 ^ 63)
+Wrote took (Some t) old new = took old new (canonical_message t) × (length (canonical_body t) < 2 ^ 63) × IsWritable t
 
 -- the writer took a beginning of the message, more of it was pending, and there is an excuse
 pub record Partly {S : Type 0} (took : S → S → List ℕ → Type 0) (answered : Answering S) (failures : S → ℕ) (message : List ℕ) (old new : S) (e : Error) : Type 0 where

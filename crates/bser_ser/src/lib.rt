@@ -6,7 +6,7 @@
 
 ghost use Rattle.std.specs.Prelude.{Option, OnOk, IfErr};
 ghost use Rattle.bser_format.specs.Tree.{Tree};
-ghost use Rattle.bser_ser.specs.Ends.{Ends, Stops, text_of};
+ghost use Rattle.bser_ser.specs.Ends.{Ends, Stops, text_of, CanBeWritten};
 
 mod adds;
 mod count;
@@ -44,6 +44,7 @@ pub trait Serialize {
     fn serialize<W: Sink>(&self, alloc: Global, out: &mut Serializer<W>) -> Result<()>
         ensures ok { OnOk result (Ends W.took W.failures
             (text_of (meaning self.now)) out.old out.new) }
+        ensures writable { OnOk result (CanBeWritten (meaning self.now)) }
         ensures err { IfErr result (Stops W.took W.answered W.failures
             (text_of (meaning self.now)) out.old out.new) };
 }

@@ -1,7 +1,9 @@
-use Rattle.std.proofs.Common.{List, [], ◌∷◌, Option}
+use Rattle.std.proofs.Common.{rules, List, [], ◌∷◌, Option}
 use Rattle.std.proofs.lemmas.Result.{err_from_is_err_and, MatchResult-weaker}
 use Rattle.bser_format.specs.Tree.{Tree}
+use Rattle.bser_written.specs.Written.{part_tree}
 use Rattle.bser_ser.proofs.Texts.{parts_start, parts_more, parts_all, parts_stop}
+use Rattle.bser_ser.proofs.Writable.{array_writable}
 use Rattle.bser_ser.proofs.tuples.Tuple2Serialize.serialize.Goals as goal
 
 pub returns-in_err-serialize-clause-err : goal.returns-in_err-serialize-clause-err
@@ -24,3 +26,7 @@ returns-clause-err g c =
     let u0 = parts_start g.W.Sink.took g.W.Sink.failures g.met.W.Sink.took_both parts c.args.out.now c.put_seq.new.self c.in_ok-put_seq.ensures.put.0 in
     let u1 = parts_more g.W.Sink.took g.W.Sink.failures g.met.W.Sink.took_both parts c.serialize.new.out u0 c.in_ok-serialize.ensures.ok in
     MatchResult-weaker c.serialize-2.result c.serialize-2.ensures.err (λ _ t. t) (λ e t. parts_stop g.W.Sink.took g.W.Sink.answered g.W.Sink.failures g.met.W.Sink.took_both parts c.serialize-2.new.out e u1 t)
+
+pub returns-clause-writable : goal.returns-clause-writable
+returns-clause-writable g c =
+    MatchResult-weaker c.serialize-2.result c.serialize-2.ensures.writable (λ _ w. array_writable part_tree (g.A.Serialize.meaning c.args.self.now.0 ∷ g.B.Serialize.meaning c.args.self.now.1 ∷ []) (search rules) (c.in_ok-serialize.ensures.writable, (w, tt))) (λ _ t. t)
