@@ -1,9 +1,9 @@
 -- What can be written, where its parts can.
-use Rattle.std.proofs.Common.{arith, ◌≡◌, ℕ, pos, Bool, true, false, nat_lt, if◌then◌else◌, suc, ◌<◌, ◌^◌, List, [], ◌∷◌, length, Option, Some, None, option_map, IfSome, sym, ap, refl, subst}
+use Rattle.std.proofs.Common.{rules, arith, ◌≡◌, ℕ, Bool, true, false, nat_lt, if◌then◌else◌, suc, ◌<◌, ◌^◌, List, [], ◌∷◌, length, Option, Some, None, option_map, IfSome, sym, ap, refl, subst}
 use Rattle.std.specs.List.{AllByRecursion}
-use Rattle.bser_format.specs.Tree.{Tree, Items, Entries, array, object, integer, items, entries}
+use Rattle.bser_format.specs.Tree.{Tree, Items, Entries, array, object, items, entries}
 use Rattle.bser_format.specs.Canonical.{IsCount, ItemsAreWritable, EntriesAreWritable}
-use Rattle.bser_written.specs.Written.{item_before, entry_before, written_items, written_entries, within_i64, unsigned_tree, array_tree, object_tree}
+use Rattle.bser_written.specs.Written.{item_before, entry_before, written_items, written_entries, within_i64, array_tree, object_tree, part_tree, plain_bytes, tuple_tree, struct_tree, variant_tree}
 use Rattle.bser_ser.specs.Ends.{CanBeWritten}
 
 -- items and entries that can be written, and how many they are
@@ -49,6 +49,16 @@ array_writable f xs few h = as_array (length xs) (written_items f xs) few (each_
 pub object_writable : {K V : Type 0} (key : K → List ℕ) (f : V → Option Tree) (es : List (K × V)) → length es < 2 ^ 63 → AllByRecursion (EntryCanBeWritten key f) es → CanBeWritten (object_tree key f es)
 object_writable key f es few h = as_object (length es) (written_entries key f es) few (each_entry key f es h)
 
+-- a tuple, a struct, and a variant with a payload
+pub tuple_writable : (parts : List (Option Tree)) → length parts < 2 ^ 63 → AllByRecursion CanBeWritten parts → CanBeWritten (tuple_tree parts)
+tuple_writable parts few h = array_writable part_tree parts few h
+
+pub struct_writable : (fields : List (List ℕ × Option Tree)) → length fields < 2 ^ 63 → AllByRecursion (EntryCanBeWritten plain_bytes part_tree) fields → CanBeWritten (struct_tree fields)
+struct_writable fields few h = object_writable plain_bytes part_tree fields few h
+
+pub variant_writable : (name : List ℕ) (m : Option Tree) → IsCount (length name) → CanBeWritten m → CanBeWritten (variant_tree name m)
+variant_writable name m short h = struct_writable ((name, m) ∷ []) (search rules) ((short, h), tt)
+
 where_true : (b : Bool) (m : Option Tree) → (b ≡ true → CanBeWritten m) → CanBeWritten (if b then m else None)
 where_true true m h = h refl
 where_true false m h = tt
@@ -56,9 +66,6 @@ where_true false m h = tt
 -- what an i64 counts
 pub within_writable : (n : ℕ) (m : Option Tree) → (n < 2 ^ 63 → CanBeWritten m) → CanBeWritten (within_i64 n m)
 within_writable n m h = where_true (nat_lt n (2 ^ 63)) m (λ e. h (grind (arith, e)))
-
-pub unsigned_writable : (n : ℕ) → CanBeWritten (unsigned_tree n)
-unsigned_writable n = within_writable n (Some (integer (pos n))) (λ h. grind (arith, h))
 
 -- of all, each that is not in rest has the property
 module _ {A : Type 0} (P : A → Type 0) where

@@ -6,13 +6,14 @@ use Rattle.bser_written.specs.Pieces.{object_head}
 use Rattle.bser_written.specs.Written.{part_tree, plain_bytes, struct_tree}
 use Rattle.bser_format.specs.declared.errors.Error.{Error}
 use Rattle.bser_ser.specs.Sent.{Sent}
-use Rattle.bser_ser.specs.Ends.{Ends, Stops, text_of, then, field_text}
+use Rattle.bser_ser.specs.Ends.{Ends, Stops, text_of, then, field_text, CanBeWritten}
 use Rattle.bser_ser.specs.Stopped.{Answering}
 use Rattle.bser_ser.specs.declared.serializer.Serializer.{Serializer}
 use Rattle.bser_ser.proofs.Ends.{joined, then-assoc, then-nil, nil-then, Ends-both, Stops-first, Stops-second}
 use Rattle.bser_ser.proofs.Structs.{struct_text, field_ends, field_stops}
 use Rattle.bser_ser.proofs.Texts.{entry_text}
-use Rattle.bser_structs.specs.Entries.{entries_text, entries_tree, IsCount}
+use Rattle.bser_ser.proofs.Writable.{within_writable, object_writable}
+use Rattle.bser_structs.specs.Entries.{entries_text, entries_tree, EntriesCanBeWritten, IsCount}
 
 entries_joined : (fs : List (List ℕ × Option Tree)) → joined (entry_text plain_bytes part_tree) fs ≡ entries_text fs
 entries_joined [] = refl
@@ -58,3 +59,11 @@ module _ {S : Type 0} (took : S → S → List ℕ → Type 0) (answered : Answe
 
   pub tree_stops : (fs : List (List ℕ × Option Tree)) (count : ℕ) → IsCount (length fs) count → count < 2 ^ 63 → (a b c : Serializer S) (e : Error) → Sent took failures a b (object_head count) → Stops took answered failures (entries_text fs) b c e → Stops took answered failures (text_of (entries_tree fs)) a c e
   tree_stops fs count n h a b c e s t = subst (λ (m : Option (List ℕ)). Stops took answered failures m a c e) (sym (tree_text fs count (is_count (length fs) count n h) h)) (Stops-second took answered failures both (Some (object_head count)) (entries_text fs) a b c e s t)
+
+-- a field, and the others
+pub each_writable : (xs ys : List (List ℕ × Option Tree)) → EntriesCanBeWritten xs → EntriesCanBeWritten ys → EntriesCanBeWritten (xs ++ ys)
+each_writable [] ys p q = q
+each_writable (e ∷ xs) ys p q = (p.0, each_writable xs ys p.1 q)
+
+pub tree_writable : (fs : List (List ℕ × Option Tree)) → EntriesCanBeWritten fs → CanBeWritten (entries_tree fs)
+tree_writable fs h = within_writable (length fs) (struct_tree fs) (λ few. object_writable plain_bytes part_tree fs few h)

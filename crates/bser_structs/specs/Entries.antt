@@ -1,13 +1,18 @@
 -- The entries of an object, as which the fields of a struct are written.
-use Rattle.std.specs.Prelude.{◌≡◌, ℕ, ◌≤◌, ◌^◌, List, [], ◌∷◌, length, Option, Some, None, ◌⊎◌}
+use Rattle.std.specs.Prelude.{◌≡◌, ℕ, ◌<◌, ◌≤◌, ◌^◌, List, [], ◌∷◌, length, Option, Some, None, ◌⊎◌}
+use Rattle.std.specs.List.{AllByRecursion}
 use Rattle.bser_format.specs.Tree.{Tree}
 use Rattle.bser_written.specs.Written.{struct_tree, within_i64}
-use Rattle.bser_ser.specs.Ends.{field_text, then}
+use Rattle.bser_ser.specs.Ends.{field_text, then, CanBeWritten}
 
 -- the text of all entries, where each has one
 abbrev pub entries_text : List (List ℕ × Option Tree) → Option (List ℕ)
 entries_text [] = Some []
 entries_text (e ∷ es) = then (field_text e.0 e.1) (entries_text es)
+
+-- no key is longer than an i64 counts, and each value can be written
+abbrev pub EntriesCanBeWritten : List (List ℕ × Option Tree) → Type 0
+EntriesCanBeWritten es = AllByRecursion (λ e. (length e.0 < 2 ^ 63) × CanBeWritten e.1) es
 
 -- the object of these entries, of which there are no more than an i64 counts
 abbrev pub entries_tree : List (List ℕ × Option Tree) → Option Tree

@@ -1,8 +1,8 @@
 //! Writing a struct by its fields.
 ghost use Rattle.std.specs.Prelude.{ℕ, List, [], ◌∷◌, ◌++◌, length, Option, OnOk, IfErr};
 ghost use Rattle.bser_format.specs.Tree.{Tree};
-ghost use Rattle.bser_ser.specs.Ends.{Ends, Stops, text_of};
-ghost use Rattle.bser_structs.specs.Entries.{entries_text, entries_tree, given_entry, IsCount};
+ghost use Rattle.bser_ser.specs.Ends.{Ends, Stops, text_of, CanBeWritten};
+ghost use Rattle.bser_structs.specs.Entries.{entries_text, entries_tree, given_entry, EntriesCanBeWritten, IsCount};
 
 use bser_format::errors::Result;
 use bser_ser::{Serialize, Serializer};
@@ -25,6 +25,7 @@ pub trait PutField {
     fn put<W: Sink>(&self, alloc: Global, out: &mut Serializer<W>) -> Result<()>
         ensures ok { OnOk result (Ends W.took W.failures
             (entries_text (entries self.now)) out.old out.new) }
+        ensures writable { OnOk result (EntriesCanBeWritten (entries self.now)) }
         ensures err { IfErr result (Stops W.took W.answered W.failures
             (entries_text (entries self.now)) out.old out.new) };
 }
@@ -85,6 +86,7 @@ pub trait PutFields {
     fn put_each<W: Sink>(&self, alloc: Global, out: &mut Serializer<W>) -> Result<()>
         ensures ok { OnOk result (Ends W.took W.failures
             (entries_text (entries self.now)) out.old out.new) }
+        ensures writable { OnOk result (EntriesCanBeWritten (entries self.now)) }
         ensures err { IfErr result (Stops W.took W.answered W.failures
             (entries_text (entries self.now)) out.old out.new) };
 }
@@ -130,6 +132,7 @@ pub fn put_fields<W: Sink, F: PutFields>(
 ) -> Result<()>
     ensures ok { OnOk result (Ends W.took W.failures
         (text_of (entries_tree (F.entries fields.now))) out.old out.new) }
+    ensures writable { OnOk result (CanBeWritten (entries_tree (F.entries fields.now))) }
     ensures err { IfErr result (Stops W.took W.answered W.failures
         (text_of (entries_tree (F.entries fields.now))) out.old out.new) }
 {

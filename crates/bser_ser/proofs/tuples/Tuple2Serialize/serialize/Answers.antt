@@ -1,9 +1,8 @@
 use Rattle.std.proofs.Common.{rules, List, [], ◌∷◌, Option}
 use Rattle.std.proofs.lemmas.Result.{err_from_is_err_and, MatchResult-weaker}
 use Rattle.bser_format.specs.Tree.{Tree}
-use Rattle.bser_written.specs.Written.{part_tree}
 use Rattle.bser_ser.proofs.Texts.{parts_start, parts_more, parts_all, parts_stop}
-use Rattle.bser_ser.proofs.Writable.{array_writable}
+use Rattle.bser_ser.proofs.Writable.{tuple_writable}
 use Rattle.bser_ser.proofs.tuples.Tuple2Serialize.serialize.Goals as goal
 
 pub returns-in_err-serialize-clause-err : goal.returns-in_err-serialize-clause-err
@@ -29,4 +28,4 @@ returns-clause-err g c =
 
 pub returns-clause-writable : goal.returns-clause-writable
 returns-clause-writable g c =
-    MatchResult-weaker c.serialize-2.result c.serialize-2.ensures.writable (λ _ w. array_writable part_tree (g.A.Serialize.meaning c.args.self.now.0 ∷ g.B.Serialize.meaning c.args.self.now.1 ∷ []) (search rules) (c.in_ok-serialize.ensures.writable, (w, tt))) (λ _ t. t)
+    MatchResult-weaker c.serialize-2.result c.serialize-2.ensures.writable (λ _ w. tuple_writable (g.A.Serialize.meaning c.args.self.now.0 ∷ g.B.Serialize.meaning c.args.self.now.1 ∷ []) (search rules) (c.in_ok-serialize.ensures.writable, (w, tt))) (λ _ t. t)
