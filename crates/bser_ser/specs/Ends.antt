@@ -12,7 +12,7 @@ abbrev pub text_of : Option Tree → Option (List ℕ)
 text_of None = None
 text_of (Some t) = Some (canonical_body t)
 
--- where there is a tree, each of its numbers and counts is in its range, and each text is UTF-8
+-- where there is a tree, its numbers and counts are in their ranges, its texts are UTF-8, and each row of a template has a field for each key
 abbrev pub CanBeWritten : Option Tree → Type 0
 CanBeWritten m = IfSome m IsWritable
 

@@ -35,7 +35,9 @@ pub trait Serialize {
     // the value's tree, where it has one
     ghost meaning: { Self → Option Tree };
 
-    /// Puts the canonical text of the value's tree.
+    /// Puts the canonical text of the value's tree. On success the tree can be written: each of its
+    /// numbers and counts is in its range, each text is UTF-8, and each row of a template has a field
+    /// for each key.
     ///
     /// A value without a tree is refused, as an integer above `i64::MAX` with
     /// [`SerU64TooBig`](bser_format::errors::Error::SerU64TooBig). Besides, the faults of the puts
