@@ -12,7 +12,7 @@ use Rattle.bser_ser.specs.declared.serializer.Serializer.{Serializer}
 abbrev pub text_of : Result Tree Error → Result (List ℕ) Error
 text_of m = map_ok canonical_body m
 
--- where there is a tree, each of its numbers and counts is in its range, and each text is UTF-8
+-- where there is a tree, its numbers and counts are in their ranges, its texts are UTF-8, and each row of a template has a field for each key
 abbrev pub CanBeWritten : Result Tree Error → Type 0
 CanBeWritten m = IfOk m IsWritable
 

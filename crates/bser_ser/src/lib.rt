@@ -36,7 +36,9 @@ pub trait Serialize {
     // the value's tree, or the error that says why it has none
     ghost meaning: { Self → Result Tree Error };
 
-    /// Puts the canonical text of the value's tree.
+    /// Puts the canonical text of the value's tree. On success the tree can be written: each of its
+    /// numbers and counts is in its range, each text is UTF-8, and each row of a template has a field
+    /// for each key.
     ///
     /// A value without a tree is refused with the error that `meaning` names, as an integer above
     /// `i64::MAX` with [`SerU64TooBig`](bser_format::errors::Error::SerU64TooBig) and itself, and a

@@ -1,5 +1,6 @@
 //! Writing.
-ghost use Rattle.std.specs.Prelude.{◌≡◌, Some, IfOk, IfErr};
+ghost use Rattle.std.specs.Prelude.{◌≡◌, Some, OnOk, IfOk, IfErr};
+ghost use Rattle.bser_ser.specs.Ends.{CanBeWritten};
 ghost use Rattle.bser_ser.specs.Message.{message_of, IsUnmeasured};
 
 pub use bser_compact::message::serialize_compact;
@@ -18,6 +19,7 @@ use std::alloc::Global;
 /// included (`OutOfMemory`). No other error comes of a value that has a tree.
 pub fn to_vec<T: Serialize>(alloc: Global, value: &T) -> Result<Vec<u8>>
     ensures ok { IfOk result (λ message. message_of (T.meaning value.now) ≡ Some message.items) }
+    ensures writable { OnOk result (CanBeWritten (T.meaning value.now)) }
     ensures err { IfErr result (IsUnmeasured (T.meaning value.now)) }
 {
     match serialize(alloc, Watched::new(Vec::new(alloc)), value) {

@@ -3,7 +3,7 @@ ghost use Rattle.std.specs.Prelude.{Some, [], ◌∷◌, codes};
 ghost use Rattle.bser_format.specs.Tree.{text, bytes};
 ghost use Rattle.bser_written.specs.Written.{tuple_tree, struct_tree, variant_tree};
 ghost use Rattle.std.specs.Prelude.{OnOk, IfErr};
-ghost use Rattle.bser_ser.specs.Ends.{Ends, Stops, field_text};
+ghost use Rattle.bser_ser.specs.Ends.{Ends, Stops, field_text, CanBeWritten};
 
 use bser_format::bytestring::ByteString;
 use bser_format::errors::Result;
@@ -125,6 +125,7 @@ fn put_field<W: Sink, T: Serialize>(
 ) -> Result<()>
     ensures ok { OnOk result (Ends W.took W.failures
         (field_text key.now (T.meaning value.now)) out.old out.new) }
+    ensures writable { OnOk result (CanBeWritten (T.meaning value.now)) }
     ensures err { IfErr result (Stops W.took W.answered W.failures
         (field_text key.now (T.meaning value.now)) out.old out.new) }
 {
