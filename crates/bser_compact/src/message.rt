@@ -1,5 +1,5 @@
 //! Whole messages in the compact form.
-ghost use Rattle.std.specs.Prelude.{Some, OnOk, OnErr, IfErr};
+ghost use Rattle.std.specs.Prelude.{Ok, OnOk, OnErr, IfErr};
 ghost use Rattle.std.specs.List.{AllByRecursion};
 ghost use Rattle.bser_format.specs.Tree.{array, object};
 ghost use Rattle.bser_format.specs.Canonical.{IsWritable};
@@ -34,10 +34,10 @@ pub fn serialize_compact<W: Sink>(
     writer: &mut W,
     value: &Value,
 ) -> bser_format::errors::Result<()>
-    ensures ok { OnOk result (Wrote W.took (Some (compact_tree value.now)) writer.old writer.new) }
+    ensures ok { OnOk result (Wrote W.took (Ok (compact_tree value.now)) writer.old writer.new) }
     ensures err { IfErr result
         (Missed W.took W.answered W.failures
-        (Some (compact_tree value.now)) writer.old writer.new) }
+        (Ok (compact_tree value.now)) writer.old writer.new) }
 {
     serialize_to(alloc, writer, &Compact { value })
 }
@@ -49,7 +49,7 @@ struct Compact<'a> {
 }
 
 impl Serialize for Compact<'_> {
-    ghost meaning = { λ c. Some (compact_tree c.value.now) };
+    ghost meaning = { λ c. Ok (compact_tree c.value.now) };
 
     fn serialize<W: Sink>(
         &self,

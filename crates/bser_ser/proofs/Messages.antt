@@ -1,6 +1,7 @@
 -- A message and the serializer that sent it.
 use Rattle.std.proofs.Common.{◌≡◌, ℕ, ℤ, pos, List, ◌∷◌, ◌++◌, length, append_assoc, sym, ap, ◌∙◌, subst, refl, inr, [], Result, Ok, Err, IfErr}
 use Rattle.std.proofs.lemmas.Result.{IfErr-weaker}
+use Rattle.std.specs.Result.{result_unwrap_or}
 use Rattle.std.specs.Int.{w32, to_le_bytes}
 use Rattle.bser_format.specs.Tree.{Tree}
 use Rattle.bser_format.specs.Canonical.{canonical_body, canonical_message, least_integer}
@@ -26,6 +27,10 @@ module _ {S : Type 0} (took : S → S → List ℕ → Type 0) (answered : Answe
   pub Stops-message : (m : Result Tree Error) (len : ℤ) (a b c : Serializer S) (e : Error) → IsBodyLength m len → Sent took failures a b (front len) → Stops took answered failures (text_of m) b c e → Stops took answered failures (message_of m) a c e
   Stops-message (Err d) len a b c e is s t = absurd is
   Stops-message (Ok u) len a b c e is s t = Stops-second took answered failures both (Ok (front (pos (length (canonical_body u))))) (Ok (canonical_body u)) a b c e (rw (← is.0) s) t
+
+-- a tree's message is one
+pub same_message : (t : Tree) (m : List ℕ) → message_of (Ok t) ≡ Ok m → canonical_message t ≡ m
+same_message t m e = ap (λ r. result_unwrap_or r m) e
 
 -- a writer that took nothing before
 module _ {S : Type 0} (took : S → S → List ℕ → Type 0) (answered : Answering S) (failures : S → ℕ) where

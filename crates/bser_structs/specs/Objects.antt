@@ -1,7 +1,8 @@
 -- What is held, and written, where an object is a value of one type and anything else one of another.
-use Rattle.std.specs.Prelude.{Option}
+use Rattle.std.specs.Prelude.{Result}
 use Rattle.bser_format.specs.Tree.{Tree}
 use Rattle.bser_format.specs.Content.{Content}
+use Rattle.bser_format.specs.declared.errors.Error.{Error}
 use Rattle.bser_structs.specs.declared.object_or.ObjectOr.{ObjectOr}
 use Rattle.bser_structs.specs.declared.object_or.ObjectOr.TheVariants.{Object, Other}
 
@@ -10,7 +11,7 @@ abbrev pub HoldsObjectOr : {A B : Type 0} → (A → Content → Type 0) → (B 
 HoldsObjectOr object other (Object v) c = object v c
 HoldsObjectOr object other (Other v) c = other v c
 
--- the tree that this value is written as
-abbrev pub object_or_tree : {A B : Type 0} → (A → Option Tree) → (B → Option Tree) → ObjectOr A B → Option Tree
+-- the tree that this value is written as, or why it is none
+abbrev pub object_or_tree : {A B : Type 0} → (A → Result Tree Error) → (B → Result Tree Error) → ObjectOr A B → Result Tree Error
 object_or_tree object other (Object v) = object v
 object_or_tree object other (Other v) = other v

@@ -1,6 +1,7 @@
 //! Writing a struct by its fields.
-ghost use Rattle.std.specs.Prelude.{ℕ, List, [], ◌∷◌, ◌++◌, length, Option, OnOk, IfErr};
+ghost use Rattle.std.specs.Prelude.{ℕ, List, [], ◌∷◌, ◌++◌, length, Result, OnOk, IfErr};
 ghost use Rattle.bser_format.specs.Tree.{Tree};
+ghost use Rattle.bser_format.specs.declared.errors.Error.{Error};
 ghost use Rattle.bser_ser.specs.Ends.{Ends, Stops, text_of, CanBeWritten};
 ghost use Rattle.bser_structs.specs.Entries.{entries_text, entries_tree, given_entry, EntriesCanBeWritten, IsCount};
 
@@ -12,7 +13,7 @@ use std::alloc::Global;
 /// A field that is written: its name beside its value, as `(&str, &T)` or `(&str, Given<T>)`.
 pub trait PutField {
     // the entries that it is: one, or none where it is left out
-    ghost entries: { Self → List (List ℕ × Option Tree) };
+    ghost entries: { Self → List (List ℕ × Result Tree Error) };
 
     /// How many entries it is.
     fn count(&self) -> usize
@@ -74,7 +75,7 @@ impl<'a, 'b, T: Serialize> PutField for (&'a str, Given<'b, T>) {
 /// The fields of a struct that is written: pairs of a field and the others, up to `()`.
 pub trait PutFields {
     // the entries that they are
-    ghost entries: { Self → List (List ℕ × Option Tree) };
+    ghost entries: { Self → List (List ℕ × Result Tree Error) };
 
     /// How many entries they are.
     fn count(&self) -> usize

@@ -42,7 +42,7 @@ abbrev pub numbers_of : List ℤ → Items
 numbers_of [] = no_items
 numbers_of (v ∷ vs) = item (integer v) (numbers_of vs)
 
-pub written_numbers : (vs : List ℤ) → written_items (λ v. Some (integer v)) vs ≡ Some (numbers_of vs)
+pub written_numbers : (vs : List ℤ) → written_items (λ v. Ok (integer v)) vs ≡ Ok (numbers_of vs)
 written_numbers [] = refl
 written_numbers (v ∷ vs) = rw (written_numbers vs) refl
 

@@ -1,5 +1,5 @@
 -- A value is written in the compact form as its parts are.
-use Rattle.std.proofs.Common.{rules, arith, ◌≡◌, ◌<◌, ◌^◌, length, [], ◌++◌, sym, subst, refl, ap, ◌∙◌, Some, string_bytes, append-nil}
+use Rattle.std.proofs.Common.{rules, arith, ◌≡◌, ◌<◌, ◌^◌, length, [], ◌++◌, sym, subst, refl, ap, ◌∙◌, Ok, string_bytes, append-nil}
 use Rattle.std.proofs.lemmas.Result.{err_from_is_err_and, on_ok_weaker, on_err_weaker}
 use Rattle.std.specs.List.{AllByRecursion}
 use Rattle.bser_format.specs.Canonical.{canonical_key, canonical_items, canonical_entries, canonical_fields, IsCount, ItemsAreWritable, EntriesAreWritable, FieldsAreWritable}
@@ -64,7 +64,7 @@ add_entries-returns-in_err-add_text_key-clause-err g t c =
     let body = value_text c.in-Some.value.now in
     rw p.1 (AllBut-stops g.W.Sink.took g.W.Sink.answered g.W.Sink.failures g.met.W.Sink.took_both _ _ (name ++ body) _ c.args.out.now c.loop-key.out c.add_text_key.new.self (refusal_of c.add_text_key.new.self) c.loop-key.invariant.put
     (entry_piece c.loop-key.key-iterator c.next.new.self (c.in-Some.key.now, c.in-Some.value.now) c.in-Some.ensures.steps)
-    (Stops-none g.W.Sink.took g.W.Sink.answered g.W.Sink.failures (Some (name ++ body)) c.loop-key.out c.add_text_key.new.self (refusal_of c.add_text_key.new.self) c.in_err-add_text_key.ensures.0 c.in_err-add_text_key.ensures.1))
+    (Stops-none g.W.Sink.took g.W.Sink.answered g.W.Sink.failures (Ok (name ++ body)) c.loop-key.out c.add_text_key.new.self (refusal_of c.add_text_key.new.self) c.in_err-add_text_key.ensures.0 c.in_err-add_text_key.ensures.1))
 
 pub add_entries-returns-in_err-add_compact-clause-err : goal.add_entries-returns-in_err-add_compact-clause-err
 add_entries-returns-in_err-add_compact-clause-err g t c =
@@ -73,7 +73,7 @@ add_entries-returns-in_err-add_compact-clause-err g t c =
     let body = value_text c.in-Some.value.now in
     rw p.1 (AllBut-stops g.W.Sink.took g.W.Sink.answered g.W.Sink.failures g.met.W.Sink.took_both _ _ (name ++ body) _ c.args.out.now c.loop-key.out c.add_compact.new.out (refusal_of c.add_compact.new.out) c.loop-key.invariant.put
     (entry_piece c.loop-key.key-iterator c.next.new.self (c.in-Some.key.now, c.in-Some.value.now) c.in-Some.ensures.steps)
-    (Stops-second g.W.Sink.took g.W.Sink.answered g.W.Sink.failures g.met.W.Sink.took_both (Some name) (Some body) c.loop-key.out c.add_text_key.new.self c.add_compact.new.out (refusal_of c.add_compact.new.out) (rw c.as_str.ensures.value at c.in_ok-add_text_key.ensures.0) c.in_err-add_compact.ensures.err))
+    (Stops-second g.W.Sink.took g.W.Sink.answered g.W.Sink.failures g.met.W.Sink.took_both (Ok name) (Ok body) c.loop-key.out c.add_text_key.new.self c.add_compact.new.out (refusal_of c.add_compact.new.out) (rw c.as_str.ensures.value at c.in_ok-add_text_key.ensures.0) c.in_err-add_compact.ensures.err))
 
 pub add_entries-loop-key-preserved : goal.add_entries-loop-key-preserved
 add_entries-loop-key-preserved g t c =

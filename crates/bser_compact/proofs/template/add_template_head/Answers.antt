@@ -1,5 +1,5 @@
 -- A template's head is put piece by piece.
-use Rattle.std.proofs.Common.{rules, ◌++◌, [], flat_map, sym, subst, refl, ◌∙◌, Some, string_bytes}
+use Rattle.std.proofs.Common.{rules, ◌++◌, [], flat_map, sym, subst, refl, ◌∙◌, Ok, string_bytes}
 use Rattle.std.specs.List.{AllByRecursion}
 use Rattle.std.specs.Int.{w64}
 use Rattle.std.proofs.lemmas.Int.{to_z_pos}
@@ -22,7 +22,7 @@ returns-in_err-add_array-clause-err g c =
     let begun = AllBut-start g.W.Sink.took g.W.Sink.failures (head_text es c.args.rows) template_tag (array_head c.len.result ++ rest) c.args.out.now c.add_template.new.self
     (head_pieces es c.args.rows c.len.result c.len.ensures.len) c.in_ok-add_template.ensures.0 in
     rw p.1 (AllBut-stops g.W.Sink.took g.W.Sink.answered g.W.Sink.failures g.met.W.Sink.took_both _ _ (array_head c.len.result) rest c.args.out.now c.add_template.new.self c.add_array.new.self (refusal_of c.add_array.new.self) begun refl
-    (Stops-none g.W.Sink.took g.W.Sink.answered g.W.Sink.failures (Some (array_head c.len.result)) c.add_template.new.self c.add_array.new.self (refusal_of c.add_array.new.self) c.in_err-add_array.ensures.0 c.in_err-add_array.ensures.1))
+    (Stops-none g.W.Sink.took g.W.Sink.answered g.W.Sink.failures (Ok (array_head c.len.result)) c.add_template.new.self c.add_array.new.self (refusal_of c.add_array.new.self) c.in_err-add_array.ensures.0 c.in_err-add_array.ensures.1))
 
 pub loop-key-init : goal.loop-key-init
 loop-key-init g c =
@@ -51,7 +51,7 @@ returns-in_err-add_text-clause-err g c =
     let piece = canonical_text (string_bytes c.in-Some.key.now) in
     rw p.1 (AllBut-stops g.W.Sink.took g.W.Sink.answered g.W.Sink.failures g.met.W.Sink.took_both _ _ piece _ c.args.out.now c.loop-key.out c.add_text.new.self (refusal_of c.add_text.new.self) c.loop-key.invariant.put
     (name_piece c.loop-key.key-iterator c.next.new.self (c.in-Some.key.now, c.in-Some.field-0-1.now) c.args.rows c.in-Some.ensures.steps)
-    (Stops-none g.W.Sink.took g.W.Sink.answered g.W.Sink.failures (Some piece) c.loop-key.out c.add_text.new.self (refusal_of c.add_text.new.self) c.in_err-add_text.ensures.0 c.in_err-add_text.ensures.1))
+    (Stops-none g.W.Sink.took g.W.Sink.answered g.W.Sink.failures (Ok piece) c.loop-key.out c.add_text.new.self (refusal_of c.add_text.new.self) c.in_err-add_text.ensures.0 c.in_err-add_text.ensures.1))
 
 pub returns-in_err-add_i64-clause-err : goal.returns-in_err-add_i64-clause-err
 returns-in_err-add_i64-clause-err g c =
@@ -59,7 +59,7 @@ returns-in_err-add_i64-clause-err g c =
     let piece = least_count c.args.rows in
     rw p.1 (AllBut-stops g.W.Sink.took g.W.Sink.answered g.W.Sink.failures g.met.W.Sink.took_both _ _ piece [] c.args.out.now c.loop-key.out c.add_i64.new.self (refusal_of c.add_i64.new.self) c.loop-key.invariant.put
     (count_piece c.loop-key.key-iterator c.args.rows (search rules))
-    (Stops-none g.W.Sink.took g.W.Sink.answered g.W.Sink.failures (Some piece) c.loop-key.out c.add_i64.new.self (refusal_of c.add_i64.new.self) c.in_err-add_i64.ensures.0 c.in_err-add_i64.ensures.1))
+    (Stops-none g.W.Sink.took g.W.Sink.answered g.W.Sink.failures (Ok piece) c.loop-key.out c.add_i64.new.self (refusal_of c.add_i64.new.self) c.in_err-add_i64.ensures.0 c.in_err-add_i64.ensures.1))
 
 pub returns-clause-ok : goal.returns-clause-ok
 returns-clause-ok g c =

@@ -1,8 +1,9 @@
 -- A container is written as its parts are.
-use Rattle.std.proofs.Common.{rules, arith, ◌<◌, ◌^◌, ◌∙◌, length, sym, subst, Option, Some, OnOk, OnErr, string_bytes}
+use Rattle.std.proofs.Common.{rules, arith, ◌<◌, ◌^◌, ◌∙◌, length, sym, subst, Result, Ok, OnOk, OnErr, string_bytes}
 use Rattle.std.proofs.lemmas.List.{drop_all}
 use Rattle.std.proofs.lemmas.Result.{err_from_is_err_and}
 use Rattle.bser_format.specs.Tree.{Tree}
+use Rattle.bser_format.specs.declared.errors.Error.{Error}
 use Rattle.bser_written.specs.Pieces.{array_head, object_head}
 use Rattle.bser_format.specs.Canonical.{canonical_key, IsCount, ItemsAreWritable, EntriesAreWritable}
 use Rattle.bser_ser.specs.Ends.{Ends, Stops, text_of}
@@ -15,8 +16,8 @@ use Rattle.bser_value.specs.declared.value.Value.{Value}
 use Rattle.bser_value.proofs.Views.{length-items, length-entries, written-Array, written-Object}
 use Rattle.bser_value.proofs.value.writing.+add.Goals as goal
 
-abbrev told : Value → Option Tree
-told v = Some (tree_of v)
+abbrev told : Value → Result Tree Error
+told v = Ok (tree_of v)
 
 pub add_items-loop-item-init : goal.add_items-loop-item-init
 add_items-loop-item-init g t c =
@@ -69,14 +70,14 @@ add_entries-returns-in_err-add_value-clause-err g t c =
     let p = err_from_is_err_and c.from_residual-in_err-add_value.result c.from_residual-in_err-add_value.ensures.1 in
     rw p.1 (Stops-object g.W.Sink.took g.W.Sink.answered g.W.Sink.failures string_bytes told c.args.entries.now.entries g.met.W.Sink.took_both _ c.next.new.self (c.in-Some.key.now, c.in-Some.value.now)
     c.args.out.now c.loop-key.out c.add_value.new.out (refusal_of c.add_value.new.out) c.loop-key.invariant.put c.in-Some.ensures.steps
-    (Stops-second g.W.Sink.took g.W.Sink.answered g.W.Sink.failures g.met.W.Sink.took_both (Some (canonical_key (string_bytes c.in-Some.key.now))) (text_of (told c.in-Some.value.now)) c.loop-key.out c.add_text_key.new.self c.add_value.new.out (refusal_of c.add_value.new.out) (rw c.as_str.ensures.value at c.in_ok-add_text_key.ensures.0) c.in_err-add_value.ensures.err))
+    (Stops-second g.W.Sink.took g.W.Sink.answered g.W.Sink.failures g.met.W.Sink.took_both (Ok (canonical_key (string_bytes c.in-Some.key.now))) (text_of (told c.in-Some.value.now)) c.loop-key.out c.add_text_key.new.self c.add_value.new.out (refusal_of c.add_value.new.out) (rw c.as_str.ensures.value at c.in_ok-add_text_key.ensures.0) c.in_err-add_value.ensures.err))
 
 pub add_entries-loop-key-preserved : goal.add_entries-loop-key-preserved
 add_entries-loop-key-preserved g t c =
     record {
       put = UpTo-more g.W.Sink.took g.W.Sink.failures g.met.W.Sink.took_both (object_head (length c.args.entries.now.entries)) (entry_text string_bytes told) c.args.entries.now.entries _ _ (c.in-Some.key.now, c.in-Some.value.now)
           c.args.out.now c.loop-key.out c.add_value.new.out c.loop-key.invariant.put c.in-Some.ensures.steps
-          (Ends-both g.W.Sink.took g.W.Sink.failures g.met.W.Sink.took_both (Some (canonical_key (string_bytes c.in-Some.key.now))) (text_of (told c.in-Some.value.now)) c.loop-key.out c.add_text_key.new.self c.add_value.new.out (rw c.as_str.ensures.value at c.in_ok-add_text_key.ensures.0) c.in_ok-add_value.ensures.ok);
+          (Ends-both g.W.Sink.took g.W.Sink.failures g.met.W.Sink.took_both (Ok (canonical_key (string_bytes c.in-Some.key.now))) (text_of (told c.in-Some.value.now)) c.loop-key.out c.add_text_key.new.self c.add_value.new.out (rw c.as_str.ensures.value at c.in_ok-add_text_key.ensures.0) c.in_ok-add_value.ensures.ok);
       writable = λ h. c.loop-key.invariant.writable (subst (λ xs. EntriesAreWritable (entries_view xs)) (sym c.in-Some.ensures.steps) (search rules, c.in_ok-add_value.ensures.writable, h));
     }
 
@@ -85,13 +86,13 @@ add_entries-returns-clause-ok g t c =
     Ends-object g.W.Sink.took g.W.Sink.failures string_bytes told c.args.entries.now.entries _ c.args.out.now c.loop-key.out c.loop-key.invariant.put (search rules)
 
 pub add_value-returns-in-Array-clause-ok : goal.add_value-returns-in-Array-clause-ok
-add_value-returns-in-Array-clause-ok g t c = rw (c.in-Array.is) (subst (λ (m : Option Tree). OnOk c.add_items.result (Ends g.W.Sink.took g.W.Sink.failures (text_of m) c.args.out.now c.add_items.new.out)) (sym (written-Array c.in-Array.items)) c.add_items.ensures.ok)
+add_value-returns-in-Array-clause-ok g t c = rw (c.in-Array.is) (subst (λ (m : Result Tree Error). OnOk c.add_items.result (Ends g.W.Sink.took g.W.Sink.failures (text_of m) c.args.out.now c.add_items.new.out)) (sym (written-Array c.in-Array.items)) c.add_items.ensures.ok)
 
 pub add_value-returns-in-Array-clause-err : goal.add_value-returns-in-Array-clause-err
-add_value-returns-in-Array-clause-err g t c = rw (c.in-Array.is) (subst (λ (m : Option Tree). OnErr c.add_items.result (Stops g.W.Sink.took g.W.Sink.answered g.W.Sink.failures (text_of m) c.args.out.now c.add_items.new.out (refusal_of c.add_items.new.out))) (sym (written-Array c.in-Array.items)) c.add_items.ensures.err)
+add_value-returns-in-Array-clause-err g t c = rw (c.in-Array.is) (subst (λ (m : Result Tree Error). OnErr c.add_items.result (Stops g.W.Sink.took g.W.Sink.answered g.W.Sink.failures (text_of m) c.args.out.now c.add_items.new.out (refusal_of c.add_items.new.out))) (sym (written-Array c.in-Array.items)) c.add_items.ensures.err)
 
 pub add_value-returns-in-Object-clause-ok : goal.add_value-returns-in-Object-clause-ok
-add_value-returns-in-Object-clause-ok g t c = rw (c.in-Object.is) (subst (λ (m : Option Tree). OnOk c.add_entries.result (Ends g.W.Sink.took g.W.Sink.failures (text_of m) c.args.out.now c.add_entries.new.out)) (sym (written-Object c.in-Object.entries)) c.add_entries.ensures.ok)
+add_value-returns-in-Object-clause-ok g t c = rw (c.in-Object.is) (subst (λ (m : Result Tree Error). OnOk c.add_entries.result (Ends g.W.Sink.took g.W.Sink.failures (text_of m) c.args.out.now c.add_entries.new.out)) (sym (written-Object c.in-Object.entries)) c.add_entries.ensures.ok)
 
 pub add_value-returns-in-Object-clause-err : goal.add_value-returns-in-Object-clause-err
-add_value-returns-in-Object-clause-err g t c = rw (c.in-Object.is) (subst (λ (m : Option Tree). OnErr c.add_entries.result (Stops g.W.Sink.took g.W.Sink.answered g.W.Sink.failures (text_of m) c.args.out.now c.add_entries.new.out (refusal_of c.add_entries.new.out))) (sym (written-Object c.in-Object.entries)) c.add_entries.ensures.err)
+add_value-returns-in-Object-clause-err g t c = rw (c.in-Object.is) (subst (λ (m : Result Tree Error). OnErr c.add_entries.result (Stops g.W.Sink.took g.W.Sink.answered g.W.Sink.failures (text_of m) c.args.out.now c.add_entries.new.out (refusal_of c.add_entries.new.out))) (sym (written-Object c.in-Object.entries)) c.add_entries.ensures.err)
