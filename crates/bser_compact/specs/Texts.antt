@@ -1,8 +1,8 @@
 -- What the parts of a value are written as in the compact form.
 use Rattle.std.specs.Prelude.{ℕ, Bool, false, List, [], ◌∷◌, ◌++◌, length, flat_map, Option, Some, None, String}
 use Rattle.std.specs.declared.alloc.Global.{Global}
-use Rattle.bser_format.specs.Tree.{Tree, array, object, template}
-use Rattle.bser_format.specs.Canonical.{least_count, canonical_text, canonical_body, canonical_fields}
+use Rattle.bser_format.specs.Tree.{Tree, array, object, template, Fields, no_fields}
+use Rattle.bser_format.specs.Canonical.{least_count, canonical_text, canonical_body, canonical_fields, FieldsAreWritable}
 use Rattle.bser_written.specs.Compact.{keys, values, same_keys, as_template, fold_templates, fold_items, fold_entries}
 use Rattle.bser_written.specs.Pieces.{array_head, template_tag}
 use Rattle.bser_ser.specs.Ends.{Broken}
@@ -64,13 +64,20 @@ abbrev pub head_text : List (String Global × Value) → ℕ → List ℕ
 head_text es n = template_head (names_of es) n
 
 -- the values of an object, as a row
+abbrev pub row_values : Tree → Fields
+row_values (object es) = values es
+row_values _ = no_fields
+
 abbrev pub row_of : Tree → List ℕ
-row_of (object es) = canonical_fields (values es)
-row_of _ = []
+row_of t = canonical_fields (row_values t)
 
 -- an object, as a row
 abbrev pub row_text : Value → List ℕ
 row_text v = row_of (compact_tree v)
+
+-- each value of an object can be written
+abbrev pub RowIsWritable : Value → Type 0
+RowIsWritable v = FieldsAreWritable (row_values (compact_tree v))
 
 abbrev pub rows_text : List Value → List ℕ
 rows_text [] = []

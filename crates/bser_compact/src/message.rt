@@ -1,8 +1,13 @@
 //! Whole messages in the compact form.
-ghost use Rattle.std.specs.Prelude.{◌≡◌, Some, OnOk, OnErr, IfErr};
+ghost use Rattle.std.specs.Prelude.{◌≡◌, Ok, OnOk, OnErr, IfErr};
+ghost use Rattle.std.specs.List.{AllByRecursion};
+ghost use Rattle.bser_format.specs.Tree.{array, object};
+ghost use Rattle.bser_format.specs.Canonical.{IsWritable};
+ghost use Rattle.bser_written.specs.Compact.{fold_items, fold_entries};
 ghost use Rattle.bser_ser.specs.Message.{Wrote, Missed};
 ghost use Rattle.bser_ser.specs.Sent.{Sent};
-ghost use Rattle.bser_compact.specs.Texts.{compact_tree, Breaks, value_text, items_text, entries_text, rows_text, row_text};
+ghost use Rattle.bser_value.specs.ValueView.{items_view, entries_view};
+ghost use Rattle.bser_compact.specs.Texts.{compact_tree, Breaks, value_text, items_text, entries_text, rows_text, row_text, RowIsWritable};
 
 use crate::template::{add_template_head, shared_keys};
 use bser_ser::message::serialize_to;
@@ -29,11 +34,11 @@ pub fn serialize_compact<W: Sink>(
     writer: &mut W,
     value: &Value,
 ) -> bser_format::errors::Result<()>
-    ensures ok { OnOk result (Wrote W.took (Some (compact_tree value.now)) writer.old writer.new) }
+    ensures ok { OnOk result (Wrote W.took (Ok (compact_tree value.now)) writer.old writer.new) }
     ensures kept { OnOk result (W.failures writer.new ≡ W.failures writer.old) }
     ensures err { IfErr result
         (Missed W.took W.answered W.failures
-        (Some (compact_tree value.now)) writer.old writer.new) }
+        (Ok (compact_tree value.now)) writer.old writer.new) }
 {
     serialize_to(alloc, writer, &Compact { value })
 }
@@ -45,7 +50,7 @@ struct Compact<'a> {
 }
 
 impl Serialize for Compact<'_> {
-    ghost meaning = { λ c. Some (compact_tree c.value.now) };
+    ghost meaning = { λ c. Ok (compact_tree c.value.now) };
 
     fn serialize<W: Sink>(
         &self,
@@ -64,6 +69,7 @@ impl Serialize for Compact<'_> {
 #[inline(always)]
 fn add_compact<W: Sink>(value: &Value, out: &mut Serializer<W>) -> Result<(), PutRefused>
     ensures ok { OnOk result (Sent W.took W.failures out.old out.new (value_text value.now)) }
+    ensures writable { OnOk result (IsWritable (compact_tree value.now)) }
     ensures err { OnErr result (Breaks W.took W.answered W.failures out.old out.new
         (value_text value.now)) }
 {
@@ -90,6 +96,8 @@ fn add_compact<W: Sink>(value: &Value, out: &mut Serializer<W>) -> Result<(), Pu
 #[inline(never)]
 fn add_items<W: Sink>(items: &Vec<Value>, out: &mut Serializer<W>) -> Result<(), PutRefused>
     ensures ok { OnOk result (Sent W.took W.failures out.old out.new (items_text items.now.items)) }
+    ensures writable { OnOk result
+        (IsWritable (array (fold_items (items_view items.now.items)))) }
     ensures err { OnErr result
         (Breaks W.took W.answered W.failures out.old out.new (items_text items.now.items)) }
 {
@@ -108,6 +116,8 @@ fn add_entries<W: Sink>(
 ) -> Result<(), PutRefused>
     ensures ok { OnOk result
         (Sent W.took W.failures out.old out.new (entries_text entries.now.entries)) }
+    ensures writable { OnOk result
+        (IsWritable (object (fold_entries (entries_view entries.now.entries)))) }
     ensures err { OnErr result
         (Breaks W.took W.answered W.failures out.old out.new (entries_text entries.now.entries)) }
 {
@@ -124,6 +134,7 @@ fn add_entries<W: Sink>(
 #[inline(never)]
 fn add_rows<W: Sink>(items: &Vec<Value>, out: &mut Serializer<W>) -> Result<(), PutRefused>
     ensures ok { OnOk result (Sent W.took W.failures out.old out.new (rows_text items.now.items)) }
+    ensures writable { OnOk result (AllByRecursion RowIsWritable items.now.items) }
     ensures err { OnErr result
         (Breaks W.took W.answered W.failures out.old out.new (rows_text items.now.items)) }
 {
@@ -137,6 +148,7 @@ fn add_rows<W: Sink>(items: &Vec<Value>, out: &mut Serializer<W>) -> Result<(), 
 #[cycle(add)]
 fn add_row<W: Sink>(item: &Value, out: &mut Serializer<W>) -> Result<(), PutRefused>
     ensures ok { OnOk result (Sent W.took W.failures out.old out.new (row_text item.now)) }
+    ensures writable { OnOk result (RowIsWritable item.now) }
     ensures err { OnErr result (Breaks W.took W.answered W.failures out.old out.new
         (row_text item.now)) }
 {

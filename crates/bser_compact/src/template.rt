@@ -1,5 +1,7 @@
 //! Which arrays are templates, and the heads of templates.
-ghost use Rattle.std.specs.Prelude.{◌≡◌, ◌<◌, ◌^◌, OnOk, OnErr, option_map};
+ghost use Rattle.std.specs.Prelude.{◌≡◌, ◌<◌, ◌^◌, length, OnOk, OnErr, option_map};
+ghost use Rattle.std.specs.List.{AllByRecursion};
+ghost use Rattle.bser_format.specs.Canonical.{IsWritableText};
 ghost use Rattle.bser_written.specs.Compact.{same_keys};
 ghost use Rattle.bser_ser.specs.Sent.{Sent};
 ghost use Rattle.bser_compact.specs.Texts.{Breaks, has_keys, head_text, names_of, template_names};
@@ -19,6 +21,8 @@ pub fn add_template_head<W: Sink>(
     requires { rows < 2 ^ 63 }
     ensures ok { OnOk result
         (Sent W.took W.failures out.old out.new (head_text first.now.entries rows)) }
+    ensures few { OnOk result (length (names_of first.now.entries) < 2 ^ 63) }
+    ensures texts { OnOk result (AllByRecursion IsWritableText (names_of first.now.entries)) }
     ensures err { OnErr result
         (Breaks W.took W.answered W.failures out.old out.new (head_text first.now.entries rows)) }
 {

@@ -22,6 +22,7 @@ use Rattle.bser_written.proofs.Fits.{body_fits, equal_values, value_reads_as_its
 use Rattle.bser_written.proofs.Folded.{folded_reads}
 use Rattle.bser_written.proofs.FoldedFits.{short_writable}
 use Rattle.bser_format.proofs.Laws.{one_message, more_levels}
+use Rattle.bser_ser.proofs.Messages.{same_message}
 use Rattle.bser_ser.specs.Message.{IsUnmeasured, message_of}
 use Rattle.bser_value.specs.declared.value.Value.{Value}
 use Rattle.serde_bser.specs.ValueView.{tree_of}
@@ -103,21 +104,21 @@ reader_refused n asks w v bytes x (Err e) h is (inr (after, refused)) = go (leb 
     go true shallow = inr (after, refused.excuse (canonical_message w) x (value v) (message_read n w v h (leb-true (depth w) n shallow)) (ap Some is))
 
 -- a refusal to write is one of the whole
-pub unwritten : {A : Type 0} (n : ℕ) (w : Tree) (r : Result A Error) → IfErr r (IsUnmeasured (Some w)) → IfErr r (IsNotReturned n w)
+pub unwritten : {A : Type 0} (n : ℕ) (w : Tree) (r : Result A Error) → IfErr r (IsUnmeasured (Ok w)) → IfErr r (IsNotReturned n w)
 unwritten n w (Ok a) h = tt
 unwritten n w (Err e) h = inl h
 
-pub unwritten_on : {A : Type 0} (n : ℕ) (w : Tree) (r : Result A Error) → IfErr r (IsUnmeasured (Some w)) → IfErr r (IsNotReturnedByReader n w)
+pub unwritten_on : {A : Type 0} (n : ℕ) (w : Tree) (r : Result A Error) → IfErr r (IsUnmeasured (Ok w)) → IfErr r (IsNotReturnedByReader n w)
 unwritten_on n w (Ok a) h = tt
 unwritten_on n w (Err e) h = inl (inl h)
 
 -- ---- what is written
 
-pub written_canonical : (t : Tree) (m : List ℕ) → IsWritable t → IsValueTree t → message_of (Some t) ≡ Some m → length m < 2 ^ 63 → IsWrittenFor t t
+pub written_canonical : (t : Tree) (m : List ℕ) → IsWritable t → IsValueTree t → message_of (Ok t) ≡ Ok m → length m < 2 ^ 63 → IsWrittenFor t t
 written_canonical t m writable_tree h is short =
     record {
       writable = writable_tree;
-      short = subst (λ l. length l < 2 ^ 63) (sym (same_Some (canonical_message t) m is)) short;
+      short = subst (λ l. length l < 2 ^ 63) (sym (same_message t m is)) short;
       read = value_reads_as_itself t h;
     }
 
@@ -132,11 +133,11 @@ written_compact t m h is short =
 same_test : {A B : Type 0} (same : Bool) (a b : A) (t u : B) → (IsTrue same ↔ (a ≡ b)) → ((a ≡ b) ↔ (t ≡ u)) → IsTrue same ↔ (t ≡ u)
 same_test same a b t u tells together = (λ yes. together.0 (tells.0 yes), λ e. tells.1 (together.1 e))
 
-pub one_canonical : (t u : Tree) (a b : List ℕ) (same : Bool) → IsValueTree t → IsValueTree u → message_of (Some t) ≡ Some a → message_of (Some u) ≡ Some b → length a < 2 ^ 63 → length b < 2 ^ 63 → (IsTrue same ↔ (a ≡ b))
+pub one_canonical : (t u : Tree) (a b : List ℕ) (same : Bool) → IsValueTree t → IsValueTree u → message_of (Ok t) ≡ Ok a → message_of (Ok u) ≡ Ok b → length a < 2 ^ 63 → length b < 2 ^ 63 → (IsTrue same ↔ (a ≡ b))
     → (IsTrue same ↔ (canonical_message t ≡ canonical_message u)) × (IsTrue same ↔ (t ≡ u))
 one_canonical t u a b same h k is other short low tells =
-    let p = same_Some (canonical_message t) a is in
-    let q = same_Some (canonical_message u) b other in
+    let p = same_message t a is in
+    let q = same_message u b other in
     let fits : length (canonical_message t) < 2 ^ 63 = subst (λ l. length l < 2 ^ 63) (sym p) short in
     let low_fits : length (canonical_message u) < 2 ^ 63 = subst (λ l. length l < 2 ^ 63) (sym q) low in (
       same_test same a b _ _ tells (λ e. p ∙ e ∙ sym q, λ e. sym p ∙ e ∙ q),

@@ -2,7 +2,6 @@
 use Rattle.std.proofs.Common.{◌≡◌, ℕ, ◌≤◌, List, ◌++◌, length, Option, Some, None, Result, Ok, Err, refl, sym, ap, subst, ◌∙◌, inr}
 use Rattle.std.specs.Prelude.{option_map, IfOk, IfErr}
 use Rattle.bser_format.specs.Tree.{Tree}
-use Rattle.std.proofs.lemmas.Option.{same_Some}
 use Rattle.bser_format.specs.Canonical.{canonical_message}
 use Rattle.bser_written.specs.Compact.{compact_message}
 use Rattle.bser_format.specs.declared.errors.Error.{Error}
@@ -12,6 +11,7 @@ use Rattle.bser_format.specs.Normal.{normal}
 use Rattle.bser_format.specs.ReadsAny.{reads_value}
 use Rattle.bser_written.proofs.Bounds.{least_message, value_nodes, value_depth, value_body, value_fits}
 use Rattle.bser_written.proofs.LeastCompact.{least_compact}
+use Rattle.bser_ser.proofs.Messages.{same_message}
 use Rattle.bser_ser.specs.Message.{message_of, IsUnmeasured}
 use Rattle.bser_value.specs.declared.value.Value.{Value}
 use Rattle.serde_bser.specs.Reading.{Asking, Needs}
@@ -34,13 +34,13 @@ read_as u t c read is = go (normal u) (read ∙ ap Some is)
 
 -- ---- what is written is least
 
-pub message_is : {A : Type 0} (items : A → List ℕ) (t : Tree) (r : Result A Error) → IfOk r (λ m. message_of (Some t) ≡ Some (items m)) → IfOk r (λ m. items m ≡ canonical_message t)
+pub message_is : {A : Type 0} (items : A → List ℕ) (t : Tree) (r : Result A Error) → IfOk r (λ m. message_of (Ok t) ≡ Ok (items m)) → IfOk r (λ m. items m ≡ canonical_message t)
 message_is items t (Err e) h = tt
-message_is items t (Ok m) h = sym (same_Some (canonical_message t) (items m) h)
+message_is items t (Ok m) h = sym (same_message t (items m) h)
 
-pub least_written : {A : Type 0} (items : A → List ℕ) (t : Tree) (r : Result A Error) → IfOk r (λ m. message_of (Some t) ≡ Some (items m)) → IfOk r (λ m. IsLeast IsTemplateFree t (items m))
+pub least_written : {A : Type 0} (items : A → List ℕ) (t : Tree) (r : Result A Error) → IfOk r (λ m. message_of (Ok t) ≡ Ok (items m)) → IfOk r (λ m. IsLeast IsTemplateFree t (items m))
 least_written items t (Err e) h = tt
-least_written items t (Ok m) h = λ n c u b message free read. subst (λ l. length l ≤ length b) (same_Some (canonical_message t) (items m) h) (least_message n c u t b message free read)
+least_written items t (Ok m) h = λ n c u b message free read. subst (λ l. length l ≤ length b) (same_message t (items m) h) (least_message n c u t b message free read)
 
 pub least_folded : {A : Type 0} (items : A → List ℕ) (t : Tree) (r : Result A Error) → IfOk r (λ m. items m ≡ compact_message t) → IfOk r (λ m. IsLeast IsAny t (items m))
 least_folded items t (Err e) h = tt
@@ -68,7 +68,7 @@ rewritten items message_of P bytes v (Ok written) found is least =
     }
 
 pub not_rewritten : {A : Type 0} (form : Tree → Tree) (asks : Option (Asking reads_value)) (needs : Needs) (bytes : List ℕ) (v : Value) (r : Result A Error) → BeginsWith 128 reads_value HoldsValue bytes v
-    → IfErr r (IsUnmeasured (Some (form (tree_of v)))) → IfErr r (IsNotRewritten form reads_value asks needs bytes)
+    → IfErr r (IsUnmeasured (Ok (form (tree_of v)))) → IfErr r (IsNotRewritten form reads_value asks needs bytes)
 not_rewritten form asks needs bytes v (Ok m) found h = tt
 not_rewritten form asks needs bytes v (Err e) found h = inr (v, found, h)
 

@@ -1,5 +1,5 @@
 -- Messages that are no longer than others.
-use Rattle.std.specs.Prelude.{◌≡◌, ◌⊎◌, ℕ, ◌≤◌, List, ◌++◌, length, Option, Some}
+use Rattle.std.specs.Prelude.{◌≡◌, ◌⊎◌, ℕ, ◌≤◌, List, ◌++◌, length, Option, Ok}
 use Rattle.bser_format.specs.Tree.{Tree}
 use Rattle.bser_format.specs.Message.{IsMessage}
 use Rattle.bser_format.specs.Content.{Meaning}
@@ -35,4 +35,4 @@ pub record Rewritten (message_of : Tree → List ℕ) (P : Tree → Type 0) (byt
 -- the bytes are refused, or the value that their message reads as has no message in this form
 abbrev pub IsNotRewritten : (Tree → Tree) → (reads : Meaning) → Option (Asking reads) → Needs → List ℕ → Error → Type 0
 IsNotRewritten form reads asks needs bytes e =
-    RefusesSlice 128 reads asks needs e bytes ⊎ ((v : Value) × BeginsWith 128 reads HoldsValue bytes v × IsUnmeasured (Some (form (tree_of v))) e)
+    RefusesSlice 128 reads asks needs e bytes ⊎ ((v : Value) × BeginsWith 128 reads HoldsValue bytes v × IsUnmeasured (Ok (form (tree_of v))) e)

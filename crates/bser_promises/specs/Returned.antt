@@ -1,5 +1,5 @@
 -- What is read back from what is written for a value, and why nothing is.
-use Rattle.std.specs.Prelude.{◌≡◌, ◌⊎◌, ℕ, ◌<◌, ◌^◌, List, length, Option, Some}
+use Rattle.std.specs.Prelude.{◌≡◌, ◌⊎◌, ℕ, ◌<◌, ◌^◌, List, length, Option, Some, Ok}
 use Rattle.bser_format.specs.Tree.{Tree}
 use Rattle.bser_format.specs.Canonical.{canonical_message, IsWritable}
 use Rattle.bser_format.specs.Measures.{depth}
@@ -21,7 +21,7 @@ pub record IsWrittenFor (t v : Tree) : Type 0 where
 
 -- want of memory, a body longer than i64::MAX bytes, or more levels than are read
 abbrev pub IsNotReturned : ℕ → Tree → Error → Type 0
-IsNotReturned n t e = IsUnmeasured (Some t) e ⊎ (n < depth t)
+IsNotReturned n t e = IsUnmeasured (Ok t) e ⊎ (n < depth t)
 
 -- the same, or a fault that the reader counted, which had counted none
 abbrev pub IsNotReturnedByReader : ℕ → Tree → Error → Type 0

@@ -1,5 +1,5 @@
 //! Messages than which no other is shorter.
-ghost use Rattle.std.specs.Prelude.{◌≡◌, Some, IfOk, IfErr};
+ghost use Rattle.std.specs.Prelude.{◌≡◌, Ok, IfOk, IfErr};
 ghost use Rattle.bser_format.specs.Canonical.{canonical_message};
 ghost use Rattle.bser_written.specs.Compact.{compact_message, fold_templates};
 ghost use Rattle.bser_format.specs.Expand.{IsTemplateFree};
@@ -20,7 +20,7 @@ use std::alloc::Global;
 pub fn least_message(alloc: Global, value: &Value) -> Result<Vec<u8>>
     ensures message { IfOk result (λ m. m.items ≡ canonical_message (tree_of value.now)) }
     ensures least { IfOk result (λ m. IsLeast IsTemplateFree (tree_of value.now) m.items) }
-    ensures refused { IfErr result (IsUnmeasured (Some (tree_of value.now))) }
+    ensures refused { IfErr result (IsUnmeasured (Ok (tree_of value.now))) }
 {
     to_vec(alloc, value)
 }
@@ -31,7 +31,7 @@ pub fn least_message(alloc: Global, value: &Value) -> Result<Vec<u8>>
 pub fn least_compact_message(alloc: Global, value: &Value) -> Result<Vec<u8>>
     ensures message { IfOk result (λ m. m.items ≡ compact_message (tree_of value.now)) }
     ensures least { IfOk result (λ m. IsLeast IsAny (tree_of value.now) m.items) }
-    ensures refused { IfErr result (IsUnmeasured (Some (fold_templates (tree_of value.now)))) }
+    ensures refused { IfErr result (IsUnmeasured (Ok (fold_templates (tree_of value.now)))) }
 {
     to_compact_vec(alloc, value)
 }

@@ -1,5 +1,5 @@
 //! Messages of values, compared.
-ghost use Rattle.std.specs.Prelude.{◌≡◌, ◌↔◌, ◌⊎◌, Some, IfOk, IfErr, IsTrue};
+ghost use Rattle.std.specs.Prelude.{◌≡◌, ◌↔◌, ◌⊎◌, Ok, IfOk, IfErr, IsTrue};
 ghost use Rattle.bser_format.specs.Canonical.{canonical_message};
 ghost use Rattle.bser_written.specs.Compact.{compact_message, fold_templates};
 ghost use Rattle.bser_ser.specs.Message.{IsUnmeasured};
@@ -17,7 +17,7 @@ use std::alloc::Global;
 /// vector included.
 pub fn to_compact_vec(alloc: Global, value: &Value) -> Result<Vec<u8>>
     ensures ok { IfOk result (λ message. message.items ≡ compact_message (tree_of value.now)) }
-    ensures err { IfErr result (IsUnmeasured (Some (fold_templates (tree_of value.now)))) }
+    ensures err { IfErr result (IsUnmeasured (Ok (fold_templates (tree_of value.now)))) }
 {
     let mut writer = Watched::new(Vec::new(alloc));
     match serialize_compact(alloc, &mut writer, value) {
@@ -36,8 +36,8 @@ pub fn have_one_message(alloc: Global, first: &Value, second: &Value) -> Result<
         (canonical_message (tree_of first.now) ≡ canonical_message (tree_of second.now))) }
     ensures values { IfOk result (λ same. IsTrue same ↔
         (tree_of first.now ≡ tree_of second.now)) }
-    ensures refused { IfErr result (λ e. IsUnmeasured (Some (tree_of first.now)) e
-        ⊎ IsUnmeasured (Some (tree_of second.now)) e) }
+    ensures refused { IfErr result (λ e. IsUnmeasured (Ok (tree_of first.now)) e
+        ⊎ IsUnmeasured (Ok (tree_of second.now)) e) }
 {
     first.check_tree();
     second.check_tree();
@@ -54,8 +54,8 @@ pub fn have_one_compact_message(alloc: Global, first: &Value, second: &Value) ->
         (compact_message (tree_of first.now) ≡ compact_message (tree_of second.now))) }
     ensures values { IfOk result (λ same. IsTrue same ↔
         (tree_of first.now ≡ tree_of second.now)) }
-    ensures refused { IfErr result (λ e. IsUnmeasured (Some (fold_templates (tree_of first.now))) e
-        ⊎ IsUnmeasured (Some (fold_templates (tree_of second.now))) e) }
+    ensures refused { IfErr result (λ e. IsUnmeasured (Ok (fold_templates (tree_of first.now))) e
+        ⊎ IsUnmeasured (Ok (fold_templates (tree_of second.now))) e) }
 {
     first.check_tree();
     second.check_tree();

@@ -1,5 +1,5 @@
 //! Values that are written and read back.
-ghost use Rattle.std.specs.Prelude.{◌≡◌, ◌≤◌, ◌++◌, Some, IfOk, IfErr};
+ghost use Rattle.std.specs.Prelude.{◌≡◌, ◌≤◌, ◌++◌, Ok, IfOk, IfErr};
 ghost use Rattle.bser_format.specs.Canonical.{canonical_message};
 ghost use Rattle.bser_written.specs.Compact.{fold_templates};
 ghost use Rattle.bser_ser.specs.Message.{IsUnmeasured};
@@ -98,7 +98,7 @@ fn message_before(alloc: Global, value: &Value, following: &[u8]) -> Result<Vec<
         bytes.items ≡ canonical_message (tree_of value.now) ++ following.now) }
     ensures written { IfOk result (λ bytes.
         IsWrittenFor (tree_of value.now) (tree_of value.now)) }
-    ensures refused { IfErr result (IsUnmeasured (Some (tree_of value.now))) }
+    ensures refused { IfErr result (IsUnmeasured (Ok (tree_of value.now))) }
 {
     value.check_tree();
     let mut bytes = to_vec(alloc, value)?;
@@ -112,7 +112,7 @@ fn compact_message_before(alloc: Global, value: &Value, following: &[u8]) -> Res
         bytes.items ≡ canonical_message (fold_templates (tree_of value.now)) ++ following.now) }
     ensures written { IfOk result (λ bytes.
         IsWrittenFor (fold_templates (tree_of value.now)) (tree_of value.now)) }
-    ensures refused { IfErr result (IsUnmeasured (Some (fold_templates (tree_of value.now)))) }
+    ensures refused { IfErr result (IsUnmeasured (Ok (fold_templates (tree_of value.now)))) }
 {
     value.check_tree();
     let mut bytes = to_compact_vec(alloc, value)?;

@@ -1,5 +1,5 @@
 -- One message read as a `Value`, and that value written in a form: as its tree, or as another tree that stands for the same.
-use Rattle.std.specs.Prelude.{◌≡◌, ℕ, ◌<◌, ◌^◌, List, length, Option, Some, ◌⊎◌}
+use Rattle.std.specs.Prelude.{◌≡◌, ℕ, ◌<◌, ◌^◌, List, length, Option, Ok, ◌⊎◌}
 use Rattle.bser_format.specs.Tree.{Tree}
 use Rattle.bser_format.specs.Canonical.{canonical_body, canonical_message}
 use Rattle.bser_format.specs.Content.{Meaning}
@@ -32,7 +32,7 @@ pub record Unwritten {R W : Type 0} (form : Tree → Tree) (reads : Meaning) (le
   pub value : Value
   pub read : TookMessage 128 reads HoldsValue (left old) (left new) value
   pub kept : failures new ≡ failures old
-  pub missed : Missed took answered faults (Some (form (tree_of value))) before after e
+  pub missed : Missed took answered faults (Ok (form (tree_of value))) before after e
 
 -- a refusal, of the reading or of the writing
 abbrev pub RefusesRewriting : {R W : Type 0} → (Tree → Tree) → (reads : Meaning) → Option (Asking reads) → (R → Option (List ℕ)) → (R → ℕ) → (W → W → List ℕ → Type 0) → Answering W → (W → ℕ) → R → R → W → W → Error → Type 0

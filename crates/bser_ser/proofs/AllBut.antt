@@ -1,5 +1,5 @@
 -- A text that was put but for a rest of it.
-use Rattle.std.proofs.Common.{◌≡◌, ℕ, List, [], ◌++◌, Some, sym, ap, subst, ◌∙◌, append_assoc, append-nil}
+use Rattle.std.proofs.Common.{◌≡◌, ℕ, List, [], ◌++◌, Ok, sym, ap, subst, ◌∙◌, append_assoc, append-nil}
 use Rattle.bser_format.specs.declared.errors.Error.{Error}
 use Rattle.bser_ser.specs.Sent.{Sent}
 use Rattle.bser_ser.specs.Ends.{Stops}
@@ -31,7 +31,7 @@ module _ {S : Type 0} (took : S → S → List ℕ → Type 0) (failures : S →
 
 module _ {S : Type 0} (took : S → S → List ℕ → Type 0) (answered : Answering S) (failures : S → ℕ) (both : (a b c : S) (xs ys : List ℕ) → took a b xs → took b c ys → took a c (xs ++ ys)) where
   -- the next piece of the rest was refused
-  pub AllBut-stops : (whole rest piece left : List ℕ) (a b c : Serializer S) (e : Error) → AllBut took failures whole rest a b → rest ≡ piece ++ left → Stops took answered failures (Some piece) b c e → Stops took answered failures (Some whole) a c e
+  pub AllBut-stops : (whole rest piece left : List ℕ) (a b c : Serializer S) (e : Error) → AllBut took failures whole rest a b → rest ≡ piece ++ left → Stops took answered failures (Ok piece) b c e → Stops took answered failures (Ok whole) a c e
   AllBut-stops whole rest piece left a b c e h step s =
-      subst (λ l. Stops took answered failures (Some l) a c e) (append_assoc h.front piece left ∙ ap (λ l. h.front ++ l) (sym step) ∙ sym h.is)
-      (Stops-first took answered failures (Some (h.front ++ piece)) (Some left) a c e (Stops-second took answered failures both (Some h.front) (Some piece) a b c e h.sent s))
+      subst (λ l. Stops took answered failures (Ok l) a c e) (append_assoc h.front piece left ∙ ap (λ l. h.front ++ l) (sym step) ∙ sym h.is)
+      (Stops-first took answered failures (Ok (h.front ++ piece)) (Ok left) a c e (Stops-second took answered failures both (Ok h.front) (Ok piece) a b c e h.sent s))

@@ -1,6 +1,6 @@
 -- What was written, part by part.
-use Rattle.std.proofs.Common.{◌≡◌, ℕ, List, [], ◌∷◌, ◌++◌, Option, Some, None, append_assoc, append-nil, sym, ◌∙◌, ap, refl, subst}
-use Rattle.std.proofs.Common.{Result}
+use Rattle.std.proofs.Common.{◌≡◌, ℕ, List, [], ◌∷◌, ◌++◌, append_assoc, append-nil, sym, ◌∙◌, ap, refl, subst}
+use Rattle.std.proofs.Common.{Result, Ok, Err, inr}
 use Rattle.std.proofs.lemmas.Result.{MatchResult-weaker}
 use Rattle.bser_ser.specs.Sent.{Sent, Refused, IsExcuse, Adds, refusal_of}
 use Rattle.bser_ser.specs.Stopped.{Answering}
@@ -9,25 +9,25 @@ use Rattle.bser_format.specs.declared.errors.Error.{Error}
 use Rattle.bser_ser.proofs.Sends.{Sent-both, Refused-after}
 use Rattle.bser_ser.specs.Ends.{Ends, Stops, then}
 
-abbrev pub joined : {A : Type 0} → (A → Option (List ℕ)) → List A → Option (List ℕ)
-joined g [] = Some []
+abbrev pub joined : {A : Type 0} → (A → Result (List ℕ) Error) → List A → Result (List ℕ) Error
+joined g [] = Ok []
 joined g (x ∷ xs) = then (g x) (joined g xs)
 
-pub then-assoc : (a b c : Option (List ℕ)) → then (then a b) c ≡ then a (then b c)
-then-assoc None b c = refl
-then-assoc (Some xs) None c = refl
-then-assoc (Some xs) (Some ys) None = refl
-then-assoc (Some xs) (Some ys) (Some zs) = ap Some (append_assoc xs ys zs)
+pub then-assoc : (a b c : Result (List ℕ) Error) → then (then a b) c ≡ then a (then b c)
+then-assoc (Err d) b c = refl
+then-assoc (Ok xs) (Err d) c = refl
+then-assoc (Ok xs) (Ok ys) (Err d) = refl
+then-assoc (Ok xs) (Ok ys) (Ok zs) = ap Ok (append_assoc xs ys zs)
 
-pub then-nil : (m : Option (List ℕ)) → then m (Some []) ≡ m
-then-nil None = refl
-then-nil (Some xs) = ap Some (append-nil xs)
+pub then-nil : (m : Result (List ℕ) Error) → then m (Ok []) ≡ m
+then-nil (Err d) = refl
+then-nil (Ok xs) = ap Ok (append-nil xs)
 
-pub nil-then : (m : Option (List ℕ)) → then (Some []) m ≡ m
-nil-then None = refl
-nil-then (Some xs) = refl
+pub nil-then : (m : Result (List ℕ) Error) → then (Ok []) m ≡ m
+nil-then (Err d) = refl
+nil-then (Ok xs) = refl
 
-pub joined-append : {A : Type 0} (g : A → Option (List ℕ)) (xs ys : List A) → joined g (xs ++ ys) ≡ then (joined g xs) (joined g ys)
+pub joined-append : {A : Type 0} (g : A → Result (List ℕ) Error) (xs ys : List A) → joined g (xs ++ ys) ≡ then (joined g xs) (joined g ys)
 joined-append g [] ys = sym (nil-then (joined g ys))
 joined-append g (x ∷ xs) ys = ap (then (g x)) (joined-append g xs ys) ∙ sym (then-assoc (g x) (joined g xs) (joined g ys))
 
@@ -40,26 +40,26 @@ Adds-after took answered failures both a b c piece r s x =
 
 module _ {S : Type 0} (took : S → S → List ℕ → Type 0) (answered : Answering S) (failures : S → ℕ) where
   -- nothing was written
-  pub Stops-none : (m : Option (List ℕ)) (a b : Serializer S) (e : Error) → Refused took answered failures a b [] e → IsExcuse e → Stops took answered failures m a b e
-  Stops-none None a b e s x = record { front = []; refused = s }
-  Stops-none (Some bs) a b e s x = record { front = []; rest = bs; is = refl; refused = s; excuse = x }
+  pub Stops-none : (m : Result (List ℕ) Error) (a b : Serializer S) (e : Error) → Refused took answered failures a b [] e → IsExcuse e → Stops took answered failures m a b e
+  Stops-none (Err d) a b e s x = record { front = []; refused = s; why = inr x }
+  Stops-none (Ok bs) a b e s x = record { front = []; rest = bs; is = refl; refused = s; excuse = x }
 
-  pub Stops-first : (m n : Option (List ℕ)) (a b : Serializer S) (e : Error) → Stops took answered failures m a b e → Stops took answered failures (then m n) a b e
-  Stops-first None n a b e s = s
-  Stops-first (Some xs) None a b e s = record { front = s.front; refused = s.refused }
-  Stops-first (Some xs) (Some ys) a b e s = record { front = s.front; rest = s.rest ++ ys; is = ap (λ zs. zs ++ ys) s.is ∙ append_assoc s.front s.rest ys; refused = s.refused; excuse = s.excuse }
+  pub Stops-first : (m n : Result (List ℕ) Error) (a b : Serializer S) (e : Error) → Stops took answered failures m a b e → Stops took answered failures (then m n) a b e
+  Stops-first (Err d) n a b e s = s
+  Stops-first (Ok xs) (Err d) a b e s = record { front = s.front; refused = s.refused; why = inr s.excuse }
+  Stops-first (Ok xs) (Ok ys) a b e s = record { front = s.front; rest = s.rest ++ ys; is = ap (λ zs. zs ++ ys) s.is ∙ append_assoc s.front s.rest ys; refused = s.refused; excuse = s.excuse }
 
 module _ {S : Type 0} (took : S → S → List ℕ → Type 0) (failures : S → ℕ) (both : (a b c : S) (xs ys : List ℕ) → took a b xs → took b c ys → took a c (xs ++ ys)) where
-  pub Ends-both : (m n : Option (List ℕ)) (a b c : Serializer S) → Ends took failures m a b → Ends took failures n b c → Ends took failures (then m n) a c
-  Ends-both None n a b c s t = absurd s
-  Ends-both (Some xs) None a b c s t = absurd t
-  Ends-both (Some xs) (Some ys) a b c s t = Sent-both both a b c xs ys s t
+  pub Ends-both : (m n : Result (List ℕ) Error) (a b c : Serializer S) → Ends took failures m a b → Ends took failures n b c → Ends took failures (then m n) a c
+  Ends-both (Err d) n a b c s t = absurd s
+  Ends-both (Ok xs) (Err d) a b c s t = absurd t
+  Ends-both (Ok xs) (Ok ys) a b c s t = Sent-both both a b c xs ys s t
 
 module _ {S : Type 0} (took : S → S → List ℕ → Type 0) (answered : Answering S) (failures : S → ℕ) (both : (a b c : S) (xs ys : List ℕ) → took a b xs → took b c ys → took a c (xs ++ ys)) where
-  pub Stops-second : (m n : Option (List ℕ)) (a b c : Serializer S) (e : Error) → Ends took failures m a b → Stops took answered failures n b c e → Stops took answered failures (then m n) a c e
-  Stops-second None n a b c e s t = absurd s
-  Stops-second (Some xs) None a b c e s t = record { front = xs ++ t.front; refused = Refused-after took answered failures both a b c xs t.front e s t.refused }
-  Stops-second (Some xs) (Some ys) a b c e s t = record {
+  pub Stops-second : (m n : Result (List ℕ) Error) (a b c : Serializer S) (e : Error) → Ends took failures m a b → Stops took answered failures n b c e → Stops took answered failures (then m n) a c e
+  Stops-second (Err d) n a b c e s t = absurd s
+  Stops-second (Ok xs) (Err d) a b c e s t = record { front = xs ++ t.front; refused = Refused-after took answered failures both a b c xs t.front e s t.refused; why = t.why }
+  Stops-second (Ok xs) (Ok ys) a b c e s t = record {
     front = xs ++ t.front;
     rest = t.rest;
     is = ap (λ zs. xs ++ zs) t.is ∙ sym (append_assoc xs t.front t.rest);
@@ -68,53 +68,53 @@ module _ {S : Type 0} (took : S → S → List ℕ → Type 0) (answered : Answe
   }
 
 -- of all, those before rest are written, after a head
-pub record UpTo {S A : Type 0} (took : S → S → List ℕ → Type 0) (failures : S → ℕ) (h : List ℕ) (g : A → Option (List ℕ)) (all rest : List A) (old new : Serializer S) : Type 0 where
+pub record UpTo {S A : Type 0} (took : S → S → List ℕ → Type 0) (failures : S → ℕ) (h : List ℕ) (g : A → Result (List ℕ) Error) (all rest : List A) (old new : Serializer S) : Type 0 where
   pub done : List A
   pub split : all ≡ done ++ rest
-  pub ended : Ends took failures (then (Some h) (joined g done)) old new
+  pub ended : Ends took failures (then (Ok h) (joined g done)) old new
 
-module _ {S A : Type 0} (took : S → S → List ℕ → Type 0) (failures : S → ℕ) (h : List ℕ) (g : A → Option (List ℕ)) where
+module _ {S A : Type 0} (took : S → S → List ℕ → Type 0) (failures : S → ℕ) (h : List ℕ) (g : A → Result (List ℕ) Error) where
   pub UpTo-start : (all rest : List A) (a b : Serializer S) → rest ≡ all → Sent took failures a b h → UpTo took failures h g all rest a b
   UpTo-start all rest a b is s = record { done = []; split = sym is; ended = rw append-nil s }
 
-  pub UpTo-all : (all rest : List A) (a b : Serializer S) → UpTo took failures h g all rest a b → rest ≡ [] → Ends took failures (then (Some h) (joined g all)) a b
-  UpTo-all all rest a b u none = subst (λ (xs : List A). Ends took failures (then (Some h) (joined g xs)) a b) (sym (u.split ∙ ap (λ ys. u.done ++ ys) none ∙ append-nil u.done)) u.ended
+  pub UpTo-all : (all rest : List A) (a b : Serializer S) → UpTo took failures h g all rest a b → rest ≡ [] → Ends took failures (then (Ok h) (joined g all)) a b
+  UpTo-all all rest a b u none = subst (λ (xs : List A). Ends took failures (then (Ok h) (joined g xs)) a b) (sym (u.split ∙ ap (λ ys. u.done ++ ys) none ∙ append-nil u.done)) u.ended
 
-module _ {S A : Type 0} (took : S → S → List ℕ → Type 0) (failures : S → ℕ) (both : (a b c : S) (xs ys : List ℕ) → took a b xs → took b c ys → took a c (xs ++ ys)) (h : List ℕ) (g : A → Option (List ℕ)) where
+module _ {S A : Type 0} (took : S → S → List ℕ → Type 0) (failures : S → ℕ) (both : (a b c : S) (xs ys : List ℕ) → took a b xs → took b c ys → took a c (xs ++ ys)) (h : List ℕ) (g : A → Result (List ℕ) Error) where
   pub UpTo-more : (all rest left : List A) (x : A) (a b c : Serializer S) → UpTo took failures h g all rest a b → rest ≡ x ∷ left → Ends took failures (g x) b c → UpTo took failures h g all left a c
   UpTo-more all rest left x a b c u step t = record {
     done = u.done ++ x ∷ [];
     split = u.split ∙ ap (λ ys. u.done ++ ys) step ∙ sym (append_assoc u.done (x ∷ []) left);
-    ended = subst (λ (m : Option (List ℕ)). Ends took failures m a c)
-        (then-assoc (Some h) (joined g u.done) (g x) ∙ ap (then (Some h)) (ap (then (joined g u.done)) (sym (then-nil (g x))) ∙ sym (joined-append g u.done (x ∷ []))))
+    ended = subst (λ (m : Result (List ℕ) Error). Ends took failures m a c)
+        (then-assoc (Ok h) (joined g u.done) (g x) ∙ ap (then (Ok h)) (ap (then (joined g u.done)) (sym (then-nil (g x))) ∙ sym (joined-append g u.done (x ∷ []))))
         (Ends-both took failures both _ (g x) a b c u.ended t);
   }
 
-module _ {S A : Type 0} (took : S → S → List ℕ → Type 0) (answered : Answering S) (failures : S → ℕ) (both : (a b c : S) (xs ys : List ℕ) → took a b xs → took b c ys → took a c (xs ++ ys)) (h : List ℕ) (g : A → Option (List ℕ)) where
-  pub UpTo-stops : (all rest left : List A) (x : A) (a b c : Serializer S) (e : Error) → UpTo took failures h g all rest a b → rest ≡ x ∷ left → Stops took answered failures (g x) b c e → Stops took answered failures (then (Some h) (joined g all)) a c e
+module _ {S A : Type 0} (took : S → S → List ℕ → Type 0) (answered : Answering S) (failures : S → ℕ) (both : (a b c : S) (xs ys : List ℕ) → took a b xs → took b c ys → took a c (xs ++ ys)) (h : List ℕ) (g : A → Result (List ℕ) Error) where
+  pub UpTo-stops : (all rest left : List A) (x : A) (a b c : Serializer S) (e : Error) → UpTo took failures h g all rest a b → rest ≡ x ∷ left → Stops took answered failures (g x) b c e → Stops took answered failures (then (Ok h) (joined g all)) a c e
   UpTo-stops all rest left x a b c e u step t =
       let whole : joined g all ≡ then (joined g u.done) (then (g x) (joined g left)) = ap (joined g) (u.split ∙ ap (λ ys. u.done ++ ys) step) ∙ joined-append g u.done (x ∷ left) in
-      subst (λ (m : Option (List ℕ)). Stops took answered failures m a c e)
-      (then-assoc (then (Some h) (joined g u.done)) (g x) (joined g left) ∙ (then-assoc (Some h) (joined g u.done) (then (g x) (joined g left)) ∙ ap (then (Some h)) (sym whole)))
+      subst (λ (m : Result (List ℕ) Error). Stops took answered failures m a c e)
+      (then-assoc (then (Ok h) (joined g u.done)) (g x) (joined g left) ∙ (then-assoc (Ok h) (joined g u.done) (then (g x) (joined g left)) ∙ ap (then (Ok h)) (sym whole)))
       (Stops-first took answered failures _ (joined g left) a c e (Stops-second took answered failures both _ (g x) a b c e u.ended t))
 
-module _ {S : Type 0} (took : S → S → List ℕ → Type 0) (failures : S → ℕ) (both : (a b c : S) (xs ys : List ℕ) → took a b xs → took b c ys → took a c (xs ++ ys)) (m : Option (List ℕ)) where
+module _ {S : Type 0} (took : S → S → List ℕ → Type 0) (failures : S → ℕ) (both : (a b c : S) (xs ys : List ℕ) → took a b xs → took b c ys → took a c (xs ++ ys)) (m : Result (List ℕ) Error) where
   -- nothing more was put
   pub Ends-flushed : (a b c : Serializer S) → Ends took failures m a b → Sent took failures b c [] → Ends took failures m a c
-  Ends-flushed a b c s t = subst (λ (n : Option (List ℕ)). Ends took failures n a c) (then-nil m) (Ends-both took failures both m (Some []) a b c s t)
+  Ends-flushed a b c s t = subst (λ (n : Result (List ℕ) Error). Ends took failures n a c) (then-nil m) (Ends-both took failures both m (Ok []) a b c s t)
 
-module _ {S : Type 0} (took : S → S → List ℕ → Type 0) (answered : Answering S) (failures : S → ℕ) (both : (a b c : S) (xs ys : List ℕ) → took a b xs → took b c ys → took a c (xs ++ ys)) (m : Option (List ℕ)) where
+module _ {S : Type 0} (took : S → S → List ℕ → Type 0) (answered : Answering S) (failures : S → ℕ) (both : (a b c : S) (xs ys : List ℕ) → took a b xs → took b c ys → took a c (xs ++ ys)) (m : Result (List ℕ) Error) where
   pub Stops-flushed : (a b c : Serializer S) (e : Error) → Ends took failures m a b → Refused took answered failures b c [] e → IsExcuse e → Stops took answered failures m a c e
-  Stops-flushed a b c e s t x = subst (λ (n : Option (List ℕ)). Stops took answered failures n a c e) (then-nil m)
-      (Stops-second took answered failures both m (Some []) a b c e s (Stops-none took answered failures (Some []) b c e t x))
+  Stops-flushed a b c e s t x = subst (λ (n : Result (List ℕ) Error). Stops took answered failures n a c e) (then-nil m)
+      (Stops-second took answered failures both m (Ok []) a b c e s (Stops-none took answered failures (Ok []) b c e t x))
 
 -- what the writer took of a text
 module _ {S : Type 0} (took : S → S → List ℕ → Type 0) (failures : S → ℕ) where
-  pub ended_tied : (m : Option (List ℕ)) (a b : Serializer S) → Ends took failures m a b → (taken : List ℕ) × took a.writer b.writer taken
-  ended_tied None a b s = absurd s
-  ended_tied (Some bs) a b s = (s.taken, s.took_it)
+  pub ended_tied : (m : Result (List ℕ) Error) (a b : Serializer S) → Ends took failures m a b → (taken : List ℕ) × took a.writer b.writer taken
+  ended_tied (Err d) a b s = absurd s
+  ended_tied (Ok bs) a b s = (s.taken, s.took_it)
 
 module _ {S : Type 0} (took : S → S → List ℕ → Type 0) (answered : Answering S) (failures : S → ℕ) where
-  pub stopped_tied : (m : Option (List ℕ)) (a b : Serializer S) (e : Error) → Stops took answered failures m a b e → (taken : List ℕ) × took a.writer b.writer taken
-  stopped_tied None a b e s = (s.refused.taken, s.refused.took_it)
-  stopped_tied (Some bs) a b e s = (s.refused.taken, s.refused.took_it)
+  pub stopped_tied : (m : Result (List ℕ) Error) (a b : Serializer S) (e : Error) → Stops took answered failures m a b e → (taken : List ℕ) × took a.writer b.writer taken
+  stopped_tied (Err d) a b e s = (s.refused.taken, s.refused.took_it)
+  stopped_tied (Ok bs) a b e s = (s.refused.taken, s.refused.took_it)

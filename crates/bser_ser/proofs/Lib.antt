@@ -4,6 +4,7 @@ pub mod Sending
 pub mod Sends
 pub mod Ends
 pub mod Texts
+pub mod Writable
 pub mod Messages
 pub mod Structs
 pub mod AllBut

@@ -1,6 +1,7 @@
 -- A message and the serializer that sent it.
-use Rattle.std.proofs.Common.{◌≡◌, ℕ, ℤ, pos, List, ◌∷◌, ◌++◌, length, Option, Some, None, append_assoc, sym, ap, ◌∙◌, subst, refl, inr, [], Result, IfErr}
+use Rattle.std.proofs.Common.{◌≡◌, ℕ, ℤ, pos, List, ◌∷◌, ◌++◌, length, append_assoc, sym, ap, ◌∙◌, subst, refl, inr, [], Result, Ok, Err, IfErr}
 use Rattle.std.proofs.lemmas.Result.{IfErr-weaker}
+use Rattle.std.specs.Result.{result_unwrap_or}
 use Rattle.std.specs.Int.{w32, to_le_bytes}
 use Rattle.bser_format.specs.Tree.{Tree}
 use Rattle.bser_format.specs.Canonical.{canonical_body, canonical_message, least_integer}
@@ -18,21 +19,25 @@ abbrev pub front : ℤ → List ℕ
 front len = 0 ∷ 2 ∷ (to_le_bytes w32 0 ++ least_integer len)
 
 module _ {S : Type 0} (took : S → S → List ℕ → Type 0) (failures : S → ℕ) (both : (a b c : S) (xs ys : List ℕ) → took a b xs → took b c ys → took a c (xs ++ ys)) where
-  pub Ends-message : (m : Option Tree) (len : ℤ) (a b c : Serializer S) → IsBodyLength m len → Sent took failures a b (front len) → Ends took failures (text_of m) b c → Ends took failures (message_of m) a c
-  Ends-message None len a b c is s t = t
-  Ends-message (Some u) len a b c is s t = Ends-both took failures both (Some (front (pos (length (canonical_body u))))) (Some (canonical_body u)) a b c (rw (← is.0) s) t
+  pub Ends-message : (m : Result Tree Error) (len : ℤ) (a b c : Serializer S) → IsBodyLength m len → Sent took failures a b (front len) → Ends took failures (text_of m) b c → Ends took failures (message_of m) a c
+  Ends-message (Err d) len a b c is s t = t
+  Ends-message (Ok u) len a b c is s t = Ends-both took failures both (Ok (front (pos (length (canonical_body u))))) (Ok (canonical_body u)) a b c (rw (← is.0) s) t
 
 module _ {S : Type 0} (took : S → S → List ℕ → Type 0) (answered : Answering S) (failures : S → ℕ) (both : (a b c : S) (xs ys : List ℕ) → took a b xs → took b c ys → took a c (xs ++ ys)) where
-  pub Stops-message : (m : Option Tree) (len : ℤ) (a b c : Serializer S) (e : Error) → IsBodyLength m len → Sent took failures a b (front len) → Stops took answered failures (text_of m) b c e → Stops took answered failures (message_of m) a c e
-  Stops-message None len a b c e is s t = absurd is
-  Stops-message (Some u) len a b c e is s t = Stops-second took answered failures both (Some (front (pos (length (canonical_body u))))) (Some (canonical_body u)) a b c e (rw (← is.0) s) t
+  pub Stops-message : (m : Result Tree Error) (len : ℤ) (a b c : Serializer S) (e : Error) → IsBodyLength m len → Sent took failures a b (front len) → Stops took answered failures (text_of m) b c e → Stops took answered failures (message_of m) a c e
+  Stops-message (Err d) len a b c e is s t = absurd is
+  Stops-message (Ok u) len a b c e is s t = Stops-second took answered failures both (Ok (front (pos (length (canonical_body u))))) (Ok (canonical_body u)) a b c e (rw (← is.0) s) t
+
+-- a tree's message is one
+pub same_message : (t : Tree) (m : List ℕ) → message_of (Ok t) ≡ Ok m → canonical_message t ≡ m
+same_message t m e = ap (λ r. result_unwrap_or r m) e
 
 -- a writer that took nothing before
 module _ {S : Type 0} (took : S → S → List ℕ → Type 0) (answered : Answering S) (failures : S → ℕ) where
-  pub Broke-new : (m : Option Tree) (len : ℤ) (old new : Serializer S) (before after : S) (e : Error) → IsBodyLength m len → IsNew old before → after ≡ writer_of new
+  pub Broke-new : (m : Result Tree Error) (len : ℤ) (old new : Serializer S) (before after : S) (e : Error) → IsBodyLength m len → IsNew old before → after ≡ writer_of new
       → Stops took answered failures (message_of m) old new e → Broke took answered failures m before after e
-  Broke-new None len old new before after e is n same s = absurd is
-  Broke-new (Some t) len old new before after e is n same s =
+  Broke-new (Err d) len old new before after e is n same s = absurd is
+  Broke-new (Ok t) len old new before after e is n same s =
       let put : s.front ≡ s.refused.taken ++ new.pending.items = ap (λ zs. zs ++ s.front) (sym n.1) ∙ s.refused.grew in
       let broke : Partly took answered failures (canonical_message t) old.writer new.writer e = record {
         front = s.refused.taken;
@@ -63,9 +68,9 @@ module _ {R S : Type 0} (now : R → S) (Keeps : R → R → Type 0) (took : S �
   accounts_lent a b bytes (Io e) x = (x.0, stopped_lent a b bytes e x.1)
   accounts_lent a b bytes _ x = x
 
-  pub Broke-lent : (m : Option Tree) (a b : R) (e : Error) → Broke (λ x y zs. Keeps x y × took (now x) (now y) zs) (λ x y zs r. answered (now x) (now y) zs r) (λ x. failures (now x)) m a b e → Broke took answered failures m (now a) (now b) e
-  Broke-lent None a b e s = s
-  Broke-lent (Some t) a b e s = record {
+  pub Broke-lent : (m : Result Tree Error) (a b : R) (e : Error) → Broke (λ x y zs. Keeps x y × took (now x) (now y) zs) (λ x y zs r. answered (now x) (now y) zs r) (λ x. failures (now x)) m a b e → Broke took answered failures m (now a) (now b) e
+  Broke-lent (Err d) a b e s = s
+  Broke-lent (Ok t) a b e s = record {
     front = s.front;
     pending = s.pending;
     rest = s.rest;
@@ -75,7 +80,7 @@ module _ {R S : Type 0} (now : R → S) (Keeps : R → R → Type 0) (took : S �
     excuse = s.excuse;
   }
 
-  pub Missed-lent : {A : Type 0} (m : Option Tree) (len : ℤ) (old new : Serializer R) (before after : S) (r : Result A Error) → IsBodyLength m len → pending_of old ≡ [] → before ≡ now (writer_of old) → after ≡ now (writer_of new)
+  pub Missed-lent : {A : Type 0} (m : Result Tree Error) (len : ℤ) (old new : Serializer R) (before after : S) (r : Result A Error) → IsBodyLength m len → pending_of old ≡ [] → before ≡ now (writer_of old) → after ≡ now (writer_of new)
       → IfErr r (Stops (λ x y zs. Keeps x y × took (now x) (now y) zs) (λ x y zs q. answered (now x) (now y) zs q) (λ x. failures (now x)) (message_of m) old new) → IfErr r (Missed took answered failures m before after)
   Missed-lent m len old new before after r is none b a h =
       IfErr-weaker r _ _ (λ e s. inr (rw (b, a) (Broke-lent m old.writer new.writer e

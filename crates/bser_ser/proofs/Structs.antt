@@ -1,5 +1,5 @@
 -- Structs, and the variants of enums, which a user's type writes part by part.
-use Rattle.std.proofs.Common.{◌≡◌, ℕ, List, [], ◌∷◌, ◌++◌, length, Option, Some, None, append-nil, sym, ap, ◌∙◌, refl, subst}
+use Rattle.std.proofs.Common.{◌≡◌, ℕ, List, [], ◌∷◌, ◌++◌, length, Result, Ok, Err, append-nil, sym, ap, ◌∙◌, refl, subst}
 use Rattle.bser_format.specs.Tree.{Tree}
 use Rattle.bser_format.specs.Canonical.{canonical_body, canonical_key, least_integer}
 use Rattle.bser_written.specs.Pieces.{array_head, object_head, newtype_variant_head, tuple_variant_head, struct_variant_head}
@@ -17,29 +17,29 @@ unfolding least_integer
 one_entry_head = refl
 
 -- a variant's text is its head, and its payload's text
-pub variant_text : (name : List ℕ) (m : Option Tree) → text_of (variant_tree name m) ≡ then (Some (newtype_variant_head name)) (text_of m)
-variant_text name None = refl
-variant_text name (Some t) = ap Some (ap (λ (h : List ℕ). h ++ ((canonical_key name ++ canonical_body t) ++ [])) one_entry_head ∙ ap (λ (bs : List ℕ). 0x01 ∷ 0x03 ∷ 0x01 ∷ bs) (append-nil (canonical_key name ++ canonical_body t)))
+pub variant_text : (name : List ℕ) (m : Result Tree Error) → text_of (variant_tree name m) ≡ then (Ok (newtype_variant_head name)) (text_of m)
+variant_text name (Err d) = refl
+variant_text name (Ok t) = ap Ok (ap (λ (h : List ℕ). h ++ ((canonical_key name ++ canonical_body t) ++ [])) one_entry_head ∙ ap (λ (bs : List ℕ). 0x01 ∷ 0x03 ∷ 0x01 ∷ bs) (append-nil (canonical_key name ++ canonical_body t)))
 
 -- the parts of a tuple variant, after its head
-pub tuple_variant_text : (name : List ℕ) (parts : List (Option Tree)) → text_of (variant_tree name (tuple_tree parts)) ≡ then (Some (tuple_variant_head name (length parts))) (joined (item_text part_tree) parts)
+pub tuple_variant_text : (name : List ℕ) (parts : List (Result Tree Error)) → text_of (variant_tree name (tuple_tree parts)) ≡ then (Ok (tuple_variant_head name (length parts))) (joined (item_text part_tree) parts)
 tuple_variant_text name parts =
-    variant_text name (tuple_tree parts) ∙ ap (then (Some (newtype_variant_head name))) (array_text part_tree parts)
-    ∙ sym (then-assoc (Some (newtype_variant_head name)) (Some (array_head (length parts))) (joined (item_text part_tree) parts))
+    variant_text name (tuple_tree parts) ∙ ap (then (Ok (newtype_variant_head name))) (array_text part_tree parts)
+    ∙ sym (then-assoc (Ok (newtype_variant_head name)) (Ok (array_head (length parts))) (joined (item_text part_tree) parts))
 
 -- the fields of a struct variant, after its head
-pub struct_variant_text : (name : List ℕ) (fields : List (List ℕ × Option Tree)) → text_of (variant_tree name (struct_tree fields)) ≡ then (Some (struct_variant_head name (length fields))) (joined (entry_text plain_bytes part_tree) fields)
+pub struct_variant_text : (name : List ℕ) (fields : List (List ℕ × Result Tree Error)) → text_of (variant_tree name (struct_tree fields)) ≡ then (Ok (struct_variant_head name (length fields))) (joined (entry_text plain_bytes part_tree) fields)
 struct_variant_text name fields =
-    variant_text name (struct_tree fields) ∙ ap (then (Some (newtype_variant_head name))) (object_text plain_bytes part_tree fields)
-    ∙ sym (then-assoc (Some (newtype_variant_head name)) (Some (object_head (length fields))) (joined (entry_text plain_bytes part_tree) fields))
+    variant_text name (struct_tree fields) ∙ ap (then (Ok (newtype_variant_head name))) (object_text plain_bytes part_tree fields)
+    ∙ sym (then-assoc (Ok (newtype_variant_head name)) (Ok (object_head (length fields))) (joined (entry_text plain_bytes part_tree) fields))
 
 -- the fields of a struct, after its head
-pub struct_text : (fields : List (List ℕ × Option Tree)) → text_of (struct_tree fields) ≡ then (Some (object_head (length fields))) (joined (entry_text plain_bytes part_tree) fields)
+pub struct_text : (fields : List (List ℕ × Result Tree Error)) → text_of (struct_tree fields) ≡ then (Ok (object_head (length fields))) (joined (entry_text plain_bytes part_tree) fields)
 struct_text fields = object_text plain_bytes part_tree fields
 
 -- A value of which the text is a head and its parts, written part by part.
 module _ {S A : Type 0} (took : S → S → List ℕ → Type 0) (failures : S → ℕ) (both : (a b c : S) (xs ys : List ℕ) → took a b xs → took b c ys → took a c (xs ++ ys))
-    (head : List ℕ) (part : A → Option (List ℕ)) (parts : List A) (m : Option Tree) (whole : text_of m ≡ then (Some head) (joined part parts)) where
+    (head : List ℕ) (part : A → Result (List ℕ) Error) (parts : List A) (m : Result Tree Error) (whole : text_of m ≡ then (Ok head) (joined part parts)) where
   pub walk_start : (a b : Serializer S) → Sent took failures a b head → UpTo took failures head part parts parts a b
   walk_start a b s = UpTo-start took failures head part parts parts a b refl s
 
@@ -47,30 +47,30 @@ module _ {S A : Type 0} (took : S → S → List ℕ → Type 0) (failures : S �
   walk_more {x = x} {rest = rest} {a = a} {b = b} c u t = UpTo-more took failures both head part parts (x ∷ rest) rest x a b c u refl t
 
   pub walk_all : {a b : Serializer S} → UpTo took failures head part parts [] a b → Ends took failures (text_of m) a b
-  walk_all {a = a} {b = b} u = subst (λ (t : Option (List ℕ)). Ends took failures t a b) (sym whole) (UpTo-all took failures head part parts [] a b u refl)
+  walk_all {a = a} {b = b} u = subst (λ (t : Result (List ℕ) Error). Ends took failures t a b) (sym whole) (UpTo-all took failures head part parts [] a b u refl)
 
 module _ {S A : Type 0} (took : S → S → List ℕ → Type 0) (answered : Answering S) (failures : S → ℕ) (both : (a b c : S) (xs ys : List ℕ) → took a b xs → took b c ys → took a c (xs ++ ys))
-    (head : List ℕ) (part : A → Option (List ℕ)) (parts : List A) (m : Option Tree) (whole : text_of m ≡ then (Some head) (joined part parts)) where
+    (head : List ℕ) (part : A → Result (List ℕ) Error) (parts : List A) (m : Result Tree Error) (whole : text_of m ≡ then (Ok head) (joined part parts)) where
   pub walk_stop : {x : A} {rest : List A} {a b : Serializer S} (c : Serializer S) (e : Error) → UpTo took failures head part parts (x ∷ rest) a b → Stops took answered failures (part x) b c e → Stops took answered failures (text_of m) a c e
-  walk_stop {x = x} {rest = rest} {a = a} {b = b} c e u t = subst (λ (n : Option (List ℕ)). Stops took answered failures n a c e) (sym whole) (UpTo-stops took answered failures both head part parts (x ∷ rest) rest x a b c e u refl t)
+  walk_stop {x = x} {rest = rest} {a = a} {b = b} c e u t = subst (λ (n : Result (List ℕ) Error). Stops took answered failures n a c e) (sym whole) (UpTo-stops took answered failures both head part parts (x ∷ rest) rest x a b c e u refl t)
 
 -- A field: its key, and then its value.
-module _ {S : Type 0} (took : S → S → List ℕ → Type 0) (failures : S → ℕ) (both : (a b c : S) (xs ys : List ℕ) → took a b xs → took b c ys → took a c (xs ++ ys)) (key : List ℕ) (m : Option Tree) where
+module _ {S : Type 0} (took : S → S → List ℕ → Type 0) (failures : S → ℕ) (both : (a b c : S) (xs ys : List ℕ) → took a b xs → took b c ys → took a c (xs ++ ys)) (key : List ℕ) (m : Result Tree Error) where
   pub field_ends : (a b c : Serializer S) → Sent took failures a b (canonical_key key) → Ends took failures (text_of m) b c → Ends took failures (entry_text plain_bytes part_tree (key, m)) a c
-  field_ends a b c s t = Ends-both took failures both (Some (canonical_key key)) (text_of m) a b c s t
+  field_ends a b c s t = Ends-both took failures both (Ok (canonical_key key)) (text_of m) a b c s t
 
-module _ {S : Type 0} (took : S → S → List ℕ → Type 0) (answered : Answering S) (failures : S → ℕ) (both : (a b c : S) (xs ys : List ℕ) → took a b xs → took b c ys → took a c (xs ++ ys)) (key : List ℕ) (m : Option Tree) where
+module _ {S : Type 0} (took : S → S → List ℕ → Type 0) (answered : Answering S) (failures : S → ℕ) (both : (a b c : S) (xs ys : List ℕ) → took a b xs → took b c ys → took a c (xs ++ ys)) (key : List ℕ) (m : Result Tree Error) where
   pub field_stops_at_key : (a b : Serializer S) (e : Error) → Refused took answered failures a b [] e → IsExcuse e → Stops took answered failures (entry_text plain_bytes part_tree (key, m)) a b e
   field_stops_at_key a b e s x = Stops-none took answered failures (entry_text plain_bytes part_tree (key, m)) a b e s x
 
   pub field_stops : (a b c : Serializer S) (e : Error) → Sent took failures a b (canonical_key key) → Stops took answered failures (text_of m) b c e → Stops took answered failures (entry_text plain_bytes part_tree (key, m)) a c e
-  field_stops a b c e s t = Stops-second took answered failures both (Some (canonical_key key)) (text_of m) a b c e s t
+  field_stops a b c e s t = Stops-second took answered failures both (Ok (canonical_key key)) (text_of m) a b c e s t
 
 -- A variant's head, and then its payload.
-module _ {S : Type 0} (took : S → S → List ℕ → Type 0) (failures : S → ℕ) (both : (a b c : S) (xs ys : List ℕ) → took a b xs → took b c ys → took a c (xs ++ ys)) (name : List ℕ) (m : Option Tree) where
+module _ {S : Type 0} (took : S → S → List ℕ → Type 0) (failures : S → ℕ) (both : (a b c : S) (xs ys : List ℕ) → took a b xs → took b c ys → took a c (xs ++ ys)) (name : List ℕ) (m : Result Tree Error) where
   pub payload_ends : (a b c : Serializer S) → Sent took failures a b (newtype_variant_head name) → Ends took failures (text_of m) b c → Ends took failures (text_of (variant_tree name m)) a c
-  payload_ends a b c s t = subst (λ (n : Option (List ℕ)). Ends took failures n a c) (sym (variant_text name m)) (Ends-both took failures both (Some (newtype_variant_head name)) (text_of m) a b c s t)
+  payload_ends a b c s t = subst (λ (n : Result (List ℕ) Error). Ends took failures n a c) (sym (variant_text name m)) (Ends-both took failures both (Ok (newtype_variant_head name)) (text_of m) a b c s t)
 
-module _ {S : Type 0} (took : S → S → List ℕ → Type 0) (answered : Answering S) (failures : S → ℕ) (both : (a b c : S) (xs ys : List ℕ) → took a b xs → took b c ys → took a c (xs ++ ys)) (name : List ℕ) (m : Option Tree) where
+module _ {S : Type 0} (took : S → S → List ℕ → Type 0) (answered : Answering S) (failures : S → ℕ) (both : (a b c : S) (xs ys : List ℕ) → took a b xs → took b c ys → took a c (xs ++ ys)) (name : List ℕ) (m : Result Tree Error) where
   pub payload_stops : (a b c : Serializer S) (e : Error) → Sent took failures a b (newtype_variant_head name) → Stops took answered failures (text_of m) b c e → Stops took answered failures (text_of (variant_tree name m)) a c e
-  payload_stops a b c e s t = subst (λ (n : Option (List ℕ)). Stops took answered failures n a c e) (sym (variant_text name m)) (Stops-second took answered failures both (Some (newtype_variant_head name)) (text_of m) a b c e s t)
+  payload_stops a b c e s t = subst (λ (n : Result (List ℕ) Error). Stops took answered failures n a c e) (sym (variant_text name m)) (Stops-second took answered failures both (Ok (newtype_variant_head name)) (text_of m) a b c e s t)

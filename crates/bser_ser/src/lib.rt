@@ -4,9 +4,10 @@
 //! [`Serializer`] puts the parts of a value one after another, without a message's front.
 #![tactic(auto)]
 
-ghost use Rattle.std.specs.Prelude.{Option, OnOk, IfErr};
+ghost use Rattle.std.specs.Prelude.{Result, OnOk, IfErr};
 ghost use Rattle.bser_format.specs.Tree.{Tree};
-ghost use Rattle.bser_ser.specs.Ends.{Ends, Stops, text_of};
+ghost use Rattle.bser_format.specs.declared.errors.Error.{Error};
+ghost use Rattle.bser_ser.specs.Ends.{Ends, Stops, text_of, CanBeWritten};
 
 mod adds;
 mod count;
@@ -30,20 +31,25 @@ use std::alloc::Global;
 /// A value that can be written.
 ///
 /// The crate takes serde's trait, and a type there says only how it is written. Here it also says
-/// as which tree, or that it has none.
+/// as which tree, or with which error it is refused.
 pub trait Serialize {
-    // the value's tree, where it has one
-    ghost meaning: { Self → Option Tree };
+    // the value's tree, or the error that says why it has none
+    ghost meaning: { Self → Result Tree Error };
 
-    /// Puts the canonical text of the value's tree.
+    /// Puts the canonical text of the value's tree. On success the tree can be written: each of its
+    /// numbers and counts is in its range, each text is UTF-8, and each row of a template has a field
+    /// for each key.
     ///
-    /// A value without a tree is refused, as an integer above `i64::MAX` with
-    /// [`SerU64TooBig`](bser_format::errors::Error::SerU64TooBig). Besides, the faults of the puts
-    /// are handed on: `Io` for the writer's own, and `OutOfMemory`. After a refusal the parts before
-    /// it have been put. The writer counts a failure only for an `Io`.
+    /// A value without a tree is refused with the error that `meaning` names, as an integer above
+    /// `i64::MAX` with [`SerU64TooBig`](bser_format::errors::Error::SerU64TooBig) and itself, and a
+    /// count above it with `SerCustom` `CountTooGreat`. Of several parts without a tree the first
+    /// one gives the error. Besides, the faults of the puts are handed on: `Io` for the writer's
+    /// own, and `OutOfMemory`. After a refusal the parts before it have been put. The writer counts
+    /// a failure only for an `Io`.
     fn serialize<W: Sink>(&self, alloc: Global, out: &mut Serializer<W>) -> Result<()>
         ensures ok { OnOk result (Ends W.took W.failures
             (text_of (meaning self.now)) out.old out.new) }
+        ensures writable { OnOk result (CanBeWritten (meaning self.now)) }
         ensures err { IfErr result (Stops W.took W.answered W.failures
             (text_of (meaning self.now)) out.old out.new) };
 }

@@ -1,6 +1,6 @@
 //! Whole messages.
 ghost use Rattle.std.specs.Prelude.{◌≡◌, List, ℕ, OnOk, IfOk, IfErr};
-ghost use Rattle.bser_ser.specs.Ends.{Ends, Stops};
+ghost use Rattle.bser_ser.specs.Ends.{Ends, Stops, CanBeWritten};
 ghost use Rattle.bser_ser.specs.Message.{message_of, IsBodyLength, IsUnmeasured, Wrote, Missed};
 ghost use Rattle.bser_ser.specs.Sent.{IsFlushed, writer_of};
 
@@ -60,6 +60,7 @@ pub fn serialize<W: Sink, T: Serialize>(
 // The length of the value's body.
 fn measure<T: Serialize>(alloc: Global, value: &T) -> Result<i64>
     ensures ok { IfOk result (IsBodyLength (T.meaning value.now)) }
+    ensures writable { OnOk result (CanBeWritten (T.meaning value.now)) }
     ensures err { IfErr result (IsUnmeasured (T.meaning value.now)) }
 {
     let mut out = Serializer::new(alloc, CountWrite::new());

@@ -1,7 +1,7 @@
 //! The puts of a serializer.
 ghost use Rattle.std.specs.Prelude.{◌≡◌, pos, ◌<◌, ◌^◌, ◌∷◌, ◌++◌, [], length, OnOk, IfOk, IfErr, encode_utf8};
 ghost use Rattle.std.specs.Int.{w32, to_le_bytes};
-ghost use Rattle.bser_format.specs.Canonical.{least_integer, least_count};
+ghost use Rattle.bser_format.specs.Canonical.{least_integer, least_count, IsWritableText};
 ghost use Rattle.bser_written.specs.Pieces.{null_piece, bool_piece, integer_piece, real_piece, text_piece, bytes_piece, key_piece, array_head, object_head, template_tag, newtype_variant_head, tuple_variant_head, struct_variant_head};
 ghost use Rattle.bser_format.specs.declared.errors.Collection.TheVariants.{Sequence, Map};
 ghost use Rattle.bser_ser.specs.Sent.{Puts, PutsOr, IsTooBig, IsTooMany, IsMiscounted, IsCounted, count_or_zero};
@@ -74,7 +74,9 @@ impl<W: Sink> Serializer<W> {
 
     /// Puts a text.
     pub fn put_text(&mut self, text: &str) -> Result<()>
-        ensures { Puts W.took W.answered W.failures self.old self.new (text_piece text.now) result }
+        ensures put { Puts W.took W.answered W.failures self.old self.new
+            (text_piece text.now) result }
+        ensures writable { OnOk result (IsWritableText text.now) }
     {
         match self.add_text(text) {
             Ok(()) => Ok(()),
@@ -84,8 +86,9 @@ impl<W: Sink> Serializer<W> {
 
     /// Puts the text of one character.
     pub fn put_char(&mut self, c: char) -> Result<()>
-        ensures { Puts W.took W.answered W.failures self.old self.new
+        ensures put { Puts W.took W.answered W.failures self.old self.new
             (text_piece (encode_utf8 c)) result }
+        ensures writable { OnOk result (IsWritableText (encode_utf8 c)) }
     {
         let mut buf = [0; 4];
         self.put_text(c.encode_utf8(&mut buf))

@@ -1,5 +1,5 @@
 //! Values without parts.
-ghost use Rattle.std.specs.Prelude.{Some, pos, string_bytes, encode_utf8};
+ghost use Rattle.std.specs.Prelude.{Ok, pos, string_bytes, encode_utf8};
 ghost use Rattle.std.specs.Cow.{cow_str_bytes};
 ghost use Rattle.bser_format.specs.Tree.{null, boolean, integer, bytes, text};
 ghost use Rattle.bser_written.specs.Written.{unsigned_tree};
@@ -13,7 +13,7 @@ use std::alloc::Global;
 use std::borrow::CowStr;
 
 impl Serialize for () {
-    ghost meaning = { λ _. Some null };
+    ghost meaning = { λ _. Ok null };
 
     fn serialize<W: Sink>(&self, _alloc: Global, out: &mut Serializer<W>) -> Result<()> {
         out.put_null()
@@ -21,7 +21,7 @@ impl Serialize for () {
 }
 
 impl Serialize for bool {
-    ghost meaning = { λ v. Some (boolean v) };
+    ghost meaning = { λ v. Ok (boolean v) };
 
     fn serialize<W: Sink>(&self, _alloc: Global, out: &mut Serializer<W>) -> Result<()> {
         out.put_bool(*self)
@@ -29,7 +29,7 @@ impl Serialize for bool {
 }
 
 impl Serialize for i8 {
-    ghost meaning = { λ v. Some (integer v) };
+    ghost meaning = { λ v. Ok (integer v) };
 
     fn serialize<W: Sink>(&self, _alloc: Global, out: &mut Serializer<W>) -> Result<()> {
         out.put_i64(i64::from(*self))
@@ -37,7 +37,7 @@ impl Serialize for i8 {
 }
 
 impl Serialize for i16 {
-    ghost meaning = { λ v. Some (integer v) };
+    ghost meaning = { λ v. Ok (integer v) };
 
     fn serialize<W: Sink>(&self, _alloc: Global, out: &mut Serializer<W>) -> Result<()> {
         out.put_i64(i64::from(*self))
@@ -45,7 +45,7 @@ impl Serialize for i16 {
 }
 
 impl Serialize for i32 {
-    ghost meaning = { λ v. Some (integer v) };
+    ghost meaning = { λ v. Ok (integer v) };
 
     fn serialize<W: Sink>(&self, _alloc: Global, out: &mut Serializer<W>) -> Result<()> {
         out.put_i64(i64::from(*self))
@@ -53,7 +53,7 @@ impl Serialize for i32 {
 }
 
 impl Serialize for i64 {
-    ghost meaning = { λ v. Some (integer v) };
+    ghost meaning = { λ v. Ok (integer v) };
 
     fn serialize<W: Sink>(&self, _alloc: Global, out: &mut Serializer<W>) -> Result<()> {
         out.put_i64(*self)
@@ -61,7 +61,7 @@ impl Serialize for i64 {
 }
 
 impl Serialize for u8 {
-    ghost meaning = { λ v. Some (integer (pos v)) };
+    ghost meaning = { λ v. Ok (integer (pos v)) };
 
     fn serialize<W: Sink>(&self, _alloc: Global, out: &mut Serializer<W>) -> Result<()> {
         out.put_i64(i64::from(*self))
@@ -69,7 +69,7 @@ impl Serialize for u8 {
 }
 
 impl Serialize for u16 {
-    ghost meaning = { λ v. Some (integer (pos v)) };
+    ghost meaning = { λ v. Ok (integer (pos v)) };
 
     fn serialize<W: Sink>(&self, _alloc: Global, out: &mut Serializer<W>) -> Result<()> {
         out.put_i64(i64::from(*self))
@@ -77,7 +77,7 @@ impl Serialize for u16 {
 }
 
 impl Serialize for u32 {
-    ghost meaning = { λ v. Some (integer (pos v)) };
+    ghost meaning = { λ v. Ok (integer (pos v)) };
 
     fn serialize<W: Sink>(&self, _alloc: Global, out: &mut Serializer<W>) -> Result<()> {
         out.put_i64(i64::from(*self))
@@ -101,7 +101,7 @@ impl Serialize for usize {
 }
 
 impl Serialize for isize {
-    ghost meaning = { λ v. Some (integer v) };
+    ghost meaning = { λ v. Ok (integer v) };
 
     fn serialize<W: Sink>(&self, _alloc: Global, out: &mut Serializer<W>) -> Result<()> {
         out.put_i64(*self as i64)
@@ -109,7 +109,7 @@ impl Serialize for isize {
 }
 
 impl Serialize for char {
-    ghost meaning = { λ c. Some (text (encode_utf8 c)) };
+    ghost meaning = { λ c. Ok (text (encode_utf8 c)) };
 
     fn serialize<W: Sink>(&self, _alloc: Global, out: &mut Serializer<W>) -> Result<()> {
         out.put_char(*self)
@@ -117,7 +117,7 @@ impl Serialize for char {
 }
 
 impl Serialize for &str {
-    ghost meaning = { λ s. Some (text s.now) };
+    ghost meaning = { λ s. Ok (text s.now) };
 
     fn serialize<W: Sink>(&self, _alloc: Global, out: &mut Serializer<W>) -> Result<()> {
         out.put_text(self)
@@ -125,7 +125,7 @@ impl Serialize for &str {
 }
 
 impl Serialize for String {
-    ghost meaning = { λ s. Some (text (string_bytes s)) };
+    ghost meaning = { λ s. Ok (text (string_bytes s)) };
 
     fn serialize<W: Sink>(&self, _alloc: Global, out: &mut Serializer<W>) -> Result<()> {
         out.put_text(self.as_str())
@@ -133,7 +133,7 @@ impl Serialize for String {
 }
 
 impl<'a> Serialize for CowStr<'a> {
-    ghost meaning = { λ s. Some (text (cow_str_bytes s)) };
+    ghost meaning = { λ s. Ok (text (cow_str_bytes s)) };
 
     fn serialize<W: Sink>(&self, _alloc: Global, out: &mut Serializer<W>) -> Result<()> {
         out.put_text(self.as_str())
@@ -141,7 +141,7 @@ impl<'a> Serialize for CowStr<'a> {
 }
 
 impl Serialize for ByteString {
-    ghost meaning = { λ s. Some (bytes s) };
+    ghost meaning = { λ s. Ok (bytes s) };
 
     fn serialize<W: Sink>(&self, _alloc: Global, out: &mut Serializer<W>) -> Result<()> {
         out.put_bytes(self.as_bytes())

@@ -1,20 +1,26 @@
 -- The entries of an object, as which the fields of a struct are written.
-use Rattle.std.specs.Prelude.{◌≡◌, ℕ, ◌≤◌, ◌^◌, List, [], ◌∷◌, length, Option, Some, None, ◌⊎◌}
+use Rattle.std.specs.Prelude.{◌≡◌, ℕ, ◌<◌, ◌≤◌, ◌^◌, List, [], ◌∷◌, length, Option, Some, None, Result, Ok, ◌⊎◌}
+use Rattle.std.specs.List.{AllByRecursion}
 use Rattle.bser_format.specs.Tree.{Tree}
+use Rattle.bser_format.specs.declared.errors.Error.{Error}
 use Rattle.bser_written.specs.Written.{struct_tree, within_i64}
-use Rattle.bser_ser.specs.Ends.{field_text, then}
+use Rattle.bser_ser.specs.Ends.{field_text, then, CanBeWritten}
 
--- the text of all entries, where each has one
-abbrev pub entries_text : List (List ℕ × Option Tree) → Option (List ℕ)
-entries_text [] = Some []
+-- the text of all entries, or why the first without a tree has none
+abbrev pub entries_text : List (List ℕ × Result Tree Error) → Result (List ℕ) Error
+entries_text [] = Ok []
 entries_text (e ∷ es) = then (field_text e.0 e.1) (entries_text es)
 
--- the object of these entries, of which there are no more than an i64 counts
-abbrev pub entries_tree : List (List ℕ × Option Tree) → Option Tree
+-- no key is longer than an i64 counts, and each value can be written
+abbrev pub EntriesCanBeWritten : List (List ℕ × Result Tree Error) → Type 0
+EntriesCanBeWritten es = AllByRecursion (λ e. (length e.0 < 2 ^ 63) × CanBeWritten e.1) es
+
+-- the object of these entries, which are too many where there are more than an i64 counts
+abbrev pub entries_tree : List (List ℕ × Result Tree Error) → Result Tree Error
 entries_tree es = within_i64 (length es) (struct_tree es)
 
 -- the entry of a value, or none where there is no value
-abbrev pub given_entry : {A : Type 0} → List ℕ → (A → Option Tree) → Option A → List (List ℕ × Option Tree)
+abbrev pub given_entry : {A : Type 0} → List ℕ → (A → Result Tree Error) → Option A → List (List ℕ × Result Tree Error)
 given_entry name tree None = []
 given_entry name tree (Some x) = (name, tree x) ∷ []
 

@@ -1,8 +1,12 @@
 -- The fields of a struct, in one list: its name, the part of the struct that it is, and its type.
-use Rattle.std.specs.Prelude.{◌≡◌, refl, false, ◌||◌, Bool, ℕ, List, [], ◌∷◌, ◌++◌, map, Option, None, option_map}
+use Rattle.std.specs.Prelude.{◌≡◌, refl, false, ◌||◌, Bool, ℕ, List, [], ◌∷◌, ◌++◌, map, Option, None, option_map, Result, Err}
 use Rattle.bser_format.specs.Tree.{Tree}
 use Rattle.bser_written.specs.Written.{option_tree}
 use Rattle.bser_format.specs.Content.{Content, Meaning}
+use Rattle.bser_format.specs.declared.errors.Complaint.TheVariants.{WrongType}
+use Rattle.bser_format.specs.declared.errors.Error.{Error}
+use Rattle.bser_format.specs.declared.errors.Error.TheVariants.{SerCustom}
+use Rattle.bser_format.specs.declared.errors.Message.TheVariants.{Fixed}
 use Rattle.bser_deserializer.specs.Holds.{HoldsOption}
 use Rattle.bser_deserializer.specs.HoldsLists.{HoldsTuple}
 use Rattle.bser_deserializer.specs.Reading.{Asking, bare, Needs}
@@ -14,22 +18,26 @@ use Rattle.bser_structs.specs.Entries.{given_entry, entries_tree}
 
 -- ---- types
 
--- what a type is read as, as its `Shape` says, and the tree that a value is written as
+-- what a type is read as, as its `Shape` says, and the tree that a value is written as, or why it is none
 pub record Coding (B : Type 0) : Type 1 where
   pub reads : Meaning
   pub holds : B → Content → Type 0
   pub needs : Needs
   pub asks : Option (Asking reads)
-  pub tree : B → Option Tree
+  pub tree : B → Result Tree Error
+
+-- why a value of a type that is read alone is not written
+abbrev pub not_written : Error
+not_written = SerCustom (Fixed WrongType)
 
 -- a type that is read and not written
 abbrev pub read_alone : {B : Type 0} → (reads : Meaning) → (B → Content → Type 0) → Needs
     → Option (Asking reads) → Coding B
 read_alone reads holds needs asks =
-    record { reads = reads; holds = holds; needs = needs; asks = asks; tree = λ _. None }
+    record { reads = reads; holds = holds; needs = needs; asks = asks; tree = λ _. Err not_written }
 
 -- a type that is written and not read
-abbrev pub written_alone : {B : Type 0} → (B → Option Tree) → Coding B
+abbrev pub written_alone : {B : Type 0} → (B → Result Tree Error) → Coding B
 written_alone tree =
     record { reads = λ _. None; holds = λ _ _. ⊥; needs = bare; asks = None; tree = tree }
 
@@ -42,7 +50,7 @@ pub record FieldOf (A : Type 0) : Type 1 where
   pub holds : A → Content → Type 0
   pub needs : Needs
   pub asks : Option (Asking slot.reads)
-  pub entries : A → List (List ℕ × Option Tree)
+  pub entries : A → List (List ℕ × Result Tree Error)
 
 -- a field that has to be there
 abbrev pub required : {A B : Type 0} → List ℕ → (A → B) → Coding B → FieldOf A
@@ -58,7 +66,7 @@ required name part type =
 
 -- a field that may be null or absent, with these entries
 abbrev pub optional_as : {A B : Type 0} → List ℕ → (A → Option B) → Coding B
-    → (Option B → List (List ℕ × Option Tree)) → FieldOf A
+    → (Option B → List (List ℕ × Result Tree Error)) → FieldOf A
 optional_as name part type entries =
     record {
       name = name;
@@ -107,12 +115,12 @@ abbrev pub asking_fields : {A : Type 0} → (fs : List (FieldOf A)) → Option (
 asking_fields fs = asking_struct (names_of fs) (slots_of fs) (each_asking fs)
 
 -- the entries of the fields, in their order
-abbrev pub fields_entries : {A : Type 0} → List (FieldOf A) → A → List (List ℕ × Option Tree)
+abbrev pub fields_entries : {A : Type 0} → List (FieldOf A) → A → List (List ℕ × Result Tree Error)
 fields_entries [] v = []
 fields_entries (f ∷ fs) v = f.entries v ++ fields_entries fs v
 
--- the tree that the struct is written as
-abbrev pub fields_tree : {A : Type 0} → List (FieldOf A) → A → Option Tree
+-- the tree that the struct is written as, or why it is none
+abbrev pub fields_tree : {A : Type 0} → List (FieldOf A) → A → Result Tree Error
 fields_tree fs v = entries_tree (fields_entries fs v)
 
 -- ---- what is lent

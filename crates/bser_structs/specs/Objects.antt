@@ -1,7 +1,8 @@
 -- What is held, asked for and written, where an object is a value of one type and anything else one of another.
-use Rattle.std.specs.Prelude.{Option, Some, None}
+use Rattle.std.specs.Prelude.{Option, Some, None, Result}
 use Rattle.bser_format.specs.Tree.{Tree}
 use Rattle.bser_format.specs.Content.{Content, Meaning}
+use Rattle.bser_format.specs.declared.errors.Error.{Error}
 use Rattle.bser_deserializer.specs.Reading.{Asking}
 use Rattle.bser_types.specs.Choices.{reads_object_or, asks_object_or}
 use Rattle.bser_types.proofs.Choices.{object_or_passes}
@@ -22,7 +23,7 @@ asking_object_or {O = O} {T = T} (Some a) (Some b) =
     })
 asking_object_or _ _ = None
 
--- the tree that this value is written as
-abbrev pub object_or_tree : {A B : Type 0} → (A → Option Tree) → (B → Option Tree) → ObjectOr A B → Option Tree
+-- the tree that this value is written as, or why it is none
+abbrev pub object_or_tree : {A B : Type 0} → (A → Result Tree Error) → (B → Result Tree Error) → ObjectOr A B → Result Tree Error
 object_or_tree object other (Object v) = object v
 object_or_tree object other (Other v) = other v

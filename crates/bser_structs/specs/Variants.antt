@@ -1,11 +1,15 @@
 -- The variants of an enum, in one list: its name, the part of the enum that it is, and its type.
-use Rattle.std.specs.Prelude.{◌≡◌, ℕ, suc, Bool, true, false, List, [], ◌∷◌, map, Option, Some, None, option_and_then, if◌then◌else◌}
+use Rattle.std.specs.Prelude.{◌≡◌, ℕ, suc, Bool, true, false, List, [], ◌∷◌, map, Option, Some, None, Result, Ok, Err, if◌then◌else◌}
 use Rattle.std.specs.Option.{is_some}
 use Rattle.bser_format.specs.Tree.{Tree, text}
 use Rattle.bser_written.specs.Written.{variant_tree}
 use Rattle.bser_format.specs.Content.{Content, one, Meaning}
 use Rattle.bser_format.specs.Enums.{Payload, holds, reads_enum}
 use Rattle.bser_format.specs.Enums as enums
+use Rattle.bser_format.specs.declared.errors.Complaint.TheVariants.{UnknownVariant}
+use Rattle.bser_format.specs.declared.errors.Error.{Error}
+use Rattle.bser_format.specs.declared.errors.Error.TheVariants.{SerCustom}
+use Rattle.bser_format.specs.declared.errors.Message.TheVariants.{Fixed}
 use Rattle.bser_deserializer.specs.Reading.{Asking, bare, Needs}
 use Rattle.bser_types.specs.Slots.{struct_needs}
 use Rattle.bser_variants.specs.Askings.{PayloadAsking, VariantAskings, asking_enum}
@@ -22,7 +26,7 @@ pub record VariantOf (A : Type 0) : Type 1 where
   pub asks : PayloadAsking payload
   pub is : A → Bool
   pub holds : A → Content → Type 0
-  pub tree : A → Option Tree
+  pub tree : A → Result Tree Error
 
 -- a variant without a payload
 abbrev pub unit : {A : Type 0} → List ℕ → (A → Bool) → VariantOf A
@@ -34,13 +38,22 @@ unit name is =
       asks = tt;
       is = is;
       holds = λ _ c. c ≡ one;
-      tree = λ _. Some (text name);
+      tree = λ _. Ok (text name);
     }
 
 -- what a payload holds, where there is one
 abbrev pub HoldsPart : {B : Type 0} → (B → Content → Type 0) → Option B → Content → Type 0
 HoldsPart held None c = ⊥
 HoldsPart held (Some x) c = held x c
+
+-- why a value of none of the variants is not written
+abbrev pub no_variant : Error
+no_variant = SerCustom (Fixed UnknownVariant)
+
+-- the tree of a variant's payload under its name, where there is one
+abbrev pub payload_tree : {B : Type 0} → List ℕ → (B → Result Tree Error) → Option B → Result Tree Error
+payload_tree name tree None = Err no_variant
+payload_tree name tree (Some x) = variant_tree name (tree x)
 
 -- a variant with one value, or with several as a tuple
 abbrev pub newtype : {A B : Type 0} → List ℕ → (A → Option B) → Coding B → VariantOf A
@@ -52,7 +65,7 @@ newtype name part type =
       asks = type.asks;
       is = λ v. is_some (part v);
       holds = λ v. HoldsPart type.holds (part v);
-      tree = λ v. option_and_then (λ x. variant_tree name (type.tree x)) (part v);
+      tree = λ v. payload_tree name type.tree (part v);
     }
 
 -- ---- the fields of a variant, whose values are pairs of one and the others
@@ -142,7 +155,7 @@ abbrev pub asking_variants : {A : Type 0} → List ℕ → (fs : List (VariantOf
     → Option (Asking (reads_variants fs))
 asking_variants name fs = asking_enum name (payloads_of fs) (each_payload fs)
 
--- the tree that the enum is written as
-abbrev pub variants_tree : {A : Type 0} → List (VariantOf A) → A → Option Tree
-variants_tree [] v = None
+-- the tree that the enum is written as, or why it is none
+abbrev pub variants_tree : {A : Type 0} → List (VariantOf A) → A → Result Tree Error
+variants_tree [] v = Err no_variant
 variants_tree (f ∷ fs) v = if f.is v then f.tree v else variants_tree fs v

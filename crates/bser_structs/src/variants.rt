@@ -1,7 +1,7 @@
 //! Writing an enum by its variants.
 ghost use Rattle.std.specs.Prelude.{OnOk, IfErr};
 ghost use Rattle.bser_written.specs.Written.{variant_tree};
-ghost use Rattle.bser_ser.specs.Ends.{Ends, Stops, text_of};
+ghost use Rattle.bser_ser.specs.Ends.{Ends, Stops, text_of, CanBeWritten};
 ghost use Rattle.bser_structs.specs.Entries.{entries_tree};
 
 use crate::writing::{PutFields, put_fields};
@@ -24,6 +24,8 @@ pub fn put_variant<W: Sink, T: Serialize>(
 ) -> Result<()>
     ensures ok { OnOk result (Ends W.took W.failures
         (text_of (variant_tree name.now (T.meaning payload.now))) out.old out.new) }
+    ensures writable { OnOk result
+        (CanBeWritten (variant_tree name.now (T.meaning payload.now))) }
     ensures err { IfErr result (Stops W.took W.answered W.failures
         (text_of (variant_tree name.now (T.meaning payload.now))) out.old out.new) }
 {
@@ -44,6 +46,8 @@ pub fn put_variant_fields<W: Sink, F: PutFields>(
 ) -> Result<()>
     ensures ok { OnOk result (Ends W.took W.failures
         (text_of (variant_tree name.now (entries_tree (F.entries fields.now)))) out.old out.new) }
+    ensures writable { OnOk result
+        (CanBeWritten (variant_tree name.now (entries_tree (F.entries fields.now)))) }
     ensures err { IfErr result (Stops W.took W.answered W.failures
         (text_of (variant_tree name.now (entries_tree (F.entries fields.now)))) out.old out.new) }
 {

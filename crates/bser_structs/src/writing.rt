@@ -1,8 +1,9 @@
 //! Writing a struct by its fields.
-ghost use Rattle.std.specs.Prelude.{ℕ, List, [], ◌∷◌, ◌++◌, length, Option, OnOk, IfErr};
+ghost use Rattle.std.specs.Prelude.{ℕ, List, [], ◌∷◌, ◌++◌, length, Result, OnOk, IfErr};
 ghost use Rattle.bser_format.specs.Tree.{Tree};
-ghost use Rattle.bser_ser.specs.Ends.{Ends, Stops, text_of};
-ghost use Rattle.bser_structs.specs.Entries.{entries_text, entries_tree, given_entry, IsCount};
+ghost use Rattle.bser_format.specs.declared.errors.Error.{Error};
+ghost use Rattle.bser_ser.specs.Ends.{Ends, Stops, text_of, CanBeWritten};
+ghost use Rattle.bser_structs.specs.Entries.{entries_text, entries_tree, given_entry, EntriesCanBeWritten, IsCount};
 
 use bser_format::errors::Result;
 use bser_ser::{Serialize, Serializer};
@@ -12,7 +13,7 @@ use std::alloc::Global;
 /// A field that is written: its name beside its value, as `(&str, &T)` or `(&str, Given<T>)`.
 pub trait PutField {
     // the entries that it is: one, or none where it is left out
-    ghost entries: { Self → List (List ℕ × Option Tree) };
+    ghost entries: { Self → List (List ℕ × Result Tree Error) };
 
     /// How many entries it is.
     fn count(&self) -> usize
@@ -25,6 +26,7 @@ pub trait PutField {
     fn put<W: Sink>(&self, alloc: Global, out: &mut Serializer<W>) -> Result<()>
         ensures ok { OnOk result (Ends W.took W.failures
             (entries_text (entries self.now)) out.old out.new) }
+        ensures writable { OnOk result (EntriesCanBeWritten (entries self.now)) }
         ensures err { IfErr result (Stops W.took W.answered W.failures
             (entries_text (entries self.now)) out.old out.new) };
 }
@@ -73,7 +75,7 @@ impl<'a, 'b, T: Serialize> PutField for (&'a str, Given<'b, T>) {
 /// The fields of a struct that is written: pairs of a field and the others, up to `()`.
 pub trait PutFields {
     // the entries that they are
-    ghost entries: { Self → List (List ℕ × Option Tree) };
+    ghost entries: { Self → List (List ℕ × Result Tree Error) };
 
     /// How many entries they are.
     fn count(&self) -> usize
@@ -85,6 +87,7 @@ pub trait PutFields {
     fn put_each<W: Sink>(&self, alloc: Global, out: &mut Serializer<W>) -> Result<()>
         ensures ok { OnOk result (Ends W.took W.failures
             (entries_text (entries self.now)) out.old out.new) }
+        ensures writable { OnOk result (EntriesCanBeWritten (entries self.now)) }
         ensures err { IfErr result (Stops W.took W.answered W.failures
             (entries_text (entries self.now)) out.old out.new) };
 }
@@ -130,6 +133,7 @@ pub fn put_fields<W: Sink, F: PutFields>(
 ) -> Result<()>
     ensures ok { OnOk result (Ends W.took W.failures
         (text_of (entries_tree (F.entries fields.now))) out.old out.new) }
+    ensures writable { OnOk result (CanBeWritten (entries_tree (F.entries fields.now))) }
     ensures err { IfErr result (Stops W.took W.answered W.failures
         (text_of (entries_tree (F.entries fields.now))) out.old out.new) }
 {

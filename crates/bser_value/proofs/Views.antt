@@ -14,7 +14,7 @@ use Rattle.bser_format.specs.Tree.{Tree, null, boolean, real, bytes, integer, te
 use Rattle.bser_written.specs.Compact.{keys}
 use Rattle.bser_format.specs.declared.bytestring.ByteString.{ByteString}
 use Rattle.std.specs.Prelude.{ℤ, Some, option_map}
-use Rattle.bser_written.specs.Written.{item_before, entry_before, written_items, written_entries, array_tree, object_tree}
+use Rattle.bser_written.specs.Written.{map_ok, item_before, entry_before, written_items, written_entries, array_tree, object_tree}
 use Rattle.bser_value.specs.declared.value.Value as value
 use Rattle.bser_value.specs.declared.value.Value.{Value, Array, Object, Integer, Null, Utf8String, the_lemmas}
 use Rattle.bser_value.specs.ValueView.{tree_of, items_view, entries_view}
@@ -124,17 +124,17 @@ entries_view-insert_last made done e more k v rise same named told =
 
 -- ---- writing
 
-written_items-map : {A : Type 0} (f : A → Tree) (xs : List A) → Some (items_of (map f xs)) ≡ written_items (λ x. Some (f x)) xs
+written_items-map : {A : Type 0} (f : A → Tree) (xs : List A) → Ok (items_of (map f xs)) ≡ written_items (λ x. Ok (f x)) xs
 written_items-map f [] = refl
-written_items-map f (x ∷ xs) = ap (item_before (Some (f x))) (written_items-map f xs)
+written_items-map f (x ∷ xs) = ap (item_before (Ok (f x))) (written_items-map f xs)
 
-written_entries-map : (es : List Entry) → Some (entries_view es) ≡ written_entries string_bytes (λ v. Some (tree_of v)) es
+written_entries-map : (es : List Entry) → Ok (entries_view es) ≡ written_entries string_bytes (λ v. Ok (tree_of v)) es
 written_entries-map [] = refl
-written_entries-map (e ∷ es) = ap (entry_before (string_bytes e.0) (Some (tree_of e.1))) (written_entries-map es)
+written_entries-map (e ∷ es) = ap (entry_before (string_bytes e.0) (Ok (tree_of e.1))) (written_entries-map es)
 
 -- an array is written as its items are, and an object as its entries
-pub written-Array : (v : Vec Value Global) → Some (tree_of (Array v)) ≡ array_tree (λ w. Some (tree_of w)) v.items
-written-Array v = ap Some (tree_of-Array v) ∙ ap (option_map array) (written_items-map tree_of v.items)
+pub written-Array : (v : Vec Value Global) → Ok (tree_of (Array v)) ≡ array_tree (λ w. Ok (tree_of w)) v.items
+written-Array v = ap Ok (tree_of-Array v) ∙ ap (map_ok array) (written_items-map tree_of v.items)
 
-pub written-Object : (m : BTreeMap (String Global) Value) → Some (tree_of (Object m)) ≡ object_tree string_bytes (λ w. Some (tree_of w)) m.entries
-written-Object m = ap Some (tree_of-Object m) ∙ ap (option_map object) (written_entries-map m.entries)
+pub written-Object : (m : BTreeMap (String Global) Value) → Ok (tree_of (Object m)) ≡ object_tree string_bytes (λ w. Ok (tree_of w)) m.entries
+written-Object m = ap Ok (tree_of-Object m) ∙ ap (map_ok object) (written_entries-map m.entries)

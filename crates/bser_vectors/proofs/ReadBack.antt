@@ -42,7 +42,7 @@ abbrev pub numbers_of : List ℤ → Items
 numbers_of [] = no_items
 numbers_of (v ∷ vs) = item (integer v) (numbers_of vs)
 
-pub written_numbers : (vs : List ℤ) → written_items (λ v. Some (integer v)) vs ≡ Some (numbers_of vs)
+pub written_numbers : (vs : List ℤ) → written_items (λ v. Ok (integer v)) vs ≡ Ok (numbers_of vs)
 written_numbers [] = refl
 written_numbers (v ∷ vs) = rw (written_numbers vs) refl
 
@@ -50,19 +50,11 @@ pub numbers_free : (vs : List ℤ) → ItemsAreTemplateFree (numbers_of vs)
 numbers_free [] = tt
 numbers_free (v ∷ vs) = (tt, numbers_free vs)
 
-pub numbers_writable : (vs : List ℤ) → AllByRecursion (λ v. FitsSigned w64 v) vs → ItemsAreWritable (numbers_of vs)
-numbers_writable [] h = tt
-numbers_writable (v ∷ vs) h = (h.0, numbers_writable vs h.1)
-
 pub numbers_flat : (vs : List ℤ) → items_depth (numbers_of vs) ≡ 0
 numbers_flat [] = refl
 numbers_flat (v ∷ vs) = rw (numbers_flat vs) refl
 
-pub length_numbers : (vs : List ℤ) → length (items (numbers_of vs)) ≡ length vs
-length_numbers [] = refl
-length_numbers (v ∷ vs) = ap suc (length_numbers vs)
-
-pub read_numbers : (vs : List ℤ) → AllByRecursion (λ v. FitsSigned w64 v) vs → each_some (reads_signed 64) (items (numbers_of vs)) ≡ Some (map number vs)
+pub read_numbers : (vs : List ℤ) → ItemsAreWritable (numbers_of vs) → each_some (reads_signed 64) (items (numbers_of vs)) ≡ Some (map number vs)
 read_numbers [] h = refl
 read_numbers (v ∷ vs) h = rw (signed_64 v h.0, read_numbers vs h.1) refl
 
@@ -113,20 +105,20 @@ same_bytes s t e = sym (ap (λ c. said c) e)
     said _ = []
 
 -- the numbers whose message was read back
-pub numbers_back : {A : Type 0} (items_of : A → List ℤ) (vs : List ℤ) (bytes : List ℕ) (r : Result A Error) → AllByRecursion (λ v. FitsSigned w64 v) vs → length vs < 2 ^ 63 → length bytes < 2 ^ 63 → bytes ≡ canonical_message (array (numbers_of vs))
+pub numbers_back : {A : Type 0} (items_of : A → List ℤ) (vs : List ℤ) (bytes : List ℕ) (r : Result A Error) → IsWritable (array (numbers_of vs)) → length bytes < 2 ^ 63 → bytes ≡ canonical_message (array (numbers_of vs))
     → IfOk r (BeginsWith 128 (reads_vec (reads_signed 64)) (λ v c. HoldsList HoldsNumber (items_of v) c) bytes) → IfOk r (λ back. items_of back ≡ vs)
-numbers_back f vs bytes (Err e) range count short is found = tt
-numbers_back f vs bytes (Ok back) range count short is found =
-    let whole : IsReturned 128 (array (numbers_of vs)) = (numbers_free vs, (subst (λ n. n < 2 ^ 63) (sym (length_numbers vs)) count, numbers_writable vs range), subst (λ n. suc n ≤ 128) (sym (numbers_flat vs)) (omega arith), subst (λ b. length b < 2 ^ 63) is short) in
-    let read : reads_vec (reads_signed 64) (array (numbers_of vs)) ≡ Some (list_of (map number vs)) = rw (read_numbers vs range) refl in
+numbers_back f vs bytes (Err e) writable short is found = tt
+numbers_back f vs bytes (Ok back) writable short is found =
+    let whole : IsReturned 128 (array (numbers_of vs)) = (numbers_free vs, writable, subst (λ n. suc n ≤ 128) (sym (numbers_flat vs)) (omega arith), subst (λ b. length b < 2 ^ 63) is short) in
+    let read : reads_vec (reads_signed 64) (array (numbers_of vs)) ≡ Some (list_of (map number vs)) = rw (read_numbers vs writable.1) refl in
     let held = returned (reads_vec (reads_signed 64)) (λ v c. HoldsList HoldsNumber (f v) c) (array (numbers_of vs)) (list_of (map number vs)) bytes back whole read is found in
     same_numbers vs (f back) (subst (HoldsAll HoldsNumber (f back)) (same_contents held.contents (map number vs) held.list) held.items)
 
 -- the text whose message was read back
-pub text_back : {A : Type 0} (bytes_of : A → List ℕ) (s bytes : List ℕ) (r : Result A Error) → IsUtf8 s → length s < 2 ^ 63 → length bytes < 2 ^ 63 → bytes ≡ canonical_message (text s)
+pub text_back : {A : Type 0} (bytes_of : A → List ℕ) (s bytes : List ℕ) (r : Result A Error) → IsWritable (text s) → length bytes < 2 ^ 63 → bytes ≡ canonical_message (text s)
     → IfOk r (BeginsWith 128 reads_string (λ v. HoldsBytes (bytes_of v)) bytes) → IfOk r (λ back. bytes_of back ≡ s)
-text_back f s bytes (Err e) valid count short is found = tt
-text_back f s bytes (Ok back) valid count short is found =
-    let whole : IsReturned 128 (text s) = (tt, (valid, count), omega arith, subst (λ b. length b < 2 ^ 63) is short) in
+text_back f s bytes (Err e) writable short is found = tt
+text_back f s bytes (Ok back) writable short is found =
+    let whole : IsReturned 128 (text s) = (tt, writable, omega arith, subst (λ b. length b < 2 ^ 63) is short) in
     let held = returned reads_string (λ v. HoldsBytes (f v)) (text s) (byte_list s) bytes back whole refl is found in
     same_bytes (f back) s held

@@ -1,5 +1,6 @@
 //! Writing.
-ghost use Rattle.std.specs.Prelude.{◌≡◌, Some, IfOk, IfErr};
+ghost use Rattle.std.specs.Prelude.{◌≡◌, Ok, OnOk, IfOk, IfErr};
+ghost use Rattle.bser_ser.specs.Ends.{CanBeWritten};
 ghost use Rattle.bser_ser.specs.Message.{message_of, IsUnmeasured};
 
 pub use bser_compact::message::serialize_compact;
@@ -13,11 +14,13 @@ use std::alloc::Global;
 
 /// The value's message in a new vector.
 ///
-/// Refused where the value has no tree, as a `u64` above `i64::MAX` (`SerU64TooBig`), where its body
-/// is longer than `i64::MAX` bytes (`SerCustom` `CountTooGreat`), and for memory, that of the vector
-/// included (`OutOfMemory`). No other error comes of a value that has a tree.
+/// Refused where the value has no tree, with the error that its type's `meaning` names, as
+/// `SerU64TooBig` for a `u64` above `i64::MAX`; where its body is longer than `i64::MAX` bytes
+/// (`SerCustom` `CountTooGreat`); and for memory, that of the vector included (`OutOfMemory`). No
+/// other error comes.
 pub fn to_vec<T: Serialize>(alloc: Global, value: &T) -> Result<Vec<u8>>
-    ensures ok { IfOk result (λ message. message_of (T.meaning value.now) ≡ Some message.items) }
+    ensures ok { IfOk result (λ message. message_of (T.meaning value.now) ≡ Ok message.items) }
+    ensures writable { OnOk result (CanBeWritten (T.meaning value.now)) }
     ensures err { IfErr result (IsUnmeasured (T.meaning value.now)) }
 {
     match serialize(alloc, Watched::new(Vec::new(alloc)), value) {

@@ -1,9 +1,11 @@
 //! Writing a `Value`.
-ghost use Rattle.std.specs.Prelude.{Some, OnOk, OnErr, IfErr, string_bytes};
+ghost use Rattle.std.specs.Prelude.{Ok, OnOk, OnErr, IfErr, string_bytes};
+ghost use Rattle.bser_format.specs.Tree.{array, object};
+ghost use Rattle.bser_format.specs.Canonical.{IsWritable};
 ghost use Rattle.bser_written.specs.Written.{array_tree, object_tree};
 ghost use Rattle.bser_ser.specs.Ends.{Ends, Stops, text_of};
 ghost use Rattle.bser_ser.specs.Sent.{refusal_of};
-ghost use Rattle.bser_value.specs.ValueView.{tree_of};
+ghost use Rattle.bser_value.specs.ValueView.{tree_of, items_view, entries_view};
 
 use crate::value::Value;
 use bser_ser::{PutRefused, Serialize, Serializer};
@@ -14,7 +16,7 @@ use std::collections::BTreeMap;
 /// A value is written by its variant. It always has a tree. Writing calls itself once for each
 /// level.
 impl Serialize for Value {
-    ghost meaning = { λ v. Some (tree_of v) };
+    ghost meaning = { λ v. Ok (tree_of v) };
 
     fn serialize<W: Sink>(
         &self,
@@ -33,9 +35,10 @@ impl Serialize for Value {
 #[inline(always)]
 fn add_value<W: Sink>(value: &Value, out: &mut Serializer<W>) -> Result<(), PutRefused>
     ensures ok { OnOk result (Ends W.took W.failures
-        (text_of (Some (tree_of value.now))) out.old out.new) }
+        (text_of (Ok (tree_of value.now))) out.old out.new) }
+    ensures writable { OnOk result (IsWritable (tree_of value.now)) }
     ensures err { OnErr result (Stops W.took W.answered W.failures
-        (text_of (Some (tree_of value.now))) out.old out.new (refusal_of out.new)) }
+        (text_of (Ok (tree_of value.now))) out.old out.new (refusal_of out.new)) }
 {
     match value {
         Value::Array(items) => add_items(items, out),
@@ -53,9 +56,10 @@ fn add_value<W: Sink>(value: &Value, out: &mut Serializer<W>) -> Result<(), PutR
 #[inline(never)]
 fn add_items<W: Sink>(items: &Vec<Value>, out: &mut Serializer<W>) -> Result<(), PutRefused>
     ensures ok { OnOk result (Ends W.took W.failures
-        (text_of (array_tree (λ v. Some (tree_of v)) items.now.items)) out.old out.new) }
+        (text_of (array_tree (λ v. Ok (tree_of v)) items.now.items)) out.old out.new) }
+    ensures writable { OnOk result (IsWritable (array (items_view items.now.items))) }
     ensures err { OnErr result (Stops W.took W.answered W.failures
-        (text_of (array_tree (λ v. Some (tree_of v)) items.now.items)) out.old out.new
+        (text_of (array_tree (λ v. Ok (tree_of v)) items.now.items)) out.old out.new
         (refusal_of out.new)) }
 {
     out.add_array(items.len())?;
@@ -72,10 +76,11 @@ fn add_entries<W: Sink>(
     out: &mut Serializer<W>,
 ) -> Result<(), PutRefused>
     ensures ok { OnOk result (Ends W.took W.failures
-        (text_of (object_tree string_bytes (λ v. Some (tree_of v)) entries.now.entries)) out.old
+        (text_of (object_tree string_bytes (λ v. Ok (tree_of v)) entries.now.entries)) out.old
         out.new) }
+    ensures writable { OnOk result (IsWritable (object (entries_view entries.now.entries))) }
     ensures err { OnErr result (Stops W.took W.answered W.failures
-        (text_of (object_tree string_bytes (λ v. Some (tree_of v)) entries.now.entries)) out.old
+        (text_of (object_tree string_bytes (λ v. Ok (tree_of v)) entries.now.entries)) out.old
         out.new (refusal_of out.new)) }
 {
     out.add_object(entries.len())?;

@@ -1,15 +1,17 @@
 -- A template's head is put piece by piece.
-use Rattle.std.proofs.Common.{rules, ◌++◌, [], flat_map, sym, subst, refl, ◌∙◌, Some, string_bytes}
+use Rattle.std.proofs.Common.{rules, ◌++◌, [], flat_map, sym, subst, refl, ◌∙◌, Ok, string_bytes}
+use Rattle.std.specs.List.{AllByRecursion}
 use Rattle.std.specs.Int.{w64}
 use Rattle.std.proofs.lemmas.Int.{to_z_pos}
 use Rattle.std.proofs.lemmas.Result.{err_from_is_err_and}
-use Rattle.bser_format.specs.Canonical.{least_integer, least_count, canonical_text}
+use Rattle.bser_format.specs.Canonical.{least_integer, least_count, canonical_text, IsWritableText}
 use Rattle.bser_written.specs.Pieces.{array_head, template_tag}
 use Rattle.bser_ser.specs.Sent.{Sent, refusal_of}
 use Rattle.bser_ser.proofs.Ends.{Stops-none}
 use Rattle.bser_ser.proofs.AllBut.{AllBut, AllBut-start, AllBut-all, AllBut-more, AllBut-stops}
 use Rattle.bser_compact.specs.Texts.{names_of, head_text}
 use Rattle.bser_compact.proofs.Pieces.{head_pieces, name_piece, count_piece}
+use Rattle.bser_compact.proofs.Writable.{names_few}
 use Rattle.bser_compact.proofs.template.add_template_head.Goals as goal
 
 pub returns-in_err-add_array-clause-err : goal.returns-in_err-add_array-clause-err
@@ -20,7 +22,7 @@ returns-in_err-add_array-clause-err g c =
     let begun = AllBut-start g.W.Sink.took g.W.Sink.failures (head_text es c.args.rows) template_tag (array_head c.len.result ++ rest) c.args.out.now c.add_template.new.self
     (head_pieces es c.args.rows c.len.result c.len.ensures.len) c.in_ok-add_template.ensures.0 in
     rw p.1 (AllBut-stops g.W.Sink.took g.W.Sink.answered g.W.Sink.failures g.met.W.Sink.took_both _ _ (array_head c.len.result) rest c.args.out.now c.add_template.new.self c.add_array.new.self (refusal_of c.add_array.new.self) begun refl
-    (Stops-none g.W.Sink.took g.W.Sink.answered g.W.Sink.failures (Some (array_head c.len.result)) c.add_template.new.self c.add_array.new.self (refusal_of c.add_array.new.self) c.in_err-add_array.ensures.0 c.in_err-add_array.ensures.1))
+    (Stops-none g.W.Sink.took g.W.Sink.answered g.W.Sink.failures (Ok (array_head c.len.result)) c.add_template.new.self c.add_array.new.self (refusal_of c.add_array.new.self) c.in_err-add_array.ensures.0 c.in_err-add_array.ensures.1))
 
 pub loop-key-init : goal.loop-key-init
 loop-key-init g c =
@@ -29,33 +31,45 @@ loop-key-init g c =
     let begun = AllBut-start g.W.Sink.took g.W.Sink.failures (head_text es c.args.rows) template_tag (array_head c.len.result ++ rest) c.args.out.now c.add_template.new.self
     (head_pieces es c.args.rows c.len.result c.len.ensures.len) c.in_ok-add_template.ensures.0 in
     let whole = c.into_iter-key-iterator.ensures.into_iter_gives ∙ c.iter-key-items.ensures.rest in
-    subst (λ l. AllBut g.W.Sink.took g.W.Sink.failures (head_text es c.args.rows) (flat_map canonical_text (names_of l) ++ least_count c.args.rows) c.args.out.now c.add_array.new.self) (sym whole)
-    (AllBut-more g.W.Sink.took g.W.Sink.failures g.met.W.Sink.took_both _ _ (array_head c.len.result) rest c.args.out.now c.add_template.new.self c.add_array.new.self begun refl c.in_ok-add_array.ensures.0)
+    record {
+      put = subst (λ l. AllBut g.W.Sink.took g.W.Sink.failures (head_text es c.args.rows) (flat_map canonical_text (names_of l) ++ least_count c.args.rows) c.args.out.now c.add_array.new.self) (sym whole)
+    (AllBut-more g.W.Sink.took g.W.Sink.failures g.met.W.Sink.took_both _ _ (array_head c.len.result) rest c.args.out.now c.add_template.new.self c.add_array.new.self begun refl c.in_ok-add_array.ensures.0);
+      texts = subst (λ l. AllByRecursion IsWritableText (names_of l)) whole;
+    }
 
 pub loop-key-preserved : goal.loop-key-preserved
 loop-key-preserved g c =
-    AllBut-more g.W.Sink.took g.W.Sink.failures g.met.W.Sink.took_both _ _ (canonical_text (string_bytes c.in-Some.key.now)) _ c.args.out.now c.loop-key.out c.add_text.new.self c.loop-key.invariant
-    (name_piece c.loop-key.key-iterator c.next.new.self (c.in-Some.key.now, c.in-Some.field-0-1.now) c.args.rows c.in-Some.ensures.steps) (rw c.as_str.ensures.value at c.in_ok-add_text.ensures.0)
+    record {
+      put = AllBut-more g.W.Sink.took g.W.Sink.failures g.met.W.Sink.took_both _ _ (canonical_text (string_bytes c.in-Some.key.now)) _ c.args.out.now c.loop-key.out c.add_text.new.self c.loop-key.invariant.put
+          (name_piece c.loop-key.key-iterator c.next.new.self (c.in-Some.key.now, c.in-Some.field-0-1.now) c.args.rows c.in-Some.ensures.steps) (rw c.as_str.ensures.value at c.in_ok-add_text.ensures.0);
+      texts = λ h. c.loop-key.invariant.texts (subst (λ l. AllByRecursion IsWritableText (names_of l)) (sym c.in-Some.ensures.steps) (search rules, h));
+    }
 
 pub returns-in_err-add_text-clause-err : goal.returns-in_err-add_text-clause-err
 returns-in_err-add_text-clause-err g c =
     let p = err_from_is_err_and c.from_residual-in_err-add_text.result c.from_residual-in_err-add_text.ensures.1 in
     let piece = canonical_text (string_bytes c.in-Some.key.now) in
-    rw p.1 (AllBut-stops g.W.Sink.took g.W.Sink.answered g.W.Sink.failures g.met.W.Sink.took_both _ _ piece _ c.args.out.now c.loop-key.out c.add_text.new.self (refusal_of c.add_text.new.self) c.loop-key.invariant
+    rw p.1 (AllBut-stops g.W.Sink.took g.W.Sink.answered g.W.Sink.failures g.met.W.Sink.took_both _ _ piece _ c.args.out.now c.loop-key.out c.add_text.new.self (refusal_of c.add_text.new.self) c.loop-key.invariant.put
     (name_piece c.loop-key.key-iterator c.next.new.self (c.in-Some.key.now, c.in-Some.field-0-1.now) c.args.rows c.in-Some.ensures.steps)
-    (Stops-none g.W.Sink.took g.W.Sink.answered g.W.Sink.failures (Some piece) c.loop-key.out c.add_text.new.self (refusal_of c.add_text.new.self) c.in_err-add_text.ensures.0 c.in_err-add_text.ensures.1))
+    (Stops-none g.W.Sink.took g.W.Sink.answered g.W.Sink.failures (Ok piece) c.loop-key.out c.add_text.new.self (refusal_of c.add_text.new.self) c.in_err-add_text.ensures.0 c.in_err-add_text.ensures.1))
 
 pub returns-in_err-add_i64-clause-err : goal.returns-in_err-add_i64-clause-err
 returns-in_err-add_i64-clause-err g c =
     let p = err_from_is_err_and c.from_residual-in_err-add_i64.result c.from_residual-in_err-add_i64.ensures.1 in
     let piece = least_count c.args.rows in
-    rw p.1 (AllBut-stops g.W.Sink.took g.W.Sink.answered g.W.Sink.failures g.met.W.Sink.took_both _ _ piece [] c.args.out.now c.loop-key.out c.add_i64.new.self (refusal_of c.add_i64.new.self) c.loop-key.invariant
+    rw p.1 (AllBut-stops g.W.Sink.took g.W.Sink.answered g.W.Sink.failures g.met.W.Sink.took_both _ _ piece [] c.args.out.now c.loop-key.out c.add_i64.new.self (refusal_of c.add_i64.new.self) c.loop-key.invariant.put
     (count_piece c.loop-key.key-iterator c.args.rows (search rules))
-    (Stops-none g.W.Sink.took g.W.Sink.answered g.W.Sink.failures (Some piece) c.loop-key.out c.add_i64.new.self (refusal_of c.add_i64.new.self) c.in_err-add_i64.ensures.0 c.in_err-add_i64.ensures.1))
+    (Stops-none g.W.Sink.took g.W.Sink.answered g.W.Sink.failures (Ok piece) c.loop-key.out c.add_i64.new.self (refusal_of c.add_i64.new.self) c.in_err-add_i64.ensures.0 c.in_err-add_i64.ensures.1))
 
 pub returns-clause-ok : goal.returns-clause-ok
 returns-clause-ok g c =
     let put = subst (λ v. Sent g.W.Sink.took g.W.Sink.failures c.loop-key.out c.add_i64.new.self (least_integer v)) (to_z_pos w64 c.args.rows c.requires) c.in_ok-add_i64.ensures.0 in
     AllBut-all g.W.Sink.took g.W.Sink.failures _ [] c.args.out.now c.add_i64.new.self
-    (AllBut-more g.W.Sink.took g.W.Sink.failures g.met.W.Sink.took_both _ _ (least_count c.args.rows) [] c.args.out.now c.loop-key.out c.add_i64.new.self c.loop-key.invariant
+    (AllBut-more g.W.Sink.took g.W.Sink.failures g.met.W.Sink.took_both _ _ (least_count c.args.rows) [] c.args.out.now c.loop-key.out c.add_i64.new.self c.loop-key.invariant.put
     (count_piece c.loop-key.key-iterator c.args.rows (search rules)) put) refl
+
+pub returns-clause-few : goal.returns-clause-few
+returns-clause-few g c = names_few c.args.first.now.entries c.iter-key-items.ensures.fits
+
+pub returns-clause-texts : goal.returns-clause-texts
+returns-clause-texts g c = c.loop-key.invariant.texts (search rules)

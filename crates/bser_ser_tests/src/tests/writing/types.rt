@@ -1,9 +1,9 @@
 //! An enum and structs, written part by part.
-ghost use Rattle.std.specs.Prelude.{Some, [], ◌∷◌, codes};
+ghost use Rattle.std.specs.Prelude.{Ok, [], ◌∷◌, codes};
 ghost use Rattle.bser_format.specs.Tree.{text, bytes};
 ghost use Rattle.bser_written.specs.Written.{tuple_tree, struct_tree, variant_tree};
 ghost use Rattle.std.specs.Prelude.{OnOk, IfErr};
-ghost use Rattle.bser_ser.specs.Ends.{Ends, Stops, field_text};
+ghost use Rattle.bser_ser.specs.Ends.{Ends, Stops, field_text, CanBeWritten};
 
 use bser_format::bytestring::ByteString;
 use bser_format::errors::Result;
@@ -27,10 +27,10 @@ impl Serialize for TestEnum {
     ghost use Rattle.bser_written.specs.Written.{unsigned_tree};
 
     ghost meaning = { λ v. elim v [
-      | TestUnit ↦ Some (text (codes "TestUnit"))
-      | TestNewtype b ↦ variant_tree (codes "TestNewtype") (Some (bytes b))
-      | TestTuple m n ↦ variant_tree (codes "TestTuple") (tuple_tree (Some (integer m) ∷ unsigned_tree n ∷ []))
-      | TestStruct abc def ↦ variant_tree (codes "TestStruct") (struct_tree ((codes "abc", Some null) ∷ (codes "def", Some (text (encode_utf8 def))) ∷ []))
+      | TestUnit ↦ Ok (text (codes "TestUnit"))
+      | TestNewtype b ↦ variant_tree (codes "TestNewtype") (Ok (bytes b))
+      | TestTuple m n ↦ variant_tree (codes "TestTuple") (tuple_tree (Ok (integer m) ∷ unsigned_tree n ∷ []))
+      | TestStruct abc def ↦ variant_tree (codes "TestStruct") (struct_tree ((codes "abc", Ok null) ∷ (codes "def", Ok (text (encode_utf8 def))) ∷ []))
     ] };
 
     fn serialize<W: Sink>(&self, alloc: Global, out: &mut Serializer<W>) -> Result<()> {
@@ -67,7 +67,7 @@ impl Serialize for FileInfo {
     ghost use Rattle.std.specs.Prelude.{pos};
     ghost use Rattle.bser_format.specs.Tree.{integer};
 
-    ghost meaning = { λ v. struct_tree ((codes "name", Some (bytes v.name)) ∷ (codes "size", Some (integer (pos v.size))) ∷ []) };
+    ghost meaning = { λ v. struct_tree ((codes "name", Ok (bytes v.name)) ∷ (codes "size", Ok (integer (pos v.size))) ∷ []) };
 
     fn serialize<W: Sink>(&self, alloc: Global, out: &mut Serializer<W>) -> Result<()> {
         out.put_map(Some(2))?;
@@ -85,7 +85,7 @@ pub struct RealBits(pub u64);
 impl Serialize for RealBits {
     ghost use Rattle.bser_format.specs.Tree.{real};
 
-    ghost meaning = { λ v. Some (real v.0) };
+    ghost meaning = { λ v. Ok (real v.0) };
 
     fn serialize<W: Sink>(&self, _alloc: Global, out: &mut Serializer<W>) -> Result<()> {
         out.put_real_bits(self.0)
@@ -105,7 +105,7 @@ impl<E: Serialize> Serialize for TestStruct<E> {
     ghost use Rattle.bser_format.specs.Tree.{integer, real};
     ghost use Rattle.bser_written.specs.Written.{array_tree, option_tree};
 
-    ghost meaning = { λ v. struct_tree ((codes "test_list", array_tree (λ n. Some (integer n)) v.test_list.items) ∷ (codes "test_tuple", tuple_tree (Some (text v.test_tuple.0.now) ∷ option_tree (λ r. Some (real r.0)) v.test_tuple.1 ∷ [])) ∷ (codes "test_enum", E.meaning v.test_enum) ∷ (codes "test_enum_list", array_tree E.meaning v.test_enum_list.items) ∷ []) };
+    ghost meaning = { λ v. struct_tree ((codes "test_list", array_tree (λ n. Ok (integer n)) v.test_list.items) ∷ (codes "test_tuple", tuple_tree (Ok (text v.test_tuple.0.now) ∷ option_tree (λ r. Ok (real r.0)) v.test_tuple.1 ∷ [])) ∷ (codes "test_enum", E.meaning v.test_enum) ∷ (codes "test_enum_list", array_tree E.meaning v.test_enum_list.items) ∷ []) };
 
     fn serialize<W: Sink>(&self, alloc: Global, out: &mut Serializer<W>) -> Result<()> {
         out.put_map(Some(4))?;
@@ -125,6 +125,7 @@ fn put_field<W: Sink, T: Serialize>(
 ) -> Result<()>
     ensures ok { OnOk result (Ends W.took W.failures
         (field_text key.now (T.meaning value.now)) out.old out.new) }
+    ensures writable { OnOk result (CanBeWritten (T.meaning value.now)) }
     ensures err { IfErr result (Stops W.took W.answered W.failures
         (field_text key.now (T.meaning value.now)) out.old out.new) }
 {

@@ -1,5 +1,7 @@
+use Rattle.std.proofs.Common.{rules}
 use Rattle.std.proofs.lemmas.Result.{MatchResult-weaker}
 use Rattle.bser_ser.proofs.Structs.{payload_ends, payload_stops}
+use Rattle.bser_ser.proofs.Writable.{variant_writable}
 use Rattle.bser_structs.proofs.variants.put_variant.Goals as goal
 
 pub returns-clause-ok : goal.returns-clause-ok
@@ -9,3 +11,6 @@ returns-clause-ok g c =
 pub returns-clause-err : goal.returns-clause-err
 returns-clause-err g c =
     MatchResult-weaker c.serialize.result c.serialize.ensures.err (λ _ t. t) (λ e t. payload_stops g.W.Sink.took g.W.Sink.answered g.W.Sink.failures g.met.W.Sink.took_both c.args.name.now (g.T.Serialize.meaning c.args.payload.now) c.args.out.now c.put_newtype_variant.new.self c.serialize.new.out e c.in_ok-put_newtype_variant.ensures.0 t)
+
+pub returns-clause-writable : goal.returns-clause-writable
+returns-clause-writable g c = MatchResult-weaker c.serialize.result c.serialize.ensures.writable (λ _ t. variant_writable c.args.name.now (g.T.Serialize.meaning c.args.payload.now) (search rules) t) (λ _ t. t)

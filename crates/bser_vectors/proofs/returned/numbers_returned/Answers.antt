@@ -8,9 +8,8 @@ pub returns : goal.returns
 returns c =
     let v = c.args.numbers.now in
     let m = c.into_inner-message.result in
-    let count : length v.items < 2 ^ 63 = omega (arith, v.ok.0, v.ok.1, v.small) in
     let short : length m.items < 2 ^ 63 = omega (arith, m.ok.0, m.ok.1, m.small) in
     let wrote = rw (written_numbers v.items) at c.in_ok-serialize_to.ensures.ok in
     let is : c.as_slice.result.now ≡ canonical_message (array (numbers_of v.items)) =
     c.as_slice.ensures.value ∙ ap (λ m. m.items) c.into_inner-message.ensures ∙ wrote.0 ∙ ap (λ b. b ++ canonical_message (array (numbers_of v.items))) (ap (λ w. w.items) c.new-writer.ensures.inner ∙ c.new.ensures.items) in
-    numbers_back (λ b. b.items) v.items c.as_slice.result.now c.from_slice.result c.check_numbers.ensures count (rw c.as_slice.ensures.value short) is c.from_slice.ensures.found
+    numbers_back (λ b. b.items) v.items c.as_slice.result.now c.from_slice.result wrote.1.1 (rw c.as_slice.ensures.value short) is c.from_slice.ensures.found

@@ -1,5 +1,4 @@
 use Rattle.std.proofs.Common.{◌<◌, ◌^◌, length, string_bytes, arith, rules}
-use Rattle.std.proofs.lemmas.Str.{IsUtf8-string_bytes}
 use Rattle.bser_vectors.proofs.ReadBack.{text_back}
 use Rattle.bser_vectors.proofs.returned.text_returned.Goals as goal
 
@@ -7,6 +6,5 @@ pub returns : goal.returns
 returns c =
     let t = c.args.text.now in
     let m = c.into_inner-message.result in
-    let count : length (string_bytes t) < 2 ^ 63 = omega (arith, t.bytes.ok.0, t.bytes.ok.1, t.bytes.small) in
     let short : length m.items < 2 ^ 63 = omega (arith, m.ok.0, m.ok.1, m.small) in
-    text_back string_bytes (string_bytes t) c.as_slice.result.now c.from_slice.result (IsUtf8-string_bytes t) count (rw c.as_slice.ensures.value short) (search rules) c.from_slice.ensures.found
+    text_back string_bytes (string_bytes t) c.as_slice.result.now c.from_slice.result c.in_ok-serialize_to.ensures.ok.1.1 (rw c.as_slice.ensures.value short) (search rules) c.from_slice.ensures.found

@@ -1,5 +1,5 @@
 use Rattle.std.proofs.lemmas.Result.{err_from_is_err_and, MatchResult-weaker}
-use Rattle.bser_structs.proofs.Entries.{each_ends, first_stops, others_stop}
+use Rattle.bser_structs.proofs.Entries.{each_ends, first_stops, others_stop, each_writable}
 use Rattle.bser_structs.proofs.writing.Tuple2PutFields.put_each.Goals as goal
 
 pub returns-in_err-put-clause-err : goal.returns-in_err-put-clause-err
@@ -14,3 +14,7 @@ returns-clause-ok g c =
 pub returns-clause-err : goal.returns-clause-err
 returns-clause-err g c =
     MatchResult-weaker c.put_each.result c.put_each.ensures.err (λ _ t. t) (λ e t. others_stop g.W.Sink.took g.W.Sink.answered g.W.Sink.failures g.met.W.Sink.took_both (g.A.PutField.entries c.args.self.now.0) (g.F.PutFields.entries c.args.self.now.1) c.args.out.now c.put.new.out c.put_each.new.out e c.in_ok-put.ensures.ok t)
+
+pub returns-clause-writable : goal.returns-clause-writable
+returns-clause-writable g c =
+    MatchResult-weaker c.put_each.result c.put_each.ensures.writable (λ _ t. each_writable (g.A.PutField.entries c.args.self.now.0) (g.F.PutFields.entries c.args.self.now.1) c.in_ok-put.ensures.writable t) (λ _ t. t)

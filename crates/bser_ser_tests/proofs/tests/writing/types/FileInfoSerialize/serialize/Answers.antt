@@ -1,10 +1,11 @@
-use Rattle.std.proofs.Common.{List, ℕ, pos, [], ◌∷◌, Option, Some, codes}
+use Rattle.std.proofs.Common.{rules, List, ℕ, pos, [], ◌∷◌, Option, Some, codes}
 use Rattle.std.proofs.lemmas.Result.{err_from_is_err_and, MatchResult-weaker}
 use Rattle.bser_format.specs.Tree.{Tree, bytes, integer}
 use Rattle.bser_written.specs.Pieces.{object_head}
 use Rattle.bser_written.specs.Written.{part_tree, plain_bytes, struct_tree}
 use Rattle.bser_ser.proofs.Structs.{struct_text, walk_start, walk_more, walk_all, walk_stop, field_ends, field_stops_at_key, field_stops}
 use Rattle.bser_ser.proofs.Texts.{entry_text}
+use Rattle.bser_ser.proofs.Writable.{struct_writable}
 use Rattle.bser_ser_tests.proofs.tests.writing.types.FileInfoSerialize.serialize.Goals as goal
 
 pub returns-in_err-put_key-clause-err : goal.returns-in_err-put_key-clause-err
@@ -42,3 +43,9 @@ returns-clause-err g c =
     let u = walk_start g.W.Sink.took g.W.Sink.failures g.met.W.Sink.took_both (object_head 2) (entry_text plain_bytes part_tree) fields (struct_tree fields) (struct_text fields) c.args.out.now c.put_map.new.self c.in_ok-put_map.ensures.put.0 in
     let v = walk_more g.W.Sink.took g.W.Sink.failures g.met.W.Sink.took_both (object_head 2) (entry_text plain_bytes part_tree) fields (struct_tree fields) (struct_text fields) c.serialize.new.out u (field_ends g.W.Sink.took g.W.Sink.failures g.met.W.Sink.took_both (codes "name") (Some (bytes c.args.self.now.name)) c.put_map.new.self c.put_key.new.self c.serialize.new.out c.in_ok-put_key.ensures.0 c.in_ok-serialize.ensures.ok) in
     MatchResult-weaker c.serialize-2.result c.serialize-2.ensures.err (λ _ t. t) (λ e t. walk_stop g.W.Sink.took g.W.Sink.answered g.W.Sink.failures g.met.W.Sink.took_both (object_head 2) (entry_text plain_bytes part_tree) fields (struct_tree fields) (struct_text fields) c.serialize-2.new.out e v (field_stops g.W.Sink.took g.W.Sink.answered g.W.Sink.failures g.met.W.Sink.took_both (codes "size") (Some (integer (pos c.args.self.now.size))) c.serialize.new.out c.put_key-2.new.self c.serialize-2.new.out e c.in_ok-put_key-2.ensures.0 t))
+
+pub returns-clause-writable : goal.returns-clause-writable
+returns-clause-writable g c =
+    let fields : List (List ℕ × Option Tree) = (codes "name", Some (bytes c.args.self.now.name)) ∷ (codes "size", Some (integer (pos c.args.self.now.size))) ∷ [] in
+    MatchResult-weaker c.serialize-2.result c.serialize-2.ensures.writable
+    (λ _ w. struct_writable fields (search rules) ((search rules, c.in_ok-serialize.ensures.writable), ((search rules, w), tt))) (λ _ t. t)

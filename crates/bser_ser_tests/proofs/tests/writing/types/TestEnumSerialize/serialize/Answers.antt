@@ -1,10 +1,11 @@
-use Rattle.std.proofs.Common.{List, ℕ, [], ◌∷◌, Option, Some, codes, encode_utf8}
+use Rattle.std.proofs.Common.{rules, List, ℕ, [], ◌∷◌, Option, Some, codes, encode_utf8}
 use Rattle.std.proofs.lemmas.Result.{err_from_is_err_and, MatchResult-weaker}
 use Rattle.bser_format.specs.Tree.{Tree, text, bytes, null, integer}
 use Rattle.bser_written.specs.Pieces.{tuple_variant_head, struct_variant_head}
 use Rattle.bser_written.specs.Written.{part_tree, plain_bytes, tuple_tree, struct_tree, variant_tree, unsigned_tree}
 use Rattle.bser_ser.proofs.Structs.{payload_ends, payload_stops, tuple_variant_text, struct_variant_text, walk_start, walk_more, walk_all, walk_stop, field_ends, field_stops_at_key, field_stops}
 use Rattle.bser_ser.proofs.Texts.{item_text, entry_text}
+use Rattle.bser_ser.proofs.Writable.{tuple_writable, struct_writable, variant_writable}
 use Rattle.bser_ser_tests.proofs.tests.writing.types.TestEnumSerialize.serialize.Goals as goal
 
 pub returns-in_err-serialize-in-TestTuple-clause-err : goal.returns-in_err-serialize-in-TestTuple-clause-err
@@ -83,3 +84,22 @@ returns-in_ok-put_key-in-TestStruct-2-clause-err g c =
     let u = walk_start g.W.Sink.took g.W.Sink.failures g.met.W.Sink.took_both (struct_variant_head name 2) (entry_text plain_bytes part_tree) fields (variant_tree name (struct_tree fields)) (struct_variant_text name fields) c.args.out.now c.put_struct_variant.new.self c.in_ok-put_struct_variant-in-TestStruct.ensures.put.0 in
     let v = walk_more g.W.Sink.took g.W.Sink.failures g.met.W.Sink.took_both (struct_variant_head name 2) (entry_text plain_bytes part_tree) fields (variant_tree name (struct_tree fields)) (struct_variant_text name fields) c.serialize-in-TestStruct.new.out u (field_ends g.W.Sink.took g.W.Sink.failures g.met.W.Sink.took_both (codes "abc") (Some null) c.put_struct_variant.new.self c.put_key.new.self c.serialize-in-TestStruct.new.out c.in_ok-put_key-in-TestStruct.ensures.0 c.in_ok-serialize-in-TestStruct.ensures.ok) in
     rw c.in-TestStruct.is (MatchResult-weaker c.serialize-in-TestStruct-2.result c.serialize-in-TestStruct-2.ensures.err (λ _ t. t) (λ e t. walk_stop g.W.Sink.took g.W.Sink.answered g.W.Sink.failures g.met.W.Sink.took_both (struct_variant_head name 2) (entry_text plain_bytes part_tree) fields (variant_tree name (struct_tree fields)) (struct_variant_text name fields) c.serialize-in-TestStruct-2.new.out e v (field_stops g.W.Sink.took g.W.Sink.answered g.W.Sink.failures g.met.W.Sink.took_both (codes "def") (Some (text (encode_utf8 c.in-TestStruct.def))) c.serialize-in-TestStruct.new.out c.put_key-in-TestStruct.new.self c.serialize-in-TestStruct-2.new.out e c.in_ok-put_key-in-TestStruct-2.ensures.0 t)))
+
+pub returns-in_ok-put_newtype_variant-in-TestNewtype-clause-writable : goal.returns-in_ok-put_newtype_variant-in-TestNewtype-clause-writable
+returns-in_ok-put_newtype_variant-in-TestNewtype-clause-writable g c =
+    let name : List ℕ = codes "TestNewtype" in
+    rw c.in-TestNewtype.is (MatchResult-weaker c.serialize.result c.serialize.ensures.writable (λ _ w. variant_writable name (Some (bytes c.in-TestNewtype.payload)) (search rules) w) (λ _ t. t))
+
+pub returns-in_ok-serialize-in-TestTuple-clause-writable : goal.returns-in_ok-serialize-in-TestTuple-clause-writable
+returns-in_ok-serialize-in-TestTuple-clause-writable g c =
+    let parts : List (Option Tree) = Some (integer c.in-TestTuple.first) ∷ unsigned_tree c.in-TestTuple.second ∷ [] in
+    let name : List ℕ = codes "TestTuple" in
+    rw c.in-TestTuple.is (MatchResult-weaker c.serialize-in-TestTuple-2.result c.serialize-in-TestTuple-2.ensures.writable
+    (λ _ w. variant_writable name (tuple_tree parts) (search rules) (tuple_writable parts (search rules) (c.in_ok-serialize-in-TestTuple.ensures.writable, (w, tt)))) (λ _ t. t))
+
+pub returns-in_ok-put_key-in-TestStruct-2-clause-writable : goal.returns-in_ok-put_key-in-TestStruct-2-clause-writable
+returns-in_ok-put_key-in-TestStruct-2-clause-writable g c =
+    let fields : List (List ℕ × Option Tree) = (codes "abc", Some null) ∷ (codes "def", Some (text (encode_utf8 c.in-TestStruct.def))) ∷ [] in
+    let name : List ℕ = codes "TestStruct" in
+    rw c.in-TestStruct.is (MatchResult-weaker c.serialize-in-TestStruct-2.result c.serialize-in-TestStruct-2.ensures.writable
+    (λ _ w. variant_writable name (struct_tree fields) (search rules) (struct_writable fields (search rules) ((search rules, tt), ((search rules, w), tt)))) (λ _ t. t))

@@ -1,10 +1,11 @@
-use Rattle.std.proofs.Common.{List, ℕ, [], ◌∷◌, Option, Some, codes}
+use Rattle.std.proofs.Common.{rules, List, ℕ, [], ◌∷◌, Option, Some, codes}
 use Rattle.std.proofs.lemmas.Result.{err_from_is_err_and, MatchResult-weaker}
 use Rattle.bser_format.specs.Tree.{Tree, integer, real, text}
 use Rattle.bser_written.specs.Pieces.{object_head}
 use Rattle.bser_written.specs.Written.{part_tree, plain_bytes, array_tree, option_tree, tuple_tree, struct_tree}
 use Rattle.bser_ser.proofs.Structs.{struct_text, walk_start, walk_more, walk_all, walk_stop}
 use Rattle.bser_ser.proofs.Texts.{entry_text}
+use Rattle.bser_ser.proofs.Writable.{struct_writable}
 use Rattle.bser_ser_tests.proofs.tests.writing.types.TestStructSerialize.serialize.Goals as goal
 
 pub returns-in_err-put_field-clause-err : goal.returns-in_err-put_field-clause-err
@@ -48,3 +49,9 @@ returns-clause-err g c =
     let w = walk_more g.W.Sink.took g.W.Sink.failures g.met.W.Sink.took_both (object_head 4) (entry_text plain_bytes part_tree) fields (struct_tree fields) (struct_text fields) c.put_field-2.new.out v c.in_ok-put_field-2.ensures.ok in
     let x = walk_more g.W.Sink.took g.W.Sink.failures g.met.W.Sink.took_both (object_head 4) (entry_text plain_bytes part_tree) fields (struct_tree fields) (struct_text fields) c.put_field-3.new.out w c.in_ok-put_field-3.ensures.ok in
     MatchResult-weaker c.put_field-4.result c.put_field-4.ensures.err (λ _ t. t) (λ e t. walk_stop g.W.Sink.took g.W.Sink.answered g.W.Sink.failures g.met.W.Sink.took_both (object_head 4) (entry_text plain_bytes part_tree) fields (struct_tree fields) (struct_text fields) c.put_field-4.new.out e x t)
+
+pub returns-clause-writable : goal.returns-clause-writable
+returns-clause-writable g c =
+    let fields : List (List ℕ × Option Tree) = (codes "test_list", array_tree (λ n. Some (integer n)) c.args.self.now.test_list.items) ∷ (codes "test_tuple", tuple_tree (Some (text c.args.self.now.test_tuple.0.now) ∷ option_tree (λ r. Some (real r.0)) c.args.self.now.test_tuple.1 ∷ [])) ∷ (codes "test_enum", g.E.Serialize.meaning c.args.self.now.test_enum) ∷ (codes "test_enum_list", array_tree g.E.Serialize.meaning c.args.self.now.test_enum_list.items) ∷ [] in
+    MatchResult-weaker c.put_field-4.result c.put_field-4.ensures.writable
+    (λ _ w. struct_writable fields (search rules) ((search rules, c.in_ok-put_field.ensures.writable), ((search rules, c.in_ok-put_field-2.ensures.writable), ((search rules, c.in_ok-put_field-3.ensures.writable), ((search rules, w), tt))))) (λ _ t. t)
