@@ -1,5 +1,5 @@
 -- A container is written as its parts are.
-use Rattle.std.proofs.Common.{rules, arith, ◌≡◌, ◌<◌, ◌^◌, ◌∙◌, length, sym, subst, Result, Ok, OnOk, OnErr, string_bytes}
+use Rattle.std.proofs.Common.{rules, arith, ◌≡◌, ◌<◌, ◌^◌, length, sym, subst, Result, Ok, OnOk, OnErr, string_bytes}
 use Rattle.std.proofs.lemmas.List.{drop_all}
 use Rattle.std.proofs.lemmas.Result.{err_from_is_err_and}
 use Rattle.bser_format.specs.Tree.{Tree}
@@ -54,10 +54,11 @@ pub add_entries-loop-key-init : goal.add_entries-loop-key-init
 add_entries-loop-key-init g t c =
     let es = c.args.entries.now.entries in
     let all : c.into_iter-key-iterator.result ≡ es = search rules in
+    let count : length es < 2 ^ 63 = omega arith in
     record {
       put = UpTo-start g.W.Sink.took g.W.Sink.failures (object_head (length es)) (entry_text string_bytes told) es _ c.args.out.now c.add_object.new.self all
           (subst (λ n. Sent g.W.Sink.took g.W.Sink.failures c.args.out.now c.add_object.new.self (object_head n)) c.len.ensures.len c.in_ok-add_object.ensures.0);
-      writable = λ h. (subst IsCount (c.len.ensures.len ∙ sym (length-entries es)) c.len.ensures.small, subst (λ xs. EntriesAreWritable (entries_view xs)) all h);
+      writable = λ h. (subst IsCount (sym (length-entries es)) count, subst (λ xs. EntriesAreWritable (entries_view xs)) all h);
     }
 
 pub add_entries-returns-in_err-add_text_key-clause-err : goal.add_entries-returns-in_err-add_text_key-clause-err
