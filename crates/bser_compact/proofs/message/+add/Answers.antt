@@ -109,8 +109,7 @@ add_row-loop-value-init g t c =
     let whole = c.into_iter-value-iterator.ensures.into_iter_gives ∙ c.iter-value-items.ensures.rest in
     let text = ap row_text c.in-Object.is ∙ row_of_object m ∙ ap (λ l. canonical_fields (values (fold_entries (entries_view l)))) (sym whole) in
     record {
-      put = AllBut-start g.W.Sink.took g.W.Sink.failures _ [] _ c.args.out.now c.args.out.now text (Sent-none g.met.W.Sink.took_nothing c.args.out.now)
-;
+      put = AllBut-start g.W.Sink.took g.W.Sink.failures _ [] _ c.args.out.now c.args.out.now text (Sent-none g.met.W.Sink.took_nothing c.args.out.now);
       writable = λ h. subst RowIsWritable (sym c.in-Object.is) (subst (λ t. FieldsAreWritable (row_values t)) (sym (compact-Object m)) (subst (λ l. FieldsAreWritable (values (fold_entries (entries_view l)))) whole h));
     }
 
