@@ -14,11 +14,12 @@ use std::alloc::Global;
 /// Writes one message with the value as its body, to a writer that is lent.
 ///
 /// The value is gone through twice: once to measure its body, and once to write it; the body
-/// isn't kept. Where measuring refuses, the writer has taken nothing: the value has no tree, as a
-/// `u64` above `i64::MAX` (`SerU64TooBig`), its body is longer than `i64::MAX` bytes (`SerCustom`
-/// `CountTooGreat`), or memory is refused (`OutOfMemory`). Writing itself refuses with the writer's
-/// own fault (`Io`), of kind `WriteZero` where it took nothing, or for memory; the writer has then
-/// taken a beginning of the message. It counts a failure only for an `Io`.
+/// isn't kept. Where measuring refuses, the writer has taken nothing: the value has no tree, and
+/// the error is the one that its type's `meaning` names, as `SerU64TooBig` for a `u64` above
+/// `i64::MAX`; its body is longer than `i64::MAX` bytes (`SerCustom` `CountTooGreat`); or memory is
+/// refused (`OutOfMemory`). Writing itself refuses with the writer's own fault (`Io`), of kind
+/// `WriteZero` where it took nothing, or for memory; the writer has then taken a beginning of the
+/// message. It counts a failure only for an `Io`.
 pub fn serialize_to<W: Sink, T: Serialize>(alloc: Global, writer: &mut W, value: &T) -> Result<()>
     ensures ok { OnOk result (Wrote W.took (T.meaning value.now) writer.old writer.new) }
     ensures kept { OnOk result (W.failures writer.new ≡ W.failures writer.old) }

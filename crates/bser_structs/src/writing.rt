@@ -123,8 +123,8 @@ impl<A: PutField, F: PutFields> PutFields for (A, F) {
 
 /// Puts a struct, the object of these fields, in their order.
 ///
-/// Refused as the puts of its parts are, and with `SerCustom` `CountTooGreat` where there are more
-/// than `i64::MAX` fields. After a refusal the parts before it have been put.
+/// Refused with `SerCustom` `CountTooGreat` where there are more than `i64::MAX` fields, and else as
+/// the first part is that is refused. After a refusal the parts before it have been put.
 #[inline(always)]
 pub fn put_fields<W: Sink, F: PutFields>(
     alloc: Global,

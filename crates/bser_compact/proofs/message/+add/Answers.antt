@@ -51,10 +51,11 @@ pub add_entries-loop-key-init : goal.add_entries-loop-key-init
 add_entries-loop-key-init g t c =
     let es = c.args.entries.now.entries in
     let whole : c.into_iter-key-iterator.result ≡ es = search rules in
+    let count : length es < 2 ^ 63 = omega arith in
     record {
       put = subst (λ xs. AllBut g.W.Sink.took g.W.Sink.failures (entries_text es) (canonical_entries (fold_entries (entries_view xs))) c.args.out.now c.add_object.new.self) (sym whole)
           (AllBut-start g.W.Sink.took g.W.Sink.failures _ (object_head c.len.result) (canonical_entries (fold_entries (entries_view es))) c.args.out.now c.add_object.new.self (object_pieces es c.len.result c.len.ensures.len) c.in_ok-add_object.ensures.0);
-      writable = λ h. (subst IsCount (sym (entries_stay (entries_view es) ∙ length-entries es)) c.iter-key-items.ensures.fits, subst (λ xs. EntriesAreWritable (fold_entries (entries_view xs))) whole h);
+      writable = λ h. (subst IsCount (sym (entries_stay (entries_view es) ∙ length-entries es)) count, subst (λ xs. EntriesAreWritable (fold_entries (entries_view xs))) whole h);
     }
 
 pub add_entries-returns-in_err-add_text_key-clause-err : goal.add_entries-returns-in_err-add_text_key-clause-err
@@ -108,8 +109,7 @@ add_row-loop-value-init g t c =
     let whole = c.into_iter-value-iterator.ensures.into_iter_gives ∙ c.iter-value-items.ensures.rest in
     let text = ap row_text c.in-Object.is ∙ row_of_object m ∙ ap (λ l. canonical_fields (values (fold_entries (entries_view l)))) (sym whole) in
     record {
-      put = AllBut-start g.W.Sink.took g.W.Sink.failures _ [] _ c.args.out.now c.args.out.now text (Sent-none g.met.W.Sink.took_nothing c.args.out.now)
-;
+      put = AllBut-start g.W.Sink.took g.W.Sink.failures _ [] _ c.args.out.now c.args.out.now text (Sent-none g.met.W.Sink.took_nothing c.args.out.now);
       writable = λ h. subst RowIsWritable (sym c.in-Object.is) (subst (λ t. FieldsAreWritable (row_values t)) (sym (compact-Object m)) (subst (λ l. FieldsAreWritable (values (fold_entries (entries_view l)))) whole h));
     }
 

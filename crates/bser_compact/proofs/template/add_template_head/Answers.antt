@@ -33,7 +33,7 @@ loop-key-init g c =
     let whole = c.into_iter-key-iterator.ensures.into_iter_gives ∙ c.iter-key-items.ensures.rest in
     record {
       put = subst (λ l. AllBut g.W.Sink.took g.W.Sink.failures (head_text es c.args.rows) (flat_map canonical_text (names_of l) ++ least_count c.args.rows) c.args.out.now c.add_array.new.self) (sym whole)
-    (AllBut-more g.W.Sink.took g.W.Sink.failures g.met.W.Sink.took_both _ _ (array_head c.len.result) rest c.args.out.now c.add_template.new.self c.add_array.new.self begun refl c.in_ok-add_array.ensures.0);
+          (AllBut-more g.W.Sink.took g.W.Sink.failures g.met.W.Sink.took_both _ _ (array_head c.len.result) rest c.args.out.now c.add_template.new.self c.add_array.new.self begun refl c.in_ok-add_array.ensures.0);
       texts = subst (λ l. AllByRecursion IsWritableText (names_of l)) whole;
     }
 

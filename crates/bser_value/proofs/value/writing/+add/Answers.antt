@@ -1,5 +1,5 @@
 -- A container is written as its parts are.
-use Rattle.std.proofs.Common.{rules, arith, ◌<◌, ◌^◌, ◌∙◌, length, sym, subst, Result, Ok, OnOk, OnErr, string_bytes}
+use Rattle.std.proofs.Common.{rules, arith, ◌≡◌, ◌<◌, ◌^◌, length, sym, subst, Result, Ok, OnOk, OnErr, string_bytes}
 use Rattle.std.proofs.lemmas.List.{drop_all}
 use Rattle.std.proofs.lemmas.Result.{err_from_is_err_and}
 use Rattle.bser_format.specs.Tree.{Tree}
@@ -7,9 +7,9 @@ use Rattle.bser_format.specs.declared.errors.Error.{Error}
 use Rattle.bser_written.specs.Pieces.{array_head, object_head}
 use Rattle.bser_format.specs.Canonical.{canonical_key, IsCount, ItemsAreWritable, EntriesAreWritable}
 use Rattle.bser_ser.specs.Ends.{Ends, Stops, text_of}
-use Rattle.bser_ser.specs.Sent.{refusal_of}
+use Rattle.bser_ser.specs.Sent.{Sent, refusal_of}
 use Rattle.bser_source.proofs.Lists.{item_here}
-use Rattle.bser_ser.proofs.Ends.{UpTo-more, Ends-both, Stops-second, Stops-none}
+use Rattle.bser_ser.proofs.Ends.{UpTo-start, UpTo-more, Ends-both, Stops-second, Stops-none}
 use Rattle.bser_ser.proofs.Texts.{item_text, entry_text, Ends-array, Stops-array, Ends-object, Stops-object}
 use Rattle.bser_value.specs.ValueView.{tree_of, items_view, entries_view}
 use Rattle.bser_value.specs.declared.value.Value.{Value}
@@ -24,7 +24,8 @@ add_items-loop-item-init g t c =
     let v = c.args.items.now in
     let count : length v.items < 2 ^ 63 = omega (arith, v.ok.0, v.ok.1, v.small) in
     record {
-      put = search rules;
+      put = UpTo-start g.W.Sink.took g.W.Sink.failures (array_head (length v.items)) (item_text told) v.items _ c.args.out.now c.add_array.new.self c.deref-item-items.ensures.value
+          (subst (λ n. Sent g.W.Sink.took g.W.Sink.failures c.args.out.now c.add_array.new.self (array_head n)) (omega (arith, c.len.ensures, v.ok.0)) c.in_ok-add_array.ensures.0);
       writable = λ h. (subst IsCount (sym (length-items v.items)) count, subst (λ xs. ItemsAreWritable (items_view xs)) c.deref-item-items.ensures.value h);
     }
 
@@ -52,10 +53,12 @@ add_items-returns-clause-ok g t c =
 pub add_entries-loop-key-init : goal.add_entries-loop-key-init
 add_entries-loop-key-init g t c =
     let es = c.args.entries.now.entries in
-    let all = c.into_iter-key-iterator.ensures.into_iter_gives ∙ c.iter-key-items.ensures.rest in
+    let all : c.into_iter-key-iterator.result ≡ es = search rules in
+    let count : length es < 2 ^ 63 = omega arith in
     record {
-      put = search rules;
-      writable = λ h. (subst IsCount (sym (length-entries es)) c.iter-key-items.ensures.fits, subst (λ xs. EntriesAreWritable (entries_view xs)) all h);
+      put = UpTo-start g.W.Sink.took g.W.Sink.failures (object_head (length es)) (entry_text string_bytes told) es _ c.args.out.now c.add_object.new.self all
+          (subst (λ n. Sent g.W.Sink.took g.W.Sink.failures c.args.out.now c.add_object.new.self (object_head n)) c.len.ensures.len c.in_ok-add_object.ensures.0);
+      writable = λ h. (subst IsCount (sym (length-entries es)) count, subst (λ xs. EntriesAreWritable (entries_view xs)) all h);
     }
 
 pub add_entries-returns-in_err-add_text_key-clause-err : goal.add_entries-returns-in_err-add_text_key-clause-err
