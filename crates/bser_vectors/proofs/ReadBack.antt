@@ -1,9 +1,7 @@
 -- What is read back from the message of a tree.
 use Rattle.std.proofs.Common.{◌≡◌, ℕ, suc, ◌<◌, ◌≤◌, ◌^◌, ℤ, List, [], ◌∷◌, ◌++◌, length, Some, Result, Ok, Err, map, refl, sym, ap, subst, ◌∙◌, append-nil, true, arith}
 use Rattle.std.specs.Prelude.{pos, negsuc, FitsSigned, IfOk}
-use Rattle.std.specs.Str.{IsUtf8}
 use Rattle.std.specs.Int.{w64}
-use Rattle.std.specs.List.{AllByRecursion}
 use Rattle.std.proofs.lemmas.Bool.{lt-ltb}
 use Rattle.std.proofs.lemmas.Int.{ints}
 use Rattle.std.proofs.lemmas.Option.{same_Some}
@@ -12,7 +10,7 @@ use Rattle.bser_format.specs.Content.{Content, Contents, number, byte_list, list
 use Rattle.bser_format.specs.ReadsHolders.{list_of, reads_vec}
 use Rattle.bser_format.specs.ReadsScalars.{reads_signed, reads_string, is_signed}
 use Rattle.bser_format.specs.Expand.{ItemsAreTemplateFree}
-use Rattle.bser_format.specs.Canonical.{canonical_message, ItemsAreWritable}
+use Rattle.bser_format.specs.Canonical.{canonical_message, IsWritable, ItemsAreWritable}
 use Rattle.bser_format.specs.Measures.{items_depth}
 use Rattle.bser_written.specs.Written.{written_items}
 use Rattle.bser_format.specs.declared.errors.Error.{Error}
