@@ -1,14 +1,18 @@
-//! Reading truth values, reals and `()`.
-ghost use Rattle.std.specs.Prelude.{refl, Some};
+//! Reading truth values, reals and `()`; writing reals.
+ghost use Rattle.std.specs.Prelude.{refl, Some, Ok};
 ghost use Rattle.bser_format.specs.ReadsScalars.{reads_bool, reads_unit, reads_real};
 ghost use Rattle.bser_deserializer.specs.Askings.{asking_bool, asking_real, asking_unit};
 ghost use Rattle.bser_deserializer.specs.Reading.{bare};
 ghost use Rattle.bser_deserializer.specs.Holds.{HoldsTruth, HoldsOne};
+ghost use Rattle.bser_format.specs.Tree.{real};
 ghost use Rattle.bser_types.specs.HoldsReals.{HoldsReal};
 
 use crate::deserialize::{Deserialize, OwnedShape, Shape};
 use bser_bunser::refusal::Answer;
 use bser_deserializer::deserializer::Deserializer;
+use bser_format::errors::Result;
+use bser_ser::{Serialize, Serializer};
+use bser_source::device::Sink;
 use bser_source::read::DeRead;
 use bser_source::reference::LendsText;
 use std::alloc::Global;
@@ -93,4 +97,12 @@ impl<L: LendsText> Deserialize<L> for RealBits {
 
 impl OwnedShape for RealBits {
     ghost owned = { refl };
+}
+
+impl Serialize for RealBits {
+    ghost meaning = { λ v. Ok (real v.0) };
+
+    fn serialize<W: Sink>(&self, _alloc: Global, out: &mut Serializer<W>) -> Result<()> {
+        out.put_real_bits(self.0)
+    }
 }

@@ -1,6 +1,7 @@
 //! Writing to a vector.
 use super::checks::check_bytes;
 use super::{Tested, kinds};
+use serde_bser::de::RealBits;
 use serde_bser::errors::{Error, Result};
 use serde_bser::from_slice;
 use serde_bser::ser::to_vec;
@@ -37,4 +38,12 @@ fn what_is_written_reads_back(rt: HostRuntime) -> Tested {
 fn an_integer_above_the_greatest_i64_is_refused(rt: HostRuntime) {
     let refused = to_vec(rt.alloc(), &u64::MAX);
     assert!(rt; matches!(refused, Err(Error::SerU64TooBig { v: u64::MAX })));
+}
+
+#[test]
+fn a_real_is_its_64_bits(rt: HostRuntime) -> Tested {
+    let pi = to_vec(rt.alloc(), &RealBits(0x4009_21fb_5444_2d18))?;
+    let message = b"\x00\x02\x00\x00\x00\x00\x03\x09\x07\x18\x2d\x44\x54\xfb\x21\x09\x40";
+    check_bytes(&rt, &pi, message);
+    Ok(())
 }
