@@ -1,9 +1,9 @@
 -- A value can be written in the compact form, where its parts can.
-use Rattle.std.proofs.Common.{◌≡◌, ◌<◌, ◌^◌, List, [], ◌∷◌, length, ℕ, Vec, String, Some, sym, subst, ap, ◌∙◌}
+use Rattle.std.proofs.Common.{◌≡◌, ◌<◌, ◌^◌, List, [], ◌∷◌, length, ℕ, Vec, Some, sym, subst, ap, ◌∙◌}
 use Rattle.std.specs.List.{AllByRecursion}
 use Rattle.std.specs.declared.alloc.Global.{Global}
 use Rattle.std.proofs.lemmas.Option.{same_Some}
-use Rattle.bser_format.specs.Tree.{Tree, object, template, Items, no_items, item, Rows, no_rows, row, items}
+use Rattle.bser_format.specs.Tree.{object, Items, no_items, item, Rows, no_rows, row, items}
 use Rattle.bser_format.specs.Canonical.{IsCount, IsWritableText, IsWritable, RowsAreWritable, FieldsAreWritable}
 use Rattle.bser_written.specs.Compact.{as_template, fold_items, fold_templates}
 use Rattle.bser_written.proofs.TemplateRows.{AreRows, as_template_cases, rows_even, rows_length, keys_length}
