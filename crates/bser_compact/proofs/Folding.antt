@@ -6,7 +6,7 @@ use Rattle.std.specs.declared.alloc.Global.{Global}
 use Rattle.bser_format.specs.Tree.{Tree, null, boolean, integer, real, bytes, text, array, object, template, Items, no_items, item, Entries, no_entries, entry, Rows, row, items}
 use Rattle.bser_written.specs.Compact.{keys, values, same_keys, rows_with, as_template, fold_templates, fold_items, fold_entries}
 use Rattle.bser_source.proofs.Lists.{item_here}
-use Rattle.bser_written.proofs.TemplateRows.{AreRows, as_template_cases, same_keys_itself, keys_length}
+use Rattle.bser_written.proofs.TemplateRows.{as_template_cases, same_keys_itself, keys_length}
 use Rattle.bser_written.proofs.FoldedFits.{items_stay, folded_keys}
 use Rattle.bser_value.specs.declared.value.Value.{Value, Object}
 use Rattle.bser_value.specs.ValueView.{tree_of, items_view, entries_view}
@@ -83,14 +83,6 @@ shared vs rest v m b split is some more h =
     ∙ objects_keys es rest b named more h
 
 -- ---- arrays that are no templates
-
-not_rows : (t : Tree) (ts : Items) (ks : List (List ℕ)) (rs : Rows) → ((es : Entries) → t ≡ object es → ⊥) → AreRows ks (item t ts) rs → ⊥
-not_rows (object es) ts ks rs h made = h es refl
-not_rows t ts ks rs h made = made
-
--- what begins with no object is no template
-pub no_objects : (t : Tree) (ts : Items) → ((es : Entries) → t ≡ object es → ⊥) → template_keys (as_template (item t ts)) ≡ None
-no_objects t ts h = as_template_cases (λ u. template_keys u ≡ None) (item t ts) refl (λ k ks rs two made. absurd (not_rows t ts (k ∷ ks) rs h made))
 
 pub one_lacks : (ks : List (List ℕ)) (vs : List Value) (i : ℕ) (v : Value) → i < length vs → v ≡ get_or vs i v → has_keys ks v ≡ false → all_have ks (drop i vs) ≡ all_have ks vs → all_have ks vs ≡ false
 one_lacks ks vs i v within is lacks same = sym same ∙ ap (all_have ks) (item_here vs i v within is) ∙ ap (λ c. c && all_have ks (drop (i + 1) vs)) lacks

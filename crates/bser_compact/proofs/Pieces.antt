@@ -2,7 +2,7 @@
 use Rattle.std.proofs.Common.{◌≡◌, ℕ, List, [], ◌∷◌, ◌++◌, length, flat_map, Vec, BTreeMap, String, Some, None, string_bytes, refl, sym, ap, ◌∙◌, append_assoc, append-nil}
 use Rattle.std.proofs.lemmas.Option.{same_Some}
 use Rattle.std.specs.declared.alloc.Global.{Global}
-use Rattle.bser_format.specs.Tree.{Tree, null, boolean, integer, real, bytes, text, array, object, template, Items, no_items, item, Entries, Rows, no_rows, row, items, rows}
+use Rattle.bser_format.specs.Tree.{array, object, Items, no_items, item, Rows, no_rows, row, items, rows}
 use Rattle.bser_format.specs.Canonical.{least_count, canonical_text, canonical_key, canonical_body, canonical_items, canonical_entries, canonical_rows, canonical_fields}
 use Rattle.bser_written.specs.Compact.{values, as_template, fold_templates, fold_items, fold_entries}
 use Rattle.bser_written.specs.Pieces.{array_head, object_head, template_tag}
@@ -20,9 +20,6 @@ compact-Object m = ap fold_templates (tree_of-Object m)
 
 stays : (ts : Items) → template_keys (as_template ts) ≡ None → as_template ts ≡ array ts
 stays ts = as_template_cases (λ u. template_keys u ≡ None → u ≡ array ts) ts (λ e. refl) (λ k ks rs two made e. cc)
-
-pub compact-Array : (v : Vec Value Global) → template_names v.items ≡ None → compact_tree (Array v) ≡ array (fold_items (items_view v.items))
-compact-Array v h = ap fold_templates (tree_of-Array v) ∙ stays (fold_items (items_view v.items)) h
 
 -- ---- a template
 
@@ -100,14 +97,3 @@ field_piece es left e step = ap (λ l. canonical_fields (values (fold_entries (e
 -- the row of an object is its values, and what is no object has none
 pub row_of_object : (m : BTreeMap (String Global) Value) → row_text (Object m) ≡ canonical_fields (values (fold_entries (entries_view m.entries)))
 row_of_object m = ap row_of (compact-Object m)
-
-pub no_row : (t : Tree) → ((es : Entries) → t ≡ object es → ⊥) → row_of (fold_templates t) ≡ []
-no_row null h = refl
-no_row (boolean v) h = refl
-no_row (integer v) h = refl
-no_row (real r) h = refl
-no_row (bytes s) h = refl
-no_row (text s) h = refl
-no_row (array ts) h = as_template_cases (λ u. row_of u ≡ []) (fold_items ts) refl (λ k ls rs two made. refl)
-no_row (object es) h = absurd (h es refl)
-no_row (template ls rs) h = refl

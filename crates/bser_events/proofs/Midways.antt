@@ -4,11 +4,10 @@ use Rattle.std.proofs.KnownBytes.{Consumes-nil}
 use Rattle.std.specs.Prelude.{◌⊎◌, Option, Some, None}
 use Rattle.bser_format.specs.Tree.{Tree}
 use Rattle.bser_format.specs.declared.errors.Error.{Error}
-use Rattle.bser_format.specs.declared.errors.Error.TheVariants.{OutOfMemory}
 use Rattle.bser_format.specs.declared.errors.Kind.TheVariants.{MapKey}
 use Rattle.bser_named.specs.Named.{Reader, refuses, and_then, ◌>>=◌, text_of, field_of, with_text_keys}
 use Rattle.bser_named.proofs.Steps.{Continues}
-use Rattle.bser_source.specs.Window.{Window, Within, Took, closed}
+use Rattle.bser_source.specs.Window.{Window, Within, Took}
 use Rattle.bser_source.proofs.Windows.{took_then}
 use Rattle.bser_bunser.specs.Refusal.{Fails}
 use Rattle.bser_bunser.specs.Names.{Names, RefusedAs}
@@ -258,20 +257,6 @@ token_refused takes whole Entry n Next wanted e a b c before after m fails names
 token_refused takes whole Field n Next wanted e a b c before after m fails names =
     midway_refused takes whole (field_of (with_text_keys n)) part_events Next wanted wanted e a b c before after (λ h. h) m
     (record { fails = fails; name = inl (names_of n (field_of (with_text_keys n)) e b (λ f x h. field_refused n x f h) names) })
-
--- for want of memory
-pub no_memory : {X : Type 0} (wants : Type 0) (r : Reader X) (e : Error) (a b c : Window) (text : List ℕ) → Took a b text → e ≡ OutOfMemory → wants → c ≡ closed b → Refuses wants r e a c
-no_memory wants r e a b c text took is why end =
-    subst (λ z. Refuses wants r z a c) (sym is) (subst (λ z. Refuses wants r OutOfMemory a z) (sym end) (record {
-      fails = record {
-        before = λ old. (let works = took.working in absurd cc);
-        failed = refl;
-        lends = took.lends;
-        through = took.through;
-        failures = took.failures;
-      };
-      name = inr (refl, why);
-    }))
 
 -- the container around the innermost goes on, by what stands around that
 pub midway_popped : {Y B : Type 0} (takes : B → Event → B → Type 0) (whole : Reader Y) (ev : Y → List Event) (f g : Frame) (fs all : List Frame) (a b c : Window) (before mid after : B)

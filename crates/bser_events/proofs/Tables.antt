@@ -1,21 +1,21 @@
 -- The head of a template, and what follows it.
-use Rattle.std.proofs.Common.{◌≡◌, ℕ, zero, suc, ◌-◌, ◌<◌, false, List, [], ◌∷◌, ◌++◌, length, take, drop, append_assoc, append-nil, refl, sym, ap, subst, ◌∙◌, arith, inl, inr}
-use Rattle.std.specs.Prelude.{◌⊎◌, pos, Option}
+use Rattle.std.proofs.Common.{◌≡◌, ℕ, zero, suc, ◌-◌, ◌<◌, false, List, [], ◌∷◌, ◌++◌, length, take, drop, append_assoc, append-nil, refl, sym, ap, subst, ◌∙◌, arith, inl}
+use Rattle.std.specs.Prelude.{pos, Option}
 use Rattle.std.proofs.lemmas.Bool.{ne_eqb}
 use Rattle.bser_format.specs.Tree.{Tree, array, object, template, items, entries, rows, items_of, entries_of, rows_of}
 use Rattle.bser_format.specs.declared.errors.Error.{Error}
 use Rattle.bser_format.specs.declared.errors.Error.TheVariants.{DeInvalidStartByte, DeRecursionLimitExceeded}
 use Rattle.bser_format.specs.declared.errors.Kind.TheVariants as kinds
 use Rattle.bser_format.specs.declared.errors.Complaint.TheVariants.{NegativeCount, RowsWithoutKeys}
-use Rattle.bser_named.specs.Named.{Answer, Reader, reads, refuses, and_then, ◌>>=◌, give, front, count, many, complain, text_of, field_of, with_text_keys, rows_body, template_body}
+use Rattle.bser_named.specs.Named.{Answer, Reader, reads, refuses, and_then, ◌>>=◌, give, count, many, complain, text_of, field_of, with_text_keys, rows_body, template_body}
 use Rattle.bser_source.specs.Window.{Window, Filled, Took, consumed, closed}
 use Rattle.bser_source.proofs.Windows.{took_then, took_filled}
 use Rattle.bser_bunser.specs.Refusal.{failures_by, Fails}
-use Rattle.bser_bunser.specs.Names.{Names, RefusedAs}
+use Rattle.bser_bunser.specs.Names.{Names}
 use Rattle.bser_bunser.specs.Tagged.{TookInt}
 use Rattle.bser_bunser.specs.declared.prefix.Token.{Token}
 use Rattle.bser_bunser.specs.declared.prefix.Token.TheVariants as tokens
-use Rattle.bser_bunser.proofs.Names.{blames_more, names_rejected, names_taken}
+use Rattle.bser_bunser.proofs.Names.{names_rejected, names_taken}
 use Rattle.bser_bunser.proofs.Readers.{counted_there}
 use Rattle.bser_bunser.proofs.Refusals.{fails_untaken}
 use Rattle.bser_events.specs.Events as events
@@ -25,7 +25,6 @@ use Rattle.bser_events.specs.Found.{Found, Opened, Refuses, IsContainer, keys_at
 use Rattle.bser_events.specs.declared.frame.Parts.TheVariants as parts
 use Rattle.bser_events.proofs.Takings.{takes_one, takes_then}
 use Rattle.bser_events.proofs.Leads.{map_then, two_steps, Awaits, frame_of}
-use Rattle.bser_events.proofs.Begins.{carried, nothing_refused}
 use Rattle.bser_events.proofs.Midways.{Midway, took_none, midway_at, midway_seen, midway_refused}
 use Rattle.bser_named.proofs.Sifting.{Anything, always, many_always}
 
@@ -95,17 +94,6 @@ string_tree takes r f e a b before after one found = record {
   passes = λ x. ap (and_then (λ s. give (f s))) (found.passes x);
   told = subst (λ es. TakesAll takes before es after) (sym (one found.value)) found.told;
 }
-
--- what is refused first refuses what follows it
-pub then_refused : {X Y : Type 0} (wants : Type 0) (r : Reader X) (k : X → Reader Y) (e : Error) (a b : Window) → Refuses wants r e a b → Refuses wants (r >>= k) e a b
-then_refused wants r k e a b h = record {
-  fails = h.fails;
-  name = first h.name;
-}
-  where
-    first : {P : Type 0} → Names r e a ⊎ P → Names (r >>= k) e a ⊎ P
-    first (inl n) = inl (blames_more (RefusedAs r) (RefusedAs (r >>= k)) e a (λ f x p. ap (and_then k) p) n)
-    first (inr m) = inr m
 
 -- ---- a reading step by step
 
@@ -256,14 +244,6 @@ table_begun takes n tag a b c before never is filled first end =
       next = ((λ x. refl), refl);
     })
 
--- no byte is there
-pub table_ends : (n : ℕ) (e : Error) (a : Window) → Names (front 1) e a → Names (table_at n) e a
-table_ends n e a h = blames_more (RefusedAs (front 1)) (RefusedAs (table_at n)) e a early h
-  where
-    early : (e : Error) (x : List ℕ) → front 1 x ≡ refuses e → table_at n x ≡ refuses e
-    early e [] h = carried _ e h
-    early e (c ∷ y) h = absurd (nothing_refused c y e h)
-
 -- another tag than that of an array
 pub table_tag : (n tag : ℕ) (a b : Window) → Filled 1 a b → b.buffered ≡ tag ∷ drop 1 b.buffered → (tag ≡ 0x00 → ⊥) → Names (table_at n) (DeInvalidStartByte kinds.TemplateKeys tag) a
 table_tag n tag a b filled first never =
@@ -375,12 +355,6 @@ object_at takes n k t a b before after is level works same told =
     subst (λ z. Opened takes (value_rest n z) (frame_of (n - 1) (parts.Entries k)) a b before after) (sym is)
     (subst (λ z. Opened takes (value_rest z (tokens.Object k)) (frame_of (n - 1) (parts.Entries k)) a b before after) (sym (one_more n (level (subst IsContainer (sym is) tt))))
     (object_opened takes (n - 1) k a b before after works same told))
-
--- a template is what follows its tag, with a level fewer
-pub table_is : (n : ℕ) (t : Token) → t ≡ tokens.Template → (IsContainer t → 0 < n) → table_at (n - 1) ≡ value_rest n t
-table_is n t is level =
-    subst (λ z. table_at (n - 1) ≡ value_rest n z) (sym is)
-    (subst (λ z. table_at (n - 1) ≡ value_rest z tokens.Template) (sym (one_more n (level (subst IsContainer (sym is) tt)))) refl)
 
 -- a skip where a value is due
 pub skip_refused : (wants : Type 0) (n : ℕ) (t : Token) (f : Error) (a c : Window) → t ≡ tokens.Skip → a.failed ≡ false → f ≡ DeInvalidStartByte kinds.NextItem 0x0c → c ≡ closed a

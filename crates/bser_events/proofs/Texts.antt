@@ -19,7 +19,6 @@ use Rattle.bser_events.specs.Events as events
 use Rattle.bser_events.specs.Events.{Event}
 use Rattle.bser_events.specs.Found.{Found, IsStringTag, Refuses, text_bytes}
 use Rattle.bser_events.proofs.Takings.{takes_one}
-use Rattle.bser_events.proofs.Begins.{nothing_refused}
 
 -- ---- texts
 
@@ -128,14 +127,6 @@ tag_names kind tag a b filled first never =
       some = omega (arith, filled.enough);
       name = λ more. ap (λ l. text_of kind (l ++ more)) first ∙ rw (ne_eqb tag 0x02 (λ e. never (inl e)), ne_eqb tag 0x0d (λ e. never (inr e))) refl;
     })
-
--- no byte is there
-pub nothing_names : (kind : Kind) (e : Error) (a : Window) → Names (front 1) e a → Names (text_of kind) e a
-nothing_names kind e a h = blames_more (RefusedAs (front 1)) (RefusedAs (text_of kind)) e a early h
-  where
-    early : (e : Error) (x : List ℕ) → front 1 x ≡ refuses e → text_of kind x ≡ refuses e
-    early e [] h = h
-    early e (c ∷ y) h = absurd (nothing_refused c y e h)
 
 -- what follows a key's tag is refused
 pub string_refused : (wants : Type 0) (kind : Kind) (e : Error) (a m c : Window) → TookKeyTag a m → Fails e m c → Names string e m → Refuses wants (text_of kind) e a c

@@ -143,18 +143,6 @@ first_read_refused field holds tells needs e o z fresh refused_by = slot_refused
 
 -- ---- a value of no field
 
-pub passed_by_name : {V : Type 0} (ss : List StructField) (holds : V → Content → Type 0) (keeps : List StructField → Type 0) (o z : State) (v : V) → Answers reads_ignored holds o z v → keeps ss → MakesStep (λ b. fill_field b Unknown) keeps ss o z
-passed_by_name ss holds keeps o z v a kept = record {
-  tree = a.tree;
-  next = ss;
-  made = ap (option_map (λ c. ss)) a.read;
-  kept = kept;
-  text = a.text;
-  filled = a.filled;
-  took = a.took;
-  state = a.state;
-}
-
 -- what refuses what is passed over refuses it among the fields
 unnamed_named : (start : List StructField) (r : Option (AllAsked start)) (ns : List Needs) (e : Error) (ss : List StructField) (o : State) → NamesAsked (struct_needs ns) (Some asking_ignored) e o → NamesFields (struct_needs ns) r None e ss o
 unnamed_named start None ns e ss o n = tt
@@ -174,19 +162,6 @@ unnamed_refused start r ns e ss o z refused_by =
     (λ text f. let p = part_made (λ c. ss) (reads_ignored f.tree) f.next f.made in record { tree = f.tree; content = p.0; filled = f.filled; read = p.1 }) (λ n. n) refused_by)
 
 -- ---- the fields after one another
-
--- what no field has the place of
-pub none_passed : {V : Type 0} (place : ℕ) (ss : List StructField) (holds : V → Content → Type 0) (o z : State) (v : V) → Answers reads_ignored holds o z v → ss ≡ [] → MakesStep (fill_at place) (λ y. y ≡ []) ss o z
-none_passed place ss holds o z v a same = record {
-  tree = a.tree;
-  next = [];
-  made = ap (λ y. fill_at place y a.tree) same ∙ ap (option_map (λ c. [])) a.read;
-  kept = refl;
-  text = a.text;
-  filled = a.filled;
-  took = a.took;
-  state = a.state;
-}
 
 pub none_refused : (e : Error) (place : ℕ) (ss : List StructField) (o z : State) → ss ≡ [] → Refuses reads_ignored (Some asking_ignored) owned e o z
     → RefusesStep (fill_at place) (struct_needs []) (NamesFields {all = []} (struct_needs []) (Some (record { asks = []; passes = tt })) (Some place) e ss o) e ss o z
@@ -310,16 +285,6 @@ later_refused field others tells rest P F some ns e o z place before later by (s
 both_at_end : (s : StructField) (ss : List StructField) (c : Content) (cs : List Content) → field_at_end s ≡ Some c → each_some field_at_end ss ≡ Some cs → each_some field_at_end (s ∷ ss) ≡ Some (c ∷ cs)
 both_at_end s ss c cs e f = ap (option_and_then (λ y. option_map (λ ys. y ∷ ys) (each_some field_at_end ss))) e ∙ ap (option_map (λ ys. c ∷ ys)) f
 
-first_absent : (s : StructField) (ss : List StructField) → field_at_end s ≡ None → each_some field_at_end (s ∷ ss) ≡ None
-first_absent s ss e = ap (option_and_then (λ y. option_map (λ ys. y ∷ ys) (each_some field_at_end ss))) e
-
-others_absent : (s : StructField) (ss : List StructField) → each_some field_at_end ss ≡ None → each_some field_at_end (s ∷ ss) ≡ None
-others_absent s ss e = at (field_at_end s)
-  where
-    at : (o : Option Content) → option_and_then (λ y. option_map (λ ys. y ∷ ys) (each_some field_at_end ss)) o ≡ None
-    at None = refl
-    at (Some c) = ap (option_map (λ ys. c ∷ ys)) e
-
 pub both_finished : {A B : Type 0} (P : StructField → Type 0) (F : List StructField → Type 0) (holds : A → Content → Type 0) (others : B → List (Content → Type 0)) (v : A) (w : B)
     → ((s : StructField) → P s → FinishesField holds s (Some v)) → ((ss : List StructField) → F ss → FinishesEach others ss (Some w))
     → (ss : List StructField) → KeepsBoth P F ss → FinishesEach (λ (z : A × B). holds z.0 ∷ others z.1) ss (Some (v, w))
@@ -328,16 +293,6 @@ both_finished P F holds others v w first rest (s ∷ ss) keeps =
     let a = first s keeps.0 in
     let b = rest ss keeps.1 in
     (a.0 ∷ b.0, both_at_end s ss a.0 b.0 a.1 b.1, (a.2, b.2))
-
-pub first_unfinished : {A C : Type 0} (P : StructField → Type 0) (F : List StructField → Type 0) (holds : A → Content → Type 0) (all : C → List (Content → Type 0))
-    → ((s : StructField) → P s → FinishesField holds s None) → (ss : List StructField) → KeepsBoth P F ss → FinishesEach all ss None
-first_unfinished P F holds all first [] keeps = absurd keeps
-first_unfinished P F holds all first (s ∷ ss) keeps = first_absent s ss (first s keeps.0)
-
-pub others_unfinished : {B C : Type 0} (P : StructField → Type 0) (F : List StructField → Type 0) (others : B → List (Content → Type 0)) (all : C → List (Content → Type 0))
-    → ((ss : List StructField) → F ss → FinishesEach others ss None) → (ss : List StructField) → KeepsBoth P F ss → FinishesEach all ss None
-others_unfinished P F others all rest [] keeps = absurd keeps
-others_unfinished P F others all rest (s ∷ ss) keeps = others_absent s ss (rest ss keeps.1)
 
 -- the first field is the one that is required and absent
 pub first_lacks : {A : Type 0} (P : StructField → Type 0) (F : List StructField → Type 0) (holds : A → Content → Type 0)

@@ -1,5 +1,5 @@
 -- What is read back from the message of a tree that reads as a value.
-use Rattle.std.proofs.Common.{◌≡◌, ◌⊎◌, inl, inr, ℕ, ◌<◌, ◌≤◌, ◌^◌, Bool, true, false, List, ◌++◌, length, Option, Some, None, Result, Ok, Err, refl, sym, ap, subst, ◌∙◌, max, arith}
+use Rattle.std.proofs.Common.{◌≡◌, inl, inr, ℕ, ◌<◌, ◌≤◌, ◌^◌, Bool, true, false, List, ◌++◌, length, Option, Some, Result, Ok, Err, refl, sym, ap, subst, ◌∙◌, max, arith}
 use Rattle.std.specs.Prelude.{IfOk, IfErr, IsTrue, option_map, ◌↔◌}
 use Rattle.std.proofs.Math.Dec.{leb}
 use Rattle.std.proofs.lemmas.Bool.{leb-true, leb-false}
@@ -8,7 +8,6 @@ use Rattle.std.proofs.lemmas.Option.{same_Some}
 use Rattle.bser_format.specs.Tree.{Tree}
 use Rattle.bser_format.specs.Expand.{expand}
 use Rattle.bser_format.specs.Content.{Content, value}
-use Rattle.bser_format.specs.Normal.{normal}
 use Rattle.bser_format.specs.ReadsAny.{reads_value}
 use Rattle.bser_format.specs.Measures.{depth}
 use Rattle.bser_format.specs.Message.{IsMessage}
@@ -23,10 +22,10 @@ use Rattle.bser_written.proofs.Folded.{folded_reads}
 use Rattle.bser_written.proofs.FoldedFits.{short_writable}
 use Rattle.bser_format.proofs.Laws.{one_message, more_levels}
 use Rattle.bser_ser.proofs.Messages.{same_message}
-use Rattle.bser_ser.specs.Message.{IsUnmeasured, message_of}
+use Rattle.bser_ser.specs.Message.{message_of}
 use Rattle.bser_value.specs.declared.value.Value.{Value}
 use Rattle.serde_bser.specs.ValueView.{tree_of}
-use Rattle.serde_bser.specs.Messages.{ReadsMessageAs, BeginsWith, TookMessage, RefusesSlice, RefusesReader, IsReaderFault}
+use Rattle.serde_bser.specs.Messages.{ReadsMessageAs, BeginsWith, RefusesSlice}
 use Rattle.serde_bser.specs.Reading.{Asking, Needs}
 use Rattle.bser_promises.specs.Returned.{IsNotReturned, IsNotReturnedByReader, IsUnread, IsWrittenFor, TookOne}
 
@@ -102,15 +101,6 @@ reader_refused n asks w v bytes x (Err e) h is (inr (after, refused)) = go (leb 
     go : (b : Bool) → leb (depth w) n ≡ b → IsNotReturnedByReader n w e
     go false deep = inl (inr (leb-false (depth w) n deep))
     go true shallow = inr (after, refused.excuse (canonical_message w) x (value v) (message_read n w v h (leb-true (depth w) n shallow)) (ap Some is))
-
--- a refusal to write is one of the whole
-pub unwritten : {A : Type 0} (n : ℕ) (w : Tree) (r : Result A Error) → IfErr r (IsUnmeasured (Ok w)) → IfErr r (IsNotReturned n w)
-unwritten n w (Ok a) h = tt
-unwritten n w (Err e) h = inl h
-
-pub unwritten_on : {A : Type 0} (n : ℕ) (w : Tree) (r : Result A Error) → IfErr r (IsUnmeasured (Ok w)) → IfErr r (IsNotReturnedByReader n w)
-unwritten_on n w (Ok a) h = tt
-unwritten_on n w (Err e) h = inl (inl h)
 
 -- ---- what is written
 

@@ -1,6 +1,6 @@
 -- What a writer took of a line.
-use Rattle.std.proofs.Common.{◌≡◌, ℕ, ◌≤◌, true, List, [], ◌++◌, length, take, drop, subst, sym, refl, inl, inr, arith}
-use Rattle.std.proofs.lemmas.List.{append-nil, take-append-drop, take_all}
+use Rattle.std.proofs.Common.{◌≡◌, ℕ, ◌≤◌, true, List, [], ◌++◌, take, drop, subst, sym, inr, arith}
+use Rattle.std.proofs.lemmas.List.{append-nil, take-append-drop}
 use Rattle.bser_source.specs.Device.{Blamed, counted}
 use Rattle.bser_rewriting.specs.Line.{PutsLine}
 
@@ -8,15 +8,6 @@ blamed : (a b c : ℕ) → a ≤ b → c ≡ counted true b → Blamed a c
 blamed a b c h e = grind arith
 
 module _ {S : Type 0} (took : S → S → List ℕ → Type 0) (failures : S → ℕ) where
-  -- nothing of the line is left
-  pub whole_line : (old new : S) (done : ℕ) (line : List ℕ) → length line ≤ done → took old new (take done line) → PutsLine took failures line old new
-  whole_line old new done line h p = record {
-    front = line;
-    rest = [];
-    is = sym (append-nil line);
-    took_it = subst (λ xs. took old new xs) (take_all done line h) p;
-    whole = inl refl;
-  }
 
   -- the writer failed
   pub part_of_line : ((a b c : S) (xs ys : List ℕ) → took a b xs → took b c ys → took a c (xs ++ ys)) → (old mid new : S) (done : ℕ) (line : List ℕ) → took old mid (take done line) → failures old ≤ failures mid → took mid new [] → failures new ≡ counted true (failures mid) → PutsLine took failures line old new

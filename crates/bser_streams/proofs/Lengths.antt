@@ -1,19 +1,15 @@
 -- The length of a message, by a head that was taken of a slice.
-use Rattle.std.proofs.Common.{◌≡◌, ℕ, ◌+◌, ◌-◌, ◌^◌, min, List, [], ◌++◌, length, append_assoc, append-nil, refl, sym, ap, subst, ◌∙◌, arith, inl, inr}
+use Rattle.std.proofs.Common.{◌≡◌, ℕ, ◌+◌, ◌-◌, ◌^◌, min, List, [], ◌++◌, length, append_assoc, append-nil, refl, sym, ap, subst, ◌∙◌, arith}
 use Rattle.std.specs.Prelude.{ℤ, pos, ◌+ℤ◌, ◌≤◌}
 use Rattle.std.proofs.lemmas.Int.{ints}
 use Rattle.bser_format.specs.declared.errors.Error.{Error}
-use Rattle.bser_format.specs.declared.errors.Error.TheVariants.{DeReaderError, OutOfMemory}
 use Rattle.bser_format.specs.declared.errors.Complaint.TheVariants.{CountTooGreat}
-use Rattle.bser_format.specs.declared.errors.ReadCause.TheVariants.{Reader, Failed}
 use Rattle.bser_named.specs.Named as named
 use Rattle.bser_source.specs.Window.{Window, with_limit}
 use Rattle.bser_source.specs.Slice.{slice_fresh}
 use Rattle.bser_source.proofs.Windows.{left_took}
-use Rattle.bser_bunser.specs.Names.{Names, Outside, RefusedAs}
 use Rattle.bser_bunser.specs.Tagged.{TookHead}
 use Rattle.bser_messages.proofs.Ends.{head_length}
-use Rattle.bser_messages.proofs.Sources.{slice_left}
 use Rattle.bser_streams.specs.Lengths.{HasLength, IsLengthOfEach, TooGreat}
 use Rattle.bser_streams.proofs.Heads.{body_size}
 
@@ -51,16 +47,3 @@ pub told_great : (bytes : List ℕ) (a b : Window) (c : ℕ) (len start : ℤ) (
     → start +ℤ len ≡ pos n → 2 ^ 63 ≤ n → e ≡ named.complain CountTooGreat → TooGreat bytes e
 told_great bytes a b c len start n e fresh h at sum more name =
     record { size = n; length = told_length bytes a b c len start n fresh h at sum; more = more; name = name }
-
--- nothing but its bytes is to blame for the refusal of a slice
-slice_inside : {X : Type 0} (r : named.Reader X) (e : Error) (bytes : List ℕ) → Outside (RefusedAs r) e (slice_fresh bytes) → ⊥
-slice_inside r OutOfMemory bytes h = cc
-slice_inside r (DeReaderError (Reader fault)) bytes h = cc
-slice_inside r (DeReaderError Failed) bytes (inl h) = cc
-slice_inside r (DeReaderError Failed) bytes (inr h) = let f = h.0 in cc
-slice_inside r _ bytes h = h
-
--- so the plain reader refuses the bytes themselves
-pub slice_names : {X : Type 0} (r : named.Reader X) (e : Error) (bytes : List ℕ) → Names r e (slice_fresh bytes) → r bytes ≡ named.refuses e
-slice_names r e bytes (inl (b, m, bad)) = ap r (sym (slice_left bytes b m)) ∙ bad
-slice_names r e bytes (inr h) = absurd (slice_inside r e bytes h)

@@ -1,8 +1,6 @@
 -- The first byte of a reader's next message, or none.
 use Rattle.std.proofs.Common.{◌≡◌, ℕ, ◌+◌, ◌≤◌, ◌<◌, ◌^◌, true, false, List, [], ◌⊎◌, Option, None, Some, length, length-append, refl, sym, ap, subst, ◌∙◌, arith, inl, inr}
-use Rattle.std.proofs.lemmas.List.{nil_from_length}
 use Rattle.std.specs.Borrow.{GName}
-use Rattle.std.specs.Io.KnownBytes.{IsAtEnd}
 use Rattle.bser_format.specs.Content.{Meaning}
 use Rattle.bser_format.specs.Errors.{error_of}
 use Rattle.bser_format.specs.declared.errors.Error.{Error}
@@ -22,13 +20,6 @@ use Rattle.bser_streams.proofs.Readers.{reader_refused_within}
 use Rattle.bser_streams.proofs.Windows.{refused_before}
 
 -- ---- no byte is left
-
-ended : (remaining : Option (List ℕ)) (failures : ℕ) (through : Option GName) (b : Window) → Refused Eof (reader_fresh remaining failures through) b 1 → IsAtEnd remaining
-ended None failures through b r = tt
-ended (Some xs) failures through b r = let few : length xs < 1 = r.excuse.0 in nil_from_length xs (omega (arith, few))
-
-pub reader_ended : (remaining : Option (List ℕ)) (failures : ℕ) (through : Option GName) (a b : Window) → a ≡ reader_fresh remaining failures through → Refused Eof a b 1 → IsAtEnd remaining
-reader_ended remaining failures through a b fresh r = ended remaining failures through b (subst (λ w. Refused Eof w b 1) fresh r)
 
 -- ---- the reader fails before the first byte
 

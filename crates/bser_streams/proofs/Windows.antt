@@ -1,10 +1,9 @@
 -- A message that was read within limits, and one that was refused: over any source.
-use Rattle.std.proofs.Common.{◌≡◌, ℕ, ◌≤◌, ◌<◌, List, [], ◌++◌, ◌⊎◌, Option, None, Some, length, append-nil, refl, sym, ap, ◌∙◌, arith, inl, inr}
+use Rattle.std.proofs.Common.{◌≡◌, ℕ, ◌≤◌, List, [], ◌++◌, ◌⊎◌, Option, None, Some, length, append-nil, refl, ap, ◌∙◌, arith, inl, inr}
 use Rattle.std.specs.Prelude.{pos, IsTrue}
 use Rattle.std.proofs.lemmas.Int.{ints}
 use Rattle.bser_format.specs.Content.{Content, Meaning}
 use Rattle.bser_format.specs.declared.errors.Error.{Error}
-use Rattle.bser_format.specs.declared.errors.Error.TheVariants.{DeTooLong}
 use Rattle.bser_format.specs.Message.{Head}
 use Rattle.bser_format.proofs.OneHead.{one_head}
 use Rattle.bser_named.specs.Named as named
@@ -45,24 +44,6 @@ head_refused_within n m reads asks needs e a b fails name =
     inr (record { announced = no_head m e a b fails name; refused = head_refused n reads asks needs e a b fails name })
 
 -- ---- after a head
-
--- a body that is too long is not begun
-pub body_too_long : (n m k : ℕ) (reads : Meaning) (asks : Option (Asking reads)) (needs : Needs) (e : Error) (a : Window) (s t : State) → Begins n a s → s.len ≡ pos k → m < k → e ≡ DeTooLong k m → t ≡ refused s
-    → RefusesBodyWithin n m reads asks needs e a t.source
-body_too_long n m k reads asks needs e a s t begins len more name same =
-    let head = begins.took in
-    let size : head.size ≡ k = omega (arith, ints, head.value, len) in
-    inl (record {
-      capabilities = s.capabilities;
-      announced = head.size;
-      text = head.text;
-      head = head.head;
-      at = s.source;
-      took = head.took;
-      end = ap (λ z. z.source) same;
-      more = omega (arith, size, more);
-      name = name ∙ ap (λ j. DeTooLong j m) (sym size);
-    })
 
 pub value_refused_within : (n m k : ℕ) (reads : Meaning) (asks : Option (Asking reads)) (needs : Needs) (e : Error) (a : Window) (s t : State) → Begins n a s → s.len ≡ pos k → k ≤ m → Refuses reads asks needs e s t
     → RefusesBodyWithin n m reads asks needs e a t.source

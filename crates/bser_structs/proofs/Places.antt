@@ -5,7 +5,7 @@ use Rattle.bser_format.specs.Content.{Content, variant, Meaning}
 use Rattle.bser_format.specs.Enums.{Payload, unit, holds, reads_enum}
 use Rattle.bser_format.specs.declared.errors.Error.{Error}
 use Rattle.bser_deserializer.specs.Access.{after_closing}
-use Rattle.bser_deserializer.specs.Reading.{Answers, Asking, Refuses, Needs}
+use Rattle.bser_deserializer.specs.Reading.{Answers, Refuses, Needs}
 use Rattle.bser_deserializer.specs.State.{State, awaiting}
 use Rattle.bser_deserializer.specs.declared.frames.MapHead.{MapHead}
 use Rattle.bser_types.specs.Slots.{any_lent, struct_needs}
@@ -37,10 +37,6 @@ held_read T held h o m b z x due a closed =
       };
       state = closed;
     }
-
--- the same, where it is refused
-pub held_refused : (T : Meaning) (asks : Option (Asking T)) (needs : Needs) (e : Error) (h : MapHead) (o m z : State) → m ≡ awaiting (payload_due h.row) o → Refuses T asks needs e m z → RefusesPayloadOf (holds T) asks needs e (enum_head (Some h) o) z
-held_refused T asks needs e h o m z due r = subst (λ (s : State). Refuses T asks needs e s z) due r
 
 -- what is kept of a payload may be told in other words
 kept_as : (p : Payload) (K L : Content → Type 0) (v : OpenEnum) (z : State) → ((c : Content) → K c → L c) → IsPayloadOf p K v z → IsPayloadOf p L v z

@@ -1,5 +1,5 @@
 -- Arrays of a fixed length, which are tuples of equal parts.
-use Rattle.std.proofs.Common.{◌≡◌, ℕ, zero, suc, ◌+◌, ◌<◌, ◌≤◌, ◌||◌, Bool, true, false, List, [], ◌∷◌, ◌++◌, length, map, replicate, None, inl, inr, refl, sym, ap, subst, ◌∙◌, arith}
+use Rattle.std.proofs.Common.{◌≡◌, ℕ, zero, suc, ◌+◌, ◌<◌, ◌||◌, Bool, true, false, List, [], ◌∷◌, ◌++◌, length, map, replicate, None, refl, sym, ap, subst, arith}
 use Rattle.std.proofs.lemmas.List.{map-append, length-append}
 use Rattle.std.specs.Prelude.{Option}
 use Rattle.bser_format.specs.Content.{Content, Meaning}
@@ -102,14 +102,6 @@ pub equal_many : {A : Type 0} (n : ℕ) (T : Meaning) (tells : Option (Asking T)
     → LeavesItems e u z → RefusesArray n T tells needs e o z
 equal_many n T tells needs holds e o z vs u none h leaves =
     with_room n T tells needs e o z (parts_many (equal n T tells needs) (map holds vs) e o z u (all_read n T tells needs holds o vs u none h) leaves)
-
--- as many were read as there are to be
-pub equal_count : {A : Type 0} (n : ℕ) (T : Meaning) (tells : Option (Asking T)) (needs : Needs) (holds : A → Content → Type 0) (o : State) (vs : List A) (u : OpenItems) → (length vs < n → ⊥) → ReadsEqual n T tells needs holds o vs u → length vs ≡ n
-equal_count n T tells needs holds o vs u none h = at h.left h.counted
-  where
-    at : (left : ℕ) → length vs + left ≡ n → length vs ≡ n
-    at zero counted = omega (arith, counted)
-    at (suc k) counted = absurd (none (omega (arith, counted)))
 
 holds_each : {A : Type 0} (holds : A → Content → Type 0) (vs : List A) (cs : List Content) → HoldsEach (map holds vs) cs → HoldsAll holds vs cs
 holds_each holds [] [] h = tt
