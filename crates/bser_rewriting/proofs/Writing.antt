@@ -4,11 +4,11 @@ use Rattle.std.proofs.lemmas.Result.{IfErr-weaker}
 use Rattle.bser_format.specs.Tree.{Tree}
 use Rattle.bser_format.specs.Content.{Meaning}
 use Rattle.bser_format.specs.declared.errors.Error.{Error}
+use Rattle.bser_deserializer.specs.Reading.{Asking}
 use Rattle.bser_ser.specs.Message.{Missed}
 use Rattle.bser_ser.specs.Stopped.{Answering}
-use Rattle.serde_bser.specs.Messages.{TookMessage}
-use Rattle.serde_bser.specs.Reading.{Asking}
-use Rattle.serde_bser.specs.ValueView.{tree_of, HoldsValue}
+use Rattle.bser_messages.specs.Messages.{TookMessage}
+use Rattle.bser_value.specs.ValueView.{tree_of, HoldsValue}
 use Rattle.bser_value.specs.declared.value.Value.{Value}
 use Rattle.bser_rewriting.specs.Canon.{RefusesRewriting}
 

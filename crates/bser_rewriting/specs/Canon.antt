@@ -4,11 +4,11 @@ use Rattle.bser_format.specs.Tree.{Tree}
 use Rattle.bser_format.specs.Canonical.{canonical_body, canonical_message}
 use Rattle.bser_format.specs.Content.{Meaning}
 use Rattle.bser_format.specs.declared.errors.Error.{Error}
+use Rattle.bser_deserializer.specs.Reading.{Asking}
 use Rattle.bser_ser.specs.Message.{Missed}
 use Rattle.bser_ser.specs.Stopped.{Answering}
-use Rattle.serde_bser.specs.Messages.{TookMessage, RefusesReader}
-use Rattle.serde_bser.specs.Reading.{Asking}
-use Rattle.serde_bser.specs.ValueView.{tree_of, HoldsValue}
+use Rattle.bser_messages.specs.Messages.{TookMessage, RefusesReader}
+use Rattle.bser_value.specs.ValueView.{tree_of, HoldsValue}
 use Rattle.bser_value.specs.declared.value.Value.{Value}
 
 -- the canonical form is that of the tree itself

@@ -3,11 +3,13 @@ ghost use Rattle.std.specs.Prelude.{◌≡◌, OnOk, IfErr};
 ghost use Rattle.bser_written.specs.Compact.{fold_templates};
 ghost use Rattle.bser_rewriting.specs.Canon.{Rewrote, RefusesRewriting, canonical_form};
 
+use bser_compact::message::serialize_compact;
 use bser_format::errors::Result;
+use bser_messages::message::from_reader;
+use bser_ser::message::serialize_to;
 use bser_source::device::{Sink, Source};
-use serde_bser::de::{Shape, from_reader};
-use serde_bser::ser::{serialize_compact, serialize_to};
-use serde_bser::value::Value;
+use bser_types::deserialize::Shape;
+use bser_value::value::Value;
 use std::alloc::Global;
 
 /// Reads the reader's next message, of at most 128 levels, as a `Value`, and writes the canonical

@@ -7,8 +7,8 @@ ghost use Rattle.bser_rewriting.specs.Line.{IsReport, PutsLine, PutsReport};
 use crate::engine::{canon, canon_compact};
 use bser_format::errors::Error;
 use bser_source::device::{Sink, Source};
-use serde_bser::de::Shape;
-use serde_bser::value::Value;
+use bser_types::deserialize::Shape;
+use bser_value::value::Value;
 use std::alloc::{AllocError, Global};
 
 /// The status after the message was written.
