@@ -1,6 +1,9 @@
 -- What callers see of a description.
-use Rattle.std.specs.Prelude.{ℕ}
+use Rattle.std.specs.Prelude.{ℕ, List, Bool, true, false, Option, None, option_map, if◌then◌else◌}
+use Rattle.bser_format.specs.EnumName.{kept}
 use Rattle.bser_format.specs.declared.errors.Error.{Error}
+use Rattle.bser_format.specs.declared.errors.Error.TheVariants.{DeCustom, DeInvalidStartByte, DeReaderError, DeRecursionLimitExceeded}
+use Rattle.bser_format.specs.declared.errors.ReadCause.TheVariants.{Utf8}
 use Rattle.bser_deserializer.specs.declared.note.Note.{Note}
 use Rattle.bser_describe.specs.declared.counted.Counted.{Counted}
 use Rattle.bser_describe.specs.declared.description.Description.{Description}
@@ -20,3 +23,15 @@ place_of d = d.place
 -- what was found
 abbrev pub note_of : Description → Note
 note_of d = d.note
+
+-- whether a field may be to blame: what stands there is of another type, no text, or too deep
+abbrev pub blames_a_field : Error → Bool
+blames_a_field (DeReaderError Utf8) = true
+blames_a_field (DeCustom _) = true
+blames_a_field (DeInvalidStartByte _ _) = true
+blames_a_field (DeRecursionLimitExceeded _) = true
+blames_a_field _ = false
+
+-- the name of the field that is to blame, as far as it was kept
+abbrev pub field_of : Description → Option (List ℕ)
+field_of d = if blames_a_field (cause_of d) then option_map kept (note_of d).field else None

@@ -1,7 +1,7 @@
 //! The description of a refusal.
-ghost use Rattle.std.specs.Prelude.{◌≡◌, ◌≤◌};
+ghost use Rattle.std.specs.Prelude.{◌≡◌, ◌≤◌, option_map};
 ghost use Rattle.bser_format.specs.Errors.{error_of};
-ghost use Rattle.bser_describe.specs.Descriptions.{cause_of, place_of, note_of};
+ghost use Rattle.bser_describe.specs.Descriptions.{cause_of, place_of, note_of, field_of};
 
 pub use bser_deserializer::note::{FieldName, Finding, Note, Wanted};
 use bser_format::errors::{Error, Kind, Message, ReadCause};
@@ -78,7 +78,9 @@ impl Description {
 
     /// The innermost field of a struct whose value is refused, or that is missing or repeated. None
     /// where no field is to blame, as for an early end.
-    pub fn field(&self) -> Option<&str> {
+    pub fn field(&self) -> Option<&str>
+        ensures { option_map (λ name. name.now) result ≡ field_of self.now }
+    {
         match &self.cause {
             Error::DeReaderError {
                 source: ReadCause::Utf8,
