@@ -21,6 +21,7 @@
 //! which is named.
 #![tactic(auto)]
 
+mod containers;
 mod line;
 mod recorded;
 mod row;
@@ -66,25 +67,7 @@ fn compare_lines(rt: &HostRuntime, file: &str) -> Result<()> {
     let text = fs::read_to_string(rt, file)?;
     let mut counts = Counts::default();
     for row in text.as_str().lines() {
-        count(&mut counts.lines);
-        let line = Line::parse(rt.alloc(), row)?;
-        match line.first_mismatch(rt.alloc()) {
-            Ok(None) if line.accepted => count(&mut counts.accepted),
-            Ok(None) => count(&mut counts.refused),
-            Ok(Some(other)) => {
-                count(&mut counts.mismatches);
-                println!(rt;
-                    "line {}, {}: another answer, {}",
-                    counts.lines,
-                    line.kind,
-                    other.way.name()
-                )?;
-            }
-            Err(error) => {
-                count(&mut counts.mismatches);
-                println!(rt; "line {}, {}: {error}", counts.lines, line.kind)?;
-            }
-        }
+        compare_line(rt, row, &mut counts)?;
     }
     println!(rt; "{} lines", counts.lines)?;
     println!(rt; "{} messages accepted as the file says", counts.accepted)?;
@@ -93,48 +76,89 @@ fn compare_lines(rt: &HostRuntime, file: &str) -> Result<()> {
     Ok(())
 }
 
+/// Reads the message of a line as its type.
+fn compare_line(rt: &HostRuntime, row: &str, counts: &mut Counts) -> Result<()> {
+    count(&mut counts.lines);
+    let line = Line::parse(rt.alloc(), row)?;
+    match line.first_mismatch(rt.alloc()) {
+        Ok(None) if line.accepted => count(&mut counts.accepted),
+        Ok(None) => count(&mut counts.refused),
+        Ok(Some(other)) => {
+            count(&mut counts.mismatches);
+            let way = other.way.name();
+            println!(rt;
+                "line {}, {}: another answer, {way}",
+                counts.lines, line.kind
+            )?;
+        }
+        Err(error) => {
+            count(&mut counts.mismatches);
+            println!(rt; "line {}, {}: {error}", counts.lines, line.kind)?;
+        }
+    }
+    Ok(())
+}
+
+/// How many cases were read as how many types.
+#[derive(Default, Drop)]
+struct Cases {
+    rows: u64,
+    readings: u64,
+    wrong: u64,
+}
+
 /// Reads the message of each case as its types.
 fn compare_rows(rt: &HostRuntime, file: &str) -> Result<()> {
     let text = fs::read_to_string(rt, file)?;
-    let mut rows = 0u64;
-    let mut readings = 0u64;
-    let mut wrong = 0u64;
+    let mut cases = Cases::default();
     for line in text.as_str().lines() {
-        if line.is_empty() || line.starts_with('#') {
-            continue;
-        }
-        count(&mut rows);
-        let row = match Row::parse(rt.alloc(), line) {
-            Ok(row) => row,
-            Err(error) => {
-                count(&mut wrong);
-                println!(rt; "{line}: {error}")?;
-                continue;
-            }
-        };
-        for kind in row.kinds.split_whitespace() {
-            count(&mut readings);
-            match row.first_mismatch(rt.alloc(), kind) {
-                Ok(None) => {}
-                Ok(Some(other)) => {
-                    count(&mut wrong);
-                    println!(rt;
-                        "{}, {kind}: {} {}, and not {}",
-                        row.name,
-                        other.answer,
-                        other.way.name(),
-                        row.answer
-                    )?;
-                }
-                Err(error) => {
-                    count(&mut wrong);
-                    println!(rt; "{}, {kind}: {error}", row.name)?;
-                }
-            }
+        if !line.is_empty() && !line.starts_with('#') {
+            compare_row(rt, line, &mut cases)?;
         }
     }
+    let Cases {
+        rows,
+        readings,
+        wrong,
+    } = cases;
     println!(rt; "{rows} cases, read as {readings} types, {wrong} of them wrong")?;
     Ok(())
+}
+
+/// Reads the message of a case as its types.
+fn compare_row(rt: &HostRuntime, line: &str, cases: &mut Cases) -> Result<()> {
+    count(&mut cases.rows);
+    let row = match Row::parse(rt.alloc(), line) {
+        Ok(row) => row,
+        Err(error) => {
+            count(&mut cases.wrong);
+            println!(rt; "{line}: {error}")?;
+            return Ok(());
+        }
+    };
+    for kind in row.kinds.split_whitespace() {
+        count(&mut cases.readings);
+        if !is_answered(rt, &row, kind)? {
+            count(&mut cases.wrong);
+        }
+    }
+    Ok(())
+}
+
+/// Whether the type of this name is answered as the case says; where it is not, it is printed how.
+fn is_answered(rt: &HostRuntime, row: &Row<'_>, kind: &str) -> Result<bool> {
+    match row.first_mismatch(rt.alloc(), kind) {
+        Ok(None) => return Ok(true),
+        Ok(Some(other)) => println!(rt;
+            "{}, {kind}: {} {}, and not {}",
+            row.name,
+            other.answer,
+            other.way.name(),
+            row.answer
+        )?,
+        Err(error) => println!(rt; "{}, {kind}: {error}", row.name)?,
+    }
+    Ok(false)
 }
 
 /// Reads the recorded answers that hold files.

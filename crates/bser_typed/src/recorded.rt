@@ -50,21 +50,37 @@ impl<'a> Recording<'a> {
         if !is_summed(alloc, &to_vec(alloc, &value)?, self.canonical)? {
             return Ok(Some("another canonical message"));
         }
-        let mut writer = Watched::new(Vec::new(alloc));
-        serialize_compact(alloc, &mut writer, &value)?;
-        let compact = writer.into_inner();
+        self.compact_mismatch(alloc, message.len(), &value)
+    }
+
+    /// The first thing about the compact message that is not as the list says, where `recorded` is how
+    /// many bytes the recorded one has.
+    fn compact_mismatch(
+        &self,
+        alloc: Global,
+        recorded: usize,
+        value: &Value,
+    ) -> Result<Option<&'static str>> {
+        let compact = compact_message(alloc, value)?;
         if !is_summed(alloc, &compact, self.compact)? {
             return Ok(Some("another compact message"));
         }
-        if compact.len() > message.len() {
+        if compact.len() > recorded {
             return Ok(Some("longer than it was recorded"));
         }
         let back: Value = from_slice(alloc, &compact)?;
-        if back != value || !is_read_by_readers(alloc, &compact, &value)? {
+        if back != *value || !is_read_by_readers(alloc, &compact, value)? {
             return Ok(Some("another value of the compact message"));
         }
         Ok(None)
     }
+}
+
+/// The value's message in the compact form.
+fn compact_message(alloc: Global, value: &Value) -> Result<Vec<u8>> {
+    let mut writer = Watched::new(Vec::new(alloc));
+    serialize_compact(alloc, &mut writer, value)?;
+    Ok(writer.into_inner())
 }
 
 /// Whether readers of 1, 2, 3, 7 and 4096 bytes a call and of all bytes give the value, and have

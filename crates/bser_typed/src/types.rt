@@ -50,9 +50,9 @@ fn scalars(alloc: Global, kind: &str, sample: &Sample<'_>) -> Option<Compared> {
 
 fn options(alloc: Global, kind: &str, sample: &Sample<'_>) -> Option<Compared> {
     Some(match kind {
-        "opt_i64" => sample.owned_mismatch::<Option<i64>>(alloc),
-        "opt_opt_i64" => sample.owned_mismatch::<Option<Option<i64>>>(alloc),
-        "opt_unit" => sample.owned_mismatch::<Option<()>>(alloc),
+        "opt_i64" => sample.option_mismatch::<i64>(alloc),
+        "opt_opt_i64" => sample.option_mismatch::<Option<i64>>(alloc),
+        "opt_unit" => sample.option_mismatch::<()>(alloc),
         "opt_str" => sample.lent_mismatch::<Option<&str>>(alloc),
         "box_i64" => sample.owned_mismatch::<Box<i64>>(alloc),
         "box_str" => sample.lent_mismatch::<Box<&str>>(alloc),
@@ -62,16 +62,16 @@ fn options(alloc: Global, kind: &str, sample: &Sample<'_>) -> Option<Compared> {
 
 fn lists(alloc: Global, kind: &str, sample: &Sample<'_>) -> Option<Compared> {
     Some(match kind {
-        "vec_i64" => sample.owned_mismatch::<Vec<i64>>(alloc),
-        "vec_char" => sample.owned_mismatch::<Vec<char>>(alloc),
-        "vec_String" => sample.owned_mismatch::<Vec<String>>(alloc),
-        "vec_ByteString" => sample.owned_mismatch::<Vec<ByteString>>(alloc),
-        "vec_tup2" => sample.owned_mismatch::<Vec<(i64, i64)>>(alloc),
-        "vec_str" => sample.lent_mismatch::<Vec<&str>>(alloc),
-        "vec_vec_u8" => sample.owned_mismatch::<Vec<Vec<u8>>>(alloc),
-        "vec_Value" => sample.owned_mismatch::<Vec<Value>>(alloc),
-        "vec_opt_i64" => sample.owned_mismatch::<Vec<Option<i64>>>(alloc),
-        "vec_opt_vec_i64" => sample.owned_mismatch::<Vec<Option<Vec<i64>>>>(alloc),
+        "vec_i64" => sample.list_mismatch::<i64>(alloc),
+        "vec_char" => sample.list_mismatch::<char>(alloc),
+        "vec_String" => sample.list_mismatch::<String>(alloc),
+        "vec_ByteString" => sample.list_mismatch::<ByteString>(alloc),
+        "vec_tup2" => sample.list_mismatch::<(i64, i64)>(alloc),
+        "vec_str" => sample.lent_list_mismatch::<&str>(alloc),
+        "vec_vec_u8" => sample.list_mismatch::<Vec<u8>>(alloc),
+        "vec_Value" => sample.list_mismatch::<Value>(alloc),
+        "vec_opt_i64" => sample.option_list_mismatch::<i64>(alloc),
+        "vec_opt_vec_i64" => sample.option_list_mismatch::<Vec<i64>>(alloc),
         "arr2_map_String_i64" => sample.owned_mismatch::<[BTreeMap<String, i64>; 2]>(alloc),
         "deque_i64" => sample.owned_mismatch::<VecDeque<i64>>(alloc),
         "set_String" => sample.owned_mismatch::<BTreeSet<String>>(alloc),
@@ -82,15 +82,15 @@ fn lists(alloc: Global, kind: &str, sample: &Sample<'_>) -> Option<Compared> {
 fn tuples(alloc: Global, kind: &str, sample: &Sample<'_>) -> Option<Compared> {
     Some(match kind {
         "tup_map_String_i64" => sample.owned_mismatch::<(BTreeMap<String, i64>,)>(alloc),
-        "tup2" => sample.owned_mismatch::<(i64, i64)>(alloc),
+        "tup2" => sample.pair_mismatch::<i64, i64>(alloc),
         "tup3" => sample.owned_mismatch::<(i64, i64, i64)>(alloc),
         "tup4" => sample.owned_mismatch::<(i64, i64, i64, i64)>(alloc),
-        "tup_bool_bool" => sample.owned_mismatch::<(bool, bool)>(alloc),
+        "tup_bool_bool" => sample.pair_mismatch::<bool, bool>(alloc),
         "tup_bool_bool_bool" => sample.owned_mismatch::<(bool, bool, bool)>(alloc),
-        "tup_i64_bool" => sample.owned_mismatch::<(i64, bool)>(alloc),
+        "tup_i64_bool" => sample.pair_mismatch::<i64, bool>(alloc),
         "tup_i64_bool_bool" => sample.owned_mismatch::<(i64, bool, bool)>(alloc),
         "tup_i64_bool_bool_unit" => sample.owned_mismatch::<(i64, bool, bool, ())>(alloc),
-        "tup_String_String" => sample.owned_mismatch::<(String, String)>(alloc),
+        "tup_String_String" => sample.pair_mismatch::<String, String>(alloc),
         "tup_str_str" => sample.lent_mismatch::<(&str, &str)>(alloc),
         _ => return None,
     })
@@ -98,13 +98,13 @@ fn tuples(alloc: Global, kind: &str, sample: &Sample<'_>) -> Option<Compared> {
 
 fn maps(alloc: Global, kind: &str, sample: &Sample<'_>) -> Option<Compared> {
     Some(match kind {
-        "map_String_i64" => sample.owned_mismatch::<BTreeMap<String, i64>>(alloc),
-        "map_String_unit" => sample.owned_mismatch::<BTreeMap<String, ()>>(alloc),
-        "map_String_vec_String" => sample.owned_mismatch::<BTreeMap<String, Vec<String>>>(alloc),
-        "map_String_Ignored" => sample.owned_mismatch::<BTreeMap<String, Ignored>>(alloc),
+        "map_String_i64" => sample.map_mismatch::<i64>(alloc),
+        "map_String_unit" => sample.map_mismatch::<()>(alloc),
+        "map_String_vec_String" => sample.map_mismatch::<Vec<String>>(alloc),
+        "map_String_Ignored" => sample.map_mismatch::<Ignored>(alloc),
         "map_bytes_unit" => sample.owned_mismatch::<BTreeMap<ByteString, ()>>(alloc),
         "map_bytes_opt_i64" => sample.owned_mismatch::<BTreeMap<ByteString, Option<i64>>>(alloc),
-        "map_String_String" => sample.owned_mismatch::<BTreeMap<String, String>>(alloc),
+        "map_String_String" => sample.map_mismatch::<String>(alloc),
         "map_raw_raw" => sample.lent_mismatch::<BTreeMap<&[u8], &[u8]>>(alloc),
         "map_str_i64" => sample.lent_mismatch::<BTreeMap<&str, i64>>(alloc),
         "map_raw_opt_i64" => sample.lent_mismatch::<BTreeMap<&[u8], Option<i64>>>(alloc),
@@ -116,17 +116,15 @@ fn maps(alloc: Global, kind: &str, sample: &Sample<'_>) -> Option<Compared> {
 fn rows(alloc: Global, kind: &str, sample: &Sample<'_>) -> Option<Compared> {
     Some(match kind {
         "vec_map_bytes_opt_i64" => {
-            sample.owned_mismatch::<Vec<BTreeMap<ByteString, Option<i64>>>>(alloc)
+            sample.list_mismatch::<BTreeMap<ByteString, Option<i64>>>(alloc)
         }
-        "vec_map_str_opt_i64" => sample.lent_mismatch::<Vec<BTreeMap<&str, Option<i64>>>>(alloc),
-        "vec_map_String_i64" => sample.owned_mismatch::<Vec<BTreeMap<String, i64>>>(alloc),
-        "vec_map_String_Ignored" => sample.owned_mismatch::<Vec<BTreeMap<String, Ignored>>>(alloc),
-        "vec_map_str_Ignored" => sample.lent_mismatch::<Vec<BTreeMap<&str, Ignored>>>(alloc),
-        "vec_map_String_vec_map_String_vec_i64" => sample.owned_mismatch::<
-            Vec<BTreeMap<String, Vec<BTreeMap<String, Vec<i64>>>>>,
-        >(alloc),
-        "vec_map_String_unit" => sample.owned_mismatch::<Vec<BTreeMap<String, ()>>>(alloc),
-        "vec_map_raw_unit" => sample.lent_mismatch::<Vec<BTreeMap<&[u8], ()>>>(alloc),
+        "vec_map_str_opt_i64" => sample.lent_list_mismatch::<BTreeMap<&str, Option<i64>>>(alloc),
+        "vec_map_String_i64" => sample.rows_mismatch::<i64>(alloc),
+        "vec_map_String_Ignored" => sample.rows_mismatch::<Ignored>(alloc),
+        "vec_map_str_Ignored" => sample.lent_list_mismatch::<BTreeMap<&str, Ignored>>(alloc),
+        "vec_map_String_vec_map_String_vec_i64" => sample.rows_of_rows_mismatch::<Vec<i64>>(alloc),
+        "vec_map_String_unit" => sample.rows_mismatch::<()>(alloc),
+        "vec_map_raw_unit" => sample.lent_list_mismatch::<BTreeMap<&[u8], ()>>(alloc),
         _ => return None,
     })
 }
@@ -134,12 +132,12 @@ fn rows(alloc: Global, kind: &str, sample: &Sample<'_>) -> Option<Compared> {
 fn structs(alloc: Global, kind: &str, sample: &Sample<'_>) -> Option<Compared> {
     Some(match kind {
         "TemplateRow" => sample.owned_mismatch::<TemplateRow<String>>(alloc),
-        "vec_TemplateRow" => sample.owned_mismatch::<Vec<TemplateRow<String>>>(alloc),
-        "vec_opt_TemplateRow" => sample.owned_mismatch::<Vec<Option<TemplateRow<String>>>>(alloc),
-        "vec_TemplateRow_str" => sample.lent_mismatch::<Vec<TemplateRow<&str>>>(alloc),
-        "vec_TemplateRow_raw" => sample.lent_mismatch::<Vec<TemplateRow<&[u8]>>>(alloc),
+        "vec_TemplateRow" => sample.list_mismatch::<TemplateRow<String>>(alloc),
+        "vec_opt_TemplateRow" => sample.option_list_mismatch::<TemplateRow<String>>(alloc),
+        "vec_TemplateRow_str" => sample.lent_list_mismatch::<TemplateRow<&str>>(alloc),
+        "vec_TemplateRow_raw" => sample.lent_list_mismatch::<TemplateRow<&[u8]>>(alloc),
         "FileInfo" => sample.owned_mismatch::<FileInfo<String>>(alloc),
-        "vec_FileInfo" => sample.owned_mismatch::<Vec<FileInfo<String>>>(alloc),
+        "vec_FileInfo" => sample.list_mismatch::<FileInfo<String>>(alloc),
         "Files" => sample.owned_mismatch::<Files<String>>(alloc),
         "ExactFile" => sample.lent_mismatch::<ExactFile<String, u64>>(alloc),
         "Files_raw" => sample.lent_mismatch::<Files<&[u8]>>(alloc),
@@ -152,9 +150,9 @@ fn enums(alloc: Global, kind: &str, sample: &Sample<'_>) -> Option<Compared> {
         "TestEnum" => sample.owned_mismatch::<TestEnum<String>>(alloc),
         "TestEnum_str" => sample.lent_mismatch::<TestEnum<&str>>(alloc),
         "TestEnum_raw" => sample.lent_mismatch::<TestEnum<&[u8]>>(alloc),
-        "opt_TestEnum" => sample.owned_mismatch::<Option<TestEnum<String>>>(alloc),
-        "vec_TestEnum" => sample.owned_mismatch::<Vec<TestEnum<String>>>(alloc),
-        "vec_EnumRow" => sample.owned_mismatch::<Vec<EnumRow<String>>>(alloc),
+        "opt_TestEnum" => sample.option_mismatch::<TestEnum<String>>(alloc),
+        "vec_TestEnum" => sample.list_mismatch::<TestEnum<String>>(alloc),
+        "vec_EnumRow" => sample.list_mismatch::<EnumRow<String>>(alloc),
         _ => return None,
     })
 }
