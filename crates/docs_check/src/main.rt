@@ -20,7 +20,7 @@ use crate::files::{File, files, find};
 use crate::names::{Index, indexes, missing, public_names};
 use crate::quotes::quotes;
 use anyhow::{Context, Result};
-use std::alloc::Global;
+use std::alloc::{AllocError, Global};
 use std::io;
 use std::process::ExitCode;
 
@@ -83,7 +83,7 @@ impl Report {
     fn add_quotes<'a>(&mut self, alloc: Global, files: &[File<'a>], page: &File<'a>) -> Result<()> {
         for quote in &quotes(alloc, page)? {
             if let Some(fault) = quote.fault(alloc, files)? {
-                self.tell(alloc, page, fault.line, fault.text.as_str())?;
+                self.tell(alloc, page, fault.line, Ok(fault.text))?;
             }
             self.quotes = self
                 .quotes
@@ -127,8 +127,8 @@ impl Report {
         public: &[&'a str],
     ) -> Result<()> {
         for name in &missing(alloc, public, &index.names)? {
-            let text = format!(in alloc; "the list lacks {name}, which {} has", index.path)?;
-            self.tell(alloc, page, index.line, text.as_str())?;
+            let text = format!(in alloc; "the list lacks {name}, which {} has", index.path);
+            self.tell(alloc, page, index.line, text)?;
         }
         Ok(())
     }
@@ -143,15 +143,22 @@ impl Report {
     ) -> Result<()> {
         for (name, line) in index.names.iter().zip(index.lines.iter()) {
             if !public.contains(name) {
-                let text = format!(in alloc; "{} has no public name {name}", index.path)?;
-                self.tell(alloc, page, *line, text.as_str())?;
+                let text = format!(in alloc; "{} has no public name {name}", index.path);
+                self.tell(alloc, page, *line, text)?;
             }
         }
         Ok(())
     }
 
     /// Adds a fault.
-    fn tell(&mut self, alloc: Global, page: &File<'_>, line: usize, text: &str) -> Result<()> {
+    fn tell(
+        &mut self,
+        alloc: Global,
+        page: &File<'_>,
+        line: usize,
+        text: Result<String, AllocError>,
+    ) -> Result<()> {
+        let text = text?;
         let fault = format!(in alloc; "{}, line {line}: {text}", page.path)?;
         self.faults.push(fault)?;
         Ok(())

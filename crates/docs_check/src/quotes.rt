@@ -33,19 +33,20 @@ pub fn quotes<'a>(alloc: Global, page: &File<'a>) -> Result<Vec<Quote<'a>>, Allo
     let mut quotes: Vec<Quote<'a>> = Vec::new(alloc);
     let mut path: Option<&str> = None;
     let mut is_open = false;
-    for (at, line) in page.lines.iter().enumerate() {
-        let line = *line;
+    let mut number: usize = 0;
+    for line in &page.lines {
+        number = number.saturating_add(1);
         if is_open {
-            is_open = line != "```";
+            is_open = *line != "```";
             if let (true, Some(quote)) = (is_open, quotes.last_mut()) {
-                quote.lines.push(line)?;
+                quote.lines.push(*line)?;
             }
         } else if line.starts_with("```") {
             is_open = true;
             quotes.push(Quote {
                 path: path.take(),
-                is_rust: line == "```rust",
-                line: at.saturating_add(1),
+                is_rust: *line == "```rust",
+                line: number,
                 lines: Vec::new(alloc),
             })?;
         } else {
