@@ -45,36 +45,42 @@ const OPERATIONS: [&str; 8] = [
     "skip",
 ];
 
-/// Files of which the names and the types are lent.
-type Lent<'a> = Files<&'a [u8], &'a str>;
-
-/// Files of which the names and the types are owned.
-type Owned = Files<ByteString, String>;
-
 fn main(rt: HostRuntime) -> Result<()> {
-    let alloc = rt.alloc();
     let mut args = env::args(&rt)?.skip(1);
     match args.next() {
-        None => {
-            let message = written(alloc, &files::answer(alloc, FEW)?)?;
-            for operation in OPERATIONS {
-                let line = repeated(alloc, operation, &message, 1)?;
-                println!(rt; "{operation}: {line}")?;
-            }
-        }
+        None => do_each_once(&rt),
         Some(operation) => {
             let file = args.next().context("no FILE")?;
             let count = args.next().context("no COUNT")?.parse::<u32>()?;
-            let message = if file.as_str() == "-" {
-                written(alloc, &files::answer(alloc, MANY)?)?
-            } else {
-                fs::read(&rt, file.as_str())?
-            };
-            let line = repeated(alloc, operation.as_str(), &message, count)?;
-            println!(rt; "{line}")?;
+            do_often(&rt, operation.as_str(), file.as_str(), count)
         }
     }
+}
+
+// Does each operation once with an answer of a few files.
+fn do_each_once(rt: &HostRuntime) -> Result<()> {
+    let message = written(rt.alloc(), &files::answer(rt.alloc(), FEW)?)?;
+    for operation in OPERATIONS {
+        let line = repeated(rt.alloc(), operation, &message, 1)?;
+        println!(rt; "{operation}: {line}")?;
+    }
     Ok(())
+}
+
+// Does the operation `count` times with the message in the file.
+fn do_often(rt: &HostRuntime, operation: &str, file: &str, count: u32) -> Result<()> {
+    let message = message_of(rt, file)?;
+    let line = repeated(rt.alloc(), operation, &message, count)?;
+    println!(rt; "{line}")?;
+    Ok(())
+}
+
+// The message in the file, or where it is `-`, that of the program's own answer.
+fn message_of(rt: &HostRuntime, file: &str) -> Result<Vec<u8>> {
+    if file == "-" {
+        return written(rt.alloc(), &files::answer(rt.alloc(), MANY)?);
+    }
+    Ok(fs::read(rt, file)?)
 }
 
 // Does the operation `count` times, and tells what came of the last time.
@@ -82,24 +88,14 @@ fn repeated(alloc: Global, operation: &str, message: &[u8], count: u32) -> Resul
     match operation {
         "serialize" => written_often(alloc, message, count),
         "serialize-compact" => compact_often(alloc, message, count),
-        "value" => value_told(alloc, &read_often(alloc, message, count)?),
-        "value-reader" => value_told(alloc, &copied_often(alloc, message, count)?),
-        "typed-lent" => {
-            let files: Lent<'_> = read_often(alloc, message, count)?;
-            files_told(alloc, &files)
-        }
-        "typed-owned" => {
-            let files: Owned = read_often(alloc, message, count)?;
-            files_told(alloc, &files)
-        }
+        "value" => value_told(alloc, read_often(alloc, message, count)),
+        "value-reader" => value_told(alloc, copied_often(alloc, message, count)),
+        "typed-lent" => files_told::<&[u8], &str>(alloc, read_often(alloc, message, count)),
+        "typed-owned" => files_told::<ByteString, String>(alloc, read_often(alloc, message, count)),
         "typed-reader" => {
-            let files: Owned = copied_often(alloc, message, count)?;
-            files_told(alloc, &files)
+            files_told::<ByteString, String>(alloc, copied_often(alloc, message, count))
         }
-        "skip" => {
-            let _skipped: Ignored = read_often(alloc, message, count)?;
-            Ok(String::from_str(alloc, "skipped")?)
-        }
+        "skip" => skip_told(alloc, read_often(alloc, message, count)),
         _ => bail!("unknown operation {operation}"),
     }
 }
@@ -165,13 +161,22 @@ fn written(alloc: Global, value: &Value) -> Result<Vec<u8>> {
     }
 }
 
-fn value_told(alloc: Global, value: &Value) -> Result<String> {
-    bytes_told(alloc, &written(alloc, value)?)
+fn value_told(alloc: Global, value: Result<Value>) -> Result<String> {
+    bytes_told(alloc, &written(alloc, &value?)?)
 }
 
-fn files_told<B: Bytes, S: Bytes>(alloc: Global, files: &Files<B, S>) -> Result<String> {
+fn files_told<B: Bytes + Drop, S: Bytes + Drop>(
+    alloc: Global,
+    files: Result<Files<B, S>>,
+) -> Result<String> {
+    let files = files?;
     let line = format!(in alloc; "{} files, sum {}", files.files.len(), files.sum())?;
     Ok(line)
+}
+
+fn skip_told(alloc: Global, skipped: Result<Ignored>) -> Result<String> {
+    let _skipped = skipped?;
+    Ok(String::from_str(alloc, "skipped")?)
 }
 
 fn bytes_told(alloc: Global, bytes: &[u8]) -> Result<String> {

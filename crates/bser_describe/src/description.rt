@@ -23,29 +23,29 @@ pub struct Description {
     note: Note,
 }
 
-impl Description {
-    /// Describes a refusal by this cause, after `count` bytes of an input of `len` bytes. An early
-    /// end lies at the end of the input, and nothing behind it.
-    pub(crate) fn of(cause: Error, count: i64, start: i64, len: usize, note: Note) -> Self
-        ensures cause { cause_of result ≡ cause }
-        ensures place { place_of result ≤ len }
-        ensures end { cause_of result ≡ error_of ReadCause.Eof → place_of result ≡ len }
-        ensures note { note_of result ≡ note }
-    {
-        let place = match &cause {
-            Error::DeReaderError {
-                source: ReadCause::Eof,
-            } => len,
-            _ => usize::try_from(count).unwrap_or(len).min(len),
-        };
-        Description {
-            cause,
-            place,
-            start: usize::try_from(start).unwrap_or(0),
-            note,
-        }
+/// Describes a refusal by this cause, after `count` bytes of an input of `len` bytes of which the body
+/// began at `start`. An early end lies at the end of the input, and nothing behind it.
+pub fn description_of(cause: Error, count: i64, start: i64, len: usize, note: Note) -> Description
+    ensures cause { cause_of result ≡ cause }
+    ensures place { place_of result ≤ len }
+    ensures end { cause_of result ≡ error_of ReadCause.Eof → place_of result ≡ len }
+    ensures note { note_of result ≡ note }
+{
+    let place = match &cause {
+        Error::DeReaderError {
+            source: ReadCause::Eof,
+        } => len,
+        _ => usize::try_from(count).unwrap_or(len).min(len),
+    };
+    Description {
+        cause,
+        place,
+        start: usize::try_from(start).unwrap_or(0),
+        note,
     }
+}
 
+impl Description {
     /// Why the message was refused: what a call without a description answers.
     pub fn cause(&self) -> &Error
         ensures { result.now ≡ cause_of self.now }

@@ -4,5 +4,3 @@
 mod counted;
 pub mod description;
 pub mod reading;
-#[cfg(test)]
-mod tests;

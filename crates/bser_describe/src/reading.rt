@@ -6,7 +6,7 @@ ghost use Rattle.bser_messages.specs.Messages.{BeginsWith, TookMessage, RefusesS
 ghost use Rattle.bser_describe.specs.Descriptions.{cause_of, place_of};
 
 use crate::counted::Counted;
-use crate::description::Description;
+use crate::description::{Description, description_of};
 use bser_deserializer::deserializer::{Deserializer, LEVELS};
 use bser_format::errors::{Error, ReadCause};
 use bser_messages::message::read_message;
@@ -102,7 +102,7 @@ pub fn from_reader_within<S: Source, T: DeserializeOwned>(
     let _reader = counted.into_inner();
     match answer {
         Ok(value) => Ok(value),
-        Err(cause) => Err(Description::of(cause, place, start, given, note)),
+        Err(cause) => Err(description_of(cause, place, start, given, note)),
     }
 }
 
@@ -114,5 +114,5 @@ fn described<R: DeRead>(from: &Deserializer<R>, cause: Error, len: usize) -> Des
     ensures place { place_of result ≤ len }
     ensures end { cause_of result ≡ error_of ReadCause.Eof → place_of result ≡ len }
 {
-    Description::of(cause, from.read_count(), from.start(), len, from.note())
+    description_of(cause, from.read_count(), from.start(), len, from.note())
 }

@@ -12,7 +12,13 @@ pub struct Case<'a> {
     pub kind: &'a str,
     /// The message.
     pub message: Vec<u8>,
-    told: &'a str,
+    told: Told<'a>,
+}
+
+/// What has to be told of a refusal.
+#[derive(Clone, Copy)]
+struct Told<'a> {
+    words: &'a str,
     field: &'a str,
     first: usize,
     last: usize,
@@ -24,29 +30,41 @@ impl<'a> Case<'a> {
         let (name, rest) = cut(line)?;
         let (kind, rest) = cut(rest)?;
         let (message, rest) = cut(rest)?;
-        let (told, rest) = cut(rest)?;
-        let (field, rest) = cut(rest)?;
-        let (first, last) = cut(rest)?;
+        let told = Told::parse(rest)?;
+        let message = hex::decode(alloc, message)?;
         Ok(Case {
             name,
             kind,
-            message: hex::decode(alloc, message)?,
+            message,
             told,
-            field,
-            first: first.parse::<usize>()?,
-            last: last.parse::<usize>()?,
         })
     }
 
     /// Whether the description says what it has to: the words, or those behind an `or`, the field,
     /// and the place.
     pub fn is_told(&self, text: &str, refusal: &Description) -> bool {
-        let words = match self.told.split_once(", or ") {
+        let told = self.told;
+        let words = match told.words.split_once(", or ") {
             Some((first, second)) => text.contains(first) || text.contains(second),
-            None => text.contains(self.told),
+            None => text.contains(told.words),
         };
-        let field = refusal.field().unwrap_or("-") == self.field;
-        words && field && self.first <= refusal.place() && refusal.place() <= self.last
+        let field = refusal.field().unwrap_or("-") == told.field;
+        words && field && told.first <= refusal.place() && refusal.place() <= told.last
+    }
+}
+
+impl<'a> Told<'a> {
+    /// Takes the last columns of a line apart.
+    fn parse(columns: &'a str) -> Result<Self> {
+        let (words, rest) = cut(columns)?;
+        let (field, rest) = cut(rest)?;
+        let (first, last) = cut(rest)?;
+        Ok(Told {
+            words,
+            field,
+            first: first.parse::<usize>()?,
+            last: last.parse::<usize>()?,
+        })
     }
 }
 

@@ -59,20 +59,37 @@ fn compare(rt: &HostRuntime, file: &str) -> Result<()> {
     let mut wrong = 0u64;
     for line in text.as_str().lines().skip(1) {
         cases = cases.saturating_add(1);
-        let case = Case::parse(rt.alloc(), line)?;
-        let told = refusal(rt.alloc(), &case, 0)?.to_string(rt.alloc())?;
-        println!(rt; "{}: {told}", case.name)?;
-        for pieces in PIECES {
-            let refusal = refusal(rt.alloc(), &case, pieces)?;
-            let text = refusal.to_string(rt.alloc())?;
-            if text != told || !case.is_told(text.as_str(), &refusal) {
-                wrong = wrong.saturating_add(1);
-                println!(rt; "  wrong in pieces of {pieces}: {text}")?;
-            }
-        }
+        wrong = wrong.saturating_add(compare_case(rt, line)?);
     }
     println!(rt; "{cases} messages, {wrong} wrong descriptions")?;
     Ok(())
+}
+
+/// Prints how the message of a line is refused, and counts in how many ways of reading it is
+/// described otherwise, or not as it has to be.
+fn compare_case(rt: &HostRuntime, line: &str) -> Result<u64> {
+    let case = Case::parse(rt.alloc(), line)?;
+    let told = refusal(rt.alloc(), &case, 0)?.to_string(rt.alloc())?;
+    println!(rt; "{}: {told}", case.name)?;
+    let mut wrong = 0u64;
+    for pieces in PIECES {
+        if !is_right(rt, &case, pieces, told.as_str())? {
+            wrong = wrong.saturating_add(1);
+        }
+    }
+    Ok(wrong)
+}
+
+/// Whether the refusal is described by this text, which says what it has to. Else prints by what it is
+/// described.
+fn is_right(rt: &HostRuntime, case: &Case<'_>, pieces: usize, told: &str) -> Result<bool> {
+    let refusal = refusal(rt.alloc(), case, pieces)?;
+    let text = refusal.to_string(rt.alloc())?;
+    let is_right = text.as_str() == told && case.is_told(told, &refusal);
+    if !is_right {
+        println!(rt; "  wrong in pieces of {pieces}: {text}")?;
+    }
+    Ok(is_right)
 }
 
 /// How the case's message is refused as its type.

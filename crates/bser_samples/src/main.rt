@@ -30,6 +30,26 @@ fn count(counter: &mut u64) {
 }
 
 impl Counts {
+    /// Reads the message of a line, and writes its value where it is accepted.
+    fn add_line(&mut self, rt: &HostRuntime, line: &str) -> Result<()> {
+        count(&mut self.lines);
+        let sample = Sample::parse(rt.alloc(), line)?;
+        let mismatch = sample
+            .first_mismatch(rt.alloc())
+            .context(format_args!("line {}", self.lines))?;
+        match mismatch {
+            None => self.add(&sample),
+            Some(what) => {
+                count(&mut self.mismatches);
+                println!(rt;
+                    "line {}, {}: another answer, {what}",
+                    self.lines, sample.class
+                )?;
+            }
+        }
+        Ok(())
+    }
+
     /// Counts a line that is right, by what is done with it.
     fn add(&mut self, sample: &Sample<'_>) {
         if sample.accepted {
@@ -39,6 +59,16 @@ impl Counts {
             count(&mut self.refused);
         }
     }
+
+    /// Prints the counts.
+    fn print(&self, rt: &HostRuntime) -> Result<()> {
+        println!(rt; "{} lines", self.lines)?;
+        println!(rt; "{} messages accepted as the file says", self.accepted)?;
+        println!(rt; "{} messages refused as the file says", self.refused)?;
+        println!(rt; "{} values written", self.written)?;
+        println!(rt; "{} mismatches", self.mismatches)?;
+        Ok(())
+    }
 }
 
 fn main(rt: HostRuntime) -> Result<()> {
@@ -47,31 +77,12 @@ fn main(rt: HostRuntime) -> Result<()> {
     compare_lines(&rt, "wrong-lines.tsv")
 }
 
-/// Reads each message of the list, and writes the values of those that are accepted.
+/// Compares each line of the list, and prints how many agree.
 fn compare_lines(rt: &HostRuntime, file: &str) -> Result<()> {
     let text = fs::read_to_string(rt, file)?;
     let mut counts = Counts::default();
     for line in text.as_str().lines() {
-        count(&mut counts.lines);
-        let sample = Sample::parse(rt.alloc(), line)?;
-        let mismatch = sample
-            .first_mismatch(rt.alloc())
-            .context(format_args!("line {}", counts.lines))?;
-        match mismatch {
-            None => counts.add(&sample),
-            Some(what) => {
-                count(&mut counts.mismatches);
-                println!(rt;
-                    "line {}, {}: another answer, {what}",
-                    counts.lines, sample.class
-                )?;
-            }
-        }
+        counts.add_line(rt, line)?;
     }
-    println!(rt; "{} lines", counts.lines)?;
-    println!(rt; "{} messages accepted as the file says", counts.accepted)?;
-    println!(rt; "{} messages refused as the file says", counts.refused)?;
-    println!(rt; "{} values written", counts.written)?;
-    println!(rt; "{} mismatches", counts.mismatches)?;
-    Ok(())
+    counts.print(rt)
 }

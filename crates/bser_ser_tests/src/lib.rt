@@ -1,4 +1,4 @@
-//! Tests of byte strings, of printed texts and of writing, by the calls that a user has.
+//! Tests of byte strings, of printed texts and of writing, by public calls.
 #![tactic(auto)]
 
 #[cfg(test)]

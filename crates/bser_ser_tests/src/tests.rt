@@ -1,5 +1,6 @@
-//! Tests by the public calls of both crates.
+//! Tests by the public calls of the crates.
 mod bytestrings;
 mod checks;
+mod described;
 mod printed;
 mod writing;

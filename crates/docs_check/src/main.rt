@@ -17,9 +17,10 @@ mod names;
 mod quotes;
 
 use crate::files::{File, files, find};
-use crate::names::{indexes, missing, public_names};
+use crate::names::{Index, indexes, missing, public_names};
+use crate::quotes::quotes;
 use anyhow::{Context, Result};
-use std::alloc::Global;
+use std::alloc::{AllocError, Global};
 use std::io;
 use std::process::ExitCode;
 
@@ -33,100 +34,153 @@ struct Report {
 }
 
 fn main(rt: HostRuntime) -> Result<ExitCode> {
-    let alloc = rt.alloc();
-    let text = io::read_to_string(alloc, rt.reader())?;
+    let text = io::read_to_string(rt.alloc(), rt.reader())?;
     let (wrong, right) = text
         .as_str()
         .split_once("\n====\n")
         .context("there is no line ====")?;
-    for fault in &compare(alloc, &files(alloc, wrong)?)?.faults {
-        println!(rt; "{fault}")?;
-    }
-    let report = compare(alloc, &files(alloc, right)?)?;
-    for fault in &report.faults {
-        println!(rt; "{fault}")?;
-    }
+    compare(&rt, wrong)?;
+    let report = compare(&rt, right)?;
     if !report.faults.is_empty() {
         return Ok(ExitCode::FAILURE);
     }
-    let Report {
-        pages,
-        quotes,
-        names,
-        faults: _,
-    } = report;
-    println!(rt; "{pages} pages, {quotes} quotes, {names} names: no difference")?;
+    report.print_counts(&rt)?;
     Ok(ExitCode::SUCCESS)
 }
 
-/// Compares each page with the files that it names.
-fn compare<'a>(alloc: Global, files: &[File<'a>]) -> Result<Report> {
-    let mut report = Report {
-        pages: 0,
-        quotes: 0,
-        names: 0,
-        faults: Vec::new(alloc),
-    };
-    for page in files {
-        if page.path.ends_with(".md") {
-            report.pages = report.pages.saturating_add(1);
-            compare_quotes(alloc, files, page, &mut report)?;
-            compare_names(alloc, files, page, &mut report)?;
-        }
-    }
+/// Compares each page of the input with the files that it names, and prints each fault.
+fn compare(rt: &HostRuntime, text: &str) -> Result<Report> {
+    let mut report = Report::new(rt.alloc());
+    report.add_pages(rt.alloc(), &files(rt.alloc(), text)?)?;
+    report.print_faults(rt)?;
     Ok(report)
 }
 
-/// Compares the blocks of a page.
-fn compare_quotes<'a>(
-    alloc: Global,
-    files: &[File<'a>],
-    page: &File<'a>,
-    report: &mut Report,
-) -> Result<()> {
-    for quote in &quotes::quotes(alloc, page)? {
-        if let Some(fault) = quote.fault(alloc, files)? {
-            report.tell(alloc, page, fault.line, fault.text.as_str())?;
+impl Report {
+    /// The report of no page.
+    fn new(alloc: Global) -> Self {
+        Report {
+            pages: 0,
+            quotes: 0,
+            names: 0,
+            faults: Vec::new(alloc),
         }
-        report.quotes = report
-            .quotes
-            .saturating_add(usize::from(quote.path.is_some()));
     }
-    Ok(())
-}
 
-/// Compares the lists of names of a page.
-fn compare_names<'a>(
-    alloc: Global,
-    files: &[File<'a>],
-    page: &File<'a>,
-    report: &mut Report,
-) -> Result<()> {
-    for index in &indexes(alloc, page)? {
-        let public = match find(files, index.path) {
-            Some(file) => public_names(alloc, file)?,
-            None => Vec::new(alloc),
-        };
-        for name in &missing(alloc, &public, &index.names)? {
-            let text = format!(in alloc; "the list lacks {name}, which {} has", index.path)?;
-            report.tell(alloc, page, index.line, text.as_str())?;
-        }
-        for (name, line) in index.names.iter().zip(index.lines.iter()) {
-            if !public.contains(name) {
-                let text = format!(in alloc; "{} has no public name {name}", index.path)?;
-                report.tell(alloc, page, *line, text.as_str())?;
+    /// Adds what is found in the pages among these files.
+    fn add_pages<'a>(&mut self, alloc: Global, files: &[File<'a>]) -> Result<()> {
+        for page in files {
+            if page.path.ends_with(".md") {
+                self.pages = self.pages.saturating_add(1);
+                self.add_quotes(alloc, files, page)?;
+                self.add_names(alloc, files, page)?;
             }
         }
-        report.names = report.names.saturating_add(index.names.len());
+        Ok(())
     }
-    Ok(())
-}
 
-impl Report {
+    /// Compares the blocks of a page.
+    fn add_quotes<'a>(&mut self, alloc: Global, files: &[File<'a>], page: &File<'a>) -> Result<()> {
+        for quote in &quotes(alloc, page)? {
+            if let Some(fault) = quote.fault(alloc, files)? {
+                self.tell(alloc, page, fault.line, Ok(fault.text))?;
+            }
+            self.quotes = self
+                .quotes
+                .saturating_add(usize::from(quote.path.is_some()));
+        }
+        Ok(())
+    }
+
+    /// Compares the lists of names of a page.
+    fn add_names<'a>(&mut self, alloc: Global, files: &[File<'a>], page: &File<'a>) -> Result<()> {
+        for index in &indexes(alloc, page)? {
+            let public = match find(files, index.path) {
+                Some(file) => public_names(alloc, file)?,
+                None => Vec::new(alloc),
+            };
+            self.add_index(alloc, page, index, &public)?;
+        }
+        Ok(())
+    }
+
+    /// Compares a list of names with the public names of its file.
+    fn add_index<'a>(
+        &mut self,
+        alloc: Global,
+        page: &File<'a>,
+        index: &Index<'a>,
+        public: &[&'a str],
+    ) -> Result<()> {
+        self.tell_missing(alloc, page, index, public)?;
+        self.tell_unknown(alloc, page, index, public)?;
+        self.names = self.names.saturating_add(index.names.len());
+        Ok(())
+    }
+
+    /// Tells which of the public names a list lacks.
+    fn tell_missing<'a>(
+        &mut self,
+        alloc: Global,
+        page: &File<'a>,
+        index: &Index<'a>,
+        public: &[&'a str],
+    ) -> Result<()> {
+        for name in &missing(alloc, public, &index.names)? {
+            let text = format!(in alloc; "the list lacks {name}, which {} has", index.path);
+            self.tell(alloc, page, index.line, text)?;
+        }
+        Ok(())
+    }
+
+    /// Tells which names of a list are none of the public names.
+    fn tell_unknown<'a>(
+        &mut self,
+        alloc: Global,
+        page: &File<'a>,
+        index: &Index<'a>,
+        public: &[&'a str],
+    ) -> Result<()> {
+        for (name, line) in index.names.iter().zip(index.lines.iter()) {
+            if !public.contains(name) {
+                let text = format!(in alloc; "{} has no public name {name}", index.path);
+                self.tell(alloc, page, *line, text)?;
+            }
+        }
+        Ok(())
+    }
+
     /// Adds a fault.
-    fn tell(&mut self, alloc: Global, page: &File<'_>, line: usize, text: &str) -> Result<()> {
+    fn tell(
+        &mut self,
+        alloc: Global,
+        page: &File<'_>,
+        line: usize,
+        text: Result<String, AllocError>,
+    ) -> Result<()> {
+        let text = text?;
         let fault = format!(in alloc; "{}, line {line}: {text}", page.path)?;
         self.faults.push(fault)?;
+        Ok(())
+    }
+
+    /// Prints the faults, one a line.
+    fn print_faults(&self, rt: &HostRuntime) -> Result<()> {
+        for fault in &self.faults {
+            println!(rt; "{fault}")?;
+        }
+        Ok(())
+    }
+
+    /// Prints how much was compared.
+    fn print_counts(&self, rt: &HostRuntime) -> Result<()> {
+        let Report {
+            pages,
+            quotes,
+            names,
+            ..
+        } = self;
+        println!(rt; "{pages} pages, {quotes} quotes, {names} names: no difference")?;
         Ok(())
     }
 }

@@ -80,15 +80,18 @@ pub fn public_names<'a>(alloc: Global, file: &File<'a>) -> Result<Vec<&'a str>, 
 
 /// Adds the names that a line of a `use` hands on.
 fn push_used<'a>(names: &mut Vec<&'a str>, text: &'a str) -> Result<(), AllocError> {
-    let last = text.rsplit_once("{").map_or(text, |(_, last)| last);
-    for path in last.split(|c| matches!(c, ',' | '}' | ';')) {
-        let name = path.rsplit_once(" as ").map_or(path, |(_, name)| name);
-        let name = name.rsplit_once("::").map_or(name, |(_, name)| name).trim();
+    for path in behind(text, "{").split(|c| matches!(c, ',' | '}' | ';')) {
+        let name = behind(behind(path, " as "), "::").trim();
         if !name.is_empty() {
             names.push(name)?;
         }
     }
     Ok(())
+}
+
+/// What stands behind the last such mark, or else the whole text.
+fn behind<'a>(text: &'a str, mark: &str) -> &'a str {
+    text.rsplit_once(mark).map_or(text, |(_, last)| last)
 }
 
 /// The name that a line declares as public.

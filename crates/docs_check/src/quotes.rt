@@ -30,29 +30,28 @@ pub struct Quote<'a> {
 
 /// The fenced blocks of a page, in order.
 pub fn quotes<'a>(alloc: Global, page: &File<'a>) -> Result<Vec<Quote<'a>>, AllocError> {
-    let mut quotes = Vec::new(alloc);
+    let mut quotes: Vec<Quote<'a>> = Vec::new(alloc);
     let mut path: Option<&str> = None;
-    let mut open: Option<Quote<'a>> = None;
-    for (at, line) in page.lines.iter().enumerate() {
-        match open.take() {
-            Some(quote) if *line == "```" => quotes.push(quote)?,
-            Some(mut quote) => {
+    let mut is_open = false;
+    let mut number: usize = 0;
+    for line in &page.lines {
+        number = number.saturating_add(1);
+        if is_open {
+            is_open = *line != "```";
+            if let (true, Some(quote)) = (is_open, quotes.last_mut()) {
                 quote.lines.push(*line)?;
-                open = Some(quote);
             }
-            None if line.starts_with("```") => {
-                open = Some(Quote {
-                    path: path.take(),
-                    is_rust: *line == "```rust",
-                    line: at.saturating_add(1),
-                    lines: Vec::new(alloc),
-                });
-            }
-            None => path = comment(line, "from "),
+        } else if line.starts_with("```") {
+            is_open = true;
+            quotes.push(Quote {
+                path: path.take(),
+                is_rust: *line == "```rust",
+                line: number,
+                lines: Vec::new(alloc),
+            })?;
+        } else {
+            path = comment(line, "from ");
         }
-    }
-    if let Some(quote) = open {
-        quotes.push(quote)?;
     }
     Ok(quotes)
 }

@@ -20,5 +20,5 @@ pub returns-in-Err-clause-refused : goal.returns-in-Err-clause-refused
 returns-in-Err-clause-refused g c =
     let fresh = c.unread-from.ensures.source ∙ c.new-2.ensures in
     let r = reader_refused c.args.limit g.T.Shape.reads g.T.Shape.asks g.T.Shape.needs c.in-Err.cause _ _ (search rules) (fresh_itself _ _ _ _ fresh) c.in-Err.ensures.refused in
-    rw c.of.ensures.cause (reader_counted c.args.limit g.T.Shape.reads g.T.Shape.asks c.in-Err.cause _ _ _ _ _ _
+    rw c.description_of.ensures.cause (reader_counted c.args.limit g.T.Shape.reads g.T.Shape.asks c.in-Err.cause _ _ _ _ _ _
     (ap (λ w. w.beyond) fresh ∙ ap (λ r. g.S.Source.remaining r.now) c.new.ensures) (ap (λ w. w.failures) fresh ∙ ap (λ r. g.S.Source.failures r.now) c.new.ensures) (search rules) r)
