@@ -1,10 +1,10 @@
 //! Tests of what is read of one message: from a slice, and from a reader that gives one byte a call.
 mod memory;
 mod messages;
+mod parts;
 mod refusals;
 mod states;
 
-use bser_bunser::refusal::Answer;
 use bser_deserializer::container::Containers;
 use bser_deserializer::cursor::Cursor;
 use bser_deserializer::deserializer::{Deserializer, Due};
@@ -36,73 +36,6 @@ impl<'a> Read for OneByOne<'a> {
 
 fn reader_of(bytes: &[u8]) -> IoRead<Watched<OneByOne<'_>>> {
     IoRead::new(Watched::new(OneByOne { bytes }))
-}
-
-/// What a message holds, and how it is read.
-#[derive(Clone, Copy)]
-enum Content {
-    Scalars,
-    Rows,
-    NestedRows,
-    OwnedRow,
-    InsideItems,
-    PastKeys,
-    Ends,
-    Counts(usize, usize),
-}
-
-fn check_content<R: DeRead>(
-    rt: &impl Abort,
-    alloc: Global,
-    content: Content,
-    from: &mut Deserializer<R>,
-) -> Answer<()>
-where
-    R::Lent: LendsText,
-{
-    match content {
-        Content::Scalars => messages::check_scalars(rt, alloc, from),
-        Content::Rows => messages::check_rows(rt, alloc, from),
-        Content::NestedRows => messages::check_nested_rows(rt, alloc, from),
-        Content::OwnedRow => memory::check_row_or_refusal(rt, alloc, from),
-        Content::InsideItems => states::check_inside_items(rt, alloc, from),
-        Content::PastKeys => states::check_past_keys(rt, alloc, from),
-        Content::Ends => states::check_ends(rt, alloc, from),
-        Content::Counts(expected, read) => states::check_counts(rt, expected, read, from),
-    }
-}
-
-fn check_message<R: DeRead + Drop>(
-    rt: &impl Abort,
-    alloc: Global,
-    content: Content,
-    read: R,
-) -> Result<()>
-where
-    R::Lent: LendsText,
-{
-    let mut from = Deserializer::new(alloc, read)?;
-    assert!(rt; check_content(rt, alloc, content, &mut from).is_ok());
-    Ok(())
-}
-
-/// A message holds this, read from a slice and from a reader that gives one byte a call.
-fn check_content_of(
-    rt: &impl Abort,
-    alloc: Global,
-    message: &[u8],
-    content: Content,
-) -> Result<()> {
-    check_message(rt, alloc, content, SliceRead::new(message))?;
-    check_message(rt, alloc, content, reader_of(message))
-}
-
-fn check_levels<R: DeRead>(rt: &impl Abort, levels: usize, from: &Deserializer<R>) {
-    assert_eq!(rt; from.levels(), levels);
-}
-
-fn check_end<R: DeRead>(rt: &impl Abort, from: &Deserializer<R>) {
-    assert!(rt; from.end().is_ok());
 }
 
 /// A call that reads.
@@ -175,12 +108,38 @@ fn make_due<R: DeRead>(due: Due, from: &mut Deserializer<R>) {
     }
 }
 
+/// What was wanted where a byte or a level was refused.
+#[derive(Clone, Copy)]
+enum Wanted {
+    NextItem,
+    MapKey,
+    TemplateKeys,
+    TemplateKey,
+    Integer,
+    Array,
+    Object,
+    Template,
+}
+
+fn kind_of(wanted: Wanted) -> Kind {
+    match wanted {
+        Wanted::NextItem => Kind::NextItem,
+        Wanted::MapKey => Kind::MapKey,
+        Wanted::TemplateKeys => Kind::TemplateKeys,
+        Wanted::TemplateKey => Kind::TemplateKey,
+        Wanted::Integer => Kind::Integer,
+        Wanted::Array => Kind::Array,
+        Wanted::Object => Kind::Object,
+        Wanted::Template => Kind::Template,
+    }
+}
+
 /// The name of a refusal.
 #[derive(Clone, Copy)]
 enum Name {
     Complains(Complaint),
-    Begins(Kind, u8),
-    TooDeep(Kind),
+    Begins(Wanted, u8),
+    TooDeep(Wanted),
     Eof,
     Utf8,
     Failed,
@@ -201,10 +160,10 @@ fn is_named(name: Name, error: &Error) -> bool {
             msg: Message::Fixed(complaint),
         } => matches!(name, Name::Complains(wanted) if wanted == *complaint),
         Error::DeInvalidStartByte { kind, byte } => {
-            matches!(name, Name::Begins(wanted, first) if wanted == *kind && first == *byte)
+            matches!(name, Name::Begins(wanted, first) if kind_of(wanted) == *kind && first == *byte)
         }
         Error::DeRecursionLimitExceeded { kind } => {
-            matches!(name, Name::TooDeep(wanted) if wanted == *kind)
+            matches!(name, Name::TooDeep(wanted) if kind_of(wanted) == *kind)
         }
         Error::DeReaderError { source } => is_named_cause(name, source),
         _ => false,

@@ -11,7 +11,3 @@ mod options;
 mod order;
 mod printed;
 mod typed;
-
-use std::test::Fail;
-
-type Tested = std::result::Result<(), Fail>;

@@ -1,12 +1,12 @@
 //! Refused growths.
-use super::{Content, check_content_of, check_end};
-use bser_bunser::refusal::Answer;
-use bser_deserializer::container::Containers;
+use super::parts::{Part, parts_read};
+use super::reader_of;
 use bser_deserializer::cursor::Cursor;
-use bser_deserializer::deserializer::Deserializer;
+use bser_deserializer::deserializer::{Deserializer, Due};
 use bser_format::errors::{Error, Result};
 use bser_source::read::DeRead;
 use bser_source::reference::LendsText;
+use bser_source::slice_read::SliceRead;
 use std::alloc::Global;
 use std::process::Abort;
 
@@ -14,75 +14,43 @@ use std::process::Abort;
 const ROW: &[u8] =
     b"\x00\x02\x00\x00\x00\x00\x03\x17\x0b\x00\x03\x02\x02\x03\x01a\x0d\x03\x01b\x03\x01\x0d\x03\x02xy\x02\x03\x01z";
 
-fn check_string<R: DeRead>(
-    rt: &impl Abort,
-    alloc: Global,
-    text: &str,
-    from: &mut Deserializer<R>,
-) -> Answer<()>
+/// The parts of [`ROW`].
+const PARTS: [Part; 14] = [
+    Part::Items(1, true),
+    Part::Await(Due::Row),
+    Part::Pairs(0, true),
+    Part::Await(Due::Name),
+    Part::String("a"),
+    Part::Await(Due::Field),
+    Part::String("xy"),
+    Part::AwaitName(1),
+    Part::ByteString(b"b"),
+    Part::Await(Due::Field),
+    Part::ByteString(b"z"),
+    Part::PairsEnd,
+    Part::ItemsEnd,
+    Part::End,
+];
+
+/// Checks that the last call was refused for memory.
+fn check_want_of_memory<R: DeRead>(rt: &impl Abort, from: &mut Deserializer<R>) {
+    assert!(rt; matches!(from.take_refusal(), Error::OutOfMemory) && from.is_failed());
+}
+
+/// Checks that the parts of [`ROW`] are read, or that memory is refused.
+fn check_row_or_refusal<R: DeRead + Drop>(rt: &impl Abort, alloc: Global, read: R) -> Result<()>
 where
     R::Lent: LendsText,
 {
-    assert_eq!(rt; from.read_string(alloc)?.as_str(), text);
-    Ok(())
-}
-
-fn check_byte_string<R: DeRead>(
-    rt: &impl Abort,
-    alloc: Global,
-    bytes: &[u8],
-    from: &mut Deserializer<R>,
-) -> Answer<()> {
-    assert_eq!(rt; from.read_byte_string(alloc)?.as_bytes(), bytes);
-    Ok(())
-}
-
-fn check_fields<R: DeRead>(rt: &impl Abort, alloc: Global, from: &mut Deserializer<R>) -> Answer<()>
-where
-    R::Lent: LendsText,
-{
-    from.await_name(0);
-    check_string(rt, alloc, "a", from)?;
-    from.await_field();
-    check_string(rt, alloc, "xy", from)?;
-    from.await_name(1);
-    check_byte_string(rt, alloc, b"b", from)?;
-    from.await_field();
-    check_byte_string(rt, alloc, b"z", from)
-}
-
-fn check_row<R: DeRead>(rt: &impl Abort, alloc: Global, from: &mut Deserializer<R>) -> Answer<()>
-where
-    R::Lent: LendsText,
-{
-    let rows = from.open_items(alloc)?;
-    from.await_row();
-    let fields = from.open_pairs()?;
-    check_fields(rt, alloc, from)?;
-    from.close_pairs(fields);
-    from.close_items(rows);
-    Ok(())
-}
-
-/// The fields of [`ROW`], or the refusal of memory.
-pub(super) fn check_row_or_refusal<R: DeRead>(
-    rt: &impl Abort,
-    alloc: Global,
-    from: &mut Deserializer<R>,
-) -> Answer<()>
-where
-    R::Lent: LendsText,
-{
-    if check_row(rt, alloc, from).is_ok() {
-        check_end(rt, from);
-    } else {
-        assert!(rt; matches!(from.take_refusal(), Error::OutOfMemory));
-        assert!(rt; from.is_failed());
+    let mut from = Deserializer::new(alloc, read)?;
+    if parts_read(alloc, &PARTS, &mut from) < PARTS.len() {
+        check_want_of_memory(rt, &mut from);
     }
     Ok(())
 }
 
 #[test]
 fn a_refused_growth_is_out_of_memory(rt: HostRuntime) -> Result<()> {
-    check_content_of(&rt, rt.alloc(), ROW, Content::OwnedRow)
+    check_row_or_refusal(&rt, rt.alloc(), SliceRead::new(ROW))?;
+    check_row_or_refusal(&rt, rt.alloc(), reader_of(ROW))
 }

@@ -1,10 +1,10 @@
 //! Reading by a plan, and checks of what is read and of refusals.
-use super::Tested;
 use bser_vectors::devices::{Plan, PlannedReader};
 use bser_vectors::notation::code;
 use serde_bser::de::read::{LendsText, NoLoan};
 use serde_bser::de::{
     Answer, DeRead, Deserialize, DeserializeOwned, Deserializer, IoRead, MapAccess, SeqAccess,
+    SliceRead,
 };
 use serde_bser::device::Watched;
 use serde_bser::errors::{Error, Result};
@@ -18,6 +18,11 @@ pub fn copying(message: &[u8], plan: Plan) -> IoRead<Watched<PlannedReader<'_>>>
     IoRead::new(Watched::new(PlannedReader::new(message, plan)))
 }
 
+/// What reads the message from a slice. Its head is read.
+pub fn begun<'a>(rt: &impl Abort, alloc: Global, message: &'a [u8]) -> Deserializer<SliceRead<'a>> {
+    Deserializer::new(alloc, SliceRead::new(message)).expect(rt, "the head is whole")
+}
+
 /// Reads the message from a reader that gives it by the plan, and tells how many bytes are left.
 pub fn read_by<T: DeserializeOwned>(alloc: Global, bytes: &[u8], plan: Plan) -> (Result<T>, usize) {
     let mut reader = Watched::new(PlannedReader::new(bytes, plan));
@@ -27,12 +32,11 @@ pub fn read_by<T: DeserializeOwned>(alloc: Global, bytes: &[u8], plan: Plan) -> 
 }
 
 /// Checks that the answer is a refusal of this code.
-pub fn check_code<T>(rt: &impl Abort, alloc: Global, answer: &Result<T>, expected: &str) -> Tested {
+pub fn check_code<T>(rt: &impl Abort, alloc: Global, answer: &Result<T>, expected: &str) {
     match answer {
         Ok(_) => assert!(rt; false, "{expected} is read"),
-        Err(error) => check_error(rt, alloc, error, expected)?,
+        Err(error) => check_error(rt, alloc, error, expected),
     }
-    Ok(())
 }
 
 /// Checks that the slice is refused with this code.
@@ -41,14 +45,19 @@ pub fn check_slice_refused<'a, T: Deserialize<&'a [u8]>>(
     alloc: Global,
     bytes: &'a [u8],
     expected: &str,
-) -> Tested {
-    check_code(rt, alloc, &from_slice::<T>(alloc, bytes), expected)
+) {
+    check_code(rt, alloc, &from_slice::<T>(alloc, bytes), expected);
 }
 
 /// Checks that the error has this code.
-fn check_error(rt: &impl Abort, alloc: Global, error: &Error, expected: &str) -> Tested {
-    assert_eq!(rt; code(alloc, error)?.as_str(), expected);
-    Ok(())
+fn check_error(rt: &impl Abort, alloc: Global, error: &Error, expected: &str) {
+    let code = code(alloc, error).expect(rt, "memory is left");
+    check_text(rt, code.as_str(), expected);
+}
+
+/// Checks that the text is the one expected.
+pub fn check_text(rt: &impl Abort, found: &str, expected: &str) {
+    assert_eq!(rt; found, expected);
 }
 
 /// Checks that what the deserializer was refused by last has this code.
@@ -57,8 +66,8 @@ pub fn check_refusal<R: DeRead>(
     alloc: Global,
     from: &mut Deserializer<R>,
     expected: &str,
-) -> Tested {
-    check_error(rt, alloc, &from.take_refusal(), expected)
+) {
+    check_error(rt, alloc, &from.take_refusal(), expected);
 }
 
 /// Checks that the call was refused, with this code.
@@ -68,9 +77,9 @@ pub fn check_refused<T, R: DeRead>(
     answer: &Answer<T>,
     from: &mut Deserializer<R>,
     expected: &str,
-) -> Tested {
+) {
     assert!(rt; answer.is_err(), "{expected} is read");
-    check_refusal(rt, alloc, from, expected)
+    check_refusal(rt, alloc, from, expected);
 }
 
 /// Checks that a type that is lent is refused with this code where a reader gives the message by the
@@ -81,10 +90,10 @@ pub fn check_not_lent<T: Deserialize<NoLoan>>(
     message: &[u8],
     plan: Plan,
     expected: &str,
-) -> Tested {
-    let mut from = Deserializer::new(alloc, copying(message, plan))?;
+) {
+    let mut from = Deserializer::new(alloc, copying(message, plan)).expect(rt, "the head is whole");
     let refused = T::deserialize(alloc, &mut from);
-    check_refused(rt, alloc, &refused, &mut from, expected)
+    check_refused(rt, alloc, &refused, &mut from, expected);
 }
 
 /// Checks that so many items are left, and what the next one is.
@@ -94,13 +103,15 @@ pub fn check_item<R: DeRead, T: Deserialize<R::Lent> + Debug + PartialEq>(
     items: &mut SeqAccess<'_, R>,
     left: usize,
     expected: Option<T>,
-) -> Tested
+)
 where
     R::Lent: LendsText,
 {
     assert_eq!(rt; items.remaining(), left);
-    assert_eq!(rt; items.next_element::<T>(alloc)?, expected);
-    Ok(())
+    assert_eq!(rt;
+        items.next_element::<T>(alloc).expect(rt, "an item is read"),
+        expected
+    );
 }
 
 /// Checks what the next key is.
@@ -109,10 +120,12 @@ pub fn check_key<R: DeRead, K: Deserialize<R::Lent> + Debug + PartialEq>(
     alloc: Global,
     entries: &mut MapAccess<'_, R>,
     expected: K,
-) -> Tested
+)
 where
     R::Lent: LendsText,
 {
-    assert_eq!(rt; entries.next_key::<K>(alloc)?, Some(expected));
-    Ok(())
+    assert_eq!(rt;
+        entries.next_key::<K>(alloc).expect(rt, "a key is read"),
+        Some(expected)
+    );
 }

@@ -1,7 +1,6 @@
 //! Calls on the entries of an open object, in an order that is refused.
-use super::Tested;
-use super::checks::{check_code, check_refusal, check_refused};
-use serde_bser::de::{Answer, Deserializer, Field, MapAccess, ReadsContainers, SliceRead};
+use super::checks::{begun, check_code, check_refusal, check_refused};
+use serde_bser::de::{Answer, Field, MapAccess, ReadsContainers, SliceRead};
 use std::alloc::Global;
 use std::process::Abort;
 
@@ -43,11 +42,10 @@ fn check_answered(
     alloc: Global,
     entries: &mut MapAccess<'_, SliceRead<'_>>,
     calls: &[Call],
-) -> Tested {
+) {
     for call in calls {
-        assert!(rt; is_answered(alloc, entries, *call)?);
+        assert!(rt; is_answered(alloc, entries, *call).expect(rt, "the call is answered"));
     }
-    Ok(())
 }
 
 /// Whether each of the calls is refused.
@@ -72,31 +70,31 @@ fn check_calls(
     answered: &[Call],
     refused: &[Call],
     expected: &str,
-) -> Tested {
-    let mut from = Deserializer::new(alloc, SliceRead::new(OBJECT))?;
-    let mut entries = from.read_map()?;
-    check_answered(rt, alloc, &mut entries, answered)?;
+) {
+    let mut from = begun(rt, alloc, OBJECT);
+    let mut entries = from.read_map().expect(rt, "an object is opened");
+    check_answered(rt, alloc, &mut entries, answered);
     assert!(rt;
         is_each_refused(alloc, &mut entries, refused),
         "{expected} is read"
     );
     drop(entries);
-    check_refusal(rt, alloc, &mut from, expected)
+    check_refusal(rt, alloc, &mut from, expected);
 }
 
 /// Checks that the object does not end after the calls, which are answered, and that it is not at its
 /// end then.
-fn check_ended_early(rt: &impl Abort, alloc: Global, answered: &[Call]) -> Tested {
-    let mut from = Deserializer::new(alloc, SliceRead::new(OBJECT))?;
-    let mut entries = from.read_map()?;
-    check_answered(rt, alloc, &mut entries, answered)?;
+fn check_ended_early(rt: &impl Abort, alloc: Global, answered: &[Call]) {
+    let mut from = begun(rt, alloc, OBJECT);
+    let mut entries = from.read_map().expect(rt, "an object is opened");
+    check_answered(rt, alloc, &mut entries, answered);
     let refused = entries.end();
-    check_refused(rt, alloc, &refused, &mut from, "C3")?;
-    check_code(rt, alloc, &from.end(), "E6 Failed")
+    check_refused(rt, alloc, &refused, &mut from, "C3");
+    check_code(rt, alloc, &from.end(), "E6 Failed");
 }
 
 #[test]
-fn a_value_without_a_key_is_refused(rt: HostRuntime) -> Tested {
+fn a_value_without_a_key_is_refused(rt: HostRuntime) {
     let alloc = rt.alloc();
     check_calls(
         &rt,
@@ -104,32 +102,32 @@ fn a_value_without_a_key_is_refused(rt: HostRuntime) -> Tested {
         &[],
         &[Call::Value(1), Call::Key("a")],
         "E6 Failed",
-    )?;
-    check_calls(&rt, alloc, &[], &[Call::Value(1)], "C11")
+    );
+    check_calls(&rt, alloc, &[], &[Call::Value(1)], "C11");
 }
 
 #[test]
-fn a_key_where_a_value_is_due_is_refused(rt: HostRuntime) -> Tested {
-    check_calls(&rt, rt.alloc(), &[Call::Key("a")], &[Call::Key("b")], "C11")
+fn a_key_where_a_value_is_due_is_refused(rt: HostRuntime) {
+    check_calls(&rt, rt.alloc(), &[Call::Key("a")], &[Call::Key("b")], "C11");
 }
 
 #[test]
-fn after_a_key_out_of_turn_a_value_is_refused(rt: HostRuntime) -> Tested {
+fn after_a_key_out_of_turn_a_value_is_refused(rt: HostRuntime) {
     let refused = [Call::Key("b"), Call::Value(1)];
-    check_calls(&rt, rt.alloc(), &[Call::Key("a")], &refused, "E6 Failed")
+    check_calls(&rt, rt.alloc(), &[Call::Key("a")], &refused, "E6 Failed");
 }
 
 #[test]
-fn a_field_where_a_value_is_due_is_refused(rt: HostRuntime) -> Tested {
-    check_calls(&rt, rt.alloc(), &[Call::Field(0)], &[Call::Field(1)], "C11")
+fn a_field_where_a_value_is_due_is_refused(rt: HostRuntime) {
+    check_calls(&rt, rt.alloc(), &[Call::Field(0)], &[Call::Field(1)], "C11");
 }
 
 #[test]
-fn an_object_that_ends_with_entries_left_is_refused(rt: HostRuntime) -> Tested {
-    check_ended_early(&rt, rt.alloc(), &[Call::Entry("a", 1)])
+fn an_object_that_ends_with_entries_left_is_refused(rt: HostRuntime) {
+    check_ended_early(&rt, rt.alloc(), &[Call::Entry("a", 1)]);
 }
 
 #[test]
-fn an_object_that_ends_where_a_value_is_due_is_refused(rt: HostRuntime) -> Tested {
-    check_ended_early(&rt, rt.alloc(), &[Call::Entry("a", 1), Call::Key("b")])
+fn an_object_that_ends_where_a_value_is_due_is_refused(rt: HostRuntime) {
+    check_ended_early(&rt, rt.alloc(), &[Call::Entry("a", 1), Call::Key("b")]);
 }

@@ -1,6 +1,5 @@
 //! Tests of containers that are open, and of calls in an order that is refused.
-use super::Tested;
-use super::checks::{check_code, check_item, check_refusal};
+use super::checks::{begun, check_code, check_item, check_refusal};
 use serde_bser::de::{Deserializer, Ignored, ReadsContainers, SliceRead};
 use std::alloc::Global;
 use std::process::Abort;
@@ -12,32 +11,34 @@ const ARRAY: &[u8] = b"\x00\x02\x00\x00\x00\x00\x03\x07\x00\x03\x02\x08\x00\x03\
 const TRUE: &[u8] = b"\x00\x02\x00\x00\x00\x00\x03\x01\x08";
 
 /// Checks what the array's items are, and how many are left before each.
-fn check_items(rt: &impl Abort, alloc: Global, from: &mut Deserializer<SliceRead<'_>>) -> Tested {
-    let mut items = from.read_seq(alloc)?;
-    check_item(rt, alloc, &mut items, 2, Some(true))?;
-    check_item(rt, alloc, &mut items, 1, Some(Ignored))?;
-    check_item::<_, bool>(rt, alloc, &mut items, 0, None)?;
-    items.end()?;
-    Ok(())
+fn check_items(rt: &impl Abort, alloc: Global, from: &mut Deserializer<SliceRead<'_>>) {
+    let mut items = from.read_seq(alloc).expect(rt, "an array is opened");
+    check_item(rt, alloc, &mut items, 2, Some(true));
+    check_item(rt, alloc, &mut items, 1, Some(Ignored));
+    check_item::<_, bool>(rt, alloc, &mut items, 0, None);
+    items.end().expect(rt, "it is at its end");
 }
 
 #[test]
-fn an_array_tells_how_many_items_are_left(rt: HostRuntime) -> Tested {
-    let mut from = Deserializer::new(rt.alloc(), SliceRead::new(ARRAY))?;
-    check_items(&rt, rt.alloc(), &mut from)?;
-    from.end()?;
-    Ok(())
+fn an_array_tells_how_many_items_are_left(rt: HostRuntime) {
+    let mut from = begun(&rt, rt.alloc(), ARRAY);
+    check_items(&rt, rt.alloc(), &mut from);
+    from.end().expect(&rt, "it is at its end");
 }
 
 #[test]
-fn a_template_tells_how_many_rows_are_left(rt: HostRuntime) -> Tested {
+fn a_template_tells_how_many_rows_are_left(rt: HostRuntime) {
     let alloc = rt.alloc();
     // the keys "a" and "b", and seven rows, of which none is there
     let message =
         b"\x00\x02\x00\x00\x00\x00\x03\x0e\x0b\x00\x03\x02\x0d\x03\x01a\x02\x03\x01b\x03\x07";
-    let mut from = Deserializer::new(alloc, SliceRead::new(message))?;
-    assert_eq!(rt; from.read_seq(alloc)?.remaining(), 7);
-    Ok(())
+    let mut from = begun(&rt, alloc, message);
+    assert_eq!(rt;
+        from.read_seq(alloc)
+            .expect(&rt, "an array is opened")
+            .remaining(),
+        7
+    );
 }
 
 /// A call that reads.
@@ -63,9 +64,9 @@ fn check_call(
     from: &mut Deserializer<SliceRead<'_>>,
     call: Call,
     expected: &str,
-) -> Tested {
+) {
     assert!(rt; is_refused(from, call), "{expected} is read");
-    check_refusal(rt, alloc, from, expected)
+    check_refusal(rt, alloc, from, expected);
 }
 
 /// Checks that the call is refused with this code, and again because of that refusal.
@@ -75,42 +76,45 @@ fn check_refused_twice(
     from: &mut Deserializer<SliceRead<'_>>,
     call: Call,
     expected: &str,
-) -> Tested {
-    check_call(rt, alloc, from, call, expected)?;
-    check_call(rt, alloc, from, call, "E6 Failed")
+) {
+    check_call(rt, alloc, from, call, expected);
+    check_call(rt, alloc, from, call, "E6 Failed");
 }
 
 /// Checks that the call is refused once the only value was read.
-fn check_past_the_value(rt: &impl Abort, alloc: Global, call: Call) -> Tested {
-    let mut from = Deserializer::new(alloc, SliceRead::new(TRUE))?;
-    from.read_bool()?;
-    check_refused_twice(rt, alloc, &mut from, call, "C4")
+fn check_past_the_value(rt: &impl Abort, alloc: Global, call: Call) {
+    let mut from = begun(rt, alloc, TRUE);
+    from.read_bool().expect(rt, "a truth value is read");
+    check_refused_twice(rt, alloc, &mut from, call, "C4");
 }
 
 /// Checks that the call is refused while an array is open.
-fn check_inside(rt: &impl Abort, alloc: Global, call: Call) -> Tested {
-    let mut from = Deserializer::new(alloc, SliceRead::new(ARRAY))?;
-    drop(from.read_seq(alloc)?);
-    check_refused_twice(rt, alloc, &mut from, call, "C11")
+fn check_inside(rt: &impl Abort, alloc: Global, call: Call) {
+    let mut from = begun(rt, alloc, ARRAY);
+    drop(from.read_seq(alloc).expect(rt, "an array is opened"));
+    check_refused_twice(rt, alloc, &mut from, call, "C11");
 }
 
 #[test]
-fn a_read_while_an_array_is_open_is_refused(rt: HostRuntime) -> Tested {
+fn a_read_while_an_array_is_open_is_refused(rt: HostRuntime) {
     let alloc = rt.alloc();
-    let mut from = Deserializer::new(alloc, SliceRead::new(ARRAY))?;
-    from.read_seq(alloc)?.next_element::<bool>(alloc)?;
-    check_refused_twice(&rt, alloc, &mut from, Call::Number, "C11")?;
-    check_code(&rt, alloc, &from.end(), "E6 Failed")
+    let mut from = begun(&rt, alloc, ARRAY);
+    from.read_seq(alloc)
+        .expect(&rt, "an array is opened")
+        .next_element::<bool>(alloc)
+        .expect(&rt, "an item is read");
+    check_refused_twice(&rt, alloc, &mut from, Call::Number, "C11");
+    check_code(&rt, alloc, &from.end(), "E6 Failed");
 }
 
 #[test]
-fn a_kind_is_refused_where_none_is_due(rt: HostRuntime) -> Tested {
-    check_past_the_value(&rt, rt.alloc(), Call::Kind)?;
-    check_inside(&rt, rt.alloc(), Call::Kind)
+fn a_kind_is_refused_where_none_is_due(rt: HostRuntime) {
+    check_past_the_value(&rt, rt.alloc(), Call::Kind);
+    check_inside(&rt, rt.alloc(), Call::Kind);
 }
 
 #[test]
-fn a_null_is_refused_where_none_is_due(rt: HostRuntime) -> Tested {
-    check_past_the_value(&rt, rt.alloc(), Call::Null)?;
-    check_inside(&rt, rt.alloc(), Call::Null)
+fn a_null_is_refused_where_none_is_due(rt: HostRuntime) {
+    check_past_the_value(&rt, rt.alloc(), Call::Null);
+    check_inside(&rt, rt.alloc(), Call::Null);
 }

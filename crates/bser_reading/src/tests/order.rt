@@ -1,45 +1,45 @@
 //! Which of several refusals is answered: that of the first check that fails.
-use super::Tested;
-use super::checks::{check_code, check_not_lent, check_refused};
+use super::checks::{begun, check_code, check_not_lent, check_refused};
 use bser_vectors::devices::Plan;
-use serde_bser::de::{Deserializer, SliceRead};
+use serde_bser::de::SliceRead;
 use serde_bser::prelude::*;
 use std::alloc::Global;
 use std::process::Abort;
 
 #[test]
-fn utf8_before_what_cannot_be_lent(rt: HostRuntime) -> Tested {
+fn utf8_before_what_cannot_be_lent(rt: HostRuntime) {
     let alloc = rt.alloc();
     let no_text = b"\x00\x02\0\0\0\0\x03\x04\x02\x03\x01\xff";
-    check_not_lent::<&str>(&rt, alloc, no_text, Plan::whole(), "E6 Utf8")?;
+    check_not_lent::<&str>(&rt, alloc, no_text, Plan::whole(), "E6 Utf8");
     let text = b"\x00\x02\0\0\0\0\x03\x04\x02\x03\x01a";
-    check_not_lent::<&str>(&rt, alloc, text, Plan::whole(), "C8")
+    check_not_lent::<&str>(&rt, alloc, text, Plan::whole(), "C8");
 }
 
 /// An array of true, whose message is said to have five bytes more.
 const SHORT: &[u8] = b"\x00\x02\0\0\0\0\x03\x09\x00\x03\x01\x08";
 
 /// Checks that the end is refused before the array is read, and where it is open.
-fn check_open(rt: &impl Abort, alloc: Global) -> Tested {
-    let mut from = Deserializer::new(alloc, SliceRead::new(SHORT))?;
-    check_code(rt, alloc, &from.end(), "C11")?;
-    drop(from.read_seq(alloc)?);
-    check_code(rt, alloc, &from.end(), "C11")
+fn check_open(rt: &impl Abort, alloc: Global) {
+    let mut from = begun(rt, alloc, SHORT);
+    check_code(rt, alloc, &from.end(), "C11");
+    drop(from.read_seq(alloc).expect(rt, "an array is opened"));
+    check_code(rt, alloc, &from.end(), "C11");
 }
 
 /// Checks that the end is refused by the length once the array was passed over, and by the refusal of
 /// a second value after that.
-fn check_passed_over(rt: &impl Abort, alloc: Global) -> Tested {
-    let mut from = Deserializer::new(alloc, SliceRead::new(SHORT))?;
-    from.skip_value(alloc)?;
-    check_code(rt, alloc, &from.end(), "E4 17 12")?;
+fn check_passed_over(rt: &impl Abort, alloc: Global) {
+    let mut from = begun(rt, alloc, SHORT);
+    from.skip_value(alloc)
+        .expect(rt, "the value is passed over");
+    check_code(rt, alloc, &from.end(), "E4 17 12");
     let second = from.skip_value(alloc);
-    check_refused(rt, alloc, &second, &mut from, "C4")?;
-    check_code(rt, alloc, &from.end(), "E6 Failed")
+    check_refused(rt, alloc, &second, &mut from, "C4");
+    check_code(rt, alloc, &from.end(), "E6 Failed");
 }
 
 #[test]
-fn what_is_open_before_the_length(rt: HostRuntime) -> Tested {
-    check_open(&rt, rt.alloc())?;
-    check_passed_over(&rt, rt.alloc())
+fn what_is_open_before_the_length(rt: HostRuntime) {
+    check_open(&rt, rt.alloc());
+    check_passed_over(&rt, rt.alloc());
 }

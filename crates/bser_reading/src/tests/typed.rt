@@ -1,5 +1,4 @@
 //! Messages read as typed values.
-use super::Tested;
 use super::checks::{
     check_code, check_item, check_not_lent, check_refusal, check_refused, copying,
 };
@@ -12,110 +11,110 @@ use std::alloc::Global;
 use std::process::Abort;
 
 /// Checks that the source's message tells two capabilities.
-fn check_capabilities<R: DeRead + Drop>(rt: &impl Abort, alloc: Global, source: R) -> Tested {
-    let from = Deserializer::new(alloc, source)?;
+fn check_capabilities<R: DeRead + Drop>(rt: &impl Abort, alloc: Global, source: R) {
+    let from = Deserializer::new(alloc, source).expect(rt, "the head is whole");
     assert_eq!(rt; from.capabilities(), 0x8000_0001);
-    Ok(())
 }
 
 #[test]
-fn capabilities_are_told(rt: HostRuntime) -> Tested {
+fn capabilities_are_told(rt: HostRuntime) {
     let bytes = b"\x00\x02\x01\0\0\x80\x03\x01\x0a";
-    check_capabilities(&rt, rt.alloc(), SliceRead::new(bytes))?;
-    check_capabilities(&rt, rt.alloc(), copying(bytes, Plan::pieces(1)))
+    check_capabilities(&rt, rt.alloc(), SliceRead::new(bytes));
+    check_capabilities(&rt, rt.alloc(), copying(bytes, Plan::pieces(1)));
 }
 
 /// Tom and Jerry, as byte strings in an array.
 const NAMES: &[u8] = b"\x00\x02\0\0\0\0\x05\x11\0\0\0\x00\x03\x02\x02\x03\x03Tom\x02\x03\x05Jerry";
 
 #[test]
-fn names_cannot_be_lent_from_a_reader(rt: HostRuntime) -> Tested {
-    check_not_lent::<Vec<&str>>(&rt, rt.alloc(), NAMES, Plan::pieces(1), "C8")?;
-    check_not_lent::<Vec<&str>>(&rt, rt.alloc(), NAMES, Plan::whole(), "C8")
+fn names_cannot_be_lent_from_a_reader(rt: HostRuntime) {
+    check_not_lent::<Vec<&str>>(&rt, rt.alloc(), NAMES, Plan::pieces(1), "C8");
+    check_not_lent::<Vec<&str>>(&rt, rt.alloc(), NAMES, Plan::whole(), "C8");
 }
 
 /// The numbers 1, 2 and 3 in an array.
 const THREE: &[u8] = b"\x00\x02\0\0\0\0\x03\x09\x00\x03\x03\x03\x01\x03\x02\x03\x03";
 
 /// Reads the first of three numbers, and drops the access.
-fn read_first<R: DeRead>(rt: &impl Abort, alloc: Global, from: &mut Deserializer<R>) -> Tested
+fn read_first<R: DeRead>(rt: &impl Abort, alloc: Global, from: &mut Deserializer<R>)
 where
     R::Lent: LendsText,
 {
-    let mut items = from.read_seq(alloc)?;
-    check_item(rt, alloc, &mut items, 3, Some(1i64))?;
+    let mut items = from.read_seq(alloc).expect(rt, "an array is opened");
+    check_item(rt, alloc, &mut items, 3, Some(1i64));
     assert_eq!(rt; items.remaining(), 2);
-    Ok(())
 }
 
 /// Checks that the array is open where an access was dropped.
-fn check_dropped<R: DeRead + Drop>(rt: &impl Abort, alloc: Global, source: R) -> Tested
+fn check_dropped<R: DeRead + Drop>(rt: &impl Abort, alloc: Global, source: R)
 where
     R::Lent: LendsText,
 {
-    let mut from = Deserializer::new(alloc, source)?;
-    read_first(rt, alloc, &mut from)?;
-    check_code(rt, alloc, &from.end(), "C11")
+    let mut from = Deserializer::new(alloc, source).expect(rt, "the head is whole");
+    read_first(rt, alloc, &mut from);
+    check_code(rt, alloc, &from.end(), "C11");
 }
 
 #[test]
-fn an_access_that_is_dropped_leaves_its_array_open(rt: HostRuntime) -> Tested {
+fn an_access_that_is_dropped_leaves_its_array_open(rt: HostRuntime) {
     let alloc = rt.alloc();
-    check_dropped(&rt, alloc, SliceRead::new(THREE))?;
-    check_dropped(&rt, alloc, copying(THREE, Plan::pieces(1)))?;
-    check_dropped(&rt, alloc, copying(THREE, Plan::whole()))
+    check_dropped(&rt, alloc, SliceRead::new(THREE));
+    check_dropped(&rt, alloc, copying(THREE, Plan::pieces(1)));
+    check_dropped(&rt, alloc, copying(THREE, Plan::whole()));
 }
 
 /// Reads the first of three numbers, and checks that the access does not end there.
-fn end_early<R: DeRead>(rt: &impl Abort, alloc: Global, from: &mut Deserializer<R>) -> Tested
+fn end_early<R: DeRead>(rt: &impl Abort, alloc: Global, from: &mut Deserializer<R>)
 where
     R::Lent: LendsText,
 {
-    let mut items = from.read_seq(alloc)?;
-    check_item(rt, alloc, &mut items, 3, Some(1i64))?;
+    let mut items = from.read_seq(alloc).expect(rt, "an array is opened");
+    check_item(rt, alloc, &mut items, 3, Some(1i64));
     assert!(rt; items.end().is_err());
-    Ok(())
 }
 
 /// Checks why an access is refused that ends early, and that later calls are refused.
-fn check_ended_early<R: DeRead + Drop>(rt: &impl Abort, alloc: Global, source: R) -> Tested
+fn check_ended_early<R: DeRead + Drop>(rt: &impl Abort, alloc: Global, source: R)
 where
     R::Lent: LendsText,
 {
-    let mut from = Deserializer::new(alloc, source)?;
-    end_early(rt, alloc, &mut from)?;
-    check_refusal(rt, alloc, &mut from, "C3")?;
+    let mut from = Deserializer::new(alloc, source).expect(rt, "the head is whole");
+    end_early(rt, alloc, &mut from);
+    check_refusal(rt, alloc, &mut from, "C3");
     let read = from.read_i64();
-    check_refused(rt, alloc, &read, &mut from, "E6 Failed")
+    check_refused(rt, alloc, &read, &mut from, "E6 Failed");
 }
 
 #[test]
-fn an_access_that_ends_with_items_left_is_refused(rt: HostRuntime) -> Tested {
+fn an_access_that_ends_with_items_left_is_refused(rt: HostRuntime) {
     let alloc = rt.alloc();
-    check_ended_early(&rt, alloc, SliceRead::new(THREE))?;
-    check_ended_early(&rt, alloc, copying(THREE, Plan::pieces(1)))?;
-    check_ended_early(&rt, alloc, copying(THREE, Plan::whole()))
+    check_ended_early(&rt, alloc, SliceRead::new(THREE));
+    check_ended_early(&rt, alloc, copying(THREE, Plan::pieces(1)));
+    check_ended_early(&rt, alloc, copying(THREE, Plan::whole()));
 }
 
 /// Null, and then 128.
 const TWO_MESSAGES: &[u8] = b"\x00\x02\0\0\0\0\x03\x01\x0a\x00\x02\0\0\0\0\x03\x03\x04\x80\x00";
 
 /// Checks that a reader of this plan gives both messages, and that no third one is left.
-fn check_both_read(rt: &impl Abort, alloc: Global, plan: Plan) -> Tested {
+fn check_both_read(rt: &impl Abort, alloc: Global, plan: Plan) {
     let mut reader = Watched::new(PlannedReader::new(TWO_MESSAGES, plan));
-    from_reader::<_, ()>(alloc, &mut reader)?;
-    assert_eq!(rt; from_reader::<_, i64>(alloc, &mut reader)?, 128);
+    from_reader::<_, ()>(alloc, &mut reader).expect(rt, "the message is read");
+    assert_eq!(rt;
+        from_reader::<_, i64>(alloc, &mut reader).expect(rt, "the message is read"),
+        128
+    );
     assert_eq!(rt; reader.get_ref().left().len(), 0);
     check_code(
         rt,
         alloc,
         &from_reader::<_, i64>(alloc, &mut reader),
         "E6 Eof",
-    )
+    );
 }
 
 #[test]
-fn typed_messages_are_read_one_after_another(rt: HostRuntime) -> Tested {
-    check_both_read(&rt, rt.alloc(), Plan::pieces(1))?;
-    check_both_read(&rt, rt.alloc(), Plan::whole())
+fn typed_messages_are_read_one_after_another(rt: HostRuntime) {
+    check_both_read(&rt, rt.alloc(), Plan::pieces(1));
+    check_both_read(&rt, rt.alloc(), Plan::whole());
 }

@@ -17,68 +17,42 @@ fn check_texts(
     escaped: &str,
     shown: &str,
     debugged: &str,
-) -> Result<(), AllocError> {
-    let value = byte_string(alloc, bytes)?;
-    check_string(rt, value.as_escaped_string(alloc), escaped)?;
-    check_string(rt, format!(in alloc; "{value}"), shown)?;
-    check_string(rt, format!(in alloc; "{value:?}"), debugged)
+) {
+    let value = byte_string(alloc, bytes).expect(rt, "memory is left");
+    check_string(rt, value.as_escaped_string(alloc), escaped);
+    check_string(rt, format!(in alloc; "{value}"), shown);
+    check_string(rt, format!(in alloc; "{value:?}"), debugged);
 }
 
-#[test]
-fn texts(rt: HostRuntime) -> Result<(), AllocError> {
-    let alloc = rt.alloc();
-    check_texts(&rt, alloc, b"", "", "\"\"", "\"\"")?;
-    check_texts(
-        &rt,
-        alloc,
-        b"a\xffb",
-        "a\\xffb",
-        "\"a\\\\xffb\"",
-        "\"a\\\\xffb\"",
-    )?;
-    check_texts(
-        &rt,
-        alloc,
-        b"a\xc3",
-        "a\\xc3",
-        "\"a\\\\xc3\"",
-        "\"a\\\\xc3\"",
-    )?;
-    check_texts(&rt, alloc, b"\0", "\0", "\"\\u{0}\"", "\"\\0\"")?;
-    check_texts(
-        &rt,
-        alloc,
-        b"\0a\n",
-        "\0a\n",
-        "\"\\u{0}a\\n\"",
-        "\"\\0a\\n\"",
-    )?;
-    check_texts(
-        &rt,
-        alloc,
-        b"\xc3\xa9",
-        "\u{e9}",
-        "\"\\u{e9}\"",
-        "\"\\u{e9}\"",
-    )?;
-    check_texts(&rt, alloc, b"a\n", "a\n", "\"a\\n\"", "\"a\\n\"")?;
-    check_texts(&rt, alloc, b"\x7f", "\x7f", "\"\\u{7f}\"", "\"\\u{7f}\"")?;
-    check_texts(
-        &rt,
-        alloc,
+/// Bytes, and how they are escaped, shown and debugged.
+const TEXTS: [(&[u8], &str, &str, &str); 10] = [
+    (b"", "", "\"\"", "\"\""),
+    (b"a\xffb", "a\\xffb", "\"a\\\\xffb\"", "\"a\\\\xffb\""),
+    (b"a\xc3", "a\\xc3", "\"a\\\\xc3\"", "\"a\\\\xc3\""),
+    (b"\0", "\0", "\"\\u{0}\"", "\"\\0\""),
+    (b"\0a\n", "\0a\n", "\"\\u{0}a\\n\"", "\"\\0a\\n\""),
+    (b"\xc3\xa9", "\u{e9}", "\"\\u{e9}\"", "\"\\u{e9}\""),
+    (b"a\n", "a\n", "\"a\\n\"", "\"a\\n\""),
+    (b"\x7f", "\x7f", "\"\\u{7f}\"", "\"\\u{7f}\""),
+    (
         b"\t\r'\"\\",
         "\t\r'\"\\",
         "\"\\t\\r\\'\\\"\\\\\"",
         "\"\\t\\r\\'\\\"\\\\\"",
-    )?;
-    check_texts(
-        &rt,
-        alloc,
+    ),
+    (
         b"\xe2\x82\xf0\x9f\x92\xa9\xe2\x82",
         "\\xe2\\x82\u{1f4a9}\\xe2\\x82",
         "\"\\\\xe2\\\\x82\\u{1f4a9}\\\\xe2\\\\x82\"",
         "\"\\\\xe2\\\\x82\\u{1f4a9}\\\\xe2\\\\x82\"",
-    )
+    ),
+];
+
+#[test]
+fn texts(rt: HostRuntime) {
+    for (bytes, escaped, shown, debugged) in &TEXTS {
+        check_texts(&rt, rt.alloc(), bytes, escaped, shown, debugged);
+    }
 }
 
 /// The answer is this text, or these bytes as they were.
@@ -90,15 +64,19 @@ fn is_answer(answer: &Result<String, ByteString>, expected: Result<&str, &[u8]>)
 }
 
 /// The bytes become this text, or are handed back as they are.
-fn check_into_string(
-    rt: &impl Abort,
-    alloc: Global,
-    bytes: &[u8],
-    expected: Result<&str, &[u8]>,
-) -> Result<(), AllocError> {
-    let answer = byte_string(alloc, bytes)?.into_string();
-    assert!(rt; is_answer(&answer, expected), "not {expected:?}");
-    Ok(())
+fn check_into_string(rt: &impl Abort, alloc: Global, bytes: &[u8], expected: Result<&str, &[u8]>) {
+    let value = byte_string(alloc, bytes).expect(rt, "memory is left");
+    assert!(rt;
+        is_answer(&value.into_string(), expected),
+        "not {expected:?}"
+    );
+}
+
+#[test]
+fn conversions(rt: HostRuntime) {
+    check_into_string(&rt, rt.alloc(), b"\xff", Err(b"\xff"));
+    check_into_string(&rt, rt.alloc(), b"Tom", Ok("Tom"));
+    check_into_string(&rt, rt.alloc(), b"caf\xc3\xa9", Ok("caf\u{e9}"));
 }
 
 /// The two are the same, and so are copies of the first, which have these bytes.
@@ -116,15 +94,11 @@ fn check_copies(
 }
 
 #[test]
-fn conversions(rt: HostRuntime) -> Result<(), AllocError> {
-    let alloc = rt.alloc();
-    check_into_string(&rt, alloc, b"\xff", Err(b"\xff"))?;
-    check_into_string(&rt, alloc, b"Tom", Ok("Tom"))?;
-    check_into_string(&rt, alloc, b"caf\xc3\xa9", Ok("caf\u{e9}"))?;
-    let mut copied = ByteString::from_text(alloc, "name")?;
+fn copies(rt: HostRuntime) -> Result<(), AllocError> {
+    let mut copied = ByteString::from_text(rt.alloc(), "name")?;
     copied.as_mut_bytes()[0] = b'g';
-    let owned = ByteString::from(String::from_str(alloc, "game")?);
-    check_copies(&rt, alloc, &copied, &owned, b"game")
+    let owned = ByteString::from(String::from_str(rt.alloc(), "game")?);
+    check_copies(&rt, rt.alloc(), &copied, &owned, b"game")
 }
 
 /// A sorted map with copies of these keys.
@@ -151,20 +125,28 @@ fn hashed(
     Ok(map)
 }
 
-/// A sorted map finds its keys, and has the lesser one first.
+/// Whether a sorted map finds its keys, and has the lesser one first.
+fn is_in_order(map: &BTreeMap<ByteString, i32>, low: &ByteString, high: &ByteString) -> bool {
+    map.get(high) == Some(&2) && map.keys().next() == Some(low)
+}
+
+/// A sorted map of the two is in order.
 fn check_sorted(
     rt: &impl Abort,
     alloc: Global,
     low: &ByteString,
     high: &ByteString,
 ) -> Result<(), AllocError> {
-    let map = sorted(alloc, &[(high, 2), (low, 1)])?;
-    assert!(rt; map.get(high) == Some(&2));
-    assert!(rt; map.keys().next() == Some(low));
+    assert!(rt; is_in_order(&sorted(alloc, &[(high, 2), (low, 1)])?, low, high));
     Ok(())
 }
 
-/// A hashed map finds its keys, and no other.
+/// Whether a hashed map finds its keys, and no other.
+fn finds_its_keys(map: &HashMap<ByteString, i32>, low: &ByteString, other: &ByteString) -> bool {
+    map.get(low) == Some(&1) && map.get(other).is_none()
+}
+
+/// A hashed map of the two finds its keys, and no other.
 fn check_hashed(
     rt: &impl Abort,
     alloc: Global,
@@ -172,17 +154,13 @@ fn check_hashed(
     high: &ByteString,
     other: &ByteString,
 ) -> Result<(), AllocError> {
-    let map = hashed(alloc, &[(high, 2), (low, 1)])?;
-    assert!(rt; map.get(low) == Some(&1));
-    assert!(rt; map.get(other).is_none());
+    assert!(rt; finds_its_keys(&hashed(alloc, &[(high, 2), (low, 1)])?, low, other));
     Ok(())
 }
 
 /// The three rise: a beginning stands before what it begins.
 fn check_order(rt: &impl Abort, short: &ByteString, low: &ByteString, high: &ByteString) {
-    assert!(rt; low < high);
-    assert!(rt; short < low);
-    assert!(rt; low != high);
+    assert!(rt; low < high && short < low && low != high);
 }
 
 #[test]

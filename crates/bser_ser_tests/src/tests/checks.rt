@@ -21,23 +21,13 @@ pub fn check_bytes(rt: &impl Abort, found: &[u8], expected: &[u8]) {
 }
 
 /// The string was made, and is this text.
-pub fn check_string(
-    rt: &impl Abort,
-    made: std::result::Result<String, AllocError>,
-    text: &str,
-) -> std::result::Result<(), AllocError> {
-    check_same(rt, made?.as_str(), text);
-    Ok(())
+pub fn check_string(rt: &impl Abort, made: std::result::Result<String, AllocError>, text: &str) {
+    check_same(rt, made.expect(rt, "memory is left").as_str(), text);
 }
 
 /// The value is printed as this text.
-pub fn check_text<T: Display + Drop>(
-    rt: &impl Abort,
-    alloc: Global,
-    printed: T,
-    text: &str,
-) -> std::result::Result<(), AllocError> {
-    check_string(rt, format!(in alloc; "{printed}"), text)
+pub fn check_text<T: Display + Drop>(rt: &impl Abort, alloc: Global, printed: T, text: &str) {
+    check_string(rt, format!(in alloc; "{printed}"), text);
 }
 
 /// The answer is a refusal with this text.
@@ -46,11 +36,8 @@ pub fn check_refused<T: Drop>(
     alloc: Global,
     answer: std::result::Result<T, Error>,
     text: &str,
-) -> Tested {
-    match answer {
-        Ok(_) => Err("not refused".into()),
-        Err(error) => Ok(check_text(rt, alloc, error, text)?),
-    }
+) {
+    check_text(rt, alloc, answer.err().expect(rt, "a refusal"), text);
 }
 
 /// A message in memory.
@@ -67,7 +54,7 @@ pub fn check_written<T: Serialize + Drop>(
     alloc: Global,
     value: T,
     expected: &[u8],
-) -> Tested {
-    check_bytes(rt, message(alloc, &value)?.as_slice(), expected);
-    Ok(())
+) {
+    let found = message(alloc, &value).expect(rt, "the value is written");
+    check_bytes(rt, found.as_slice(), expected);
 }

@@ -2,13 +2,13 @@
 use super::checks::{check_string, check_text};
 use bser_format::errors::{Collection, Complaint, EnumName, Error, Kind, Message, ReadCause};
 use bser_format::header::{HeaderByte, header_byte_desc};
-use std::alloc::{AllocError, Global};
+use std::alloc::Global;
 use std::io;
 use std::io::ErrorKind;
 use std::process::Abort;
 
 #[test]
-fn kinds(rt: HostRuntime) -> Result<(), AllocError> {
+fn kinds(rt: HostRuntime) {
     let kinds = [
         (Kind::NextItem, "next item"),
         (Kind::Integer, "integer"),
@@ -25,9 +25,8 @@ fn kinds(rt: HostRuntime) -> Result<(), AllocError> {
         ),
     ];
     for (kind, text) in &kinds {
-        check_text(&rt, rt.alloc(), kind, text)?;
+        check_text(&rt, rt.alloc(), kind, text);
     }
-    Ok(())
 }
 
 const COMPLAINTS: [(Complaint, &str); 12] = [
@@ -52,37 +51,25 @@ const COMPLAINTS: [(Complaint, &str); 12] = [
 ];
 
 /// The error is printed as this beginning and then the text.
-fn check_error(
-    rt: &impl Abort,
-    alloc: Global,
-    error: Error,
-    beginning: &str,
-    text: &str,
-) -> Result<(), AllocError> {
-    let whole = format!(in alloc; "{beginning}{text}")?;
-    check_text(rt, alloc, error, whole.as_str())
+fn check_error(rt: &impl Abort, alloc: Global, error: Error, beginning: &str, text: &str) {
+    let whole = format!(in alloc; "{beginning}{text}").expect(rt, "memory is left");
+    check_text(rt, alloc, error, whole.as_str());
 }
 
 /// The complaint is printed as this text, by itself and as a refusal of each side.
-fn check_complaint(
-    rt: &impl Abort,
-    alloc: Global,
-    complaint: Complaint,
-    text: &str,
-) -> Result<(), AllocError> {
-    check_text(rt, alloc, complaint, text)?;
+fn check_complaint(rt: &impl Abort, alloc: Global, complaint: Complaint, text: &str) {
+    check_text(rt, alloc, complaint, text);
     let reading = Error::de_custom(complaint);
-    check_error(rt, alloc, reading, "error while deserializing BSER: ", text)?;
+    check_error(rt, alloc, reading, "error while deserializing BSER: ", text);
     let writing = Error::ser_custom(complaint);
-    check_error(rt, alloc, writing, "error while serializing BSER: ", text)
+    check_error(rt, alloc, writing, "error while serializing BSER: ", text);
 }
 
 #[test]
-fn fixed_messages(rt: HostRuntime) -> Result<(), AllocError> {
+fn fixed_messages(rt: HostRuntime) {
     for (complaint, text) in &COMPLAINTS {
-        check_complaint(&rt, rt.alloc(), *complaint, text)?;
+        check_complaint(&rt, rt.alloc(), *complaint, text);
     }
-    Ok(())
 }
 
 /// A reader's fault.
@@ -91,59 +78,59 @@ fn reader_fault() -> ReadCause {
 }
 
 #[test]
-fn refusals_of_reading(rt: HostRuntime) -> Result<(), AllocError> {
+fn causes_of_refusals_of_reading(rt: HostRuntime) {
     let alloc = rt.alloc();
-    check_text(&rt, alloc, ReadCause::Eof, "end of input")?;
-    check_text(&rt, alloc, ReadCause::Utf8, "invalid UTF-8")?;
-    check_text(&rt, alloc, reader_fault(), "reader fault")?;
-    check_text(&rt, alloc, ReadCause::Memory, "out of memory")?;
-    check_text(&rt, alloc, ReadCause::Failed, "failed before")?;
+    check_text(&rt, alloc, ReadCause::Eof, "end of input");
+    check_text(&rt, alloc, ReadCause::Utf8, "invalid UTF-8");
+    check_text(&rt, alloc, reader_fault(), "reader fault");
+    check_text(&rt, alloc, ReadCause::Memory, "out of memory");
+    check_text(&rt, alloc, ReadCause::Failed, "failed before");
+}
+
+#[test]
+fn refusals_of_reading(rt: HostRuntime) {
+    let alloc = rt.alloc();
     let refused = Error::de_reader_error(reader_fault());
-    check_text(&rt, alloc, refused, "reader error while deserializing")?;
+    check_text(&rt, alloc, refused, "reader error while deserializing");
     let refused = Error::de_reader_error(ReadCause::Memory);
-    check_text(&rt, alloc, refused, "out of memory")?;
+    check_text(&rt, alloc, refused, "out of memory");
     let made = Error::DeCustom {
-        msg: Message::Made(String::from_str(alloc, "no colour")?),
+        msg: Message::Made(String::from_str(alloc, "no colour").expect(&rt, "memory is left")),
     };
     check_text(
         &rt,
         alloc,
         made,
         "error while deserializing BSER: no colour",
-    )?;
+    );
     let refused = Error::DeRecursionLimitExceeded {
         kind: Kind::ObjectLikeEnum(EnumName::new("TestEnum")),
     };
     let text =
         "while deserializing BSER: recursion limit exceeded with object-like enum 'TestEnum'";
-    check_text(&rt, alloc, refused, text)
+    check_text(&rt, alloc, refused, text);
 }
 
 /// The refusal of a collection whose size is not told.
-fn check_need_size(
-    rt: &impl Abort,
-    alloc: Global,
-    kind: Collection,
-    text: &str,
-) -> Result<(), AllocError> {
+fn check_need_size(rt: &impl Abort, alloc: Global, kind: Collection, text: &str) {
     check_text(rt, alloc, Error::SerNeedSize { kind }, text)
 }
 
 #[test]
-fn refusals_of_writing(rt: HostRuntime) -> Result<(), AllocError> {
+fn refusals_of_writing(rt: HostRuntime) {
     let alloc = rt.alloc();
     let text = "while serializing BSER: need size of sequence";
-    check_need_size(&rt, alloc, Collection::Sequence, text)?;
+    check_need_size(&rt, alloc, Collection::Sequence, text);
     let text = "while serializing BSER: need size of map";
-    check_need_size(&rt, alloc, Collection::Map, text)?;
+    check_need_size(&rt, alloc, Collection::Map, text);
     let great = Error::SerU64TooBig {
         v: 9223372036854775808,
     };
     let text = "while serializing BSER: integer too big: 9223372036854775808";
-    check_text(&rt, alloc, great, text)?;
+    check_text(&rt, alloc, great, text);
     let fault = Error::from(io::Error::from(ErrorKind::Other));
-    check_text(&rt, alloc, fault, "IO Error")?;
-    check_text(&rt, alloc, Error::OutOfMemory, "out of memory")
+    check_text(&rt, alloc, fault, "IO Error");
+    check_text(&rt, alloc, Error::OutOfMemory, "out of memory");
 }
 
 const TAGS: [(u8, &str); 15] = [
@@ -165,15 +152,14 @@ const TAGS: [(u8, &str); 15] = [
 ];
 
 /// The tag's byte is described by this text, as a value and by its function.
-fn check_tag(rt: &impl Abort, alloc: Global, byte: u8, text: &str) -> Result<(), AllocError> {
-    check_text(rt, alloc, HeaderByte(byte), text)?;
-    check_string(rt, header_byte_desc(alloc, byte), text)
+fn check_tag(rt: &impl Abort, alloc: Global, byte: u8, text: &str) {
+    check_text(rt, alloc, HeaderByte(byte), text);
+    check_string(rt, header_byte_desc(alloc, byte), text);
 }
 
 #[test]
-fn tags(rt: HostRuntime) -> Result<(), AllocError> {
+fn tags(rt: HostRuntime) {
     for (byte, text) in &TAGS {
-        check_tag(&rt, rt.alloc(), *byte, text)?;
+        check_tag(&rt, rt.alloc(), *byte, text);
     }
-    Ok(())
 }

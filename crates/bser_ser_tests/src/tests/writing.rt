@@ -65,39 +65,39 @@ impl Write for Planned {
 }
 
 #[test]
-fn writes_integers_in_their_least_size(rt: HostRuntime) -> Tested {
+fn writes_integers_in_their_least_size(rt: HostRuntime) {
     let alloc = rt.alloc();
     check_written(
         &rt,
         alloc,
         128i64,
         b"\x00\x02\x00\x00\x00\x00\x03\x03\x04\x80\x00",
-    )?;
+    );
     check_written(
         &rt,
         alloc,
         -129i16,
         b"\x00\x02\x00\x00\x00\x00\x03\x03\x04\x7f\xff",
-    )?;
+    );
     check_written(
         &rt,
         alloc,
         -128i8,
         b"\x00\x02\x00\x00\x00\x00\x03\x02\x03\x80",
-    )?;
+    );
     check_written(
         &rt,
         alloc,
         i64::MIN,
         b"\x00\x02\x00\x00\x00\x00\x03\x09\x06\x00\x00\x00\x00\x00\x00\x00\x80",
-    )
+    );
 }
 
 /// A serializer over a writer of this plan, with a text pending.
-fn with_hello(alloc: Global, plan: &'static [Step]) -> std::result::Result<Planning, Error> {
+fn with_hello(rt: &impl Abort, alloc: Global, plan: &'static [Step]) -> Planning {
     let mut out = Serializer::new(alloc, Watched::new(Planned::new(alloc, plan)));
-    out.put_text("hello")?;
-    Ok(out)
+    out.put_text("hello").expect(rt, "the text is put");
+    out
 }
 
 /// The writer has taken these bytes.
@@ -106,48 +106,55 @@ fn check_taken(rt: &impl Abort, writer: Watched<Planned>, expected: &[u8]) {
 }
 
 /// The text is finished, and the writer has taken it whole.
-fn check_finished(rt: &impl Abort, out: Planning) -> Tested {
-    check_taken(rt, out.finish()?, b"\x0d\x03\x05hello");
-    Ok(())
+fn check_finished(rt: &impl Abort, out: Planning) {
+    let writer = out.finish().expect(rt, "the writer takes the rest");
+    check_taken(rt, writer, b"\x0d\x03\x05hello");
+}
+
+/// The fault is of this kind.
+fn check_kind(rt: &impl Abort, fault: &io::Error, kind: ErrorKind) {
+    assert_eq!(rt; fault.kind(), kind);
 }
 
 /// Flushing stops with a fault of this kind.
-fn check_flush_stops(rt: &impl Abort, out: &mut Planning, kind: ErrorKind) -> Tested {
-    let fault = out.flush().err().ok_or("no fault")?;
-    assert_eq!(rt; fault.kind(), kind);
-    Ok(())
+fn check_flush_stops(rt: &impl Abort, out: &mut Planning, kind: ErrorKind) {
+    check_kind(rt, &out.flush().err().expect(rt, "a fault"), kind);
 }
 
 /// Finishing stops with a fault of kind `Other`, and hands the serializer back.
-fn stopped(rt: &impl Abort, out: Planning) -> std::result::Result<Planning, Fail> {
-    let (out, fault) = out.try_finish().err().ok_or("no fault")?;
-    assert_eq!(rt; fault.kind(), ErrorKind::Other);
-    Ok(out)
+fn stopped(rt: &impl Abort, out: Planning) -> Planning {
+    let (out, fault) = out.try_finish().err().expect(rt, "a fault");
+    check_kind(rt, &fault, ErrorKind::Other);
+    out
+}
+
+/// Finishing again goes on, and the writer has taken the text whole.
+fn check_finished_again(rt: &impl Abort, out: Planning) {
+    let writer = out.try_finish().ok().expect(rt, "no fault");
+    check_taken(rt, writer, b"\x0d\x03\x05hello");
 }
 
 #[test]
-fn goes_on_at_the_same_byte_after_a_fault(rt: HostRuntime) -> Tested {
+fn goes_on_at_the_same_byte_after_a_fault(rt: HostRuntime) {
     let plan = &[Step::Take(3), Step::Fault(ErrorKind::Other)];
-    let out = stopped(&rt, with_hello(rt.alloc(), plan)?)?;
-    let writer = out.try_finish().ok().ok_or("a fault")?;
-    check_taken(&rt, writer, b"\x0d\x03\x05hello");
-    Ok(())
+    let out = stopped(&rt, with_hello(&rt, rt.alloc(), plan));
+    check_finished_again(&rt, out);
 }
 
 #[test]
-fn a_writer_that_takes_nothing_gives_write_zero(rt: HostRuntime) -> Tested {
-    let mut out = with_hello(rt.alloc(), &[Step::Take(0)])?;
-    check_flush_stops(&rt, &mut out, ErrorKind::WriteZero)?;
-    check_finished(&rt, out)
+fn a_writer_that_takes_nothing_gives_write_zero(rt: HostRuntime) {
+    let mut out = with_hello(&rt, rt.alloc(), &[Step::Take(0)]);
+    check_flush_stops(&rt, &mut out, ErrorKind::WriteZero);
+    check_finished(&rt, out);
 }
 
 #[test]
-fn an_interruption_is_handed_back(rt: HostRuntime) -> Tested {
+fn an_interruption_is_handed_back(rt: HostRuntime) {
     let plan = &[Step::Take(2), Step::Fault(ErrorKind::Interrupted)];
-    let mut out = with_hello(rt.alloc(), plan)?;
-    check_flush_stops(&rt, &mut out, ErrorKind::Interrupted)?;
-    out.flush()?;
-    check_finished(&rt, out)
+    let mut out = with_hello(&rt, rt.alloc(), plan);
+    check_flush_stops(&rt, &mut out, ErrorKind::Interrupted);
+    out.flush().expect(&rt, "no fault");
+    check_finished(&rt, out);
 }
 
 #[test]
@@ -162,15 +169,15 @@ fn refuses_a_great_number_before_writing(rt: HostRuntime) -> Tested {
         alloc,
         answer,
         "while serializing BSER: integer too big: 9223372036854775808",
-    )
+    );
+    Ok(())
 }
 
 #[test]
-fn what_was_taken_before_a_fault_stays_taken(rt: HostRuntime) -> Tested {
+fn what_was_taken_before_a_fault_stays_taken(rt: HostRuntime) {
     let plan = &[Step::Take(3), Step::Fault(ErrorKind::Other)];
-    let out = stopped(&rt, with_hello(rt.alloc(), plan)?)?;
+    let out = stopped(&rt, with_hello(&rt, rt.alloc(), plan));
     check_taken(&rt, out.into_writer(), b"\x0d\x03\x05");
-    Ok(())
 }
 
 /// A serializer into memory.
@@ -178,27 +185,32 @@ fn in_memory(alloc: Global) -> Serializer<Watched<Vec<u8>>> {
     Serializer::new(alloc, Watched::new(Vec::new(alloc)))
 }
 
-/// After a byte string of 4094 bytes and so many nulls, this many bytes were sent.
-fn check_sent_after(rt: &impl Abort, alloc: Global, nulls: usize, sent: usize) -> Tested {
-    let mut out = in_memory(alloc);
+/// Puts a byte string of 4094 bytes, and so many nulls.
+fn put_much<W: Sink>(out: &mut Serializer<W>, nulls: usize) -> std::result::Result<(), Error> {
     out.put_bytes(&[0; 4090])?;
     for _ in 0..nulls {
         out.put_null()?;
     }
-    assert_eq!(rt; out.into_writer().into_inner().len(), sent);
     Ok(())
+}
+
+/// After a byte string of 4094 bytes and so many nulls, this many bytes were sent.
+fn check_sent_after(rt: &impl Abort, alloc: Global, nulls: usize, sent: usize) {
+    let mut out = in_memory(alloc);
+    put_much(&mut out, nulls).expect(rt, "the nulls are put");
+    assert_eq!(rt; out.into_writer().into_inner().len(), sent);
 }
 
 #[test]
-fn sends_before_a_put_when_much_is_pending(rt: HostRuntime) -> Tested {
-    check_sent_after(&rt, rt.alloc(), 3, 0)?;
-    check_sent_after(&rt, rt.alloc(), 4, 4097)
+fn sends_before_a_put_when_much_is_pending(rt: HostRuntime) {
+    check_sent_after(&rt, rt.alloc(), 3, 0);
+    check_sent_after(&rt, rt.alloc(), 4, 4097);
 }
 
 /// What was put is these bytes.
-fn check_put(rt: &impl Abort, out: Serializer<Watched<Vec<u8>>>, expected: &[u8]) -> Tested {
-    check_bytes(rt, out.finish()?.into_inner().as_slice(), expected);
-    Ok(())
+fn check_put(rt: &impl Abort, out: Serializer<Watched<Vec<u8>>>, expected: &[u8]) {
+    let writer = out.finish().expect(rt, "the writer takes the rest");
+    check_bytes(rt, writer.into_inner().as_slice(), expected);
 }
 
 /// Puts a text, and puts it again where memory was refused.
@@ -225,37 +237,38 @@ fn put_variant_again<W: Sink>(
 #[test]
 fn a_put_that_is_refused_for_memory_can_be_put_again(rt: HostRuntime) -> Tested {
     let mut out = in_memory(rt.alloc());
-    put_again(&mut out, "hello")?;
-    put_again(&mut out, "a text")?;
-    put_again(&mut out, "and one that is longer")?;
+    for text in ["hello", "a text", "and one that is longer"] {
+        put_again(&mut out, text)?;
+    }
     put_variant_again(&mut out, "of an enum")?;
     check_put(
         &rt,
         out,
         b"\x0d\x03\x05hello\x0d\x03\x06a text\x0d\x03\x16and one that is longer\x01\x03\x01\x0d\x03\x0aof an enum",
-    )
+    );
+    Ok(())
 }
 
 #[test]
-fn a_sequence_needs_its_size(rt: HostRuntime) -> Tested {
+fn a_sequence_needs_its_size(rt: HostRuntime) {
     let mut out = in_memory(rt.alloc());
     check_refused(
         &rt,
         rt.alloc(),
         out.put_seq(None),
         "while serializing BSER: need size of sequence",
-    )?;
-    out.put_null()?;
-    check_put(&rt, out, b"\x0a")
+    );
+    out.put_null().expect(&rt, "a null is put");
+    check_put(&rt, out, b"\x0a");
 }
 
 #[test]
-fn puts_a_key_that_is_no_text(rt: HostRuntime) -> Tested {
+fn puts_a_key_that_is_no_text(rt: HostRuntime) {
     let mut out = in_memory(rt.alloc());
-    out.put_map(Some(1))?;
-    out.put_key(b"\xff")?;
-    out.put_null()?;
-    check_put(&rt, out, b"\x01\x03\x01\x02\x03\x01\xff\x0a")
+    out.put_map(Some(1)).expect(&rt, "an object is put");
+    out.put_key(b"\xff").expect(&rt, "a key is put");
+    out.put_null().expect(&rt, "a null is put");
+    check_put(&rt, out, b"\x01\x03\x01\x02\x03\x01\xff\x0a");
 }
 
 /// A variant with fields.
@@ -272,26 +285,26 @@ fn tuple_variant() -> TestEnum {
 }
 
 #[test]
-fn writes_the_variants_of_an_enum(rt: HostRuntime) -> Tested {
+fn writes_the_variants_of_an_enum(rt: HostRuntime) {
     let alloc = rt.alloc();
     check_written(
         &rt,
         alloc,
         TestEnum::TestUnit,
         b"\x00\x02\x00\x00\x00\x00\x03\x0b\x0d\x03\x08TestUnit",
-    )?;
+    );
     check_written(
         &rt,
         alloc,
         struct_variant(),
         b"\x00\x02\x00\x00\x00\x00\x03\x27\x01\x03\x01\x0d\x03\x0aTestStruct\x01\x03\x02\x0d\x03\x03abc\x0a\x0d\x03\x03def\x0d\x03\x04\xf0\x9f\x92\xa9",
-    )?;
+    );
     check_written(
         &rt,
         alloc,
         tuple_variant(),
         b"\x00\x02\x00\x00\x00\x00\x03\x1d\x01\x03\x01\x0d\x03\x09TestTuple\x00\x03\x02\x03\x2a\x06\xff\xff\xff\xff\xff\xff\xff\x7f",
-    )
+    );
 }
 
 /// A list of variants that hold something.
@@ -321,7 +334,8 @@ fn writes_a_struct_of_a_list_a_tuple_and_enums(rt: HostRuntime) -> Tested {
         rt.alloc(),
         test_struct(rt.alloc())?,
         b"\x00\x02\x00\x00\x00\x00\x04\xcb\x00\x01\x03\x04\x0d\x03\x09test_list\x00\x03\x05\x03\x03\x03\x04\x03\x2a\x04\xdb\x03\x05\x00\x00\x08\x00\x0d\x03\x0atest_tuple\x00\x03\x02\x0d\x03\x03foo\x07\x18\x2d\x44\x54\xfb\x21\x09\x40\x0d\x03\x09test_enum\x0d\x03\x08TestUnit\x0d\x03\x0etest_enum_list\x00\x03\x03\x01\x03\x01\x0d\x03\x0bTestNewtype\x02\x03\x09BSER test\x01\x03\x01\x0d\x03\x09TestTuple\x00\x03\x02\x03\x2a\x06\xff\xff\xff\xff\xff\xff\xff\x7f\x01\x03\x01\x0d\x03\x0aTestStruct\x01\x03\x02\x0d\x03\x03abc\x0a\x0d\x03\x03def\x0d\x03\x04\xf0\x9f\x92\xa9",
-    )
+    );
+    Ok(())
 }
 
 #[test]
@@ -332,27 +346,32 @@ fn writes_a_struct_whose_name_is_no_text(rt: HostRuntime) -> Tested {
         rt.alloc(),
         FileInfo { name, size: 300 },
         b"\x00\x02\x00\x00\x00\x00\x03\x19\x01\x03\x02\x0d\x03\x04name\x02\x03\x02a\xff\x0d\x03\x04size\x04\x2c\x01",
-    )
-}
-
-/// A byte string of so many times this byte is written as this front and then its bytes.
-fn check_byte_string(rt: &impl Abort, alloc: Global, len: usize, byte: u8, front: &[u8]) -> Tested {
-    let value = ByteString::from_vec(vec![in alloc; byte; len]?);
-    let written = message(alloc, &value)?;
-    let rest = written.strip_prefix(front);
-    assert!(rt; rest == Some(value.as_bytes()), "{len} bytes");
+    );
     Ok(())
 }
 
+/// The message is this front and then these bytes.
+fn check_front(rt: &impl Abort, written: &[u8], front: &[u8], bytes: &[u8]) {
+    assert!(rt; written.strip_prefix(front) == Some(bytes), "{front:?}");
+}
+
+/// A byte string of so many times this byte is written as this front and then its bytes.
+fn check_byte_string(rt: &impl Abort, alloc: Global, len: usize, byte: u8, front: &[u8]) {
+    let bytes = vec![in alloc; byte; len].expect(rt, "memory is left");
+    let value = ByteString::from_vec(bytes);
+    let written = message(alloc, &value).expect(rt, "the value is written");
+    check_front(rt, written.as_slice(), front, value.as_bytes());
+}
+
 #[test]
-fn writes_byte_strings_beside_a_length_that_takes_more_bytes(rt: HostRuntime) -> Tested {
+fn writes_byte_strings_beside_a_length_that_takes_more_bytes(rt: HostRuntime) {
     let alloc = rt.alloc();
     let front = b"\x00\x02\x00\x00\x00\x00\x03\x7f\x02\x03\x7c";
-    check_byte_string(&rt, alloc, 124, 0, front)?;
+    check_byte_string(&rt, alloc, 124, 0, front);
     let front = b"\x00\x02\x00\x00\x00\x00\x04\x80\x00\x02\x03\x7d";
-    check_byte_string(&rt, alloc, 125, 0, front)?;
+    check_byte_string(&rt, alloc, 125, 0, front);
     let front = b"\x00\x02\x00\x00\x00\x00\x05\x46\x0d\x03\x00\x02\x05\x40\x0d\x03\x00";
-    check_byte_string(&rt, alloc, 200_000, 0xa5, front)
+    check_byte_string(&rt, alloc, 200_000, 0xa5, front);
 }
 
 #[test]
@@ -364,7 +383,8 @@ fn writes_a_map_whose_key_is_no_text(rt: HostRuntime) -> Tested {
         rt.alloc(),
         members,
         b"\x00\x02\x00\x00\x00\x00\x03\x08\x01\x03\x01\x02\x03\x01\xff\x0a",
-    )
+    );
+    Ok(())
 }
 
 /// A map with a member that has a value and one that has none.
@@ -383,11 +403,12 @@ fn writes_maps_options_and_tuples(rt: HostRuntime) -> Tested {
         alloc,
         members(alloc)?,
         b"\x00\x02\x00\x00\x00\x00\x03\x0e\x01\x03\x02\x0d\x03\x01a\x0a\x0d\x03\x01b\x03\x01",
-    )?;
+    );
     check_written(
         &rt,
         alloc,
         (true, "x", [()].as_slice(), 'y'),
         b"\x00\x02\x00\x00\x00\x00\x03\x10\x00\x03\x04\x08\x0d\x03\x01x\x00\x03\x01\x0a\x0d\x03\x01y",
-    )
+    );
+    Ok(())
 }

@@ -1,5 +1,5 @@
 //! Looking into a value.
-use super::{Tested, kinds};
+use super::kinds;
 use serde_bser::value::Value;
 use std::collections::BTreeMap;
 use std::fmt::Debug;
@@ -50,11 +50,10 @@ fn check_truths_and_containers(rt: &impl Abort, value: &Value) {
 }
 
 #[test]
-fn each_kind_is_found_by_its_call(rt: HostRuntime) -> Tested {
-    let value = kinds(rt.alloc())?;
+fn each_kind_is_found_by_its_call(rt: HostRuntime) {
+    let value = kinds(&rt, rt.alloc());
     check_strings_and_numbers(&rt, &value);
     check_truths_and_containers(&rt, &value);
-    Ok(())
 }
 
 /// Checks that no call but those for a text finds something.
@@ -79,14 +78,13 @@ fn check_nothing_found(rt: &impl Abort, value: &Value) {
 }
 
 #[test]
-fn another_kind_has_nothing(rt: HostRuntime) -> Tested {
-    let value = kinds(rt.alloc())?;
+fn another_kind_has_nothing(rt: HostRuntime) {
+    let value = kinds(&rt, rt.alloc());
     check_nothing_found(&rt, &value);
     match value.get("t") {
         Some(text) => check_text_alone(&rt, text),
         None => assert!(rt; false, "no text"),
     }
-    Ok(())
 }
 
 /// Checks which float a real of these bits is.
@@ -96,12 +94,11 @@ fn check_float(rt: &impl Abort, bits: u64, expected: Option<f64>) {
 
 /// A NaN is told from infinity, which is a float.
 #[test]
-fn a_nan_is_no_float(rt: HostRuntime) -> Tested {
-    let value = kinds(rt.alloc())?;
+fn a_nan_is_no_float(rt: HostRuntime) {
+    let value = kinds(&rt, rt.alloc());
     check_found(&rt, "n", value.get("n").and_then(Value::as_f64), None);
     check_float(&rt, 0xfff8_0000_0000_0000, None);
     check_float(&rt, 0x7ff0_0000_0000_0001, None);
     check_float(&rt, 0x7ff0_0000_0000_0000, Some(f64::INFINITY));
     check_float(&rt, 0x8000_0000_0000_0000, Some(-0.0));
-    Ok(())
 }

@@ -1,5 +1,4 @@
 //! What tests of values check of texts, of bytes and of what is written.
-use super::Tested;
 use bser_vectors::devices::Plan;
 use bser_vectors::ways::read_by_plan;
 use serde_bser::de::DeserializeOwned;
@@ -21,17 +20,19 @@ pub fn check_bytes(rt: &impl Abort, found: &[u8], expected: &[u8]) {
 }
 
 /// Checks how the value is printed.
-pub fn check_printed(rt: &impl Abort, alloc: Global, value: &Value, expected: &str) -> Tested {
-    check_text(rt, value.to_string(alloc)?.as_str(), expected);
-    Ok(())
+pub fn check_printed(rt: &impl Abort, alloc: Global, value: &Value, expected: &str) {
+    check_text(
+        rt,
+        value.to_string(alloc).expect(rt, "memory is left").as_str(),
+        expected,
+    );
 }
 
 /// Checks that a writer that keeps all bytes is given this message for the value.
-pub fn check_written(rt: &impl Abort, alloc: Global, value: &Value, expected: &[u8]) -> Tested {
+pub fn check_written(rt: &impl Abort, alloc: Global, value: &Value, expected: &[u8]) {
     let mut writer = Watched::new(Vec::new(alloc));
-    serialize_to(alloc, &mut writer, value)?;
+    serialize_to(alloc, &mut writer, value).expect(rt, "the value is written");
     check_bytes(rt, writer.get_ref().as_slice(), expected);
-    Ok(())
 }
 
 /// The answer of a reader that gives the message by the plan.

@@ -1,6 +1,6 @@
 //! Values of long messages.
 use super::checks::check_written;
-use super::{Tested, repeated};
+use super::repeated;
 use bser_vectors::devices::{Plan, PlannedReader};
 use serde_bser::de::{DeserializeOwned, Ignored, from_reader, from_slice};
 use serde_bser::device::Watched;
@@ -43,40 +43,43 @@ fn check_numbers(rt: &impl Abort, items: &[Value], count: usize) {
 }
 
 #[test]
-fn an_array_of_five_thousand_items_keeps_their_order(rt: HostRuntime) -> Result<()> {
+fn an_array_of_five_thousand_items_keeps_their_order(rt: HostRuntime) {
     let alloc = rt.alloc();
     let head = b"\x00\x02\x00\x00\x00\x00\x04\x14\x27\x00\x04\x88\x13";
-    let message = numbers(alloc, head, 5000)?;
-    let value = from_slice::<Value>(alloc, &message)?;
+    let message = numbers(alloc, head, 5000).expect(&rt, "memory is left");
+    let value = from_slice::<Value>(alloc, &message).expect(&rt, "the message is read");
     check_numbers(&rt, items(&value).unwrap_or_default(), 5000);
     let mut reader = Watched::new(message.as_slice());
-    assert!(rt; value == from_reader::<_, Value>(alloc, &mut reader)?);
-    Ok(())
+    assert!(rt;
+        value == from_reader::<_, Value>(alloc, &mut reader).expect(&rt, "the message is read")
+    );
 }
 
 #[test]
-fn a_long_byte_string_is_written_as_it_was_read(rt: HostRuntime) -> Tested {
+fn a_long_byte_string_is_written_as_it_was_read(rt: HostRuntime) {
     let alloc = rt.alloc();
     let front = b"\x00\x02\0\0\0\0\x05\x46\x0d\x03\x00\x02\x05\x40\x0d\x03\x00";
-    let message = repeated(alloc, front, b"\xff\x00", 100_000, b"")?;
-    let value = from_slice::<Value>(alloc, &message)?;
-    check_written(&rt, alloc, &value, &message)
+    let message = repeated(alloc, front, b"\xff\x00", 100_000, b"").expect(&rt, "memory is left");
+    let value = from_slice::<Value>(alloc, &message).expect(&rt, "the message is read");
+    check_written(&rt, alloc, &value, &message);
 }
 
 /// Checks that a reader that gives what is asked for is called at most 16 times for the message.
-fn check_calls<T: DeserializeOwned>(rt: &impl Abort, alloc: Global, message: &[u8]) -> Tested {
+fn check_calls<T: DeserializeOwned>(rt: &impl Abort, alloc: Global, message: &[u8]) {
     let mut reader = Watched::new(PlannedReader::new(message, Plan::whole()));
-    from_reader::<_, T>(alloc, &mut reader)?;
+    from_reader::<_, T>(alloc, &mut reader).expect(rt, "the message is read");
     let calls = reader.get_ref().calls();
     assert!(rt; calls <= 16, "{calls}");
-    Ok(())
 }
 
 #[test]
-fn a_reader_is_called_rarely_however_deep_the_message(rt: HostRuntime) -> Tested {
+fn a_reader_is_called_rarely_however_deep_the_message(rt: HostRuntime) {
     let alloc = rt.alloc();
     let head = b"\x00\x02\0\0\0\0\x04\x80\x01";
-    let message = repeated(alloc, head, b"\x00\x03\x01", 127, b"\x00\x03\x00")?;
-    check_calls::<Value>(&rt, alloc, &message)?;
-    check_calls::<Ignored>(&rt, alloc, &message)
+    let message = repeated(alloc, head, b"\x00\x03\x01", 127, b"\x00\x03\x00").expect(
+        &rt,
+        "memory is left",
+    );
+    check_calls::<Value>(&rt, alloc, &message);
+    check_calls::<Ignored>(&rt, alloc, &message);
 }

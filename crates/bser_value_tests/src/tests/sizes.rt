@@ -1,5 +1,5 @@
 //! How large a value is beside the message that it was read from.
-use super::{Tested, repeated};
+use super::repeated;
 use serde_bser::errors::Error;
 use serde_bser::from_slice;
 use serde_bser::ser::{CountWrite, Serialize, Serializer};
@@ -69,13 +69,12 @@ fn sizes_of(alloc: Global, message: &[u8]) -> Result<Sizes, Error> {
 
 /// Checks the sizes of the value that the message of a body of `len` bytes is read as, and that they
 /// are within the bounds that hold for every message.
-fn check_sizes(rt: &impl Abort, alloc: Global, message: &[u8], len: usize, sizes: Sizes) -> Tested {
-    let (nodes, depth, written) = sizes_of(alloc, message)?;
+fn check_sizes(rt: &impl Abort, alloc: Global, message: &[u8], len: usize, sizes: Sizes) {
+    let (nodes, depth, written) = sizes_of(alloc, message).expect(rt, "the message is read");
     assert_eq!(rt; (nodes, depth, written), sizes);
     assert!(rt; nodes <= len.saturating_mul(2));
     assert!(rt; depth <= 255);
     assert!(rt; written <= len.saturating_mul(len));
-    Ok(())
 }
 
 /// A template of one row in the row of another, and so on, 127 times.
@@ -99,23 +98,29 @@ fn rows_under_a_long_key(alloc: Global) -> Result<Vec<u8>, AllocError> {
 }
 
 #[test]
-fn values_are_within_the_bounds_of_their_messages(rt: HostRuntime) -> Tested {
+fn values_are_within_the_bounds_of_their_messages(rt: HostRuntime) {
     let alloc = rt.alloc();
-    check_sizes(&rt, alloc, ROWS, 40, (9, 2, 61))?;
-    check_sizes(&rt, alloc, RECORDED, 120, (8, 3, 120))?;
+    check_sizes(&rt, alloc, ROWS, 40, (9, 2, 61));
+    check_sizes(&rt, alloc, RECORDED, 120, (8, 3, 120));
     check_sizes(
         &rt,
         alloc,
-        &nested_templates(alloc)?,
+        &nested_templates(alloc).expect(&rt, "memory is left"),
         1273,
         (255, 255, 1273),
-    )?;
-    check_sizes(&rt, alloc, &rows_of_nulls(alloc)?, 110, (201, 2, 803))?;
+    );
     check_sizes(
         &rt,
         alloc,
-        &rows_under_a_long_key(alloc)?,
+        &rows_of_nulls(alloc).expect(&rt, "memory is left"),
+        110,
+        (201, 2, 803),
+    );
+    check_sizes(
+        &rt,
+        alloc,
+        &rows_under_a_long_key(alloc).expect(&rt, "memory is left"),
         209,
         (201, 2, 10_703),
-    )
+    );
 }

@@ -1,6 +1,5 @@
 //! Values that are made, copied and compared.
-use super::Tested;
-use bser_vectors::notation::parse_value;
+use super::spelled;
 use serde_bser::value::Value;
 use std::alloc::{AllocError, Global};
 use std::collections::BTreeMap;
@@ -35,49 +34,52 @@ fn one_null(alloc: Global) -> Result<Vec<Value>, AllocError> {
 }
 
 #[test]
-fn conversions_give_their_variants(rt: HostRuntime) -> Result<(), AllocError> {
+fn conversions_give_their_variants(rt: HostRuntime) {
     let alloc = rt.alloc();
     check_converted(&rt, Value::from(true), Value::Bool(true));
     check_converted(&rt, Value::from(-5), Value::Integer(-5));
-    let text = Value::from(String::from_str(alloc, "Tom")?);
-    check_converted(&rt, text, Value::from_text(alloc, "Tom")?);
-    let items = Value::from(one_null(alloc)?);
-    check_converted(&rt, items, Value::Array(one_null(alloc)?));
+    let text = Value::from(String::from_str(alloc, "Tom").expect(&rt, "memory is left"));
+    check_converted(
+        &rt,
+        text,
+        Value::from_text(alloc, "Tom").expect(&rt, "memory is left"),
+    );
+    let items = Value::from(one_null(alloc).expect(&rt, "memory is left"));
+    check_converted(
+        &rt,
+        items,
+        Value::Array(one_null(alloc).expect(&rt, "memory is left")),
+    );
     let entries = Value::from(BTreeMap::<String, Value>::new(alloc));
     check_converted(&rt, entries, Value::Object(BTreeMap::new(alloc)));
-    Ok(())
 }
 
 #[test]
-fn a_copy_is_equal(rt: HostRuntime) -> Tested {
-    let value = parse_value(rt.alloc(), NESTED)?;
-    let copy = value.try_clone(rt.alloc())?;
+fn a_copy_is_equal(rt: HostRuntime) {
+    let value = spelled(&rt, rt.alloc(), NESTED);
+    let copy = value.try_clone(rt.alloc()).expect(&rt, "memory is left");
     assert!(rt; copy == value);
     copy.check_tree();
-    Ok(())
 }
 
 #[test]
-fn a_clone_is_equal(rt: HostRuntime) -> Tested {
-    let value = parse_value(rt.alloc(), NESTED)?;
-    let clone = value.clone()?;
+fn a_clone_is_equal(rt: HostRuntime) {
+    let value = spelled(&rt, rt.alloc(), NESTED);
+    let clone = value.clone().expect(&rt, "memory is left");
     assert!(rt; clone == value);
-    assert!(rt; clone != parse_value(rt.alloc(), OTHER_REAL)?);
-    Ok(())
+    assert!(rt; clone != spelled(&rt, rt.alloc(), OTHER_REAL));
 }
 
 #[test]
-fn values_with_different_reals_differ(rt: HostRuntime) -> Tested {
-    let value = parse_value(rt.alloc(), NESTED)?;
-    assert!(rt; value != parse_value(rt.alloc(), OTHER_REAL)?);
+fn values_with_different_reals_differ(rt: HostRuntime) {
+    let value = spelled(&rt, rt.alloc(), NESTED);
+    assert!(rt; value != spelled(&rt, rt.alloc(), OTHER_REAL));
     assert!(rt; Value::Real(5) != Value::Integer(5));
-    Ok(())
 }
 
 #[test]
-fn debug_prints_a_value(rt: HostRuntime) -> Tested {
-    let value = parse_value(rt.alloc(), NESTED)?;
-    let printed = format!(in rt.alloc(); "{value:?}")?;
+fn debug_prints_a_value(rt: HostRuntime) {
+    let value = spelled(&rt, rt.alloc(), NESTED);
+    let printed = format!(in rt.alloc(); "{value:?}").expect(&rt, "memory is left");
     assert!(rt; printed.as_str().contains("Integer(-5)"), "{printed}");
-    Ok(())
 }

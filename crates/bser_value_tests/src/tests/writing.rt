@@ -1,26 +1,31 @@
 //! What is written for values, and what is left where a writer faults.
-use super::Tested;
 use super::checks::{check_bytes, check_written};
+use super::{Tested, spelled};
 use bser_vectors::devices::{Plan, PlannedWriter, Then};
-use bser_vectors::notation::parse_value;
 use serde_bser::device::Watched;
 use serde_bser::errors::Error;
 use serde_bser::ser::{serialize, serialize_to};
 use serde_bser::value::Value;
-use std::alloc::Global;
+use std::alloc::{AllocError, Global};
 use std::collections::BTreeMap;
 use std::io::ErrorKind;
 use std::process::Abort;
 
-#[test]
-fn keys_are_written_in_rising_order(rt: HostRuntime) -> Tested {
-    let alloc = rt.alloc();
+/// An object of 1 under the key "b" and 2 under the key "a".
+fn falling(alloc: Global) -> Result<Value, AllocError> {
     let mut entries = BTreeMap::new(alloc);
-    drop(entries.insert(String::from_str(alloc, "b")?, Value::Integer(1))?);
-    drop(entries.insert(String::from_str(alloc, "a")?, Value::Integer(2))?);
+    for (key, number) in [("b", 1), ("a", 2)] {
+        drop(entries.insert(String::from_str(alloc, key)?, Value::Integer(number))?);
+    }
+    Ok(Value::Object(entries))
+}
+
+#[test]
+fn keys_are_written_in_rising_order(rt: HostRuntime) {
+    let value = falling(rt.alloc()).expect(&rt, "memory is left");
     let expected =
         b"\x00\x02\0\0\0\0\x03\x0f\x01\x03\x02\x0d\x03\x01a\x03\x02\x0d\x03\x01b\x03\x01";
-    check_written(&rt, alloc, &Value::Object(entries), expected)
+    check_written(&rt, rt.alloc(), &value, expected);
 }
 
 const TOM: &[u8] = b"\x00\x02\0\0\0\0\x03\x06\x0d\x03\x03Tom";
@@ -65,8 +70,8 @@ fn check_stop(
 }
 
 #[test]
-fn a_fault_at_each_byte_leaves_a_beginning(rt: HostRuntime) -> Tested {
-    let value = parse_value(rt.alloc(), ROWS)?;
+fn a_fault_at_each_byte_leaves_a_beginning(rt: HostRuntime) {
+    let value = spelled(&rt, rt.alloc(), ROWS);
     assert_eq!(rt; ROWS_MESSAGE.len(), 69);
     let stops = [
         (Then::Ends, ErrorKind::WriteZero),
@@ -78,16 +83,14 @@ fn a_fault_at_each_byte_leaves_a_beginning(rt: HostRuntime) -> Tested {
             check_stop(&rt, rt.alloc(), &value, &ROWS_MESSAGE[..whole], stop);
         }
     }
-    Ok(())
 }
 
 #[test]
-fn a_message_is_written_a_byte_a_call(rt: HostRuntime) -> Tested {
-    let value = parse_value(rt.alloc(), ROWS)?;
+fn a_message_is_written_a_byte_a_call(rt: HostRuntime) {
+    let value = spelled(&rt, rt.alloc(), ROWS);
     let mut writer = Watched::new(PlannedWriter::new(rt.alloc(), Plan::pieces(1)));
-    serialize_to(rt.alloc(), &mut writer, &value)?;
+    serialize_to(rt.alloc(), &mut writer, &value).expect(&rt, "the value is written");
     check_bytes(&rt, writer.get_ref().taken(), ROWS_MESSAGE);
-    Ok(())
 }
 
 /// Whether memory was refused, to the writer or to what calls it.
@@ -101,7 +104,7 @@ fn is_want_of_memory(error: &Error) -> bool {
 /// Each growth is granted where the tests run. Where one is refused, a beginning was written.
 #[test]
 fn a_message_that_is_refused_for_memory_leaves_a_beginning(rt: HostRuntime) -> Tested {
-    let value = parse_value(rt.alloc(), ROWS)?;
+    let value = spelled(&rt, rt.alloc(), ROWS);
     let mut writer = Watched::new(PlannedWriter::new(rt.alloc(), Plan::pieces(5)));
     let answer = serialize_to(rt.alloc(), &mut writer, &value);
     let taken = writer.get_ref().taken();
@@ -113,8 +116,8 @@ fn a_message_that_is_refused_for_memory_leaves_a_beginning(rt: HostRuntime) -> T
 }
 
 #[test]
-fn the_writer_is_handed_back_beside_its_fault(rt: HostRuntime) -> Tested {
-    let value = Value::from_text(rt.alloc(), "Tom")?;
+fn the_writer_is_handed_back_beside_its_fault(rt: HostRuntime) {
+    let value = Value::from_text(rt.alloc(), "Tom").expect(&rt, "memory is left");
     let plan = Plan::whole().up_to(7, Then::FaultsOnce(ErrorKind::Other));
     let writer = Watched::new(PlannedWriter::new(rt.alloc(), plan));
     match &serialize(rt.alloc(), writer, &value) {
@@ -124,5 +127,4 @@ fn the_writer_is_handed_back_beside_its_fault(rt: HostRuntime) -> Tested {
             check_bytes(&rt, writer.get_ref().taken(), &TOM[..7]);
         }
     }
-    Ok(())
 }
