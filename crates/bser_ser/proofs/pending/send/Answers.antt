@@ -1,4 +1,5 @@
-use Rattle.std.proofs.Common.{rules, []}
+use Rattle.std.proofs.Common.{rules, [], arith}
+use Rattle.std.proofs.lemmas.Grind.{common_steps}
 use Rattle.bser_ser.proofs.Sending.{took_more, took_no_more}
 use Rattle.bser_ser.proofs.pending.send.Goals as goal
 
@@ -19,3 +20,9 @@ loop-done-preserved g c = record {
 pub returns-in-Err-clause-sent : goal.returns-in-Err-clause-sent
 returns-in-Err-clause-sent g c =
     took_no_more g.W.Sink.took g.met.W.Sink.took_both _ _ _ c.loop-done.done c.loop-done.pending.items _ _ c.loop-done.invariant.same (search rules) c.loop-done.invariant.took c.in-Err.ensures.taken
+
+pub returns-then-n-eq0-clause-err : goal.returns-then-n-eq0-clause-err
+returns-then-n-eq0-clause-err g c = grind (arith, common_steps)
+
+pub returns-in-Err-clause-err : goal.returns-in-Err-clause-err
+returns-in-Err-clause-err g c = grind (arith, common_steps)

@@ -1,4 +1,5 @@
 use Rattle.std.proofs.Common.{rules, arith, length, Ok}
+use Rattle.std.proofs.lemmas.Grind.{common_steps}
 use Rattle.std.proofs.lemmas.Result.{err_from_is_err_and}
 use Rattle.bser_written.specs.Written.{plain_bytes}
 use Rattle.bser_written.specs.Pieces.{object_head}
@@ -38,3 +39,6 @@ returns-clause-ok g c =
 
 pub returns-clause-writable : goal.returns-clause-writable
 returns-clause-writable g c = object_writable plain_bytes g.V.Serialize.meaning c.args.self.now.entries (omega (arith, c.in_ok-put_map.ensures.counted)) (AllBefore-all (EntryCanBeWritten plain_bytes g.V.Serialize.meaning) c.args.self.now.entries _ c.loop-key.invariant.writable (search rules))
+
+pub loop-key-init : goal.loop-key-init
+loop-key-init g c = grind (arith, common_steps)

@@ -1,4 +1,5 @@
 use Rattle.std.proofs.Common.{arith, ◌≤◌, length, sym, ap, subst, ◌∙◌}
+use Rattle.std.proofs.lemmas.Grind.{common_steps}
 use Rattle.bser_source.specs.Window.{AreOctets, Filled}
 use Rattle.bser_source.proofs.Windows.{works, filled_here, took_by}
 use Rattle.bser_source.proofs.read.DeRead.next_bytes.Goals as goal
@@ -21,3 +22,6 @@ returns-in-Some-clause-ok g c =
           ]
     ] in
     took_by c.args.len a b _ _ filled c.consume.ensures c.in-Some.ensures.0
+
+pub returns-else-is_err-clause-ok : goal.returns-else-is_err-clause-ok
+returns-else-is_err-clause-ok g c = grind (arith, common_steps)
