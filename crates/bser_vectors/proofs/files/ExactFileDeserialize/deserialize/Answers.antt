@@ -1,4 +1,5 @@
-use Rattle.std.proofs.Common.{◌≡◌, ◌∙◌, sym, ap, subst, refl, Option, Some, None}
+use Rattle.std.proofs.Common.{arith, ◌≡◌, ◌∙◌, sym, ap, subst, refl, Option, Some, None}
+use Rattle.std.proofs.lemmas.Grind.{common_steps}
 use Rattle.std.proofs.lemmas.Result.{err_from_is_err_and}
 use Rattle.bser_format.specs.Content.{Content, list, content, no_contents}
 use Rattle.bser_deserializer.specs.Reading.{Needs}
@@ -207,3 +208,14 @@ returns-in_default-2-clause-refused g c =
     let z : State = state g.R.DeRead.window g.L.Lending.kept c.complain.new.self in
     let back = c.from-2-1.given.1 (sym (c.in_ok-field.ensures.same_reference ∙ i.same_reference ∙ c.in_ok-map.ensures.same_reference)) in
     fields_missing file_names step nothing_found file_found needs _ wrong_type o y z i.found u m i.at over c.in_ok-end.ensures.ok short tt (rw back at c.complain.ensures.reason) (rw back at c.complain.ensures.state)
+
+pub returns-in_err-next_value-in-Known-eq0-clause-memory :
+    goal.returns-in_err-next_value-in-Known-eq0-clause-memory
+returns-in_err-next_value-in-Known-eq0-clause-memory g c = grind (arith, common_steps)
+
+pub returns-in_err-next_value-in-Known-clause-memory :
+    goal.returns-in_err-next_value-in-Known-clause-memory
+returns-in_err-next_value-in-Known-clause-memory g c = grind (arith, common_steps)
+
+pub returns-in_err-end-clause-refused : goal.returns-in_err-end-clause-refused
+returns-in_err-end-clause-refused g c = grind (arith, common_steps)
