@@ -2,8 +2,16 @@ use Rattle.std.proofs.Common.{rules}
 use Rattle.std.specs.Int.{w64}
 use mir.Val.{SFits}
 use Rattle.std.proofs.lemmas.Int.{to_z-of_z}
+use Rattle.std.proofs.lemmas.Result.{err_from_is_err_and}
+use Rattle.bser_named.specs.Named.{int, natural}
+use Rattle.bser_bunser.proofs.Names.{names_first}
 use Rattle.bser_bunser.proofs.Counted.{below_names}
 use Rattle.bser_bunser.proofs.bunser.Bunser.natural.Goals as goal
+
+pub returns-in_err-number-clause-names : goal.returns-in_err-number-clause-names
+returns-in_err-number-clause-names g c =
+    let p = err_from_is_err_and c.from_residual.result c.from_residual.ensures.1 in
+    rw p.1 (names_first int (natural c.args.complaint) _ _ c.in_err-number.ensures.names)
 
 pub returns-then-number-lt0-clause-names : goal.returns-then-number-lt0-clause-names
 returns-then-number-lt0-clause-names g c =
