@@ -17,3 +17,15 @@ pub returns-then-number-lt0-clause-names : goal.returns-then-number-lt0-clause-n
 returns-then-number-lt0-clause-names g c =
     let fits : SFits w64 c.in_ok-number.number = search rules in
     rw (c.refuse.ensures.reason, c.de_custom.ensures) (below_names c.args.complaint c.in_ok-number.number _ _ (rw (to_z-of_z w64 c.in_ok-number.number fits) at c.if-number-lt0.true) c.in_ok-number.ensures.ok)
+
+pub overflow_cast-result : goal.overflow_cast-result
+overflow_cast-result g c = search rules
+
+pub returns-clause-ok : goal.returns-clause-ok
+returns-clause-ok g c = search rules
+
+pub returns-clause-fits : goal.returns-clause-fits
+returns-clause-fits g c = search rules
+
+pub returns-then-number-lt0-clause-err : goal.returns-then-number-lt0-clause-err
+returns-then-number-lt0-clause-err g c = search rules
