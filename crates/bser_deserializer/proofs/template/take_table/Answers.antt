@@ -1,8 +1,17 @@
 -- A table is its keys and its number of rows.
-use Rattle.std.proofs.Common.{◌≡◌, arith, [], length, map, ◌<◌, vec_len, inl, inr, rules}
+use Rattle.std.proofs.Common.{◌≡◌, ap, arith, [], length, map, ◌<◌, vec_len, inl, inr, rules}
 use Rattle.std.proofs.lemmas.Result.{err_from_is_err_and}
+use Rattle.bser_named.specs.Named.{and_then}
+use Rattle.bser_deserializer.specs.Reading.{owned}
+use Rattle.bser_deserializer.specs.Templates.{keys_after_number, table}
 use Rattle.bser_deserializer.proofs.Templates.{rows_refused, rows_without_keys, took_table, took_count, no_keys, some_keys}
+use Rattle.bser_deserializer.proofs.Refusals.{names_by_more}
 use Rattle.bser_deserializer.proofs.template.take_table.Goals as goal
+
+pub returns-in_err-keys-clause-names : goal.returns-in_err-keys-clause-names
+returns-in_err-keys-clause-names g c =
+    let p = err_from_is_err_and c.from_residual.result c.from_residual.ensures.1 in
+    rw p.1 (names_by_more owned table keys_after_number _ _ (λ f x q. ap (and_then _) q) c.in_err-keys.ensures.names)
 
 pub returns-in_err-rows-clause-names : goal.returns-in_err-rows-clause-names
 returns-in_err-rows-clause-names g c =

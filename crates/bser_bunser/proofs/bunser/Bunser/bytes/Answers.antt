@@ -1,4 +1,5 @@
 use Rattle.std.proofs.Common.{◌≤◌, ◌<◌, length, arith, ap, subst}
+use Rattle.std.proofs.lemmas.Grind.{common_steps}
 use Rattle.bser_source.specs.Window.{AreOctets}
 use Rattle.bser_bunser.proofs.Counted.{took_buffered}
 use Rattle.bser_bunser.proofs.bunser.Bunser.bytes.Goals as goal
@@ -10,3 +11,6 @@ returns-in-Some-clause-ok g c =
     let fits : c.args.len ≤ length a.buffered = omega (arith, c.if-len-count_octets.false, c.count_octets.ensures.len, ap length c.buffered.ensures) in
     let octets : AreOctets a.buffered = subst AreOctets c.buffered.ensures c.count_octets.ensures.octets in
     rw (c.consume.ensures, c.in-Some.ensures.0) (took_buffered c.args.len a octets some fits (g.met.R.DeRead.refuses c.args.self.now.read))
+
+pub returns-else-is_err-clause-ok : goal.returns-else-is_err-clause-ok
+returns-else-is_err-clause-ok g c = grind (arith, common_steps)

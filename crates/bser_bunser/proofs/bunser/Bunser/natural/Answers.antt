@@ -2,10 +2,30 @@ use Rattle.std.proofs.Common.{rules}
 use Rattle.std.specs.Int.{w64}
 use mir.Val.{SFits}
 use Rattle.std.proofs.lemmas.Int.{to_z-of_z}
+use Rattle.std.proofs.lemmas.Result.{err_from_is_err_and}
+use Rattle.bser_named.specs.Named.{int, natural}
+use Rattle.bser_bunser.proofs.Names.{names_first}
 use Rattle.bser_bunser.proofs.Counted.{below_names}
 use Rattle.bser_bunser.proofs.bunser.Bunser.natural.Goals as goal
+
+pub returns-in_err-number-clause-names : goal.returns-in_err-number-clause-names
+returns-in_err-number-clause-names g c =
+    let p = err_from_is_err_and c.from_residual.result c.from_residual.ensures.1 in
+    rw p.1 (names_first int (natural c.args.complaint) _ _ c.in_err-number.ensures.names)
 
 pub returns-then-number-lt0-clause-names : goal.returns-then-number-lt0-clause-names
 returns-then-number-lt0-clause-names g c =
     let fits : SFits w64 c.in_ok-number.number = search rules in
     rw (c.refuse.ensures.reason, c.de_custom.ensures) (below_names c.args.complaint c.in_ok-number.number _ _ (rw (to_z-of_z w64 c.in_ok-number.number fits) at c.if-number-lt0.true) c.in_ok-number.ensures.ok)
+
+pub overflow_cast-result : goal.overflow_cast-result
+overflow_cast-result g c = search rules
+
+pub returns-clause-ok : goal.returns-clause-ok
+returns-clause-ok g c = search rules
+
+pub returns-clause-fits : goal.returns-clause-fits
+returns-clause-fits g c = search rules
+
+pub returns-then-number-lt0-clause-err : goal.returns-then-number-lt0-clause-err
+returns-then-number-lt0-clause-err g c = search rules
