@@ -1,7 +1,8 @@
 mod lists;
+mod strings;
 mod types;
 
-use self::types::{FileInfo, RealBits, TestEnum, TestStruct};
+use self::types::{RealBits, TestEnum, TestStruct};
 use super::checks::{Tested, check_bytes, check_refused, check_written, message};
 use bser_format::bytestring::ByteString;
 use bser_format::errors::Error;
@@ -334,55 +335,6 @@ fn writes_a_struct_of_a_list_a_tuple_and_enums(rt: HostRuntime) -> Tested {
         rt.alloc(),
         test_struct(rt.alloc())?,
         b"\x00\x02\x00\x00\x00\x00\x04\xcb\x00\x01\x03\x04\x0d\x03\x09test_list\x00\x03\x05\x03\x03\x03\x04\x03\x2a\x04\xdb\x03\x05\x00\x00\x08\x00\x0d\x03\x0atest_tuple\x00\x03\x02\x0d\x03\x03foo\x07\x18\x2d\x44\x54\xfb\x21\x09\x40\x0d\x03\x09test_enum\x0d\x03\x08TestUnit\x0d\x03\x0etest_enum_list\x00\x03\x03\x01\x03\x01\x0d\x03\x0bTestNewtype\x02\x03\x09BSER test\x01\x03\x01\x0d\x03\x09TestTuple\x00\x03\x02\x03\x2a\x06\xff\xff\xff\xff\xff\xff\xff\x7f\x01\x03\x01\x0d\x03\x0aTestStruct\x01\x03\x02\x0d\x03\x03abc\x0a\x0d\x03\x03def\x0d\x03\x04\xf0\x9f\x92\xa9",
-    );
-    Ok(())
-}
-
-#[test]
-fn writes_a_struct_whose_name_is_no_text(rt: HostRuntime) -> Tested {
-    let name = ByteString::from_vec(vec![in rt.alloc(); b'a', 0xff]?);
-    check_written(
-        &rt,
-        rt.alloc(),
-        FileInfo { name, size: 300 },
-        b"\x00\x02\x00\x00\x00\x00\x03\x19\x01\x03\x02\x0d\x03\x04name\x02\x03\x02a\xff\x0d\x03\x04size\x04\x2c\x01",
-    );
-    Ok(())
-}
-
-/// The message is this front and then these bytes.
-fn check_front(rt: &impl Abort, written: &[u8], front: &[u8], bytes: &[u8]) {
-    assert!(rt; written.strip_prefix(front) == Some(bytes), "{front:?}");
-}
-
-/// A byte string of so many times this byte is written as this front and then its bytes.
-fn check_byte_string(rt: &impl Abort, alloc: Global, len: usize, byte: u8, front: &[u8]) {
-    let bytes = vec![in alloc; byte; len].expect(rt, "memory is left");
-    let value = ByteString::from_vec(bytes);
-    let written = message(alloc, &value).expect(rt, "the value is written");
-    check_front(rt, written.as_slice(), front, value.as_bytes());
-}
-
-#[test]
-fn writes_byte_strings_beside_a_length_that_takes_more_bytes(rt: HostRuntime) {
-    let alloc = rt.alloc();
-    let front = b"\x00\x02\x00\x00\x00\x00\x03\x7f\x02\x03\x7c";
-    check_byte_string(&rt, alloc, 124, 0, front);
-    let front = b"\x00\x02\x00\x00\x00\x00\x04\x80\x00\x02\x03\x7d";
-    check_byte_string(&rt, alloc, 125, 0, front);
-    let front = b"\x00\x02\x00\x00\x00\x00\x05\x46\x0d\x03\x00\x02\x05\x40\x0d\x03\x00";
-    check_byte_string(&rt, alloc, 200_000, 0xa5, front);
-}
-
-#[test]
-fn writes_a_map_whose_key_is_no_text(rt: HostRuntime) -> Tested {
-    let mut members = BTreeMap::new(rt.alloc());
-    members.insert(ByteString::from_vec(vec![in rt.alloc(); 0xffu8]?), ())?;
-    check_written(
-        &rt,
-        rt.alloc(),
-        members,
-        b"\x00\x02\x00\x00\x00\x00\x03\x08\x01\x03\x01\x02\x03\x01\xff\x0a",
     );
     Ok(())
 }
