@@ -122,7 +122,8 @@ fn check_discarded<R: DeRead>(rt: &impl Abort, from: &mut Bunser<R>, byte: u8) {
 }
 
 /// The next integer is refused for the null that stands there, and the next one for the refusal.
-fn check_no_integer<R: DeRead>(rt: &impl Abort, alloc: Global, from: &mut Bunser<R>) {
+fn check_no_integer<R: DeRead + Drop>(rt: &impl Abort, alloc: Global, read: R) {
+    let mut from = Bunser::new(alloc, read);
     let null = "DeInvalidStartByte { kind: Integer, byte: 10 }";
     check_refused(rt, alloc, from.check_next_int(), null);
     check_refused(rt, alloc, from.check_next_int(), FAILED_BEFORE);

@@ -160,7 +160,7 @@ fn is_named(name: Name, error: &Error) -> bool {
             msg: Message::Fixed(complaint),
         } => matches!(name, Name::Complains(wanted) if wanted == *complaint),
         Error::DeInvalidStartByte { kind, byte } => {
-            matches!(name, Name::Begins(wanted, first) if kind_of(wanted) == *kind && first == *byte)
+            matches!(name, Name::Begins(wanted, tag) if kind_of(wanted) == *kind && tag == *byte)
         }
         Error::DeRecursionLimitExceeded { kind } => {
             matches!(name, Name::TooDeep(wanted) if kind_of(wanted) == *kind)

@@ -65,8 +65,13 @@ fn check_refused<'a, T: DeserializeOwned + Deserialize<&'a [u8]>>(
     bytes: &'a [u8],
     name: Name,
 ) {
-    assert!(rt; is_named(&from_slice::<T>(alloc, bytes), name));
-    assert!(rt; is_named(&read_one_by_one::<T>(alloc, bytes), name));
+    check_named(rt, &from_slice::<T>(alloc, bytes), name);
+    check_named(rt, &read_one_by_one::<T>(alloc, bytes), name);
+}
+
+/// Checks that the answer is a refusal of this name.
+fn check_named<T>(rt: &impl Abort, answer: &Result<T>, name: Name) {
+    assert!(rt; is_named(answer, name));
 }
 
 /// Checks that the message is refused as a file by this name.
@@ -87,53 +92,63 @@ fn check_both<S: AsStr>(rt: &impl Abort, files: &[FileInfo<S>]) {
 }
 
 #[test]
-fn fields_come_in_any_order_and_others_are_passed_over(rt: HostRuntime) -> Result<()> {
+fn fields_come_in_any_order_and_others_are_passed_over(rt: HostRuntime) {
     let bytes = b"\x00\x02\0\0\0\0\x03\x2b\x01\x03\x03\x0d\x03\x04size\x03\x05\x0d\x03\x05other\
 \x00\x03\x02\x01\x03\x01\x0d\x03\x01a\x0a\x08\x0d\x03\x04name\x0d\x03\x01x";
-    let lent: FileInfo<&str> = from_slice(rt.alloc(), bytes)?;
-    check_file(&rt, &lent, "x", 5);
-    let owned: FileInfo<String> = read_one_by_one(rt.alloc(), bytes)?;
-    check_file(&rt, &owned, "x", 5);
-    Ok(())
+    check_first::<&str>(&rt, from_slice(rt.alloc(), bytes));
+    check_first::<String>(&rt, read_one_by_one(rt.alloc(), bytes));
+}
+
+/// Checks that the answer is the file x, of size 5.
+fn check_first<S: AsStr + Drop>(rt: &impl Abort, answer: Result<FileInfo<S>>) {
+    check_file(rt, &answer.expect(rt, "the message is read"), "x", 5);
+}
+
+/// Checks that the answer is a list of the two files.
+fn check_listed<S: AsStr + Drop>(rt: &impl Abort, answer: Result<Vec<FileInfo<S>>>) {
+    check_both(rt, &answer.expect(rt, "the message is read"));
 }
 
 /// Checks that the message is read as a list of two files, from a slice and byte by byte.
-fn check_files(rt: &impl Abort, alloc: Global, bytes: &[u8]) -> Result<()> {
-    check_both(rt, &from_slice::<Vec<FileInfo<&str>>>(alloc, bytes)?);
-    check_both(rt, &read_one_by_one::<Vec<FileInfo<String>>>(alloc, bytes)?);
-    Ok(())
+fn check_files(rt: &impl Abort, alloc: Global, bytes: &[u8]) {
+    check_listed::<&str>(rt, from_slice(alloc, bytes));
+    check_listed::<String>(rt, read_one_by_one(alloc, bytes));
 }
 
 #[test]
-fn objects_are_structs(rt: HostRuntime) -> Result<()> {
+fn objects_are_structs(rt: HostRuntime) {
     let bytes = b"\x00\x02\0\0\0\0\x03\x31\x00\x03\x02\x01\x03\x02\x0d\x03\x04name\x0d\x03\x01x\
 \x0d\x03\x04size\x03\x05\x01\x03\x02\x0d\x03\x04name\x0d\x03\x01y\x0d\x03\x04size\x03\x06";
-    check_files(&rt, rt.alloc(), bytes)
+    check_files(&rt, rt.alloc(), bytes);
 }
 
 #[test]
-fn rows_are_structs(rt: HostRuntime) -> Result<()> {
+fn rows_are_structs(rt: HostRuntime) {
     let bytes = b"\x00\x02\0\0\0\0\x03\x20\x0b\x00\x03\x02\x0d\x03\x04name\x0d\x03\x04size\x03\x02\
 \x0d\x03\x01x\x03\x05\x0d\x03\x01y\x03\x06";
-    check_files(&rt, rt.alloc(), bytes)
+    check_files(&rt, rt.alloc(), bytes);
 }
 
 #[test]
-fn rows_have_their_fields_in_any_order_too(rt: HostRuntime) -> Result<()> {
+fn rows_have_their_fields_in_any_order_too(rt: HostRuntime) {
     let bytes = b"\x00\x02\0\0\0\0\x03\x29\x0b\x00\x03\x03\x0d\x03\x04size\x0d\x03\x04mode\
 \x0d\x03\x04name\x03\x02\x03\x05\x08\x0d\x03\x01x\x03\x06\x0c\x0d\x03\x01y";
-    check_files(&rt, rt.alloc(), bytes)
+    check_files(&rt, rt.alloc(), bytes);
 }
 
 #[test]
-fn a_struct_holds_structs(rt: HostRuntime) -> Result<()> {
+fn a_struct_holds_structs(rt: HostRuntime) {
     let alloc = rt.alloc();
     let bytes = b"\x00\x02\0\0\0\0\x03\x34\x01\x03\x02\x0d\x03\x05files\x0b\x00\x03\x02\
 \x0d\x03\x04name\x0d\x03\x04size\x03\x02\x0d\x03\x01x\x03\x05\x0d\x03\x01y\x03\x06\
 \x02\x03\x05clock\x0a";
-    check_both(&rt, &from_slice::<Files<&str>>(alloc, bytes)?.files);
-    check_both(&rt, &read_one_by_one::<Files<String>>(alloc, bytes)?.files);
-    Ok(())
+    check_held::<&str>(&rt, from_slice(alloc, bytes));
+    check_held::<String>(&rt, read_one_by_one(alloc, bytes));
+}
+
+/// Checks that the answer holds the two files.
+fn check_held<S: AsStr + Drop>(rt: &impl Abort, answer: Result<Files<S>>) {
+    check_both(rt, &answer.expect(rt, "the message is read").files);
 }
 
 #[test]
@@ -148,23 +163,22 @@ fn a_field_that_comes_twice_is_refused(rt: HostRuntime) {
 }
 
 #[test]
-fn an_absent_field_is_refused_unless_it_is_optional(rt: HostRuntime) -> Result<()> {
+fn an_absent_field_is_refused_unless_it_is_optional(rt: HostRuntime) {
     let alloc = rt.alloc();
     let bytes = b"\x00\x02\0\0\0\0\x03\x0e\x01\x03\x01\x0d\x03\x04name\x0d\x03\x01x";
     let name = Name::Complains(Complaint::TooFewItems);
     check_file_refused(&rt, alloc, bytes, name);
     let bytes = b"\x00\x02\0\0\0\0\x03\x0b\x01\x03\x01\x0d\x03\x03abc\x03\x07";
-    check_number_alone(&rt, alloc, bytes, 7)?;
+    check_number_alone(&rt, alloc, bytes, 7);
     let bytes = b"\x00\x02\0\0\0\0\x03\x19\x01\x03\x03\x0d\x03\x03ghi\x0a\x0d\x03\x03abc\x03\x07\
 \x0d\x03\x03def\x0a";
-    check_number_alone(&rt, alloc, bytes, 7)
+    check_number_alone(&rt, alloc, bytes, 7);
 }
 
 /// Checks that the message is read as a row that has this number alone.
-fn check_number_alone(rt: &impl Abort, alloc: Global, bytes: &[u8], abc: i32) -> Result<()> {
-    let row: TemplateRow<&str> = from_slice(alloc, bytes)?;
+fn check_number_alone(rt: &impl Abort, alloc: Global, bytes: &[u8], abc: i32) {
+    let row: TemplateRow<&str> = from_slice(alloc, bytes).expect(rt, "the message is read");
     check_row(rt, &row, (abc, None, None));
-    Ok(())
 }
 
 /// What a row holds: abc, def and ghi.
@@ -176,7 +190,7 @@ fn check_row(rt: &impl Abort, row: &TemplateRow<&str>, wanted: Held<'_>) {
 }
 
 #[test]
-fn a_value_of_another_kind_is_refused(rt: HostRuntime) -> Result<()> {
+fn a_value_of_another_kind_is_refused(rt: HostRuntime) {
     let alloc = rt.alloc();
     let name = Name::Complains(Complaint::WrongType);
     let bytes =
@@ -188,11 +202,10 @@ fn a_value_of_another_kind_is_refused(rt: HostRuntime) -> Result<()> {
     let bytes = b"\x00\x02\0\0\0\0\x03\x03\x00\x03\x00";
     check_file_refused(&rt, alloc, bytes, name);
     let bytes = b"\x00\x02\0\0\0\0\x03\x0c\x01\x03\x01\x0d\x03\x03abc\x04\x00\x80";
-    check_number_alone(&rt, alloc, bytes, -32768)?;
+    check_number_alone(&rt, alloc, bytes, -32768);
     let bytes = b"\x00\x02\0\0\0\0\x03\x12\x01\x03\x01\x0d\x03\x03abc\x06\0\0\0\x80\0\0\0\0";
     let range = Name::Complains(Complaint::IntegerOutOfRange);
     check_refused::<TemplateRow<String>>(&rt, alloc, bytes, range);
-    Ok(())
 }
 
 #[test]
@@ -205,19 +218,18 @@ fn names_and_what_is_passed_over_are_checked(rt: HostRuntime) {
 }
 
 #[test]
-fn rows_that_break_off_are_refused(rt: HostRuntime) -> Result<()> {
+fn rows_that_break_off_are_refused(rt: HostRuntime) {
     let bytes = b"\x00\x02\0\0\0\0\x05\x28\0\0\0\x0b\x00\x03\x03\x02\x03\x03abc\x02\x03\x03def\
 \x02\x03\x03ghi\x03\x02\x03\x7b\x02\x03\x03bar\x0a\x04\xc8\x01\x0c\x04\x15\x03";
     for len in 0..bytes.len() {
         check_refused::<Vec<TemplateRow<String>>>(&rt, rt.alloc(), &bytes[..len], Name::Eof);
     }
-    let rows: Vec<TemplateRow<&str>> = from_slice(rt.alloc(), bytes)?;
-    check_rows(&rt, &rows);
-    Ok(())
+    check_rows(&rt, from_slice(rt.alloc(), bytes));
 }
 
-/// Checks that the rows are the worked ones.
-fn check_rows(rt: &impl Abort, rows: &[TemplateRow<&str>]) {
+/// Checks that the answer is the worked rows.
+fn check_rows(rt: &impl Abort, answer: Result<Vec<TemplateRow<&str>>>) {
+    let rows = answer.expect(rt, "the message is read");
     assert_eq!(rt; rows.len(), 2);
     check_row(rt, &rows[0], (123, Some("bar"), None));
     check_row(rt, &rows[1], (456, None, Some(789)));

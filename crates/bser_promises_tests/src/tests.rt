@@ -39,147 +39,143 @@ const OBJECTS_AND_STRAY: &[u8] =
 const NUMBERS_AND_STRAY: &[u8] =
     b"\x00\x02\x00\x00\x00\x00\x03\x07\x00\x03\x02\x03\x01\x03\x02\xff";
 
+/// Checks that the bytes are those expected.
+fn check_bytes(rt: &impl Abort, found: &[u8], expected: &[u8]) {
+    assert_eq!(rt; found, expected);
+}
+
 /// Checks that 1 and 2 were read.
-fn check_numbers(rt: &impl Abort, read: Result<Vec<i64>>) -> Result<()> {
-    assert_eq!(rt; read?.as_slice(), [1, 2].as_slice());
-    Ok(())
+fn check_numbers(rt: &impl Abort, read: Result<Vec<i64>>) {
+    assert_eq!(rt;
+        read.expect(rt, "the message is read").as_slice(),
+        [1, 2].as_slice()
+    );
 }
 
 /// Checks that the value was read.
-fn check_read(rt: &impl Abort, read: Result<Value>, value: &Value) -> Result<()> {
-    assert!(rt; read? == *value);
-    Ok(())
+fn check_read(rt: &impl Abort, read: Result<Value>, value: &Value) {
+    assert!(rt; read.expect(rt, "the message is read") == *value);
 }
 
 /// Checks that the value was read from a reader, which has the stray byte left.
-fn check_read_on(rt: &impl Abort, read: Result<ReadBack>, value: &Value) -> Result<()> {
-    let back = read?;
+fn check_read_on(rt: &impl Abort, read: Result<ReadBack>, value: &Value) {
+    let back = read.expect(rt, "the message is read");
     assert!(rt; back.value == *value);
-    assert_eq!(rt; back.left.as_slice(), b"\xff".as_slice());
-    Ok(())
+    check_bytes(rt, back.left.as_slice(), b"\xff");
 }
 
 /// Checks that reading was refused so.
-fn check_refused(
-    rt: &impl Abort,
-    alloc: Global,
-    read: Result<Value>,
-    expected: &str,
-) -> Result<()> {
-    let answer = format!(in alloc; "{read:?}")?;
+fn check_refused(rt: &impl Abort, alloc: Global, read: Result<Value>, expected: &str) {
+    let answer = format!(in alloc; "{read:?}").expect(rt, "memory is left");
     assert_eq!(rt; answer.as_str(), expected);
-    Ok(())
 }
 
 /// Checks that the message was made.
-fn check_message(rt: &impl Abort, made: Result<Vec<u8>>, expected: &[u8]) -> Result<()> {
-    assert_eq!(rt; made?.as_slice(), expected);
-    Ok(())
+fn check_message(rt: &impl Abort, made: Result<Vec<u8>>, expected: &[u8]) {
+    check_bytes(
+        rt,
+        made.expect(rt, "the message is made").as_slice(),
+        expected,
+    );
 }
 
 #[test]
-fn a_slice_and_a_reader_agree(rt: HostRuntime) -> Result<()> {
+fn a_slice_and_a_reader_agree(rt: HostRuntime) {
     let mut reader = Watched::new(NUMBERS_AND_STRAY);
     let read = read_both_ways(rt.alloc(), NUMBERS_AND_STRAY, &mut reader);
-    check_numbers(&rt, read.slice)?;
-    check_numbers(&rt, read.reader)?;
-    assert_eq!(rt; *reader.get_ref(), b"\xff".as_slice());
-    Ok(())
+    check_numbers(&rt, read.slice);
+    check_numbers(&rt, read.reader);
+    check_bytes(&rt, *reader.get_ref(), b"\xff");
 }
 
 #[test]
-fn a_slice_and_a_reader_refuse_alike(rt: HostRuntime) -> Result<()> {
+fn a_slice_and_a_reader_refuse_alike(rt: HostRuntime) {
     let alloc = rt.alloc();
     let bytes = &NUMBERS_AND_STRAY[..NUMBERS_AND_STRAY.len() - 2];
     let read = read_both_ways(alloc, bytes, &mut Watched::new(bytes));
-    check_refused(&rt, alloc, read.slice, "Err(DeReaderError { source: Eof })")?;
+    check_refused(&rt, alloc, read.slice, "Err(DeReaderError { source: Eof })");
     check_refused(
         &rt,
         alloc,
         read.reader,
         "Err(DeReaderError { source: Eof })",
-    )
+    );
 }
 
 #[test]
-fn a_value_is_returned(rt: HostRuntime) -> Result<()> {
+fn a_value_is_returned(rt: HostRuntime) {
     let alloc = rt.alloc();
-    let value: Value = from_slice(alloc, ROWS)?;
-    check_read(&rt, written_and_read(alloc, 2, &value, b"\xff"), &value)?;
+    let value: Value = from_slice(alloc, ROWS).expect(&rt, "the message is read");
+    check_read(&rt, written_and_read(alloc, 2, &value, b"\xff"), &value);
     check_read(
         &rt,
         compactly_written_and_read(alloc, 2, &value, b"\xff"),
         &value,
-    )?;
-    check_read_on(&rt, written_and_read_on(alloc, 2, &value, b"\xff"), &value)?;
+    );
+    check_read_on(&rt, written_and_read_on(alloc, 2, &value, b"\xff"), &value);
     check_read_on(
         &rt,
         compactly_written_and_read_on(alloc, 2, &value, b"\xff"),
         &value,
-    )
+    );
 }
 
 #[test]
-fn a_value_that_is_too_deep_is_not_returned(rt: HostRuntime) -> Result<()> {
+fn a_value_that_is_too_deep_is_not_returned(rt: HostRuntime) {
     let alloc = rt.alloc();
-    let value: Value = from_slice(alloc, ROWS)?;
+    let value: Value = from_slice(alloc, ROWS).expect(&rt, "the message is read");
     let deep = "Err(DeRecursionLimitExceeded { kind: Object })";
-    check_refused(&rt, alloc, written_and_read(alloc, 1, &value, b""), deep)
+    check_refused(&rt, alloc, written_and_read(alloc, 1, &value, b""), deep);
 }
 
 /// Checks whether the values of two messages have one canonical and one compact message.
-fn check_compared(
-    rt: &impl Abort,
-    alloc: Global,
-    first: &[u8],
-    second: &[u8],
-    expected: bool,
-) -> Result<()> {
-    let first: Value = from_slice(alloc, first)?;
-    let second: Value = from_slice(alloc, second)?;
-    let canonical = have_one_message(alloc, &first, &second)?;
-    let compact = have_one_compact_message(alloc, &first, &second)?;
+fn check_compared(rt: &impl Abort, alloc: Global, first: &[u8], second: &[u8], expected: bool) {
+    let first: Value = from_slice(alloc, first).expect(rt, "the message is read");
+    let second: Value = from_slice(alloc, second).expect(rt, "the message is read");
+    let canonical = have_one_message(alloc, &first, &second).expect(rt, "memory is left");
+    let compact = have_one_compact_message(alloc, &first, &second).expect(rt, "memory is left");
     assert_eq!(rt; (canonical, compact), (expected, expected));
-    Ok(())
 }
 
 #[test]
-fn values_are_compared_by_their_messages(rt: HostRuntime) -> Result<()> {
-    check_compared(&rt, rt.alloc(), TEMPLATE, OBJECTS, true)?;
-    check_compared(&rt, rt.alloc(), TEMPLATE, ROWS, false)
+fn values_are_compared_by_their_messages(rt: HostRuntime) {
+    check_compared(&rt, rt.alloc(), TEMPLATE, OBJECTS, true);
+    check_compared(&rt, rt.alloc(), TEMPLATE, ROWS, false);
 }
 
 #[test]
-fn the_least_messages_are_written(rt: HostRuntime) -> Result<()> {
+fn the_least_messages_are_written(rt: HostRuntime) {
     let alloc = rt.alloc();
-    let value: Value = from_slice(alloc, TEMPLATE)?;
-    check_message(&rt, least_message(alloc, &value), OBJECTS)?;
-    check_message(&rt, least_compact_message(alloc, &value), TEMPLATE)?;
-    check_message(&rt, rewritten(alloc, TEMPLATE_AND_STRAY), OBJECTS)?;
-    check_message(&rt, compactly_rewritten(alloc, OBJECTS_AND_STRAY), TEMPLATE)
+    let value: Value = from_slice(alloc, TEMPLATE).expect(&rt, "the message is read");
+    check_message(&rt, least_message(alloc, &value), OBJECTS);
+    check_message(&rt, least_compact_message(alloc, &value), TEMPLATE);
+    check_message(&rt, rewritten(alloc, TEMPLATE_AND_STRAY), OBJECTS);
+    check_message(&rt, compactly_rewritten(alloc, OBJECTS_AND_STRAY), TEMPLATE);
 }
 
 #[test]
-fn a_value_is_read_within_bounds(rt: HostRuntime) -> Result<()> {
+fn a_value_is_read_within_bounds(rt: HostRuntime) {
     let alloc = rt.alloc();
-    let value: Value = from_slice(alloc, ROWS)?;
-    check_read(&rt, read_within_bounds(alloc, ROWS), &value)
+    let value: Value = from_slice(alloc, ROWS).expect(&rt, "the message is read");
+    check_read(&rt, read_within_bounds(alloc, ROWS), &value);
 }
 
 /// Checks that both were read, and as one value.
-fn check_alike(rt: &impl Abort, read: TemplateReadings<Value>) -> Result<()> {
-    assert!(rt; read.template? == read.objects?);
-    Ok(())
+fn check_alike(rt: &impl Abort, read: TemplateReadings<Value>) {
+    assert!(rt;
+        read.template.expect(rt, "the message is read")
+            == read.objects.expect(rt, "the message is read")
+    );
 }
 
 #[test]
-fn a_template_is_read_as_its_objects(rt: HostRuntime) -> Result<()> {
+fn a_template_is_read_as_its_objects(rt: HostRuntime) {
     let alloc = rt.alloc();
-    check_alike(&rt, read_written_out(alloc, 2, TEMPLATE, OBJECTS))?;
+    check_alike(&rt, read_written_out(alloc, 2, TEMPLATE, OBJECTS));
     let mut template = Watched::new(TEMPLATE);
     let mut objects = Watched::new(OBJECTS);
     check_alike(
         &rt,
         read_written_out_on(alloc, 2, &mut template, &mut objects),
-    )
+    );
 }

@@ -41,14 +41,13 @@ impl<'a> Read for OneByOne<'a> {
     }
 }
 
+/// Checks that what was found is what was expected.
+fn check_equal<T: PartialEq + Debug + Copy>(rt: &impl Abort, found: T, expected: T) {
+    assert_eq!(rt; found, expected);
+}
+
 /// Checks how an answer is printed.
-fn check_answer<T: Debug + Drop>(
-    rt: &impl Abort,
-    alloc: Global,
-    answer: T,
-    expected: &str,
-) -> Tested {
-    let answer = format!(in alloc; "{answer:?}")?;
-    assert_eq!(rt; answer.as_str(), expected);
-    Ok(())
+fn check_answer<T: Debug + Drop>(rt: &impl Abort, alloc: Global, answer: T, expected: &str) {
+    let answer = format!(in alloc; "{answer:?}").expect(rt, "memory is left");
+    check_equal(rt, answer.as_str(), expected);
 }

@@ -37,9 +37,10 @@ fn short_reads_give_what_whole_ones_give(rt: HostRuntime) {
 }
 
 /// The message's head and the integer -1, and then an interruption.
-fn check_fault<R: DeRead>(rt: &impl Abort, alloc: Global, from: &mut Bunser<R>) {
+fn check_fault<R: DeRead + Drop>(rt: &impl Abort, alloc: Global, read: R) {
+    let mut from = Bunser::new(alloc, read);
     let fault = "DeReaderError { source: Reader(Kind(Interrupted)) }";
-    check_head(rt, from, 1, 6, 8);
+    check_head(rt, &mut from, 1, 6, 8);
     check_given(rt, from.check_next_int(), -1);
     check_refused(rt, alloc, from.peek(), fault);
     check_refused(rt, alloc, from.peek(), FAILED_BEFORE);
@@ -47,35 +48,35 @@ fn check_fault<R: DeRead>(rt: &impl Abort, alloc: Global, from: &mut Bunser<R>) 
 
 #[test]
 fn a_fault_waits_for_the_call_that_needs_the_byte(rt: HostRuntime) {
-    let mut bunser = Bunser::new(rt.alloc(), source_of(MESSAGE, 99, 13));
-    check_fault(&rt, rt.alloc(), &mut bunser);
+    check_fault(&rt, rt.alloc(), source_of(MESSAGE, 99, 13));
 }
 
 /// An integer of this value is next.
-fn check_integer(rt: &impl Abort, alloc: Global, text: &[u8], value: i64) {
-    let mut bunser = Bunser::new(alloc, SliceRead::new(text));
-    check_given(rt, bunser.check_next_int(), value);
+fn check_integer<R: DeRead + Drop>(rt: &impl Abort, alloc: Global, read: R, value: i64) {
+    let mut from = Bunser::new(alloc, read);
+    check_given(rt, from.check_next_int(), value);
 }
+
+static INTEGERS: [(&[u8], i64); 6] = [
+    (b"\x03\x80", -128),
+    (b"\x04\x80\x00", 128),
+    (b"\x04\x7f\xff", -129),
+    (b"\x05\x00\x00\x08\x00", 524_288),
+    (b"\x06\x05\x00\x00\x00\x00\x00\x00\x00", 5),
+    (b"\x06\x00\x00\x00\x00\x00\x00\x00\x80", i64::MIN),
+];
 
 #[test]
 fn integers_have_four_widths(rt: HostRuntime) {
-    let texts: [(&[u8], i64); 6] = [
-        (b"\x03\x80", -128),
-        (b"\x04\x80\x00", 128),
-        (b"\x04\x7f\xff", -129),
-        (b"\x05\x00\x00\x08\x00", 524_288),
-        (b"\x06\x05\x00\x00\x00\x00\x00\x00\x00", 5),
-        (b"\x06\x00\x00\x00\x00\x00\x00\x00\x80", i64::MIN),
-    ];
-    for (text, value) in texts {
-        check_integer(&rt, rt.alloc(), text, value);
+    for (text, value) in &INTEGERS {
+        check_integer(&rt, rt.alloc(), SliceRead::new(text), *value);
     }
-    let mut bunser = Bunser::new(rt.alloc(), SliceRead::new(b"\x0a\x03\x01"));
-    check_no_integer(&rt, rt.alloc(), &mut bunser);
+    check_no_integer(&rt, rt.alloc(), SliceRead::new(b"\x0a\x03\x01"));
 }
 
 /// A real of these bits is next.
-fn check_real<R: DeRead>(rt: &impl Abort, from: &mut Bunser<R>, bits: u64) {
+fn check_real<R: DeRead + Drop>(rt: &impl Abort, alloc: Global, read: R, bits: u64) {
+    let mut from = Bunser::new(alloc, read);
     let tag = from.peek().expect(rt, "a byte is left");
     check_equal(rt, tag, 0x07);
     check_given(rt, from.next_f64(), bits);
@@ -84,12 +85,12 @@ fn check_real<R: DeRead>(rt: &impl Abort, from: &mut Bunser<R>, bits: u64) {
 #[test]
 fn a_real_is_its_bits(rt: HostRuntime) {
     let real = b"\x07\x18\x2d\x44\x54\xfb\x21\x09\x40";
-    let mut bunser = Bunser::new(rt.alloc(), SliceRead::new(real));
-    check_real(&rt, &mut bunser, 0x4009_21fb_5444_2d18);
+    check_real(&rt, rt.alloc(), SliceRead::new(real), 0x4009_21fb_5444_2d18);
 }
 
 /// Two bytes are lent, and a length below 0 is refused.
-fn check_lent<R: DeRead>(rt: &impl Abort, alloc: Global, from: &mut Bunser<R>) {
+fn check_lent<R: DeRead + Drop>(rt: &impl Abort, alloc: Global, read: R) {
+    let mut from = Bunser::new(alloc, read);
     let mut scratch = Vec::new(alloc);
     check_bytes(rt, from.read_bytes(2, &mut scratch), b"ab");
     check_equal(rt, scratch.len(), 0);
@@ -99,34 +100,28 @@ fn check_lent<R: DeRead>(rt: &impl Abort, alloc: Global, from: &mut Bunser<R>) {
 
 #[test]
 fn bytes_are_lent_from_a_slice(rt: HostRuntime) {
-    let mut bunser = Bunser::new(rt.alloc(), SliceRead::new(b"abc"));
-    check_lent(&rt, rt.alloc(), &mut bunser);
+    check_lent(&rt, rt.alloc(), SliceRead::new(b"abc"));
 }
 
 /// A message of no body, whose head takes eleven bytes.
-fn check_empty<R: DeRead>(rt: &impl Abort, from: &mut Bunser<R>) {
-    let info = check_head(rt, from, 0, 0, 11);
+fn check_empty<R: DeRead + Drop>(rt: &impl Abort, alloc: Global, read: R) {
+    let mut from = Bunser::new(alloc, read);
+    let info = check_head(rt, &mut from, 0, 0, 11);
     check_equal(rt, from.read_count(), 11);
     check_given(rt, from.end(&info), ());
 }
 
 #[test]
 fn reads_the_empty_header(rt: HostRuntime) {
-    let mut bunser = Bunser::new(rt.alloc(), SliceRead::new(EMPTY_HEADER));
-    check_empty(&rt, &mut bunser);
+    check_empty(&rt, rt.alloc(), SliceRead::new(EMPTY_HEADER));
 }
 
 /// What `end` answers after the head and a body of one null.
-fn end_of_null<R: DeRead>(rt: &impl Abort, from: &mut Bunser<R>) -> Result<()> {
+fn end_of_null<R: DeRead + Drop>(rt: &impl Abort, alloc: Global, read: R) -> Result<()> {
+    let mut from = Bunser::new(alloc, read);
     let info = from.read_pdu().expect(rt, "the head is whole");
-    check_discarded(rt, from, 0x0a);
+    check_discarded(rt, &mut from, 0x0a);
     from.end(&info)
-}
-
-/// The message of one null is refused where it ends.
-fn check_end_refused(rt: &impl Abort, alloc: Global, message: &[u8], refusal: &str) {
-    let mut bunser = Bunser::new(alloc, SliceRead::new(message));
-    check_refused(rt, alloc, end_of_null(rt, &mut bunser), refusal);
 }
 
 /// No body of this length and start ends before the first byte.
@@ -140,29 +135,39 @@ fn check_negative(rt: &impl Abort, alloc: Global, len: i64, start: i64) {
     check_refused(rt, alloc, bunser.end(&info), NEGATIVE_LENGTH);
 }
 
+/// Messages of one null whose heads say another length than one, and how their end is refused.
+static ENDS: [(&[u8], &str); 4] = [
+    (
+        b"\x00\x02\x00\x00\x00\x00\x03\x02\x0a",
+        "DeEof { expected: 10, read: 9 }",
+    ),
+    (
+        b"\x00\x02\x00\x00\x00\x00\x03\x00\x0a",
+        "DeEof { expected: 8, read: 9 }",
+    ),
+    (
+        b"\x00\x02\x00\x00\x00\x00\x06\xf0\xff\xff\xff\xff\xff\xff\x7f\x0a",
+        "DeEof { expected: 9223372036854775807, read: 16 }",
+    ),
+    (
+        b"\x00\x02\x00\x00\x00\x00\x06\xff\xff\xff\xff\xff\xff\xff\x7f\x0a",
+        "DeCustom { msg: Fixed(CountTooGreat) }",
+    ),
+];
+
 #[test]
 fn a_body_ends_where_its_head_says(rt: HostRuntime) {
     let alloc = rt.alloc();
-    check_ends(&rt, alloc);
-    let mut whole = Bunser::new(
-        alloc,
-        SliceRead::new(b"\x00\x02\x00\x00\x00\x00\x03\x01\x0a"),
-    );
-    check_given(&rt, end_of_null(&rt, &mut whole), ());
-    check_negative(&rt, alloc, -1, 0);
-    check_negative(&rt, alloc, 0, -1);
+    for (message, refusal) in &ENDS {
+        let answer = end_of_null(&rt, alloc, SliceRead::new(message));
+        check_refused(&rt, alloc, answer, refusal);
+    }
+    let whole = SliceRead::new(b"\x00\x02\x00\x00\x00\x00\x03\x01\x0a");
+    check_given(&rt, end_of_null(&rt, alloc, whole), ());
 }
 
-/// Messages of one null whose heads say another length than one.
-fn check_ends(rt: &impl Abort, alloc: Global) {
-    let long = b"\x00\x02\x00\x00\x00\x00\x03\x02\x0a";
-    check_end_refused(rt, alloc, long, "DeEof { expected: 10, read: 9 }");
-    let short = b"\x00\x02\x00\x00\x00\x00\x03\x00\x0a";
-    check_end_refused(rt, alloc, short, "DeEof { expected: 8, read: 9 }");
-    let greatest = b"\x00\x02\x00\x00\x00\x00\x06\xf0\xff\xff\xff\xff\xff\xff\x7f\x0a";
-    let refusal = "DeEof { expected: 9223372036854775807, read: 16 }";
-    check_end_refused(rt, alloc, greatest, refusal);
-    let greater = b"\x00\x02\x00\x00\x00\x00\x06\xff\xff\xff\xff\xff\xff\xff\x7f\x0a";
-    let refusal = "DeCustom { msg: Fixed(CountTooGreat) }";
-    check_end_refused(rt, alloc, greater, refusal);
+#[test]
+fn no_body_ends_before_the_first_byte(rt: HostRuntime) {
+    check_negative(&rt, rt.alloc(), -1, 0);
+    check_negative(&rt, rt.alloc(), 0, -1);
 }

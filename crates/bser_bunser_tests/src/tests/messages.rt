@@ -62,12 +62,17 @@ fn check_strings<R: DeRead>(rt: &impl Abort, scratch: &mut Vec<u8>, from: &mut B
     check_bytes(rt, from.read_bytes(2, scratch), b"xy");
 }
 
-/// An integer, an object that is no integer, and an integer of four bytes.
-fn check_numbers<R: DeRead>(rt: &impl Abort, from: &mut Bunser<R>) {
-    check_given(rt, from.check_next_int(), 513);
+/// No integer is next, but an object of no entries.
+fn check_object<R: DeRead>(rt: &impl Abort, from: &mut Bunser<R>) {
     let look = from.next_int();
     assert!(rt; matches!(look, Ok(Look::Unexpected(Unexpected::Tag(0x01)))));
     check_token(rt, from, Token::Object { len: 0 });
+}
+
+/// An integer, an object that is no integer, and an integer of four bytes.
+fn check_numbers<R: DeRead>(rt: &impl Abort, from: &mut Bunser<R>) {
+    check_given(rt, from.check_next_int(), 513);
+    check_object(rt, from);
     let tag = from.peek().expect(rt, "a byte is left");
     check_equal(rt, tag, 0x05);
     check_given(rt, from.next_i32(), -1);
@@ -111,7 +116,8 @@ fn what_follows_a_message_is_left(rt: HostRuntime) {
 }
 
 /// Of 20,000 bytes the first 15,000 are passed, and then no 5,001.
-fn check_passed<R: DeRead>(rt: &impl Abort, from: &mut Bunser<R>) {
+fn check_passed<R: DeRead + Drop>(rt: &impl Abort, alloc: Global, read: R) {
+    let mut from = Bunser::new(alloc, read);
     check_given(rt, from.pass(15_000), ());
     check_equal(rt, from.read_count(), 15_000);
     assert!(rt; from.pass(5_001).is_err());
@@ -120,6 +126,5 @@ fn check_passed<R: DeRead>(rt: &impl Abort, from: &mut Bunser<R>) {
 #[test]
 fn bytes_beyond_the_window_are_passed(rt: HostRuntime) {
     let bytes = [7u8; 20_000];
-    let mut bunser = Bunser::new(rt.alloc(), source_of(&bytes, 4099, 20_000));
-    check_passed(&rt, &mut bunser);
+    check_passed(&rt, rt.alloc(), source_of(&bytes, 4099, 20_000));
 }

@@ -15,15 +15,25 @@ fn check_head_refused<R: DeRead + Drop>(rt: &impl Abort, alloc: Global, read: R,
     check_refused(rt, alloc, bunser.read_pdu(), refusal);
 }
 
+const HEAD: &[u8] = b"\x00\x02\x00\x00\x00\x00\x04\x80\x00";
+
 #[test]
 fn a_front_of_a_head_is_an_early_end(rt: HostRuntime) {
-    let head = b"\x00\x02\x00\x00\x00\x00\x04\x80\x00";
     for len in 0..9 {
-        check_head_refused(&rt, rt.alloc(), SliceRead::new(&head[..len]), EARLY_END);
-        check_head_refused(&rt, rt.alloc(), source_of(&head[..len], 1, 99), EARLY_END);
+        let front = &HEAD[..len];
+        check_head_refused(&rt, rt.alloc(), SliceRead::new(front), EARLY_END);
+        check_head_refused(&rt, rt.alloc(), source_of(front, 1, 99), EARLY_END);
     }
-    let mut whole = Bunser::new(rt.alloc(), source_of(head, 1, 99));
-    check_head(&rt, &mut whole, 0, 128, 9);
+}
+
+/// A head of nine bytes, which announces a body of 128, is whole.
+fn check_whole_head<R: DeRead + Drop>(rt: &impl Abort, alloc: Global, read: R) {
+    check_head(rt, &mut Bunser::new(alloc, read), 0, 128, 9);
+}
+
+#[test]
+fn a_head_that_comes_byte_by_byte_is_whole(rt: HostRuntime) {
+    check_whole_head(&rt, rt.alloc(), source_of(HEAD, 1, 99));
 }
 
 #[test]
@@ -40,13 +50,13 @@ fn a_negative_length_of_a_body_is_named(rt: HostRuntime) {
 
 #[test]
 fn another_tag_than_an_integer_is_named(rt: HostRuntime) {
-    let mut bunser = Bunser::new(rt.alloc(), source_of(b"\x0a\x03\x01", 1, 9));
-    check_no_integer(&rt, rt.alloc(), &mut bunser);
+    check_no_integer(&rt, rt.alloc(), source_of(b"\x0a\x03\x01", 1, 9));
 }
 
 /// The body ends before its first byte. A byte more is an early end, and no call goes on after it.
-fn check_past_the_end<R: DeRead>(rt: &impl Abort, alloc: Global, from: &mut Bunser<R>) {
-    let info = check_head(rt, from, 0, 0, 8);
+fn check_past_the_end<R: DeRead + Drop>(rt: &impl Abort, alloc: Global, read: R) {
+    let mut from = Bunser::new(alloc, read);
+    let info = check_head(rt, &mut from, 0, 0, 8);
     check_given(rt, from.end(&info), ());
     check_refused(rt, alloc, from.peek(), EARLY_END);
     check_refused(rt, alloc, from.end(&info), FAILED_BEFORE);
@@ -57,6 +67,5 @@ fn check_past_the_end<R: DeRead>(rt: &impl Abort, alloc: Global, from: &mut Buns
 #[test]
 fn after_a_refusal_each_call_has_failed(rt: HostRuntime) {
     let message = b"\x00\x02\x00\x00\x00\x00\x03\x00";
-    let mut bunser = Bunser::new(rt.alloc(), SliceRead::new(message));
-    check_past_the_end(&rt, rt.alloc(), &mut bunser);
+    check_past_the_end(&rt, rt.alloc(), SliceRead::new(message));
 }

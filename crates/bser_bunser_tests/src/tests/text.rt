@@ -2,27 +2,36 @@
 use bser_source::text::as_text;
 use std::process::Abort;
 
-fn is_its_text(rt: &impl Abort, text: &str) {
-    assert_eq!(rt; as_text(text.as_bytes()), Some(text));
-}
+static TEXTS: [&str; 8] = [
+    "",
+    "f",
+    "\u{0}\u{7f}",
+    "12345678",
+    "123456789",
+    "é",
+    "123456é",
+    "1234567é",
+];
 
-fn is_no_text(rt: &impl Abort, bytes: &[u8]) {
-    assert_eq!(rt; as_text(bytes), None);
+static NO_TEXTS: [&[u8]; 5] = [
+    b"\xc3",
+    b"\x80",
+    b"1234567\xc3",
+    b"1234567\xff",
+    b"12345678\xff",
+];
+
+/// What the bytes are looked at as.
+fn check_as_text(rt: &impl Abort, bytes: &[u8], text: Option<&str>) {
+    assert_eq!(rt; as_text(bytes), text);
 }
 
 #[test]
 fn bytes_are_a_text_where_they_are_utf8(rt: HostRuntime) {
-    is_its_text(&rt, "");
-    is_its_text(&rt, "f");
-    is_its_text(&rt, "\u{0}\u{7f}");
-    is_its_text(&rt, "12345678");
-    is_its_text(&rt, "123456789");
-    is_its_text(&rt, "é");
-    is_its_text(&rt, "123456é");
-    is_its_text(&rt, "1234567é");
-    is_no_text(&rt, b"\xc3");
-    is_no_text(&rt, b"\x80");
-    is_no_text(&rt, b"1234567\xc3");
-    is_no_text(&rt, b"1234567\xff");
-    is_no_text(&rt, b"12345678\xff");
+    for text in &TEXTS {
+        check_as_text(&rt, text.as_bytes(), Some(text));
+    }
+    for bytes in &NO_TEXTS {
+        check_as_text(&rt, bytes, None);
+    }
 }

@@ -18,9 +18,14 @@ pub fn copying(message: &[u8], plan: Plan) -> IoRead<Watched<PlannedReader<'_>>>
     IoRead::new(Watched::new(PlannedReader::new(message, plan)))
 }
 
+/// What reads the source's message. Its head is read.
+pub fn begun_at<R: DeRead + Drop>(rt: &impl Abort, alloc: Global, source: R) -> Deserializer<R> {
+    Deserializer::new(alloc, source).expect(rt, "the head is whole")
+}
+
 /// What reads the message from a slice. Its head is read.
 pub fn begun<'a>(rt: &impl Abort, alloc: Global, message: &'a [u8]) -> Deserializer<SliceRead<'a>> {
-    Deserializer::new(alloc, SliceRead::new(message)).expect(rt, "the head is whole")
+    begun_at(rt, alloc, SliceRead::new(message))
 }
 
 /// Reads the message from a reader that gives it by the plan, and tells how many bytes are left.
@@ -37,6 +42,16 @@ pub fn check_code<T>(rt: &impl Abort, alloc: Global, answer: &Result<T>, expecte
         Ok(_) => assert!(rt; false, "{expected} is read"),
         Err(error) => check_error(rt, alloc, error, expected),
     }
+}
+
+/// Checks that the end is refused with this code.
+pub fn check_end_refused<R: DeRead>(
+    rt: &impl Abort,
+    alloc: Global,
+    from: &Deserializer<R>,
+    expected: &str,
+) {
+    check_code(rt, alloc, &from.end(), expected);
 }
 
 /// Checks that the slice is refused with this code.
@@ -91,9 +106,19 @@ pub fn check_not_lent<T: Deserialize<NoLoan>>(
     plan: Plan,
     expected: &str,
 ) {
-    let mut from = Deserializer::new(alloc, copying(message, plan)).expect(rt, "the head is whole");
+    let mut from = begun_at(rt, alloc, copying(message, plan));
     let refused = T::deserialize(alloc, &mut from);
     check_refused(rt, alloc, &refused, &mut from, expected);
+}
+
+/// Checks that the count is the one expected.
+pub fn check_count(rt: &impl Abort, found: usize, expected: usize) {
+    assert_eq!(rt; found, expected);
+}
+
+/// Checks that what was found is what was expected.
+pub fn check_equal<T: Debug + PartialEq>(rt: &impl Abort, found: &T, expected: &T) {
+    assert_eq!(rt; *found, *expected);
 }
 
 /// Checks that so many items are left, and what the next one is.
@@ -107,11 +132,9 @@ pub fn check_item<R: DeRead, T: Deserialize<R::Lent> + Debug + PartialEq>(
 where
     R::Lent: LendsText,
 {
-    assert_eq!(rt; items.remaining(), left);
-    assert_eq!(rt;
-        items.next_element::<T>(alloc).expect(rt, "an item is read"),
-        expected
-    );
+    check_count(rt, items.remaining(), left);
+    let item = items.next_element::<T>(alloc).expect(rt, "an item is read");
+    check_equal(rt, &item, &expected);
 }
 
 /// Checks what the next key is.
@@ -124,8 +147,6 @@ pub fn check_key<R: DeRead, K: Deserialize<R::Lent> + Debug + PartialEq>(
 where
     R::Lent: LendsText,
 {
-    assert_eq!(rt;
-        entries.next_key::<K>(alloc).expect(rt, "a key is read"),
-        Some(expected)
-    );
+    let key = entries.next_key::<K>(alloc).expect(rt, "a key is read");
+    check_equal(rt, &key, &Some(expected));
 }

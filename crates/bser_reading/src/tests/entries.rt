@@ -1,5 +1,5 @@
 //! Calls on the entries of an open object, in an order that is refused.
-use super::checks::{begun, check_code, check_refusal, check_refused};
+use super::checks::{begun, check_end_refused, check_refusal, check_refused};
 use serde_bser::de::{Answer, Field, MapAccess, ReadsContainers, SliceRead};
 use std::alloc::Global;
 use std::process::Abort;
@@ -90,7 +90,7 @@ fn check_ended_early(rt: &impl Abort, alloc: Global, answered: &[Call]) {
     check_answered(rt, alloc, &mut entries, answered);
     let refused = entries.end();
     check_refused(rt, alloc, &refused, &mut from, "C3");
-    check_code(rt, alloc, &from.end(), "E6 Failed");
+    check_end_refused(rt, alloc, &from, "E6 Failed");
 }
 
 #[test]

@@ -1,5 +1,5 @@
 //! Tests of the calls that read an enum.
-use super::checks::{begun, check_item, check_key, check_refused};
+use super::checks::{begun, check_count, check_equal, check_item, check_key, check_refused};
 use bser_vectors::enums::TestEnum;
 use serde_bser::de::{Deserializer, MapAccess, ReadsContainers, ReadsEnums, SliceRead};
 use std::alloc::Global;
@@ -25,7 +25,7 @@ fn the_first_place_of_a_repeated_name_counts(rt: HostRuntime) {
     let variant = from
         .read_enum(alloc, "Letter", &["b", "a", "a"])
         .expect(&rt, "a variant is read");
-    assert_eq!(rt; variant.place(), 1);
+    check_count(&rt, variant.place(), 1);
     variant.unit_variant().expect(&rt, "it holds nothing");
     from.end().expect(&rt, "it is at its end");
 }
@@ -60,12 +60,8 @@ fn check_texts(
     entries: &mut MapAccess<'_, SliceRead<'_>>,
     expected: (&str, &str),
 ) {
-    assert_eq!(rt;
-        entries
-            .next_entry::<&str, &str>(alloc)
-            .expect(rt, "an entry is read"),
-        Some(expected)
-    );
+    let entry = entries.next_entry::<&str, &str>(alloc);
+    check_equal(rt, &entry.expect(rt, "an entry is read"), &Some(expected));
 }
 
 /// Checks that the payload is an object of "abc" and "def", of "foo" and "bar".

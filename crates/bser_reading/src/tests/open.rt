@@ -1,5 +1,5 @@
 //! Tests of containers that are open, and of calls in an order that is refused.
-use super::checks::{begun, check_code, check_item, check_refusal};
+use super::checks::{begun, check_count, check_end_refused, check_item, check_refusal};
 use serde_bser::de::{Deserializer, Ignored, ReadsContainers, SliceRead};
 use std::alloc::Global;
 use std::process::Abort;
@@ -33,12 +33,8 @@ fn a_template_tells_how_many_rows_are_left(rt: HostRuntime) {
     let message =
         b"\x00\x02\x00\x00\x00\x00\x03\x0e\x0b\x00\x03\x02\x0d\x03\x01a\x02\x03\x01b\x03\x07";
     let mut from = begun(&rt, alloc, message);
-    assert_eq!(rt;
-        from.read_seq(alloc)
-            .expect(&rt, "an array is opened")
-            .remaining(),
-        7
-    );
+    let items = from.read_seq(alloc).expect(&rt, "an array is opened");
+    check_count(&rt, items.remaining(), 7);
 }
 
 /// A call that reads.
@@ -104,7 +100,7 @@ fn a_read_while_an_array_is_open_is_refused(rt: HostRuntime) {
         .next_element::<bool>(alloc)
         .expect(&rt, "an item is read");
     check_refused_twice(&rt, alloc, &mut from, Call::Number, "C11");
-    check_code(&rt, alloc, &from.end(), "E6 Failed");
+    check_end_refused(&rt, alloc, &from, "E6 Failed");
 }
 
 #[test]

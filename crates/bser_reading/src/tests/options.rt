@@ -1,5 +1,5 @@
 //! Keys that may be null.
-use super::checks::{begun, check_key};
+use super::checks::{begun, check_equal, check_key};
 use serde_bser::de::{Deserializer, ReadsContainers, SliceRead};
 use std::alloc::Global;
 use std::process::Abort;
@@ -8,12 +8,10 @@ use std::process::Abort;
 fn check_entry(rt: &impl Abort, alloc: Global, from: &mut Deserializer<SliceRead<'_>>) {
     let mut entries = from.read_map().expect(rt, "an object is opened");
     check_key(rt, alloc, &mut entries, Some("a"));
-    assert_eq!(rt;
-        entries
-            .next_value::<Option<i64>>(alloc)
-            .expect(rt, "a value is read"),
-        None
-    );
+    let value = entries
+        .next_value::<Option<i64>>(alloc)
+        .expect(rt, "a value is read");
+    check_equal(rt, &value, &None);
     entries.end().expect(rt, "it is at its end");
 }
 

@@ -1,5 +1,5 @@
 //! Which of several refusals is answered: that of the first check that fails.
-use super::checks::{begun, check_code, check_not_lent, check_refused};
+use super::checks::{begun, check_end_refused, check_not_lent, check_refused};
 use bser_vectors::devices::Plan;
 use serde_bser::de::SliceRead;
 use serde_bser::prelude::*;
@@ -21,9 +21,9 @@ const SHORT: &[u8] = b"\x00\x02\0\0\0\0\x03\x09\x00\x03\x01\x08";
 /// Checks that the end is refused before the array is read, and where it is open.
 fn check_open(rt: &impl Abort, alloc: Global) {
     let mut from = begun(rt, alloc, SHORT);
-    check_code(rt, alloc, &from.end(), "C11");
+    check_end_refused(rt, alloc, &from, "C11");
     drop(from.read_seq(alloc).expect(rt, "an array is opened"));
-    check_code(rt, alloc, &from.end(), "C11");
+    check_end_refused(rt, alloc, &from, "C11");
 }
 
 /// Checks that the end is refused by the length once the array was passed over, and by the refusal of
@@ -32,10 +32,10 @@ fn check_passed_over(rt: &impl Abort, alloc: Global) {
     let mut from = begun(rt, alloc, SHORT);
     from.skip_value(alloc)
         .expect(rt, "the value is passed over");
-    check_code(rt, alloc, &from.end(), "E4 17 12");
+    check_end_refused(rt, alloc, &from, "E4 17 12");
     let second = from.skip_value(alloc);
     check_refused(rt, alloc, &second, &mut from, "C4");
-    check_code(rt, alloc, &from.end(), "E6 Failed");
+    check_end_refused(rt, alloc, &from, "E6 Failed");
 }
 
 #[test]

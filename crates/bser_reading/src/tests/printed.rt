@@ -22,7 +22,7 @@ fn check_printed<T>(rt: &impl Abort, alloc: Global, answer: &Result<T>, text: &s
 }
 
 /// Messages that are no value, and the text.
-const REFUSED: [(&[u8], &str); 4] = [
+static REFUSED: [(&[u8], &str); 4] = [
     (
         b"\x00\x02\0\0\0\0\x03\x01\x0e",
         "while deserializing BSER: invalid start byte for next item: unknown byte '14'",
@@ -41,7 +41,7 @@ const REFUSED: [(&[u8], &str); 4] = [
 #[test]
 fn a_refused_message_is_named(rt: HostRuntime) {
     let alloc = rt.alloc();
-    for (message, text) in REFUSED {
+    for (message, text) in &REFUSED {
         check_printed(&rt, alloc, &from_slice::<Value>(alloc, message), text);
     }
     let null = b"\x00\x02\0\0\0\0\x03\x01\x0a";

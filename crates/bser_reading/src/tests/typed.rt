@@ -1,6 +1,7 @@
 //! Messages read as typed values.
 use super::checks::{
-    check_code, check_item, check_not_lent, check_refusal, check_refused, copying,
+    begun_at, check_code, check_count, check_end_refused, check_equal, check_item, check_not_lent,
+    check_refusal, check_refused, copying,
 };
 use bser_vectors::devices::{Plan, PlannedReader};
 use serde_bser::de::read::{DeRead, LendsText};
@@ -12,7 +13,7 @@ use std::process::Abort;
 
 /// Checks that the source's message tells two capabilities.
 fn check_capabilities<R: DeRead + Drop>(rt: &impl Abort, alloc: Global, source: R) {
-    let from = Deserializer::new(alloc, source).expect(rt, "the head is whole");
+    let from = begun_at(rt, alloc, source);
     assert_eq!(rt; from.capabilities(), 0x8000_0001);
 }
 
@@ -42,7 +43,7 @@ where
 {
     let mut items = from.read_seq(alloc).expect(rt, "an array is opened");
     check_item(rt, alloc, &mut items, 3, Some(1i64));
-    assert_eq!(rt; items.remaining(), 2);
+    check_count(rt, items.remaining(), 2);
 }
 
 /// Checks that the array is open where an access was dropped.
@@ -50,9 +51,9 @@ fn check_dropped<R: DeRead + Drop>(rt: &impl Abort, alloc: Global, source: R)
 where
     R::Lent: LendsText,
 {
-    let mut from = Deserializer::new(alloc, source).expect(rt, "the head is whole");
+    let mut from = begun_at(rt, alloc, source);
     read_first(rt, alloc, &mut from);
-    check_code(rt, alloc, &from.end(), "C11");
+    check_end_refused(rt, alloc, &from, "C11");
 }
 
 #[test]
@@ -78,7 +79,7 @@ fn check_ended_early<R: DeRead + Drop>(rt: &impl Abort, alloc: Global, source: R
 where
     R::Lent: LendsText,
 {
-    let mut from = Deserializer::new(alloc, source).expect(rt, "the head is whole");
+    let mut from = begun_at(rt, alloc, source);
     end_early(rt, alloc, &mut from);
     check_refusal(rt, alloc, &mut from, "C3");
     let read = from.read_i64();
@@ -100,11 +101,9 @@ const TWO_MESSAGES: &[u8] = b"\x00\x02\0\0\0\0\x03\x01\x0a\x00\x02\0\0\0\0\x03\x
 fn check_both_read(rt: &impl Abort, alloc: Global, plan: Plan) {
     let mut reader = Watched::new(PlannedReader::new(TWO_MESSAGES, plan));
     from_reader::<_, ()>(alloc, &mut reader).expect(rt, "the message is read");
-    assert_eq!(rt;
-        from_reader::<_, i64>(alloc, &mut reader).expect(rt, "the message is read"),
-        128
-    );
-    assert_eq!(rt; reader.get_ref().left().len(), 0);
+    let number = from_reader::<_, i64>(alloc, &mut reader).expect(rt, "the message is read");
+    check_equal(rt, &number, &128);
+    check_count(rt, reader.get_ref().left().len(), 0);
     check_code(
         rt,
         alloc,

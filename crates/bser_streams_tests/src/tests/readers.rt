@@ -1,5 +1,5 @@
 //! The messages of a reader that gives one byte a call.
-use super::{HUGE, MIXED, NUMBERS, OneByOne, Tested, check_answer};
+use super::{HUGE, MIXED, NUMBERS, OneByOne, Tested, check_answer, check_equal};
 use bser_format::errors::Error;
 use bser_source::device::Watched;
 use bser_streams::limits::Limits;
@@ -22,7 +22,7 @@ fn the_messages_of_a_reader_are_read_in_turn(rt: HostRuntime) -> Tested {
         }
     }
     let read = (numbers.as_slice(), messages.taken(), messages.is_failed());
-    assert_eq!(rt; read, ([300, 300].as_slice(), 2, false));
+    check_equal(&rt, read, ([300, 300].as_slice(), 2, false));
     Ok(())
 }
 
@@ -32,7 +32,7 @@ fn one_by_one(bytes: &[u8]) -> Watched<OneByOne<'_>> {
 }
 
 #[test]
-fn the_end_of_a_stream_is_told_from_a_cut_message(rt: HostRuntime) -> Tested {
+fn the_end_of_a_stream_is_told_from_a_cut_message(rt: HostRuntime) {
     let alloc = rt.alloc();
     for count in 0..11 {
         let expected = match count {
@@ -46,9 +46,8 @@ fn the_end_of_a_stream_is_told_from_a_cut_message(rt: HostRuntime) -> Tested {
             alloc,
             next_message::<_, i64>(alloc, &mut reader),
             expected,
-        )?;
+        );
     }
-    Ok(())
 }
 
 /// Checks the answer to the next message as a number, and how many are taken then.
@@ -58,24 +57,23 @@ fn check_next(
     messages: &mut ReaderMessages<Watched<OneByOne<'_>>>,
     expected: &str,
     taken: u64,
-) -> Tested {
-    check_answer(rt, alloc, messages.next_message::<i64>(), expected)?;
-    assert_eq!(rt; messages.taken(), taken);
-    Ok(())
+) {
+    check_answer(rt, alloc, messages.next_message::<i64>(), expected);
+    check_equal(rt, messages.taken(), taken);
 }
 
 #[test]
-fn after_a_refusal_a_reader_is_not_read(rt: HostRuntime) -> Tested {
+fn after_a_refusal_a_reader_is_not_read(rt: HostRuntime) {
     let alloc = rt.alloc();
     let mut messages = ReaderMessages::new(alloc, one_by_one(MIXED));
-    check_next(&rt, alloc, &mut messages, "Ok(Some(5))", 1)?;
+    check_next(&rt, alloc, &mut messages, "Ok(Some(5))", 1);
     check_next(
         &rt,
         alloc,
         &mut messages,
         "Err(DeCustom { msg: Fixed(WrongType) })",
         1,
-    )?;
+    );
     assert!(rt; messages.is_failed());
     let left = messages.get_ref().get_ref().bytes.len();
     check_next(
@@ -84,32 +82,30 @@ fn after_a_refusal_a_reader_is_not_read(rt: HostRuntime) -> Tested {
         &mut messages,
         "Err(DeReaderError { source: Failed })",
         1,
-    )?;
-    assert_eq!(rt; messages.into_inner().get_ref().bytes.len(), left);
-    Ok(())
+    );
+    check_equal(&rt, messages.into_inner().get_ref().bytes.len(), left);
 }
 
 /// Checks that a body of five bytes is read within that limit, and nothing of a longer one.
-fn check_limit_of_five(rt: &impl Abort, alloc: Global) -> Tested {
+fn check_limit_of_five(rt: &impl Abort, alloc: Global) {
     let five = Limits {
         levels: 128,
         bytes: 5,
     };
     let mut reader = one_by_one(NUMBERS);
     let number = from_reader_limited::<_, i64>(alloc, five, &mut reader);
-    check_answer(rt, alloc, number, "Ok(300)")?;
-    assert_eq!(rt; reader.get_ref().bytes.len(), 11);
+    check_answer(rt, alloc, number, "Ok(300)");
+    check_equal(rt, reader.get_ref().bytes.len(), 11);
     let mut messages = ReaderMessages::with_limits(alloc, five, one_by_one(HUGE));
     let refused = "Err(DeTooLong { announced: 4294967296, most: 5 })";
-    check_next(rt, alloc, &mut messages, refused, 0)?;
-    assert_eq!(rt; messages.into_inner().get_ref().bytes.len(), 2);
-    Ok(())
+    check_next(rt, alloc, &mut messages, refused, 0);
+    check_equal(rt, messages.into_inner().get_ref().bytes.len(), 2);
 }
 
 #[test]
-fn nothing_of_a_body_above_the_limit_is_read(rt: HostRuntime) -> Tested {
+fn nothing_of_a_body_above_the_limit_is_read(rt: HostRuntime) {
     let alloc = rt.alloc();
-    check_limit_of_five(&rt, alloc)?;
+    check_limit_of_five(&rt, alloc);
     let four = Limits {
         levels: 128,
         bytes: 4,
@@ -119,6 +115,5 @@ fn nothing_of_a_body_above_the_limit_is_read(rt: HostRuntime) -> Tested {
         Err(Error::DeTooLong { announced, most }) => assert_eq!(rt; (announced, most), (5, 4)),
         _ => panic!(rt; "a body above the limit was not refused"),
     }
-    assert_eq!(rt; reader.get_ref().bytes.len(), 16);
-    Ok(())
+    check_equal(&rt, reader.get_ref().bytes.len(), 16);
 }
