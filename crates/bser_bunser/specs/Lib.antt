@@ -3,3 +3,5 @@ pub mod Refusal
 pub mod Names
 pub mod Tokens
 pub mod Tagged
+pub mod Seen
+pub mod Calls

@@ -1,5 +1,5 @@
 -- Which refusal is named, and when another may stand in its place.
-use Rattle.std.specs.Prelude.{◌≡◌, ◌⊎◌, ◌≤◌, ◌<◌, ◌+◌, ◌^◌, ℕ, ℤ, suc, true, false, List, [], ◌∷◌, ◌++◌, length, Some}
+use Rattle.std.specs.Prelude.{◌≡◌, ◌≢◌, ◌⊎◌, ◌≤◌, ◌<◌, ◌+◌, ◌^◌, ℕ, ℤ, suc, true, false, List, [], ◌∷◌, ◌++◌, length, Some}
 use Rattle.std.specs.Int.{byte_len}
 use Rattle.bser_format.specs.Grammar.{Format, IntSize, tag_of, width_of}
 use Rattle.bser_format.specs.declared.errors.Error.{Error}
@@ -10,6 +10,7 @@ use Rattle.bser_format.specs.declared.errors.Complaint.TheVariants.{NegativeLeng
 use Rattle.bser_named.specs.Named as named
 use Rattle.bser_named.specs.Named.{◌>>=◌}
 use Rattle.bser_source.specs.Window.{Window, left}
+use Rattle.bser_bunser.specs.Refusal.{Fails, ShortOf}
 
 -- bytes that may be those left: those buffered, and then what is known of the others
 pub record MayBeLeft (s : Window) (b : List ℕ) : Type 0 where
@@ -96,3 +97,15 @@ natural_of c = named.int >>= named.natural c
 -- the bytes after a length
 abbrev pub bytes_after : ℤ → named.Reader (List ℕ)
 bytes_after len = named.natural NegativeLength len >>= named.front
+
+-- a call that only wants n bytes is refused: as its byte source refuses, by the name of the first fault, and never for want of memory
+pub record RefusesShort (n : ℕ) (e : Error) (old new : Window) : Type 0 where
+  pub err : ShortOf n e old new
+  pub names : Names (named.front n) e old
+  pub memory : e ≢ OutOfMemory
+
+-- a call is refused by the name that r gives, and never for want of memory
+pub record RefusesBy {X : Type 0} (r : named.Reader X) (e : Error) (old new : Window) : Type 0 where
+  pub err : Fails e old new
+  pub names : Names r e old
+  pub memory : e ≢ OutOfMemory

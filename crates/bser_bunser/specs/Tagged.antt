@@ -1,11 +1,8 @@
 -- What the reader of tagged values takes.
-use Rattle.std.specs.Prelude.{◌≡◌, ◌≤◌, ◌≤ℤ◌, ◌<◌, ℕ, ◌+◌, ◌+ℤ◌, ◌^◌, ℤ, pos, List, ◌++◌, length, take, max, false, Option, Some, None, FitsSigned}
+use Rattle.std.specs.Prelude.{◌≡◌, ◌≤◌, ◌≤ℤ◌, ◌<◌, ℕ, ◌+◌, ◌+ℤ◌, ◌^◌, ℤ, pos, List, ◌++◌, length, take, max, false, FitsSigned}
 use Rattle.std.specs.Int.{Width, w64, to_le_bytes, cast_unsigned}
 use Rattle.bser_format.specs.Grammar.{Format, SpellsInteger, SpellsCount}
 use Rattle.bser_format.specs.Message.{Head}
-use Rattle.bser_format.specs.declared.errors.Error.{Error}
-use Rattle.bser_format.specs.declared.errors.Error.TheVariants.{DeReaderError}
-use Rattle.bser_format.specs.declared.errors.ReadCause.TheVariants.{Failed}
 use Rattle.bser_source.specs.Window.{Window, Grown, Took, with_limit}
 use Rattle.bser_bunser.specs.Prefixes.{IsIntPrefix}
 use Rattle.bser_bunser.specs.Tokens.{SpellsToken}
@@ -14,24 +11,6 @@ use Rattle.bser_bunser.specs.declared.prefix.Unexpected as unexpected
 use Rattle.bser_bunser.specs.declared.prefix.Look.{Look}
 use Rattle.bser_bunser.specs.declared.prefix.Look.TheVariants.{Taken, Unexpected}
 use Rattle.bser_bunser.specs.declared.prefix.Token.{Token}
-use Rattle.bser_bunser.specs.declared.bunser.Bunser.{Bunser}
-
--- a reader of tagged values, as its byte source
-abbrev pub bunser_window : {R : Type 0} → (R → Window) → Bunser R → Window
-bunser_window window b = window b.read
-
--- the byte source itself
-abbrev pub bunser_source : {R : Type 0} → Bunser R → R
-bunser_source b = b.read
-
--- the reason that is kept, or that of what has failed
-abbrev pub kept_or_failed : Option Error → Error
-kept_or_failed None = DeReaderError Failed
-kept_or_failed (Some e) = e
-
--- the reason of a refusal
-abbrev pub refusal_of : {R : Type 0} → Bunser R → Error
-refusal_of b = kept_or_failed b.refusal
 
 -- ---- what is wanted
 

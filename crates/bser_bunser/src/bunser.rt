@@ -1,11 +1,12 @@
 //! Tagged values over a byte source.
-ghost use Rattle.std.specs.Prelude.{◌≡◌, ◌≢◌, ◌≤◌, ◌<◌, ◌-◌, ◌^◌, pos, length, IfOk, IfErr, IfSome, IfNone, OnOk, OnErr, min};
+ghost use Rattle.std.specs.Prelude.{◌≡◌, ◌≢◌, ◌≤◌, ◌<◌, ◌-◌, length, IfOk, IfErr, OnOk, OnErr};
 ghost use Rattle.bser_format.specs.Errors.{error_of};
-ghost use Rattle.bser_named.specs.Named.{next, front, int};
-ghost use Rattle.bser_source.specs.Window.{Filled, Peeks, Took, consumed, closed};
-ghost use Rattle.bser_bunser.specs.Names.{Names, CutsInteger};
-ghost use Rattle.bser_bunser.specs.Refusal.{ShortOf, Fails, unexpected_refusal};
-ghost use Rattle.bser_bunser.specs.Tagged.{bunser_window, bunser_source, refusal_of, TookInt, LooksForInt, TookToken};
+ghost use Rattle.bser_named.specs.Named.{next, front};
+ghost use Rattle.bser_source.specs.declared.read.TheConstants.{WINDOW};
+ghost use Rattle.bser_source.specs.Window.{Peeks, consumed};
+ghost use Rattle.bser_bunser.specs.Calls.{bytes_taken, Buffers, Takes, TakesToken, Keeps, Closes, FailsShort, FailsBy};
+ghost use Rattle.bser_bunser.specs.Names.{Names};
+ghost use Rattle.bser_bunser.specs.Refusal.{ShortOf, unexpected_refusal};
 ghost use Rattle.bser_bunser.specs.Tokens.{token, LengthFits};
 
 mod integers;
@@ -18,7 +19,9 @@ use crate::prefix::{Look, Prefix, Token, Unexpected, int_prefix, token_prefix};
 use crate::refusal::{Answer, Refused};
 use bser_format::errors::{Complaint, Error, Kind, ReadCause, Result};
 use bser_source::read::{DeRead, count_octets};
+use bser_source::reference::Lending;
 use std::alloc::Global;
+use std::marker::{Model, PhantomData};
 
 /// Reads the head of a message, integers, tokens and counted bytes from a byte source.
 ///
@@ -28,72 +31,74 @@ use std::alloc::Global;
 /// refused is [`Error::DeReaderError`] with the source's cause, and a refused growth of a caller's
 /// scratch [`Error::OutOfMemory`]. It takes no memory itself.
 ///
-/// The calls of the crate answer the error itself. The others answer [`Refused`], which has no
-/// content: the error is the reason that is kept, and [`Bunser::take_refusal`] gives it.
-///
-/// The crate keeps a scratch of its own, for which it reserves 128 bytes, and leaves open what a
-/// use after an error does.
+/// Some calls answer the error itself. The others answer [`Refused`], which has no content: the
+/// error is the reason that is kept, and [`Bunser::take_refusal`] gives it. A call that succeeds
+/// keeps the reason that is there.
 #[derive(Drop)]
-pub struct Bunser<R> {
+pub struct Bunser<R: DeRead> {
     read: R,
     refusal: Option<Error>,
+    // they name what is lent and kept, so that a reader over a slice can be made
+    lent: PhantomData<R::Lent>,
+    kept: PhantomData<<R::Lent as Lending>::Kept>,
+}
+
+impl<R: DeRead> Model for Bunser<R> {
+    ghost use Rattle.bser_bunser.specs.Seen.{Seen, kept_or_failed};
+
+    ghost Value = { Seen };
+
+    ghost view = { λ b. record { window = R.window b.read; refusal = kept_or_failed b.refusal } };
 }
 
 impl<R: DeRead> Bunser<R> {
     /// Reads from the source's next byte on. Nothing is taken, and nothing reserved.
-    ///
-    /// The crate's call has no allocator.
     #[inline(always)]
     pub fn new(_alloc: Global, read: R) -> Self
-        ensures { bunser_window R.window result ≡ R.window read }
+        ensures window { result.window ≡ R.window read }
+        ensures refusal { result.refusal ≡ error_of ReadCause.Failed }
     {
         Bunser {
             read,
             refusal: None,
+            lent: PhantomData,
+            kept: PhantomData,
         }
     }
 
     /// Gives the byte source back, as far as it was read.
     #[inline(always)]
     pub fn into_inner(self) -> R
-        ensures { result ≡ bunser_source self }
+        ensures { R.window result ≡ self.window }
     {
         let Bunser { read, .. } = self;
         read
     }
 
-    /// Refuses all calls from now on.
-    ///
-    /// A layer above calls it where it refuses what was read.
-    pub fn fail(&mut self)
-        ensures { bunser_window R.window self.new ≡ closed (bunser_window R.window self.old) }
-    {
-        self.read.close();
-    }
-
     /// Whether a call was refused before, so that each later one is.
     pub fn is_failed(&self) -> bool
-        ensures { result ≡ (bunser_window R.window self.now).failed }
+        ensures value { result ≡ self.now.window.failed }
+        ensures lends { self.now.window.lends ≡ R.Lent.lends }
     {
         self.read.is_failed()
     }
 
     /// How many bytes were taken, at most `i64::MAX`. Bytes that are only buffered are not counted.
     pub fn read_count(&self) -> i64
-        ensures { result ≡ pos (min (bunser_window R.window self.now).count (2 ^ 63 - 1)) }
+        ensures { result ≡ bytes_taken self.now }
     {
         i64::try_from(self.read.read_count()).unwrap_or(i64::MAX)
     }
 
     /// Takes the reason of the last refusal, or [`ReadCause::Failed`] where none is kept.
     ///
-    /// It belongs after an answer of [`Refused`]. The crate has no such call.
+    /// It belongs after an answer of [`Refused`].
     #[cold]
     #[inline(never)]
     pub fn take_refusal(&mut self) -> Error
-        ensures reason { result ≡ refusal_of self.old }
-        ensures taken { refusal_of self.new ≡ error_of ReadCause.Failed }
-        ensures state { bunser_window R.window self.new ≡ bunser_window R.window self.old }
+        ensures reason { result ≡ self.old.refusal }
+        ensures taken { self.new.refusal ≡ error_of ReadCause.Failed }
+        ensures state { self.new.window ≡ self.old.window }
     {
         match self.refusal.take() {
             Some(reason) => reason,
@@ -107,8 +112,8 @@ impl<R: DeRead> Bunser<R> {
     #[cold]
     #[inline(never)]
     pub fn refuse(&mut self, reason: Error) -> Refused
-        ensures reason { refusal_of self.new ≡ reason }
-        ensures state { bunser_window R.window self.new ≡ closed (bunser_window R.window self.old) }
+        ensures reason { self.new.refusal ≡ reason }
+        ensures state { Closes self.old self.new }
     {
         self.read.close();
         self.refusal = Some(reason);
@@ -119,8 +124,8 @@ impl<R: DeRead> Bunser<R> {
     #[cold]
     #[inline(never)]
     fn refuse_cause(&mut self, cause: ReadCause) -> Refused
-        ensures reason { refusal_of self.new ≡ error_of cause }
-        ensures state { bunser_window R.window self.new ≡ closed (bunser_window R.window self.old) }
+        ensures reason { self.new.refusal ≡ error_of cause }
+        ensures state { Closes self.old self.new }
     {
         self.refuse(Error::de_reader_error(cause))
     }
@@ -129,9 +134,9 @@ impl<R: DeRead> Bunser<R> {
     #[cold]
     #[inline(never)]
     fn refuse_unexpected(&mut self, kind: Kind, why: Unexpected) -> Refused
-        ensures reason { refusal_of self.new ≡ unexpected_refusal kind why }
-        ensures memory { refusal_of self.new ≢ Error.OutOfMemory }
-        ensures state { bunser_window R.window self.new ≡ closed (bunser_window R.window self.old) }
+        ensures reason { self.new.refusal ≡ unexpected_refusal kind why }
+        ensures memory { self.new.refusal ≢ Error.OutOfMemory }
+        ensures state { Closes self.old self.new }
     {
         self.refuse(match why {
             Unexpected::Tag(byte) => Error::DeInvalidStartByte { kind, byte },
@@ -148,38 +153,30 @@ impl<R: DeRead> Bunser<R> {
     ///
     /// Where fewer are left it is [`ReadCause::Eof`]. Over a reader it may be its fault,
     /// [`ReadCause::Reader`], or [`ReadCause::Failed`] where the count of bytes would pass the
-    /// greatest `usize`. The crate has no such call.
+    /// greatest `usize`.
     #[inline(always)]
     pub fn fill(&mut self, n: usize) -> Answer<()>
         requires some { 0 < n }
-        requires fits { n ≤ 4096 }
-        ensures ok { OnOk result
-            (Filled n (bunser_window R.window self.old) (bunser_window R.window self.new)) }
-        ensures err { OnErr result (ShortOf n (refusal_of self.new)
-            (bunser_window R.window self.old) (bunser_window R.window self.new)) }
-        ensures names { OnErr result
-            (Names (front n) (refusal_of self.new) (bunser_window R.window self.old)) }
-        ensures memory { OnErr result (refusal_of self.new ≢ Error.OutOfMemory) }
+        requires fits { n ≤ WINDOW }
+        ensures ok { OnOk result (Buffers n self.old self.new) }
+        ensures kept { OnOk result (Keeps self.old self.new) }
+        ensures refused { OnErr result (FailsShort n self.old self.new) }
     {
         if n <= count_octets(self.read.buffered()) {
             return Ok(());
         }
-        self.fill_on(n)
+        self.fill_slowly(n)
     }
 
     /// Buffers `n` bytes by a call of the source.
     #[cold]
     #[inline(never)]
-    fn fill_on(&mut self, n: usize) -> Answer<()>
+    fn fill_slowly(&mut self, n: usize) -> Answer<()>
         requires some { 0 < n }
-        requires fits { n ≤ 4096 }
-        ensures ok { OnOk result
-            (Filled n (bunser_window R.window self.old) (bunser_window R.window self.new)) }
-        ensures err { OnErr result (ShortOf n (refusal_of self.new)
-            (bunser_window R.window self.old) (bunser_window R.window self.new)) }
-        ensures names { OnErr result
-            (Names (front n) (refusal_of self.new) (bunser_window R.window self.old)) }
-        ensures memory { OnErr result (refusal_of self.new ≢ Error.OutOfMemory) }
+        requires fits { n ≤ WINDOW }
+        ensures ok { OnOk result (Buffers n self.old self.new) }
+        ensures kept { OnOk result (Keeps self.old self.new) }
+        ensures refused { OnErr result (FailsShort n self.old self.new) }
     {
         match self.read.fill(n) {
             Ok(()) => Ok(()),
@@ -192,11 +189,10 @@ impl<R: DeRead> Bunser<R> {
     /// Refusals are those of [`Self::fill`] for one byte.
     #[inline(always)]
     pub fn peek(&mut self) -> Result<u8>
-        ensures ok { IfOk result (λ b.
-            Peeks (bunser_window R.window self.old) (bunser_window R.window self.new) b) }
-        ensures err { IfErr result (λ e.
-            ShortOf 1 e (bunser_window R.window self.old) (bunser_window R.window self.new)) }
-        ensures names { IfErr result (λ e. Names next e (bunser_window R.window self.old)) }
+        ensures ok { IfOk result (λ b. Peeks self.old.window self.new.window b) }
+        ensures kept { OnOk result (Keeps self.old self.new) }
+        ensures err { IfErr result (λ e. ShortOf 1 e self.old.window self.new.window) }
+        ensures names { IfErr result (λ e. Names next e self.old.window) }
         ensures memory { IfErr result (λ e. e ≢ Error.OutOfMemory) }
     {
         match self.fill(1) {
@@ -208,26 +204,28 @@ impl<R: DeRead> Bunser<R> {
     /// Takes the first buffered byte. It wants one, which a [`Self::peek`] that succeeds gives.
     #[inline(always)]
     pub fn discard(&mut self)
-        requires { 0 < length (bunser_window R.window self.old).buffered }
-        ensures { bunser_window R.window self.new ≡ consumed 1 (bunser_window R.window self.old) }
+        requires { 0 < length self.old.window.buffered }
+        ensures window { self.new.window ≡ consumed 1 self.old.window }
+        ensures kept { Keeps self.old self.new }
     {
         self.read.consume(1);
     }
 
     /// The buffered bytes: the first of those left, which are taken without a refusal. None after a
-    /// refusal. The crate has no such call.
+    /// refusal.
     #[inline(always)]
     pub fn buffered<'s>(&'s self) -> &'s [u8]
-        ensures { result.now ≡ (bunser_window R.window self.now).buffered }
+        ensures { result.now ≡ self.now.window.buffered }
     {
         self.read.buffered()
     }
 
-    /// Takes the first `n` buffered bytes. It wants as many. The crate has no such call.
+    /// Takes the first `n` buffered bytes. It wants as many.
     #[inline(always)]
     pub fn consume(&mut self, n: usize)
-        requires { n ≤ length (bunser_window R.window self.old).buffered }
-        ensures { bunser_window R.window self.new ≡ consumed n (bunser_window R.window self.old) }
+        requires { n ≤ length self.old.window.buffered }
+        ensures window { self.new.window ≡ consumed n self.old.window }
+        ensures kept { Keeps self.old self.new }
     {
         self.read.consume(n);
     }
@@ -242,17 +240,13 @@ impl<R: DeRead> Bunser<R> {
     /// [`Self::fill`].
     ///
     /// A count is read with its tag. Where containers nest no deeper, the tag is to be looked at
-    /// first, by [`Self::fill`] and [`Self::buffered`]. The crate has no such call.
+    /// first, by [`Self::fill`] and [`Self::buffered`].
     #[inline(always)]
     pub fn token(&mut self) -> Answer<Token>
-        ensures ok { IfOk result (λ t.
-            TookToken (bunser_window R.window self.old) (bunser_window R.window self.new) t) }
+        ensures ok { IfOk result (λ t. TakesToken t self.old self.new) }
         ensures fits { IfOk result (λ t. LengthFits t) }
-        ensures err { OnErr result (Fails (refusal_of self.new)
-            (bunser_window R.window self.old) (bunser_window R.window self.new)) }
-        ensures names { OnErr result
-            (Names token (refusal_of self.new) (bunser_window R.window self.old)) }
-        ensures memory { OnErr result (refusal_of self.new ≢ Error.OutOfMemory) }
+        ensures kept { OnOk result (Keeps self.old self.new) }
+        ensures refused { OnErr result (FailsBy token self.old self.new) }
     {
         loop {
             match token_prefix(self.read.buffered()) {
@@ -260,7 +254,7 @@ impl<R: DeRead> Bunser<R> {
                     self.read.consume(len);
                     return Ok(value);
                 }
-                Prefix::Short { need } => self.fill_on(need)?,
+                Prefix::Short { need } => self.fill_slowly(need)?,
                 Prefix::Unexpected(why) => {
                     return Err(self.refuse_unexpected(Kind::NextItem, why));
                 }
@@ -272,15 +266,11 @@ impl<R: DeRead> Bunser<R> {
     #[inline(always)]
     fn front<const N: usize>(&mut self) -> Answer<[u8; N]>
         requires some { 0 < N }
-        requires fits { N ≤ 4096 }
+        requires fits { N ≤ WINDOW }
         ensures length { IfOk result (λ bs. length bs ≡ N) }
-        ensures ok { IfOk result (λ bs.
-            Took (bunser_window R.window self.old) (bunser_window R.window self.new) bs) }
-        ensures err { OnErr result (ShortOf N (refusal_of self.new)
-            (bunser_window R.window self.old) (bunser_window R.window self.new)) }
-        ensures names { OnErr result
-            (Names (front N) (refusal_of self.new) (bunser_window R.window self.old)) }
-        ensures memory { OnErr result (refusal_of self.new ≢ Error.OutOfMemory) }
+        ensures ok { IfOk result (λ bs. Takes bs self.old self.new) }
+        ensures kept { OnOk result (Keeps self.old self.new) }
+        ensures refused { OnErr result (FailsShort N self.old self.new) }
     {
         self.fill(N)?;
         let mut front = [0; N];

@@ -1,6 +1,7 @@
 //! What bytes begin with, as far as they tell: an integer, a length or a token.
-ghost use Rattle.std.specs.Prelude.{◌≡◌, ◌<◌, length, slice_index, MatchOption, IfSome};
+ghost use Rattle.std.specs.Prelude.{◌≡◌, ◌<◌, ◌^◌, length, slice_index, MatchOption, IfSome};
 ghost use Rattle.std.specs.Int.{w8, w16, w32, w64};
+ghost use Rattle.bser_named.specs.DueReaders as due_readers;
 ghost use Rattle.bser_bunser.specs.Prefixes.{NumberPrefix, BitsPrefix, IsIntPrefix, IsLengthPrefix};
 ghost use Rattle.bser_bunser.specs.Tokens.{IsTokenPrefix, IsNoIntTag, IsCounted, IsTokenOf, fault_after};
 
@@ -177,7 +178,7 @@ pub fn length_prefix(bytes: &[u8]) -> Prefix<usize>
 #[inline(always)]
 pub(crate) fn short_length(bytes: &[u8]) -> Option<usize>
     ensures length { IfSome result (λ n. IsLengthPrefix bytes.now (Prefix.Found n 2)) }
-    ensures short { IfSome result (λ n. n < 128) }
+    ensures short { IfSome result (λ n. n < 2 ^ 7) }
 {
     if bytes.is_empty() || bytes[0] != BSER_INT8 {
         return None;
@@ -186,6 +187,14 @@ pub(crate) fn short_length(bytes: &[u8]) -> Option<usize>
         Some(number) if number >= 0 => Some(number as usize),
         _ => None,
     }
+}
+
+/// Whether a key may have this tag: a string's, of bytes or of a text.
+#[inline(always)]
+pub fn is_key_tag(tag: u8) -> bool
+    ensures { result ≡ due_readers.is_key_tag tag }
+{
+    tag == BSER_BYTESTRING || tag == BSER_UTF8STRING
 }
 
 /// A piece of a message that is read at once: a scalar, or the head of a string or of a container.

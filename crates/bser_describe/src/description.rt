@@ -1,7 +1,6 @@
 //! The description of a refusal.
-ghost use Rattle.std.specs.Prelude.{◌≡◌, ◌≤◌, option_map};
-ghost use Rattle.bser_format.specs.Errors.{error_of};
-ghost use Rattle.bser_describe.specs.Descriptions.{cause_of, place_of, note_of, field_of};
+ghost use Rattle.std.specs.Prelude.{◌≡◌, option_map};
+ghost use Rattle.bser_describe.specs.Descriptions.{at_most, cause_of, field_of, is_early_end, note_of, place_in, place_of};
 
 pub use bser_deserializer::note::{FieldName, Finding, Note, Wanted};
 use bser_format::errors::{Error, Kind, Message, ReadCause};
@@ -27,15 +26,13 @@ pub struct Description {
 /// began at `start`. An early end lies at the end of the input, and nothing behind it.
 pub fn description_of(cause: Error, count: i64, start: i64, len: usize, note: Note) -> Description
     ensures cause { cause_of result ≡ cause }
-    ensures place { place_of result ≤ len }
-    ensures end { cause_of result ≡ error_of ReadCause.Eof → place_of result ≡ len }
+    ensures place { place_of result ≡ place_in cause count len }
     ensures note { note_of result ≡ note }
 {
-    let place = match &cause {
-        Error::DeReaderError {
-            source: ReadCause::Eof,
-        } => len,
-        _ => usize::try_from(count).unwrap_or(len).min(len),
+    let place = if ends_early(&cause) {
+        len
+    } else {
+        place_within(count, len)
     };
     Description {
         cause,
@@ -43,6 +40,25 @@ pub fn description_of(cause: Error, count: i64, start: i64, len: usize, note: No
         start: usize::try_from(start).unwrap_or(0),
         note,
     }
+}
+
+/// Whether the input ended before what was wanted.
+fn ends_early(cause: &Error) -> bool
+    ensures { result ≡ is_early_end cause.now }
+{
+    match cause {
+        Error::DeReaderError {
+            source: ReadCause::Eof,
+        } => true,
+        _ => false,
+    }
+}
+
+/// So many bytes, and no more than `len`.
+fn place_within(count: i64, len: usize) -> usize
+    ensures { result ≡ at_most count len }
+{
+    usize::try_from(count).unwrap_or(len).min(len)
 }
 
 impl Description {

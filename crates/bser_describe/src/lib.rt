@@ -3,4 +3,5 @@
 
 mod counted;
 pub mod description;
+mod progress;
 pub mod reading;

@@ -145,8 +145,8 @@ clean_rows [] zero = clean_give _
 clean_rows [] (suc m) = clean_refuse _ tt
 clean_rows (k ∷ ks) m = clean_give _
 
-clean_table : (levels t : ℕ) → Clean (table_at levels t)
-clean_table levels t =
+clean_template_parts : (levels t : ℕ) → Clean (table_at levels t)
+clean_template_parts levels t =
     clean_if (t == 0x00) _ _
     (clean_within (is_positive levels) _ _ (clean_then count _ clean_count (λ n. clean_then (many (text_of TemplateKey) n) _ (clean_many _ (clean_text_of TemplateKey) n) (λ ks. clean_then count _ clean_count (clean_rows ks)))))
     (clean_refuse _ tt)
@@ -154,7 +154,7 @@ clean_table levels t =
 pub clean_items : (levels : ℕ) (s : Seen) → Clean (items_at levels s)
 clean_items levels (tag t) =
     clean_if (t == 0x00) _ _ (clean_within (is_positive levels) _ _ (clean_then count _ clean_count (λ n. clean_give _)))
-    (clean_if (t == 0x0b) _ _ (clean_within (is_positive levels) _ _ (clean_then next _ clean_next (clean_table (less_one levels)))) (clean_refuse _ tt))
+    (clean_if (t == 0x0b) _ _ (clean_within (is_positive levels) _ _ (clean_then next _ clean_next (clean_template_parts (less_one levels)))) (clean_refuse _ tt))
 clean_items levels (name k) = clean_refuse _ tt
 clean_items levels (row ks) = clean_refuse _ tt
 

@@ -84,8 +84,8 @@ rows_pass [] (suc k) some x = absurd (let e = some refl in cc)
 rows_pass (l ∷ ks) k some x = refl
 
 -- a template's keys and its count of rows, after its two tags
-table_passes : (n : ℕ) (ks : List (List ℕ)) (k : ℕ) (c : List ℕ) → (ks ≡ [] → k ≡ 0) → (SpellsCount (length ks) then Each SpellsKey ks then SpellsCount k) c → Passes (table_at (suc n) 0x00) (rows_over ks k) c
-table_passes n ks k c some h =
+template_passes : (n : ℕ) (ks : List (List ℕ)) (k : ℕ) (c : List ℕ) → (ks ≡ [] → k ≡ 0) → (SpellsCount (length ks) then Each SpellsKey ks then SpellsCount k) c → Passes (table_at (suc n) 0x00) (rows_over ks k) c
+template_passes n ks k c some h =
     passes_then count (λ j. many (text_of TemplateKey) j >>= λ us. count >>= λ i. rows_wanted us i) (length ks) (rows_over ks k) (SpellsCount (length ks)) (Each SpellsKey ks then SpellsCount k) c (count_passes (length ks))
     (λ c g. passes_then (many (text_of TemplateKey) (length ks)) (λ us. count >>= λ i. rows_wanted us i) ks (rows_over ks k) (Each SpellsKey ks) (SpellsCount k) c (keys_pass ks)
     (λ c g x. ap (and_then (rows_wanted ks)) (count_passes k c g x) ∙ rows_pass ks k some x) g) h
@@ -107,7 +107,7 @@ head_passes o (suc zero) d (rows_over ks k) text v h = absurd h
 head_passes o (suc (suc n)) d (rows_over ks k) text v (some, h) =
     let T : Format = SpellsCount (length ks) then Each SpellsKey ks then SpellsCount k in
     tag_then (items_at (suc (suc n))) o 0x0b d (rows_over ks k) (Bytes (0x00 ∷ []) then T) text v (λ s. refl)
-    (λ c g. passes_then next (table_at (suc n)) 0x00 (rows_over ks k) (Bytes (0x00 ∷ [])) T c (byte_passes 0x00) (λ b t. table_passes n ks k b some t) g) h
+    (λ c g. passes_then next (table_at (suc n)) 0x00 (rows_over ks k) (Bytes (0x00 ∷ [])) T c (byte_passes 0x00) (λ b t. template_passes n ks k b some t) g) h
 
 -- the head of an array or a template is read off
 pub items_pass : (o n : ℕ) (d : Due) (w : WantedItems) (text : List ℕ) → BeginsItems n d w text → Passes (asked (items_at n) o d) w text

@@ -147,8 +147,8 @@ array_first : (n : ℕ) (d : Due) (k : ℕ) (text : List ℕ) → BeginsItems n 
 array_first n d k text h = let p = value_or_field n d (nodes k) text h in counted_rest 0x00 n k text p.1
 
 -- where a template's tag stands no array does
-pub table_items : (e : Error) (s m t : State) → SeesTag s m 0x0b → RefusesHead owned e m t.source → RefusesItems e s t
-table_items e s m t sees refusal =
+pub template_items : (e : Error) (s m t : State) → SeesTag s m 0x0b → RefusesHead owned e m t.source → RefusesItems e s t
+template_items e s m t sees refusal =
     let r = asked (items_at s.levels) s.opened s.due in
     let u = refused_items owned e s m 0x0b t.source sees refusal in
     record {

@@ -14,11 +14,10 @@ use Rattle.bser_bunser.specs.Refusal.{Fails, ShortOf}
 use Rattle.bser_bunser.specs.Names.{Names}
 use Rattle.bser_deserializer.specs.State.{State}
 use Rattle.bser_deserializer.specs.Reading.{NamesBy, IsRefusal, owned}
-use Rattle.bser_deserializer.specs.Tables.{TookPart, SpellsTable}
+use Rattle.bser_deserializer.specs.Templates.{TookPart, SpellsKeysAndRows, keys_and_rows}
 use Rattle.bser_deserializer.specs.Parts.{TemplateHead}
 use Rattle.bser_deserializer.specs.Access.{OpensItems}
 use Rattle.bser_deserializer.proofs.Refusals.{names_any, names_by_more, names_by_untaken, fails_untaken}
-use Rattle.bser_deserializer.specs.Templates.{table}
 use Rattle.bser_deserializer.specs.View.{IsBefore}
 use Rattle.bser_deserializer.proofs.Tags.{grown_left, grown_fails}
 use Rattle.bser_deserializer.proofs.Containers.{unequal, RefusesHead, items_refused, items_begin, took_tag, rest_refused}
@@ -80,10 +79,10 @@ after_both : {X Y Z : Type 0} (f : X → Reader Y) (g : Y → Reader Z) (o : Ans
 after_both f g (reads v x) = refl
 after_both f g (refuses e) = refl
 
-table_same : (m t : ℕ) (x : List ℕ) → (m ≡ 0 → ⊥) → t ≡ 0x00 → table_at m t x ≡ table x
-table_same zero t x some array = absurd (some refl)
-table_same (suc m) zero x some array = after_both (λ n. many (text_of TemplateKey) n) (λ ks. count >>= λ k. rows_wanted ks k) (count x)
-table_same (suc m) (suc t) x some array = absurd cc
+keys_and_rows_same : (m t : ℕ) (x : List ℕ) → (m ≡ 0 → ⊥) → t ≡ 0x00 → table_at m t x ≡ keys_and_rows x
+keys_and_rows_same zero t x some array = absurd (some refl)
+keys_and_rows_same (suc m) zero x some array = after_both (λ n. many (text_of TemplateKey) n) (λ ks. count >>= λ k. rows_wanted ks k) (count x)
+keys_and_rows_same (suc m) (suc t) x some array = absurd cc
 
 -- the tag that was seen was taken
 peek_took : (t : ℕ) (a b c : Window) → Peeks a b t → c ≡ consumed 1 b → Took a c (t ∷ [])
@@ -91,16 +90,16 @@ peek_took t a b c peeks after =
     let first : take 1 b.buffered ≡ t ∷ [] = ap (take 1) peeks.next in
     subst (Took a c) first (subst (λ z. Took a z (take 1 b.buffered)) (sym after) (took_filled 1 a b peeks.filled))
 
-pub table_refused : (e : Error) (s : State) (m t : ℕ) (b c d f : Window) → IsBefore 0x0b s → s.levels ≡ m + 1 → b ≡ consumed 1 s.source → Peeks b c t → t ≡ 0x00 → (m ≡ 0 → ⊥) → d ≡ consumed 1 c
-    → Fails e d f → NamesBy owned table e d → RefusesHead owned e s f
-table_refused e s m t b c d f before some after peeks array deep next_after fails name =
+pub keys_and_rows_refused : (e : Error) (s : State) (m t : ℕ) (b c d f : Window) → IsBefore 0x0b s → s.levels ≡ m + 1 → b ≡ consumed 1 s.source → Peeks b c t → t ≡ 0x00 → (m ≡ 0 → ⊥) → d ≡ consumed 1 c
+    → Fails e d f → NamesBy owned keys_and_rows e d → RefusesHead owned e s f
+keys_and_rows_refused e s m t b c d f before some after peeks array deep next_after fails name =
     let took = peek_took t b c d peeks next_after in
     inner_refused e s m b f before some after (fails_untaken e b d f (t ∷ []) took fails)
-    (names_by_untaken owned (next >>= table_at m) table e b d (t ∷ []) (λ f x h. table_same m t x deep array ∙ h) took name)
+    (names_by_untaken owned (next >>= table_at m) keys_and_rows e b d (t ∷ []) (λ f x h. keys_and_rows_same m t x deep array ∙ h) took name)
 
 -- ---- what was opened
 
-template_head : (n m : ℕ) (ks : List (List ℕ)) (k : ℕ) (rest : List ℕ) → n ≡ m + 1 → (m ≡ 0 → ⊥) → SpellsTable ks k rest → TemplateHead n ks k (0x0b ∷ 0x00 ∷ rest)
+template_head : (n m : ℕ) (ks : List (List ℕ)) (k : ℕ) (rest : List ℕ) → n ≡ m + 1 → (m ≡ 0 → ⊥) → SpellsKeysAndRows ks k rest → TemplateHead n ks k (0x0b ∷ 0x00 ∷ rest)
 template_head zero m ks k rest e some h = absurd (omega (arith, e))
 template_head (suc zero) m ks k rest e some h = absurd (some (omega (arith, e)))
 template_head (suc (suc n)) m ks k rest e some (g, h) = (g, record { front = 0x0b ∷ []; rest = 0x00 ∷ rest; whole = refl; first = refl; second = record { front = 0x00 ∷ []; rest = rest; whole = refl; first = refl; second = h } })
@@ -109,9 +108,9 @@ template_head (suc (suc n)) m ks k rest e some (g, h) = (g, record { front = 0x0
 abbrev pub inside_rows : State → ℕ → List (List ℕ) → Window → State
 inside_rows s m ks c = record s { source = c; due = nothing_due; levels = m; opened = one_more s.opened; keys = ks; outer = s.outer ++ s.keys ∷ [] }
 
-pub opens_table : (s t : State) (m k x : ℕ) (ks : List (List ℕ)) (b c d f : Window) → IsBefore 0x0b s → s.levels ≡ m + 1 → b ≡ consumed 1 s.source → Peeks b c x → x ≡ 0x00 → (m ≡ 0 → ⊥) → d ≡ consumed 1 c
-    → TookPart (SpellsTable ks k) d f → t ≡ inside_rows s m ks f → OpensItems s (record { state = t; wanted = rows_over t.keys k; levels = s.levels; opened = s.opened })
-opens_table s t m k x ks b c d f before levels after peeks array deep next_after part state =
+pub opens_template : (s t : State) (m k x : ℕ) (ks : List (List ℕ)) (b c d f : Window) → IsBefore 0x0b s → s.levels ≡ m + 1 → b ≡ consumed 1 s.source → Peeks b c x → x ≡ 0x00 → (m ≡ 0 → ⊥) → d ≡ consumed 1 c
+    → TookPart (SpellsKeysAndRows ks k) d f → t ≡ inside_rows s m ks f → OpensItems s (record { state = t; wanted = rows_over t.keys k; levels = s.levels; opened = s.opened })
+opens_template s t m k x ks b c d f before levels after peeks array deep next_after part state =
     let second : Took b d (0x00 ∷ []) = subst (λ y. Took b d (y ∷ [])) array (peek_took x b c d peeks next_after) in
     let tags : Took s.source d (0x0b ∷ 0x00 ∷ []) = took_then s.source b d (0x0b ∷ []) (0x00 ∷ []) (took_tag 0x0b s b before (λ z. refl) after) second in
     subst (λ (z : State). OpensItems s (record { state = z; wanted = rows_over z.keys k; levels = s.levels; opened = s.opened })) (sym state) (record {

@@ -22,9 +22,8 @@ use Rattle.bser_bunser.specs.Names.{Names, RefusedAs}
 use Rattle.bser_bunser.specs.Tagged.{TookInt, TookCounted}
 use Rattle.bser_bunser.proofs.Names.{names_rejected, names_taken, blames_untaken}
 use Rattle.bser_deserializer.specs.Reading.{NamesBy, owned}
-use Rattle.bser_deserializer.specs.Tables.{TookPart, SpellsKeys, SpellsTable}
+use Rattle.bser_deserializer.specs.Templates.{TookPart, SpellsKeys, SpellsKeysAndRows, keys_after_number, keys_and_rows}
 use Rattle.bser_deserializer.proofs.Refusals.{names_any, names_by_untaken}
-use Rattle.bser_deserializer.specs.Templates.{keys_after_number, table}
 use Rattle.bser_deserializer.proofs.Strings.{key_tags, other_after, refused_after, no_text_after}
 
 -- ---- a key
@@ -115,7 +114,7 @@ next_refused a s ks left n e p same h =
     (λ f x q. p.refused x f (ap (λ m. many (text_of TemplateKey) m x) same ∙ ap (and_then (λ l. many (text_of TemplateKey) n >>= λ ls. give (l ∷ ls))) q))
     p.took h
 
--- ---- a table
+-- ---- keys and rows
 
 keys_pass : (ks : List (List ℕ)) (b : List ℕ) → SpellsKeys ks b → Passes keys_after_number ks b
 keys_pass ks b h x =
@@ -124,26 +123,26 @@ keys_pass ks b h x =
     ∙ reads_then plain.count (plain.many plain.key) (SpellsCount (length ks)) (Each SpellsKey ks) (length ks) ks (count_reads (length ks)) (many_all plain.key SpellsKey key_reads ks) b x h)
 
 -- after its keys
-rows_after : (ks : List (List ℕ)) (b x : List ℕ) → SpellsKeys ks b → table (b ++ x) ≡ (count >>= rows_wanted ks) x
+rows_after : (ks : List (List ℕ)) (b x : List ℕ) → SpellsKeys ks b → keys_and_rows (b ++ x) ≡ (count >>= rows_wanted ks) x
 rows_after ks b x h = ap (and_then (λ ls. count >>= rows_wanted ls)) (keys_pass ks b h x)
 
-pub rows_refused : (e : Error) (a b : Window) (ks : List (List ℕ)) → TookPart (SpellsKeys ks) a b → Names count e b → NamesBy owned table e a
+pub rows_refused : (e : Error) (a b : Window) (ks : List (List ℕ)) → TookPart (SpellsKeys ks) a b → Names count e b → NamesBy owned keys_and_rows e a
 rows_refused e a b ks t h =
-    names_by_untaken owned table count e a b t.text (λ f x p. rows_after ks t.text x t.spelled ∙ ap (and_then (rows_wanted ks)) p) t.took (names_any owned count e b h)
+    names_by_untaken owned keys_and_rows count e a b t.text (λ f x p. rows_after ks t.text x t.spelled ∙ ap (and_then (rows_wanted ks)) p) t.took (names_any owned count e b h)
 
-pub rows_without_keys : (a b c : Window) (ks : List (List ℕ)) (k : ℕ) → TookPart (SpellsKeys ks) a b → TookPart (SpellsCount k) b c → ks ≡ [] → (k ≡ 0 → ⊥) → NamesBy owned table (complain RowsWithoutKeys) a
+pub rows_without_keys : (a b c : Window) (ks : List (List ℕ)) (k : ℕ) → TookPart (SpellsKeys ks) a b → TookPart (SpellsCount k) b c → ks ≡ [] → (k ≡ 0 → ⊥) → NamesBy owned keys_and_rows (complain RowsWithoutKeys) a
 rows_without_keys a b c ks k t u empty some =
-    names_any owned table (complain RowsWithoutKeys) a
-    (names_taken table (complain RowsWithoutKeys) a c (t.text ++ u.text)
-    (λ x. ap table (append_assoc t.text u.text x) ∙ rows_after ks t.text (u.text ++ x) t.spelled ∙ ap (and_then (rows_wanted ks)) (count_passes k u.text u.spelled x) ∙ ap (λ ls. rows_wanted ls k x) empty ∙ none k x some)
+    names_any owned keys_and_rows (complain RowsWithoutKeys) a
+    (names_taken keys_and_rows (complain RowsWithoutKeys) a c (t.text ++ u.text)
+    (λ x. ap keys_and_rows (append_assoc t.text u.text x) ∙ rows_after ks t.text (u.text ++ x) t.spelled ∙ ap (and_then (rows_wanted ks)) (count_passes k u.text u.spelled x) ∙ ap (λ ls. rows_wanted ls k x) empty ∙ none k x some)
     (took_then a b c t.text u.text t.took u.took))
   where
     none : (k : ℕ) (x : List ℕ) → (k ≡ 0 → ⊥) → rows_wanted [] k x ≡ refuses (complain RowsWithoutKeys)
     none zero x some = absurd (some refl)
     none (suc k) x some = refl
 
-pub took_table : (a b c : Window) (ks : List (List ℕ)) (k : ℕ) → TookPart (SpellsKeys ks) a b → TookPart (SpellsCount k) b c → (ks ≡ [] → k ≡ 0) → TookPart (SpellsTable ks k) a c
-took_table a b c ks k t u none = record {
+pub took_keys_and_rows : (a b c : Window) (ks : List (List ℕ)) (k : ℕ) → TookPart (SpellsKeys ks) a b → TookPart (SpellsCount k) b c → (ks ≡ [] → k ≡ 0) → TookPart (SpellsKeysAndRows ks k) a c
+took_keys_and_rows a b c ks k t u none = record {
   text = t.text ++ u.text;
   spelled =
       let h = t.spelled in

@@ -10,10 +10,11 @@ pub mod Askings
 pub mod Nodes
 pub mod Parts
 pub mod Access
-pub mod Tables
+pub mod Calls
 pub mod Fields
 pub mod HoldsTexts
 pub mod HoldsLists
 pub mod HoldsMaps
 pub mod Holds
 pub mod Required
+pub mod Seen

@@ -1,6 +1,7 @@
 -- What callers see of a deserializer.
-use Rattle.std.specs.Prelude.{◌≡◌, ℕ, ◌-◌, ◌^◌, ℤ, pos, List, [], min}
+use Rattle.std.specs.Prelude.{◌≡◌, ℕ, ◌-◌, ◌^◌, ℤ, pos, List, [], ◌∷◌, ◌++◌, min}
 use Rattle.bser_format.specs.Expected.{Due, nothing_due, node_due}
+use Rattle.bser_source.specs.Device.{one_more}
 use Rattle.bser_source.specs.Window.{Window, closed}
 use Rattle.bser_bunser.specs.Tagged.{TookHead, EndsAt}
 
@@ -37,6 +38,14 @@ past s r = record s { source = r; due = nothing_due }
 abbrev pub refused : State → State
 refused s = with_source s (closed s.source)
 
+-- inside a container that was opened, with n levels left
+abbrev pub inside : ℕ → State → State
+inside n s = record s { due = nothing_due; levels = n; opened = one_more s.opened }
+
+-- inside a template with these keys, with n levels left
+abbrev pub inside_template : List (List ℕ) → ℕ → State → State
+inside_template ks n s = record s { due = nothing_due; levels = n; opened = one_more s.opened; keys = ks; outer = s.outer ++ s.keys ∷ [] }
+
 -- the head of a message is taken, and its value is due with n levels left
 pub record Begins (n : ℕ) (old : Window) (new : State) : Type 0 where
   pub took : TookHead old new.source new.capabilities new.len
@@ -52,3 +61,9 @@ pub record IsAtEnd (s : State) : Type 0 where
   pub due : s.due ≡ nothing_due
   pub opened : s.opened ≡ 0
   pub ends : EndsAt s.start s.len s.source.count
+
+-- nothing was read: no container is open, and no template's keys are kept
+pub record IsUnread (s : State) : Type 0 where
+  pub opened : s.opened ≡ 0
+  pub keys : s.keys ≡ []
+  pub outer : s.outer ≡ []

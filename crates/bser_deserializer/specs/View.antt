@@ -1,9 +1,7 @@
 -- What callers see of a deserializer over any source.
 use Rattle.std.specs.Prelude.{◌≡◌, ℕ, List, ◌∷◌, map, drop, Bool, true, false, ◌||◌, ◌==◌, Option, Some, None}
-use Rattle.std.specs.declared.alloc.Global.{Global}
-use Rattle.std.specs.declared.vec.Vec.{Vec}
 use Rattle.bser_format.specs.declared.errors.Error.{Error}
-use Rattle.bser_source.specs.Window.{Window, Peeks}
+use Rattle.bser_source.specs.Window.{Peeks}
 use Rattle.bser_format.specs.Expected.{node_due, field_due, name_due}
 use Rattle.bser_format.specs.Expected as expected
 use Rattle.bser_named.specs.Named.{Reader, ◌>>=◌, next}
@@ -11,7 +9,6 @@ use Rattle.bser_named.specs.DueReaders.{asked, nothing_at}
 use Rattle.bser_named.specs.Asks.{done}
 use Rattle.bser_named.specs.Clauses.{after_a_refusal, still_open}
 use Rattle.bser_bunser.specs.Refusal.{end_refusal}
-use Rattle.bser_bunser.specs.Tagged.{bunser_window, bunser_source, refusal_of}
 use Rattle.bser_deserializer.specs.Access.{OpenItems, OpenPairs}
 use Rattle.bser_deserializer.specs.Dues.{IsValueDue, due_of}
 use Rattle.bser_deserializer.specs.Parts.{wanted_items, wanted_pairs}
@@ -21,49 +18,38 @@ use Rattle.bser_deserializer.specs.declared.node.Node.{Node}
 use Rattle.bser_deserializer.specs.declared.node.Node.TheVariants as kinds
 use Rattle.bser_deserializer.specs.declared.frames.SeqHead.{SeqHead}
 use Rattle.bser_deserializer.specs.declared.frames.MapHead.{MapHead}
-use Rattle.bser_deserializer.specs.declared.deserializer.Deserializer.{Deserializer}
-use Rattle.bser_deserializer.specs.declared.note.Note.{Note}
+use Rattle.bser_deserializer.specs.declared.deserializer.Deserializer.TheInside.{Inside}
+use Rattle.bser_deserializer.specs.Seen.{Seen}
 
--- the state of a deserializer, by the window of its source and the bytes of a kept key
-abbrev pub state : {R L K : Type 0} → (R → Window) → (K → List ℕ) → Deserializer R L K → State
-state window kept d =
+-- what callers see of a deserializer, by the bytes of a kept key
+abbrev pub seen_of : {R L K : Type 0} → (K → List ℕ) → Inside R L K → Seen
+seen_of kept d =
     let ks = map kept d.keys.items in
     record {
-      source = bunser_window window d.bunser;
-      due = due_of ks d.place d.due;
-      levels = d.levels;
-      keys = ks;
-      outer = map (λ v. map kept v.items) d.outer.items;
-      opened = d.opened;
-      capabilities = d.info.bser_capabilities;
-      start = d.info.start;
-      len = d.info.len;
+      state = record {
+        source = d.bunser.window;
+        due = due_of ks d.place d.due;
+        levels = d.levels;
+        keys = ks;
+        outer = map (λ v. map kept v.items) d.outer.items;
+        opened = d.opened;
+        capabilities = d.info.bser_capabilities;
+        start = d.info.start;
+        len = d.info.len;
+      };
+      refusal = d.bunser.refusal;
+      note = d.note;
     }
-
--- the reason of a refusal
-abbrev pub refusal_in : {R L K : Type 0} → Deserializer R L K → Error
-refusal_in d = refusal_of d.bunser
-
--- what the first refusal tells beside its reason
-abbrev pub note_in : {R L K : Type 0} → Deserializer R L K → Note
-note_in d = d.note
 
 -- why a deserializer is not at the end of its message
 abbrev pub not_at_end : State → Error
 not_at_end s =
     after_a_refusal s.source.failed (still_open s.due s.opened (end_refusal s.start s.len s.source.count))
 
--- the source that it reads from
-abbrev pub IsSourceOf : {R L K : Type 0} → R → Deserializer R L K → Type 0
-IsSourceOf read d = read ≡ bunser_source d.bunser
-
--- what is due, as the code tells it
-abbrev pub due_in : {R L K : Type 0} → Deserializer R L K → Due
-due_in d = d.due
-
--- the keys of the innermost open template
-abbrev pub keys_in : {R L K : Type 0} → Deserializer R L K → Vec K Global
-keys_in d = d.keys
+-- this is due, as the code tells it
+pub record IsDue (d : Due) (s : State) : Type 0 where
+  pub place : ℕ
+  pub due : s.due ≡ due_of s.keys place d
 
 -- the tag of the value that is due; where none is, nothing is of the kind that is asked for
 abbrev pub value_here : ℕ → expected.Due → Reader Unit

@@ -1,20 +1,14 @@
 //! Reading what is due, whatever it is, told to a builder.
-ghost use Rattle.std.specs.Prelude.{◌≡◌, ◌<◌, length, Some, OnOk, OnErr};
-ghost use Rattle.bser_format.specs.ReadsAny.{reads_ignored};
-ghost use Rattle.bser_format.specs.Expected.{row_due};
-ghost use Rattle.bser_named.specs.Named.{field_of, with_text_keys};
-ghost use Rattle.bser_bunser.specs.Refusal.{Fails};
+ghost use Rattle.std.specs.Prelude.{◌≡◌, ◌<◌, length, OnOk, OnErr};
 ghost use Rattle.bser_events.specs.Told.{told};
-ghost use Rattle.bser_deserializer.specs.Askings.{asking_ignored};
-ghost use Rattle.bser_deserializer.specs.Reading.{NamesBy, Refuses, owned};
-ghost use Rattle.bser_deserializer.specs.State.{awaiting, past, refused};
-ghost use Rattle.bser_deserializer.specs.Any.{TookAny, TookValue, TookField, TellsName, IsKeyDue};
-ghost use Rattle.bser_deserializer.specs.View.{state, refusal_in};
+ghost use Rattle.bser_deserializer.specs.Any.{TellsName, IsKeyDue};
+ghost use Rattle.bser_deserializer.specs.Calls.{Keeps, HasFailed, TookDue, AnyTold, KeyTold, RowTold, ValueTold, FieldTold, RefusesAny, RefusesRow, NamesValue, NamesField};
+ghost use Rattle.bser_deserializer.specs.State.{refused};
 
 use crate::cursor::Cursor;
 use crate::deserializer::{Deserializer, Due};
 use bser_bunser::refusal::Answer;
-use bser_events::builder::Builder;
+use bser_events::builder::{Builder, tell};
 use bser_events::event::Event;
 use bser_events::frame::Frame;
 use bser_events::reading::read_value;
@@ -23,7 +17,6 @@ use bser_format::header::BSER_SKIP;
 use bser_source::read::DeRead;
 use bser_source::reference::Lending;
 use bser_source::text::as_text;
-use std::alloc::Global;
 
 impl<R: DeRead> Deserializer<R> {
     /// Reads what is due, whatever it is, and tells the builder what it finds: a value as it is
@@ -35,15 +28,13 @@ impl<R: DeRead> Deserializer<R> {
     /// wants memory and gets none, and a want of room for the containers that are open or for a
     /// string over a reader, are [`Error::OutOfMemory`]. After a refusal no clause says what the
     /// builder is.
-    pub fn read_any<B: Builder>(&mut self, alloc: Global, builder: &mut B) -> Answer<()>
-        ensures found { OnOk result (TookAny B.takes builder.old builder.new
-            (state R.window R.Lent.kept self.old) (state R.window R.Lent.kept self.new)) }
-        ensures refused { OnErr result (Refuses reads_ignored (Some asking_ignored) owned
-            (refusal_in self.new)
-            (state R.window R.Lent.kept self.old) (state R.window R.Lent.kept self.new)) }
+    pub fn read_any<B: Builder>(&mut self, builder: &mut B) -> Answer<()>
+        ensures found { OnOk result (AnyTold B.takes builder.old builder.new self.old self.new) }
+        ensures kept { OnOk result (Keeps self.old self.new) }
+        ensures refused { OnErr result (RefusesAny self.old self.new) }
     {
-        let mut frames = Vec::new(alloc);
-        let mut scratch = Vec::new(alloc);
+        let mut frames = Vec::new(self.alloc);
+        let mut scratch = Vec::new(self.alloc);
         match self.due {
             Due::Node => self.tell_value(&mut frames, &mut scratch, builder),
             Due::Field => self.tell_field(&mut frames, &mut scratch, builder),
@@ -56,16 +47,12 @@ impl<R: DeRead> Deserializer<R> {
     #[inline(always)]
     fn tell<B: Builder>(&mut self, builder: &mut B, event: Event<'_>) -> Answer<()>
         ensures ok { OnOk result (B.takes builder.old (told event.entry) builder.new) }
-        ensures same { OnOk result (state R.window R.Lent.kept self.new
-            ≡ state R.window R.Lent.kept self.old) }
-        ensures reason { OnErr result (refusal_in self.new ≡ Error.OutOfMemory) }
-        ensures err { OnErr result (state R.window R.Lent.kept self.new
-            ≡ refused (state R.window R.Lent.kept self.old)) }
+        ensures same { OnOk result (self.new.state ≡ self.old.state) }
+        ensures kept { OnOk result (Keeps self.old self.new) }
+        ensures reason { OnErr result (self.new.refusal ≡ Error.OutOfMemory) }
+        ensures err { OnErr result (self.new.state ≡ refused self.old.state) }
     {
-        match builder.take(event) {
-            Ok(()) => Ok(()),
-            Err(_) => Err(self.refuse(Error::OutOfMemory)),
-        }
+        tell(&mut self.bunser, builder, event)
     }
 
     /// Reads a value, and tells it. Nothing is due then.
@@ -76,18 +63,11 @@ impl<R: DeRead> Deserializer<R> {
         scratch: &mut Vec<u8>,
         builder: &mut B,
     ) -> Answer<()>
-        ensures found { OnOk result (TookValue B.takes (state R.window R.Lent.kept self.old).levels
-            builder.old builder.new (state R.window R.Lent.kept self.old).source
-            (state R.window R.Lent.kept self.new).source) }
-        ensures state { OnOk result (state R.window R.Lent.kept self.new
-            ≡ past (state R.window R.Lent.kept self.old)
-            (state R.window R.Lent.kept self.new).source) }
-        ensures err { OnErr result (Fails (refusal_in self.new)
-            (state R.window R.Lent.kept self.old).source
-            (state R.window R.Lent.kept self.new).source) }
-        ensures names { OnErr result (NamesBy owned
-            (with_text_keys (state R.window R.Lent.kept self.old).levels) (refusal_in self.new)
-            (state R.window R.Lent.kept self.old).source) }
+        ensures found { OnOk result (ValueTold B.takes builder.old builder.new self.old self.new) }
+        ensures state { OnOk result (TookDue self.old self.new) }
+        ensures kept { OnOk result (Keeps self.old self.new) }
+        ensures err { OnErr result (HasFailed self.old self.new) }
+        ensures names { OnErr result (NamesValue self.old self.new) }
     {
         read_value(&mut self.bunser, frames, scratch, self.levels, builder)?;
         self.due = Due::Nothing;
@@ -102,19 +82,11 @@ impl<R: DeRead> Deserializer<R> {
         scratch: &mut Vec<u8>,
         builder: &mut B,
     ) -> Answer<()>
-        ensures found { OnOk result (TookField B.takes (state R.window R.Lent.kept self.old).levels
-            builder.old builder.new (state R.window R.Lent.kept self.old).source
-            (state R.window R.Lent.kept self.new).source) }
-        ensures state { OnOk result (state R.window R.Lent.kept self.new
-            ≡ past (state R.window R.Lent.kept self.old)
-            (state R.window R.Lent.kept self.new).source) }
-        ensures err { OnErr result (Fails (refusal_in self.new)
-            (state R.window R.Lent.kept self.old).source
-            (state R.window R.Lent.kept self.new).source) }
-        ensures names { OnErr result (NamesBy owned
-            (field_of (with_text_keys (state R.window R.Lent.kept self.old).levels))
-            (refusal_in self.new)
-            (state R.window R.Lent.kept self.old).source) }
+        ensures found { OnOk result (FieldTold B.takes builder.old builder.new self.old self.new) }
+        ensures state { OnOk result (TookDue self.old self.new) }
+        ensures kept { OnOk result (Keeps self.old self.new) }
+        ensures err { OnErr result (HasFailed self.old self.new) }
+        ensures names { OnErr result (NamesField self.old self.new) }
     {
         self.bunser.fill(1)?;
         if self.bunser.buffered()[0] != BSER_SKIP {
@@ -132,14 +104,9 @@ impl<R: DeRead> Deserializer<R> {
         scratch: &mut Vec<u8>,
         builder: &mut B,
     ) -> Answer<()>
-        ensures found { OnOk result (TookAny B.takes builder.old builder.new
-            (awaiting (row_due (state R.window R.Lent.kept self.old).keys)
-            (state R.window R.Lent.kept self.old))
-            (state R.window R.Lent.kept self.new)) }
-        ensures refused { OnErr result (Refuses reads_ignored (Some asking_ignored) owned
-            (refusal_in self.new) (awaiting (row_due (state R.window R.Lent.kept self.old).keys)
-            (state R.window R.Lent.kept self.old))
-            (state R.window R.Lent.kept self.new)) }
+        ensures found { OnOk result (RowTold B.takes builder.old builder.new self.old self.new) }
+        ensures kept { OnOk result (Keeps self.old self.new) }
+        ensures refused { OnErr result (RefusesRow self.old self.new) }
     {
         if self.is_failed() {
             return Err(self.refuse(Error::de_reader_error(ReadCause::Failed)));
@@ -157,29 +124,24 @@ impl<R: DeRead> Deserializer<R> {
     /// Tells the key at this place.
     #[inline(always)]
     fn tell_name<B: Builder>(&mut self, place: usize, builder: &mut B) -> Answer<()>
-        requires { place < length (state R.window R.Lent.kept self.old).keys }
+        requires { place < length self.old.state.keys }
         ensures ok { OnOk result (TellsName B.takes place
-            (state R.window R.Lent.kept self.old).keys builder.old builder.new) }
-        ensures same { OnOk result (state R.window R.Lent.kept self.new
-            ≡ state R.window R.Lent.kept self.old) }
-        ensures reason { OnErr result (refusal_in self.new ≡ Error.OutOfMemory) }
-        ensures err { OnErr result (state R.window R.Lent.kept self.new
-            ≡ refused (state R.window R.Lent.kept self.old)) }
+            self.old.state.keys builder.old builder.new) }
+        ensures same { OnOk result (self.new.state ≡ self.old.state) }
+        ensures kept { OnOk result (Keeps self.old self.new) }
+        ensures reason { OnErr result (self.new.refusal ≡ Error.OutOfMemory) }
+        ensures err { OnErr result (self.new.state ≡ refused self.old.state) }
     {
-        match builder.take(Event::Key(R::Lent::kept_text(&self.keys[place]))) {
-            Ok(()) => Ok(()),
-            Err(_) => Err(self.refuse(Error::OutOfMemory)),
-        }
+        let key = R::Lent::kept_text(&self.keys[place]);
+        tell(&mut self.bunser, builder, Event::Key(key))
     }
 
     /// Reads the key that is due, and tells it: a text where it is UTF-8, and else bytes.
     fn tell_key<B: Builder>(&mut self, scratch: &mut Vec<u8>, builder: &mut B) -> Answer<()>
-        requires { IsKeyDue (state R.window R.Lent.kept self.old).due }
-        ensures found { OnOk result (TookAny B.takes builder.old builder.new
-            (state R.window R.Lent.kept self.old) (state R.window R.Lent.kept self.new)) }
-        ensures refused { OnErr result (Refuses reads_ignored (Some asking_ignored) owned
-            (refusal_in self.new)
-            (state R.window R.Lent.kept self.old) (state R.window R.Lent.kept self.new)) }
+        requires { IsKeyDue self.old.state.due }
+        ensures found { OnOk result (KeyTold B.takes builder.old builder.new self.old self.new) }
+        ensures kept { OnOk result (Keeps self.old self.new) }
+        ensures refused { OnErr result (RefusesAny self.old self.new) }
     {
         let bytes = self.read_bytes(scratch)?;
         match as_text(bytes.get_ref()) {

@@ -1,13 +1,12 @@
 //! The deserializer: what is left of a message, and what is due.
-ghost use Rattle.std.specs.Prelude.{IsTrue, ◌≡◌, ◌≢◌, ◌≤◌, [], true, false, IfOk, IfErr, OnOk, OnErr};
+ghost use Rattle.std.specs.Prelude.{IsTrue, ◌≡◌, ◌≢◌, ◌≤◌, ◌-◌, ◌^◌, min, pos, true, false, IfOk, IfErr, OnOk, OnErr};
 ghost use Rattle.bser_format.specs.Errors.{error_of};
 ghost use Rattle.bser_format.specs.Expected.{nothing_due};
-ghost use Rattle.bser_named.specs.Clauses.{after_a_refusal};
 ghost use Rattle.bser_named.specs.Named as named;
-ghost use Rattle.bser_named.specs.Named.{complain};
 ghost use Rattle.bser_bunser.specs.Names.{Names};
-ghost use Rattle.bser_bunser.specs.Refusal.{Fails};
-ghost use Rattle.bser_deserializer.specs.State.{Begins, IsAtEnd, refused};
+ghost use Rattle.bser_deserializer.specs.Calls.{Keeps, HasFailed, RefusesBegin, complained};
+ghost use Rattle.bser_deserializer.specs.State.{Begins, IsAtEnd, IsUnread, refused};
+ghost use Rattle.bser_deserializer.specs.declared.deserializer.TheConstants.{LEVELS, MOST_LEVELS};
 
 pub use crate::due::Due;
 use crate::note::Note;
@@ -17,9 +16,13 @@ use bser_format::errors::{Complaint, Error, ReadCause, Result};
 use bser_source::read::DeRead;
 use bser_source::reference::Lending;
 use std::alloc::Global;
+use std::marker::Model;
 
 /// How deep a message may nest where no limit is given.
 pub const LEVELS: usize = 128;
+
+/// How deep a message may nest at most, whatever limit is given.
+pub const MOST_LEVELS: usize = 1024;
 
 /// Reads one message.
 ///
@@ -28,6 +31,7 @@ pub const LEVELS: usize = 128;
 /// can be refused is, by [`ReadCause::Failed`].
 #[derive(Drop)]
 pub struct Deserializer<R: DeRead> {
+    pub(crate) alloc: Global,
     pub(crate) bunser: Bunser<R>,
     pub(crate) info: PduInfo,
     pub(crate) due: Due,
@@ -42,33 +46,34 @@ pub struct Deserializer<R: DeRead> {
     pub(crate) note: Note,
 }
 
-impl<R: DeRead + Drop> Deserializer<R> {
-    ghost use Rattle.bser_deserializer.specs.View.{state};
+impl<R: DeRead> Model for Deserializer<R> {
+    ghost use Rattle.bser_deserializer.specs.Seen.{Seen};
 
+    ghost Value = { Seen };
+
+    ghost use Rattle.bser_deserializer.specs.View.{seen_of};
+
+    ghost view = { seen_of R.Lent.kept };
+}
+
+impl<R: DeRead + Drop> Deserializer<R> {
     /// Takes the head of a message, whose value is due then, with 128 levels.
     ///
     /// Refused as [`Bunser::read_pdu`] is.
     pub fn new(alloc: Global, read: R) -> Result<Self>
-        ensures ok { IfOk result (λ d. Begins 128 (R.window read) (state R.window R.Lent.kept d)) }
-        ensures names { IfErr result (λ e. Names named.head e (R.window read)) }
-        ensures before { (R.window read).failed ≡ true
-            → IfErr result (λ e. e ≡ error_of ReadCause.Failed) }
-        ensures memory { IfErr result (λ e. e ≢ Error.OutOfMemory) }
+        ensures ok { IfOk result (λ d. Begins LEVELS (R.window read) d.state) }
+        ensures refused { IfErr result (λ e. RefusesBegin e (R.window read)) }
     {
         Self::with_limit(alloc, LEVELS, read)
     }
 
     /// Takes the head of a message, whose value is due then, with `limit` levels.
     ///
-    /// Refused as [`Bunser::read_pdu`] is. The crate has the limit 128 alone.
+    /// Refused as [`Bunser::read_pdu`] is.
     pub fn with_limit(alloc: Global, limit: usize, read: R) -> Result<Self>
-        requires { limit ≤ 1024 }
-        ensures ok { IfOk result (λ d. Begins limit (R.window read)
-            (state R.window R.Lent.kept d)) }
-        ensures names { IfErr result (λ e. Names named.head e (R.window read)) }
-        ensures before { (R.window read).failed ≡ true
-            → IfErr result (λ e. e ≡ error_of ReadCause.Failed) }
-        ensures memory { IfErr result (λ e. e ≢ Error.OutOfMemory) }
+        requires { limit ≤ MOST_LEVELS }
+        ensures ok { IfOk result (λ d. Begins limit (R.window read) d.state) }
+        ensures refused { IfErr result (λ e. RefusesBegin e (R.window read)) }
     {
         let mut from = Self::unread(alloc, read);
         match from.read_head(limit) {
@@ -79,18 +84,21 @@ impl<R: DeRead + Drop> Deserializer<R> {
 }
 
 impl<R: DeRead> Deserializer<R> {
-    ghost use Rattle.bser_deserializer.specs.View.{state, refusal_in, not_at_end, IsSourceOf};
+    ghost use Rattle.bser_deserializer.specs.View.{not_at_end};
 
-    /// Reads from the source's next byte on. Nothing is due before the head is read.
+    /// Reads from the source's next byte on. Before the head is read nothing is due, and the length
+    /// and the start of the body are 0.
     #[inline(always)]
     pub fn unread(alloc: Global, read: R) -> Self
-        ensures source { (state R.window R.Lent.kept result).source ≡ R.window read }
-        ensures due { (state R.window R.Lent.kept result).due ≡ nothing_due }
-        ensures keys { (state R.window R.Lent.kept result).keys ≡ [] }
-        ensures outer { (state R.window R.Lent.kept result).outer ≡ [] }
-        ensures opened { (state R.window R.Lent.kept result).opened ≡ 0 }
+        ensures source { result.state.source ≡ R.window read }
+        ensures due { result.state.due ≡ nothing_due }
+        ensures len { result.state.len ≡ pos 0 }
+        ensures start { result.state.start ≡ pos 0 }
+        ensures unread { IsUnread result.state }
+        ensures refusal { result.refusal ≡ error_of ReadCause.Failed }
     {
         Deserializer {
+            alloc,
             bunser: Bunser::new(alloc, read),
             info: PduInfo {
                 bser_capabilities: 0,
@@ -111,17 +119,12 @@ impl<R: DeRead> Deserializer<R> {
     ///
     /// Refused as [`Bunser::read_pdu`] is.
     pub fn read_head(&mut self, limit: usize) -> Answer<()>
-        requires opened { (state R.window R.Lent.kept self.old).opened ≡ 0 }
-        requires keys { (state R.window R.Lent.kept self.old).keys ≡ [] }
-        requires outer { (state R.window R.Lent.kept self.old).outer ≡ [] }
-        ensures ok { OnOk result (Begins limit (state R.window R.Lent.kept self.old).source
-            (state R.window R.Lent.kept self.new)) }
-        ensures err { OnErr result (Fails (refusal_in self.new)
-            (state R.window R.Lent.kept self.old).source
-            (state R.window R.Lent.kept self.new).source) }
-        ensures names { OnErr result (Names named.head (refusal_in self.new)
-            (state R.window R.Lent.kept self.old).source) }
-        ensures memory { OnErr result (refusal_in self.new ≢ Error.OutOfMemory) }
+        requires { IsUnread self.old.state }
+        ensures ok { OnOk result (Begins limit self.old.state.source self.new.state) }
+        ensures kept { OnOk result (Keeps self.old self.new) }
+        ensures err { OnErr result (HasFailed self.old self.new) }
+        ensures names { OnErr result (Names named.head self.new.refusal self.old.state.source) }
+        ensures memory { OnErr result (self.new.refusal ≢ Error.OutOfMemory) }
     {
         self.info = self.bunser.read_head()?;
         self.due = Due::Node;
@@ -129,31 +132,26 @@ impl<R: DeRead> Deserializer<R> {
         Ok(())
     }
 
-    /// Refuses all calls from now on, and keeps the reason, which [`Deserializer::take_refusal`] gives.
+    /// Refuses all calls from now on, and keeps the reason, which [`Deserializer::take_refusal`]
+    /// gives.
     ///
-    /// A type that is read refuses so what it does not read. The crate has no such call.
+    /// A type that is read refuses so what it does not read.
     #[cold]
     #[inline(never)]
     pub fn refuse(&mut self, reason: Error) -> Refused
-        ensures reason { refusal_in self.new ≡ reason }
-        ensures state { state R.window R.Lent.kept self.new
-            ≡ refused (state R.window R.Lent.kept self.old) }
+        ensures reason { self.new.refusal ≡ reason }
+        ensures state { self.new.state ≡ refused self.old.state }
     {
         self.bunser.refuse(reason)
     }
 
     /// Refuses by this complaint, or by [`ReadCause::Failed`] after an earlier refusal.
-    ///
-    /// The crate has no such call.
     #[cold]
     #[inline(never)]
     pub fn complain(&mut self, complaint: Complaint) -> Refused
-        ensures reason { refusal_in self.new
-            ≡ after_a_refusal (state R.window R.Lent.kept self.old).source.failed
-            (complain complaint) }
-        ensures state { state R.window R.Lent.kept self.new
-            ≡ refused (state R.window R.Lent.kept self.old) }
-        ensures memory { refusal_in self.new ≢ Error.OutOfMemory }
+        ensures reason { self.new.refusal ≡ complained complaint self.old }
+        ensures state { self.new.state ≡ refused self.old.state }
+        ensures memory { self.new.refusal ≢ Error.OutOfMemory }
     {
         if self.bunser.is_failed() {
             return self
@@ -165,13 +163,13 @@ impl<R: DeRead> Deserializer<R> {
 
     /// Takes the reason of the last refusal, or [`ReadCause::Failed`] where none is kept.
     ///
-    /// It belongs after an answer of [`Refused`]. The crate has no such call.
+    /// It belongs after an answer of [`Refused`].
     #[cold]
     #[inline(never)]
     pub fn take_refusal(&mut self) -> Error
-        ensures reason { result ≡ refusal_in self.old }
-        ensures taken { refusal_in self.new ≡ error_of ReadCause.Failed }
-        ensures state { state R.window R.Lent.kept self.new ≡ state R.window R.Lent.kept self.old }
+        ensures reason { result ≡ self.old.refusal }
+        ensures taken { self.new.refusal ≡ error_of ReadCause.Failed }
+        ensures state { self.new.state ≡ self.old.state }
     {
         self.bunser.take_refusal()
     }
@@ -182,12 +180,10 @@ impl<R: DeRead> Deserializer<R> {
     /// [`ReadCause::Failed`] after an earlier refusal, and else as [`Bunser::end`] is. A refusal
     /// changes nothing.
     pub fn end(&self) -> Result<()>
-        ensures ok { OnOk result (IsAtEnd (state R.window R.Lent.kept self.now)) }
-        ensures working { OnOk result ((state R.window R.Lent.kept self.now).source.failed
-            ≡ false) }
-        ensures err { OnErr result (IsAtEnd (state R.window R.Lent.kept self.now)
-            → IsTrue (state R.window R.Lent.kept self.now).source.failed) }
-        ensures name { IfErr result (λ e. e ≡ not_at_end (state R.window R.Lent.kept self.now)) }
+        ensures ok { OnOk result (IsAtEnd self.now.state) }
+        ensures working { OnOk result (self.now.state.source.failed ≡ false) }
+        ensures err { OnErr result (IsAtEnd self.now.state → IsTrue self.now.state.source.failed) }
+        ensures name { IfErr result (λ e. e ≡ not_at_end self.now.state) }
         ensures memory { IfErr result (λ e. e ≢ Error.OutOfMemory) }
     {
         if self.bunser.is_failed() {
@@ -199,10 +195,16 @@ impl<R: DeRead> Deserializer<R> {
         self.bunser.end(&self.info)
     }
 
+    /// The allocator that its constructor was given.
+    #[inline(always)]
+    pub fn allocator(&self) -> Global {
+        self.alloc
+    }
+
     /// Whether anything is due.
     pub(crate) fn is_due(&self) -> bool
-        ensures none { result ≡ false → (state R.window R.Lent.kept self.now).due ≡ nothing_due }
-        ensures some { result ≡ true → (state R.window R.Lent.kept self.now).due ≢ nothing_due }
+        ensures none { result ≡ false → self.now.state.due ≡ nothing_due }
+        ensures some { result ≡ true → self.now.state.due ≢ nothing_due }
     {
         match self.due {
             Due::Nothing => false,
@@ -213,37 +215,40 @@ impl<R: DeRead> Deserializer<R> {
 
     /// The capabilities that the message's head gives.
     pub fn capabilities(&self) -> u32
-        ensures { result ≡ (state R.window R.Lent.kept self.now).capabilities }
+        ensures { result ≡ self.now.state.capabilities }
     {
         self.info.bser_capabilities
     }
 
     /// The length of the message's body in bytes, as its head announces it, or 0 before the head is
     /// read.
-    ///
-    /// The crate has no such call.
     pub fn body_length(&self) -> i64
-        ensures { result ≡ (state R.window R.Lent.kept self.now).len }
+        ensures { result ≡ self.now.state.len }
     {
         self.info.len
+    }
+
+    /// How many bytes were taken, at most `i64::MAX`. Bytes that are only buffered are not counted.
+    /// After a refusal it stays as it was then.
+    pub fn read_count(&self) -> i64
+        ensures { result ≡ pos (min self.now.state.source.count (2 ^ 63 - 1)) }
+    {
+        self.bunser.read_count()
+    }
+
+    /// Where the body of the message began, by the count of bytes taken; 0 before the head is read.
+    pub fn start(&self) -> i64
+        ensures { result ≡ self.now.state.start }
+    {
+        self.info.start
     }
 
     /// Gives the byte source back, as far as it was read.
     #[inline(always)]
     pub fn into_inner(self) -> R
-        ensures { IsSourceOf result self }
+        ensures { R.window result ≡ self.state.source }
     {
-        let Deserializer {
-            bunser,
-            info: _,
-            due: _,
-            place: _,
-            levels: _,
-            opened: _,
-            keys: _,
-            outer: _,
-            note: _,
-        } = self;
+        let Deserializer { bunser, .. } = self;
         bunser.into_inner()
     }
 }

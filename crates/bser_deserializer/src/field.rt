@@ -28,7 +28,7 @@ pub fn find_field(names: &[&str], name: &[u8]) -> Field
 /// Whether these are the same bytes. Each is compared, also after one that differs, so that a name
 /// that is constant is compared by whole words.
 #[inline(always)]
-fn is_same(known: &[u8], name: &[u8]) -> bool
+pub fn is_same(known: &[u8], name: &[u8]) -> bool
     ensures { result ≡ bytes_eq known.now name.now }
 {
     if known.len() != name.len() {

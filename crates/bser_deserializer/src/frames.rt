@@ -1,6 +1,7 @@
 //! Containers that were opened.
 
-/// An array that was opened: how many items it has, whether they are rows, and how it stood outside.
+/// An array that was opened: how many items it has, whether they are rows, and how it stood
+/// outside.
 #[derive(Clone, Copy)]
 pub struct SeqHead {
     pub remaining: usize,

@@ -1,9 +1,7 @@
 //! What a refusal tells people beside its error.
-ghost use Rattle.std.specs.Prelude.{◌≡◌, ◌≢◌, ◌-◌, ◌^◌, min, pos, false, Some};
-ghost use Rattle.bser_named.specs.Clauses.{after_a_refusal};
-ghost use Rattle.bser_named.specs.Named.{complain};
+ghost use Rattle.std.specs.Prelude.{◌≡◌, ◌≢◌, false, Some};
+ghost use Rattle.bser_deserializer.specs.Calls.{complained};
 ghost use Rattle.bser_deserializer.specs.State.{refused};
-ghost use Rattle.bser_deserializer.specs.View.{state, refusal_in, note_in};
 
 use crate::deserializer::Deserializer;
 use bser_bunser::refusal::{Answer, Refused};
@@ -66,45 +64,23 @@ impl Note {
 }
 
 impl<R: DeRead> Deserializer<R> {
-    /// What the first refusal tells beside its error. The crate has no such call.
+    /// What the first refusal tells beside its error.
     #[cold]
     #[inline(never)]
     pub fn note(&self) -> Note
-        ensures { result ≡ note_in self.now }
+        ensures { result ≡ self.now.note }
     {
         self.note
     }
 
-    /// How many bytes were taken, at most `i64::MAX`. Bytes that are only buffered are not counted.
-    /// After a refusal it stays as it was then.
-    pub fn read_count(&self) -> i64
-        ensures { result ≡ pos (min (state R.window R.Lent.kept self.now).source.count
-            (2 ^ 63 - 1)) }
-    {
-        self.bunser.read_count()
-    }
-
-    /// Where the body of the message began, by the count of bytes taken; 0 before the head is read.
-    pub fn start(&self) -> i64
-        ensures { result ≡ (state R.window R.Lent.kept self.now).start }
-    {
-        self.info.start
-    }
-
     /// Refuses by this complaint as [`Deserializer::complain`] does, and notes what was found.
-    ///
-    /// The crate has no such call.
     #[cold]
     #[inline(never)]
     pub fn complain_of(&mut self, complaint: Complaint, finding: Finding) -> Refused
-        ensures reason { refusal_in self.new
-            ≡ after_a_refusal (state R.window R.Lent.kept self.old).source.failed
-            (complain complaint) }
-        ensures state { state R.window R.Lent.kept self.new
-            ≡ refused (state R.window R.Lent.kept self.old) }
-        ensures note { (state R.window R.Lent.kept self.old).source.failed ≡ false
-            → (note_in self.new).finding ≡ Some finding }
-        ensures memory { refusal_in self.new ≢ Error.OutOfMemory }
+        ensures reason { self.new.refusal ≡ complained complaint self.old }
+        ensures state { self.new.state ≡ refused self.old.state }
+        ensures note { self.old.state.source.failed ≡ false → self.new.note.finding ≡ Some finding }
+        ensures memory { self.new.refusal ≢ Error.OutOfMemory }
     {
         let failed = self.bunser.is_failed();
         let refused = self.complain(complaint);
@@ -116,8 +92,6 @@ impl<R: DeRead> Deserializer<R> {
 
     /// Hands an answer on, and notes the name at this place where it is a refusal and no field
     /// inside that one is noted yet. A place behind the last notes none.
-    ///
-    /// The crate has no such call.
     #[inline(always)]
     pub fn in_field<T: Drop>(
         &mut self,
@@ -126,8 +100,8 @@ impl<R: DeRead> Deserializer<R> {
         place: usize,
     ) -> Answer<T>
         ensures answer { result ≡ answer }
-        ensures reason { refusal_in self.new ≡ refusal_in self.old }
-        ensures state { state R.window R.Lent.kept self.new ≡ state R.window R.Lent.kept self.old }
+        ensures reason { self.new.refusal ≡ self.old.refusal }
+        ensures state { self.new.state ≡ self.old.state }
     {
         if answer.is_err() {
             self.note_field(names, place);
@@ -135,16 +109,14 @@ impl<R: DeRead> Deserializer<R> {
         answer
     }
 
-    /// Notes the name at this place after a refusal, where no field is noted yet. A place behind the
-    /// last notes none.
-    ///
-    /// The crate has no such call.
+    /// Notes the name at this place after a refusal, where no field is noted yet. A place behind
+    /// the last notes none.
     #[cold]
     #[inline(never)]
     pub fn note_field(&mut self, names: &[&str], place: usize)
-        ensures reason { refusal_in self.new ≡ refusal_in self.old }
-        ensures state { state R.window R.Lent.kept self.new ≡ state R.window R.Lent.kept self.old }
-        ensures finding { (note_in self.new).finding ≡ (note_in self.old).finding }
+        ensures reason { self.new.refusal ≡ self.old.refusal }
+        ensures state { self.new.state ≡ self.old.state }
+        ensures finding { self.new.note.finding ≡ self.old.note.finding }
     {
         if self.note.field.is_none() && place < names.len() {
             self.note.field = Some(FieldName::new(names[place]));

@@ -1,13 +1,13 @@
 //! Reading scalars.
-ghost use Rattle.std.specs.Prelude.{◌≡◌, ◌≢◌, ℤ, Bool, pos, Some, IfOk, OnErr, MatchBool};
-ghost use Rattle.bser_format.specs.Content.{one, truth, number};
-ghost use Rattle.bser_format.specs.ReadsScalars.{reads_bool, reads_unit, reads_integer, reads_signed, reads_real};
-ghost use Rattle.bser_named.specs.DueReaders.{seen};
-ghost use Rattle.bser_deserializer.specs.Askings.{asking_bool, asking_real, asking_unit, asking_integer};
+ghost use Rattle.std.specs.Prelude.{◌≡◌, ◌≢◌, IfOk, OnErr, OnOk};
+ghost use Rattle.bser_format.specs.ReadsScalars.{reads_bool, reads_unit, reads_real};
+ghost use Rattle.bser_deserializer.specs.Askings.{asking_bool, asking_real, asking_unit};
+ghost use Rattle.bser_deserializer.specs.Calls.{Keeps, Reads, ReadsInteger, RefusesAs, RefusesInteger, RefusesNode, TakesNull};
 ghost use Rattle.bser_deserializer.specs.Dues.{IsTagged, IsValueDue};
-ghost use Rattle.bser_deserializer.specs.Nodes.{tag_node, SeesNode, BeginsNode, TookNull, IsOther};
-ghost use Rattle.bser_deserializer.specs.Reading.{Answers, Refuses, RefusesFront, NamesBy, bare};
-ghost use Rattle.bser_deserializer.specs.View.{state, refusal_in, is_null_at, is_other_kind};
+ghost use Rattle.bser_deserializer.specs.Holds.{HoldsTruth, HoldsSize, HoldsOne};
+ghost use Rattle.bser_deserializer.specs.Nodes.{tag_node, SeesNode};
+ghost use Rattle.bser_deserializer.specs.Reading.{bare};
+ghost use Rattle.bser_deserializer.specs.View.{is_null_at, is_other_kind};
 
 use crate::cursor::Cursor;
 use crate::deserializer::{Deserializer, Due};
@@ -40,16 +40,10 @@ impl<R: DeRead> Deserializer<R> {
     /// that may not stand there. Never refused for want of memory.
     #[inline(always)]
     pub fn node(&mut self) -> Answer<Node>
-        ensures found { IfOk result
-            (SeesNode (state R.window R.Lent.kept self.old) (state R.window R.Lent.kept self.new)) }
-        ensures refused { OnErr result (RefusesFront bare
-            (BeginsNode (state R.window R.Lent.kept self.old).due)
-            (NamesBy bare (seen (state R.window R.Lent.kept self.old).opened
-            (state R.window R.Lent.kept self.old).due) (refusal_in self.new)
-            (state R.window R.Lent.kept self.old).source)
-            (refusal_in self.new) (state R.window R.Lent.kept self.old).source
-            (state R.window R.Lent.kept self.new).source) }
-        ensures memory { OnErr result (refusal_in self.new ≢ Error.OutOfMemory) }
+        ensures found { IfOk result (SeesNode self.old.state self.new.state) }
+        ensures kept { OnOk result (Keeps self.old self.new) }
+        ensures refused { OnErr result (RefusesNode self.old self.new) }
+        ensures memory { OnErr result (self.new.refusal ≢ Error.OutOfMemory) }
     {
         match self.due {
             Due::Node | Due::Field | Due::Key => {
@@ -67,17 +61,11 @@ impl<R: DeRead> Deserializer<R> {
     /// The kind of what is due and has no tag.
     #[inline(never)]
     fn node_without_tag(&mut self) -> Answer<Node>
-        requires { IsTagged (state R.window R.Lent.kept self.old).due → ⊥ }
-        ensures found { IfOk result
-            (SeesNode (state R.window R.Lent.kept self.old) (state R.window R.Lent.kept self.new)) }
-        ensures refused { OnErr result (RefusesFront bare
-            (BeginsNode (state R.window R.Lent.kept self.old).due)
-            (NamesBy bare (seen (state R.window R.Lent.kept self.old).opened
-            (state R.window R.Lent.kept self.old).due) (refusal_in self.new)
-            (state R.window R.Lent.kept self.old).source)
-            (refusal_in self.new) (state R.window R.Lent.kept self.old).source
-            (state R.window R.Lent.kept self.new).source) }
-        ensures memory { OnErr result (refusal_in self.new ≢ Error.OutOfMemory) }
+        requires { IsTagged self.old.state.due → ⊥ }
+        ensures found { IfOk result (SeesNode self.old.state self.new.state) }
+        ensures kept { OnOk result (Keeps self.old self.new) }
+        ensures refused { OnErr result (RefusesNode self.old self.new) }
+        ensures memory { OnErr result (self.new.refusal ≢ Error.OutOfMemory) }
     {
         if self.is_failed() {
             return Err(self.complain(Complaint::WrongType));
@@ -97,17 +85,10 @@ impl<R: DeRead> Deserializer<R> {
     /// Refused as [`Deserializer::node`] is.
     #[inline(always)]
     pub fn read_none(&mut self) -> Answer<bool>
-        ensures found { IfOk result (λ b. MatchBool b
-            (TookNull (state R.window R.Lent.kept self.old) (state R.window R.Lent.kept self.new))
-            (IsOther (state R.window R.Lent.kept self.old) (state R.window R.Lent.kept self.new))) }
-        ensures refused { OnErr result (RefusesFront bare
-            (BeginsNode (state R.window R.Lent.kept self.old).due)
-            (NamesBy bare (seen (state R.window R.Lent.kept self.old).opened
-            (state R.window R.Lent.kept self.old).due) (refusal_in self.new)
-            (state R.window R.Lent.kept self.old).source)
-            (refusal_in self.new) (state R.window R.Lent.kept self.old).source
-            (state R.window R.Lent.kept self.new).source) }
-        ensures memory { OnErr result (refusal_in self.new ≢ Error.OutOfMemory) }
+        ensures found { IfOk result (TakesNull self.old self.new) }
+        ensures kept { OnOk result (Keeps self.old self.new) }
+        ensures refused { OnErr result (RefusesNode self.old self.new) }
+        ensures memory { OnErr result (self.new.refusal ≢ Error.OutOfMemory) }
     {
         if !self.is_value_due() {
             return self.read_no_value();
@@ -128,17 +109,10 @@ impl<R: DeRead> Deserializer<R> {
     /// Reads no value: a key or a row is due, or nothing is.
     #[inline(never)]
     fn read_no_value(&mut self) -> Answer<bool>
-        ensures found { IfOk result (λ b. MatchBool b
-            (TookNull (state R.window R.Lent.kept self.old) (state R.window R.Lent.kept self.new))
-            (IsOther (state R.window R.Lent.kept self.old) (state R.window R.Lent.kept self.new))) }
-        ensures refused { OnErr result (RefusesFront bare
-            (BeginsNode (state R.window R.Lent.kept self.old).due)
-            (NamesBy bare (seen (state R.window R.Lent.kept self.old).opened
-            (state R.window R.Lent.kept self.old).due) (refusal_in self.new)
-            (state R.window R.Lent.kept self.old).source)
-            (refusal_in self.new) (state R.window R.Lent.kept self.old).source
-            (state R.window R.Lent.kept self.new).source) }
-        ensures memory { OnErr result (refusal_in self.new ≢ Error.OutOfMemory) }
+        ensures found { IfOk result (TakesNull self.old self.new) }
+        ensures kept { OnOk result (Keeps self.old self.new) }
+        ensures refused { OnErr result (RefusesNode self.old self.new) }
+        ensures memory { OnErr result (self.new.refusal ≢ Error.OutOfMemory) }
     {
         match self.node()? {
             Node::Null => {
@@ -154,12 +128,10 @@ impl<R: DeRead> Deserializer<R> {
     /// want of memory.
     #[inline(always)]
     pub fn read_bool(&mut self) -> Answer<bool>
-        ensures found { IfOk result (Answers reads_bool (λ v c. c ≡ truth v)
-            (state R.window R.Lent.kept self.old) (state R.window R.Lent.kept self.new)) }
-        ensures refused { OnErr result (Refuses reads_bool (Some asking_bool) bare
-            (refusal_in self.new)
-            (state R.window R.Lent.kept self.old) (state R.window R.Lent.kept self.new)) }
-        ensures memory { OnErr result (refusal_in self.new ≢ Error.OutOfMemory) }
+        ensures found { IfOk result (Reads reads_bool HoldsTruth self.old self.new) }
+        ensures kept { OnOk result (Keeps self.old self.new) }
+        ensures refused { OnErr result (RefusesAs asking_bool bare self.old self.new) }
+        ensures memory { OnErr result (self.new.refusal ≢ Error.OutOfMemory) }
     {
         let tag = self.value_tag()?;
         if tag != BSER_TRUE && tag != BSER_FALSE {
@@ -175,12 +147,10 @@ impl<R: DeRead> Deserializer<R> {
     /// It is refused as integers of any range are, and never for want of memory.
     #[inline(always)]
     pub fn read_i64(&mut self) -> Answer<i64>
-        ensures found { IfOk result (Answers (reads_signed 64) (λ v c. c ≡ number v)
-            (state R.window R.Lent.kept self.old) (state R.window R.Lent.kept self.new)) }
-        ensures refused { OnErr result ((fits : ℤ → Bool) → Refuses (reads_integer fits)
-            (Some (asking_integer fits)) bare (refusal_in self.new)
-            (state R.window R.Lent.kept self.old) (state R.window R.Lent.kept self.new)) }
-        ensures memory { OnErr result (refusal_in self.new ≢ Error.OutOfMemory) }
+        ensures found { IfOk result (ReadsInteger self.old self.new) }
+        ensures kept { OnOk result (Keeps self.old self.new) }
+        ensures refused { OnErr result (RefusesInteger self.old self.new) }
+        ensures memory { OnErr result (self.new.refusal ≢ Error.OutOfMemory) }
     {
         if !self.is_value_due() {
             return Err(self.refuse_no_value());
@@ -190,21 +160,19 @@ impl<R: DeRead> Deserializer<R> {
                 self.due = Due::Nothing;
                 Ok(number)
             }
-            None => self.read_i64_on(),
+            None => self.read_i64_slowly(),
         }
     }
 
     /// Reads an integer of any width, and buffers its bytes before.
     #[cold]
     #[inline(never)]
-    fn read_i64_on(&mut self) -> Answer<i64>
-        requires { IsValueDue (state R.window R.Lent.kept self.old).due }
-        ensures found { IfOk result (Answers (reads_signed 64) (λ v c. c ≡ number v)
-            (state R.window R.Lent.kept self.old) (state R.window R.Lent.kept self.new)) }
-        ensures refused { OnErr result ((fits : ℤ → Bool) → Refuses (reads_integer fits)
-            (Some (asking_integer fits)) bare (refusal_in self.new)
-            (state R.window R.Lent.kept self.old) (state R.window R.Lent.kept self.new)) }
-        ensures memory { OnErr result (refusal_in self.new ≢ Error.OutOfMemory) }
+    fn read_i64_slowly(&mut self) -> Answer<i64>
+        requires { IsValueDue self.old.state.due }
+        ensures found { IfOk result (ReadsInteger self.old self.new) }
+        ensures kept { OnOk result (Keeps self.old self.new) }
+        ensures refused { OnErr result (RefusesInteger self.old self.new) }
+        ensures memory { OnErr result (self.new.refusal ≢ Error.OutOfMemory) }
     {
         match self.bunser.next_int()? {
             Look::Taken(number) => {
@@ -220,12 +188,10 @@ impl<R: DeRead> Deserializer<R> {
     /// refused for want of memory.
     #[inline(always)]
     pub fn read_real_bits(&mut self) -> Answer<u64>
-        ensures found { IfOk result (Answers reads_real (λ v c. c ≡ number (pos v))
-            (state R.window R.Lent.kept self.old) (state R.window R.Lent.kept self.new)) }
-        ensures refused { OnErr result (Refuses reads_real (Some asking_real) bare
-            (refusal_in self.new)
-            (state R.window R.Lent.kept self.old) (state R.window R.Lent.kept self.new)) }
-        ensures memory { OnErr result (refusal_in self.new ≢ Error.OutOfMemory) }
+        ensures found { IfOk result (Reads reads_real HoldsSize self.old self.new) }
+        ensures kept { OnOk result (Keeps self.old self.new) }
+        ensures refused { OnErr result (RefusesAs asking_real bare self.old self.new) }
+        ensures memory { OnErr result (self.new.refusal ≢ Error.OutOfMemory) }
     {
         let tag = self.value_tag()?;
         if tag != BSER_REAL {
@@ -240,12 +206,10 @@ impl<R: DeRead> Deserializer<R> {
     /// refused for want of memory.
     #[inline(always)]
     pub fn read_unit(&mut self) -> Answer<()>
-        ensures found { IfOk result (Answers reads_unit (λ _ c. c ≡ one)
-            (state R.window R.Lent.kept self.old) (state R.window R.Lent.kept self.new)) }
-        ensures refused { OnErr result (Refuses reads_unit (Some asking_unit) bare
-            (refusal_in self.new)
-            (state R.window R.Lent.kept self.old) (state R.window R.Lent.kept self.new)) }
-        ensures memory { OnErr result (refusal_in self.new ≢ Error.OutOfMemory) }
+        ensures found { IfOk result (Reads reads_unit HoldsOne self.old self.new) }
+        ensures kept { OnOk result (Keeps self.old self.new) }
+        ensures refused { OnErr result (RefusesAs asking_unit bare self.old self.new) }
+        ensures memory { OnErr result (self.new.refusal ≢ Error.OutOfMemory) }
     {
         let tag = self.value_tag()?;
         if !self.is_null_tag(tag) {
@@ -259,7 +223,7 @@ impl<R: DeRead> Deserializer<R> {
     /// Whether this is the tag of null, or the skip of the field that is due.
     #[inline(always)]
     fn is_null_tag(&self, tag: u8) -> bool
-        ensures { result ≡ is_null_at (state R.window R.Lent.kept self.now).due tag }
+        ensures { result ≡ is_null_at self.now.state.due tag }
     {
         match self.due {
             Due::Field => tag == BSER_NULL || tag == BSER_SKIP,

@@ -1,19 +1,17 @@
 //! Reading strings, and keys as strings.
-ghost use Rattle.std.specs.Prelude.{◌≡◌, Some, false, string_bytes, IfOk, OnErr};
-ghost use Rattle.bser_format.specs.Content.{byte_list};
-ghost use Rattle.bser_format.specs.ReadsScalars.{reads_slice, reads_string};
+ghost use Rattle.std.specs.Prelude.{◌≡◌, string_bytes, IfOk, OnErr, OnOk};
 ghost use Rattle.bser_format.specs.Errors.{error_of};
 ghost use Rattle.bser_source.specs.Refs.{bytes_of, is_lent, text_bytes, is_lent_text};
-ghost use Rattle.bser_deserializer.specs.Askings.{asking_bytes, asking_string};
+ghost use Rattle.bser_deserializer.specs.Askings.{asking_string};
+ghost use Rattle.bser_deserializer.specs.Calls.{Keeps, ReadsBytes, ReadsText, RefusesAs, RefusesBytes, RefusesCopy, TakesBytes, TakesName, source_lends};
 ghost use Rattle.bser_deserializer.specs.Dues.{IsTagged};
-ghost use Rattle.bser_deserializer.specs.Reading.{Answers, Refuses, bare, owned};
+ghost use Rattle.bser_deserializer.specs.Reading.{bare, owned};
 ghost use Rattle.bser_deserializer.specs.State.{refused};
-ghost use Rattle.bser_deserializer.specs.Strings.{TookBytes};
-ghost use Rattle.bser_deserializer.specs.View.{state, refusal_in};
 
-use crate::cursor::{Cursor, is_key_tag, name_of};
+use crate::cursor::{Cursor, name_of};
 use crate::deserializer::{Deserializer, Due};
 use crate::note::Wanted;
+use bser_bunser::prefix::is_key_tag;
 use bser_bunser::refusal::{Answer, Refused};
 use bser_format::bytestring::ByteString;
 use bser_format::errors::{Complaint, Error, ReadCause};
@@ -27,18 +25,15 @@ impl<R: DeRead> Deserializer<R> {
     /// Reads the bytes of a string under either tag, or of a key. They are lent where the source
     /// lends, and else copied to `scratch` in place of what it held.
     ///
-    /// Another kind of value is [`Complaint::WrongType`]. Bytes under a text's tag that are not UTF-8
-    /// are [`ReadCause::Utf8`].
+    /// Another kind of value is [`Complaint::WrongType`]. Bytes under a text's tag that are not
+    /// UTF-8 are [`ReadCause::Utf8`].
     #[inline(always)]
     pub fn read_bytes<'s>(&mut self, scratch: &'s mut Vec<u8>) -> Answer<Reference<'s, R::Lent>>
-        ensures found { IfOk result (Answers reads_slice
-            (λ r c. c ≡ byte_list (bytes_of R.Lent.bytes r))
-            (state R.window R.Lent.kept self.old) (state R.window R.Lent.kept self.new)) }
-        ensures lent { IfOk result (λ r. is_lent r ≡
-            (state R.window R.Lent.kept self.old).source.lends) }
-        ensures refused { OnErr result (Refuses reads_slice (Some asking_bytes) bare
-            (refusal_in self.new)
-            (state R.window R.Lent.kept self.old) (state R.window R.Lent.kept self.new)) }
+        ensures found { IfOk result (ReadsBytes (bytes_of R.Lent.bytes) self.old self.new) }
+        ensures lent { IfOk result (λ r. is_lent r ≡ source_lends self.old) }
+        ensures source { IfOk result (λ r. is_lent r ≡ R.Lent.lends) }
+        ensures kept { OnOk result (Keeps self.old self.new) }
+        ensures refused { OnErr result (RefusesBytes self.old self.new) }
     {
         let (bytes, is_text) = self.take_bytes(scratch)?;
         if is_text && str::from_utf8(bytes.get_ref()).is_err() {
@@ -51,9 +46,8 @@ impl<R: DeRead> Deserializer<R> {
     #[cold]
     #[inline(never)]
     fn refuse_utf8(&mut self) -> Refused
-        ensures reason { refusal_in self.new ≡ error_of ReadCause.Utf8 }
-        ensures state { state R.window R.Lent.kept self.new
-            ≡ refused (state R.window R.Lent.kept self.old) }
+        ensures reason { self.new.refusal ≡ error_of ReadCause.Utf8 }
+        ensures state { self.new.state ≡ refused self.old.state }
     {
         self.refuse(Error::de_reader_error(ReadCause::Utf8))
     }
@@ -62,13 +56,11 @@ impl<R: DeRead> Deserializer<R> {
     /// under the text's tag.
     #[inline(always)]
     fn take_bytes<'s>(&mut self, scratch: &'s mut Vec<u8>) -> Answer<(Reference<'s, R::Lent>, bool)>
-        ensures found { IfOk result (λ p. TookBytes (state R.window R.Lent.kept self.old)
-            (state R.window R.Lent.kept self.new) p.1 (bytes_of R.Lent.bytes p.0)) }
-        ensures lent { IfOk result (λ p. is_lent p.0 ≡
-            (state R.window R.Lent.kept self.old).source.lends) }
-        ensures refused { OnErr result (Refuses reads_slice (Some asking_bytes) bare
-            (refusal_in self.new)
-            (state R.window R.Lent.kept self.old) (state R.window R.Lent.kept self.new)) }
+        ensures found { IfOk result (TakesBytes (bytes_of R.Lent.bytes) self.old self.new) }
+        ensures lent { IfOk result (λ p. is_lent p.0 ≡ source_lends self.old) }
+        ensures source { IfOk result (λ p. is_lent p.0 ≡ R.Lent.lends) }
+        ensures kept { OnOk result (Keeps self.old self.new) }
+        ensures refused { OnErr result (RefusesBytes self.old self.new) }
     {
         match self.due {
             Due::Node | Due::Field | Due::Key => {
@@ -90,11 +82,9 @@ impl<R: DeRead> Deserializer<R> {
     /// they stood under the text's tag.
     #[inline(always)]
     fn take_copy(&mut self, alloc: Global) -> Answer<(Vec<u8>, bool)>
-        ensures found { IfOk result (λ p. TookBytes (state R.window R.Lent.kept self.old)
-            (state R.window R.Lent.kept self.new) p.1 p.0.items) }
-        ensures refused { OnErr result (Refuses reads_slice (Some asking_bytes) owned
-            (refusal_in self.new)
-            (state R.window R.Lent.kept self.old) (state R.window R.Lent.kept self.new)) }
+        ensures found { IfOk result (TakesBytes (λ v. v.items) self.old self.new) }
+        ensures kept { OnOk result (Keeps self.old self.new) }
+        ensures refused { OnErr result (RefusesCopy self.old self.new) }
     {
         match self.due {
             Due::Node | Due::Field | Due::Key => {
@@ -115,12 +105,10 @@ impl<R: DeRead> Deserializer<R> {
     /// Takes the key of a row's field as a copy.
     #[inline(never)]
     fn copy_name(&mut self, alloc: Global) -> Answer<Vec<u8>>
-        requires { IsTagged (state R.window R.Lent.kept self.old).due → ⊥ }
-        ensures found { IfOk result (λ s. TookBytes (state R.window R.Lent.kept self.old)
-            (state R.window R.Lent.kept self.new) false s.items) }
-        ensures refused { OnErr result (Refuses reads_slice (Some asking_bytes) owned
-            (refusal_in self.new)
-            (state R.window R.Lent.kept self.old) (state R.window R.Lent.kept self.new)) }
+        requires { IsTagged self.old.state.due → ⊥ }
+        ensures found { IfOk result (TakesName (λ v. v.items) self.old self.new) }
+        ensures kept { OnOk result (Keeps self.old self.new) }
+        ensures refused { OnErr result (RefusesCopy self.old self.new) }
     {
         let mut scratch = Vec::new(alloc);
         let bytes = self.take_name(&mut scratch)?;
@@ -133,14 +121,12 @@ impl<R: DeRead> Deserializer<R> {
     /// Takes the key of a row's field, which has no bytes of its own.
     #[inline(never)]
     fn take_name<'s>(&mut self, scratch: &'s mut Vec<u8>) -> Answer<Reference<'s, R::Lent>>
-        requires { IsTagged (state R.window R.Lent.kept self.old).due → ⊥ }
-        ensures found { IfOk result (λ r. TookBytes (state R.window R.Lent.kept self.old)
-            (state R.window R.Lent.kept self.new) false (bytes_of R.Lent.bytes r)) }
-        ensures lent { IfOk result (λ r. is_lent r ≡
-            (state R.window R.Lent.kept self.old).source.lends) }
-        ensures refused { OnErr result (Refuses reads_slice (Some asking_bytes) bare
-            (refusal_in self.new)
-            (state R.window R.Lent.kept self.old) (state R.window R.Lent.kept self.new)) }
+        requires { IsTagged self.old.state.due → ⊥ }
+        ensures found { IfOk result (TakesName (bytes_of R.Lent.bytes) self.old self.new) }
+        ensures lent { IfOk result (λ r. is_lent r ≡ source_lends self.old) }
+        ensures source { IfOk result (λ r. is_lent r ≡ R.Lent.lends) }
+        ensures kept { OnOk result (Keeps self.old self.new) }
+        ensures refused { OnErr result (RefusesBytes self.old self.new) }
     {
         match name_of(self) {
             None => Err(self.refuse_no_value()),
@@ -159,11 +145,9 @@ impl<R: DeRead> Deserializer<R> {
     /// A refused growth is [`Error::OutOfMemory`].
     #[inline(always)]
     pub fn read_byte_string(&mut self, alloc: Global) -> Answer<ByteString>
-        ensures found { IfOk result (Answers reads_slice (λ s c. c ≡ byte_list s)
-            (state R.window R.Lent.kept self.old) (state R.window R.Lent.kept self.new)) }
-        ensures refused { OnErr result (Refuses reads_slice (Some asking_bytes) owned
-            (refusal_in self.new)
-            (state R.window R.Lent.kept self.old) (state R.window R.Lent.kept self.new)) }
+        ensures found { IfOk result (ReadsBytes (λ s. s) self.old self.new) }
+        ensures kept { OnOk result (Keeps self.old self.new) }
+        ensures refused { OnErr result (RefusesCopy self.old self.new) }
     {
         let (bytes, is_text) = self.take_copy(alloc)?;
         if is_text && str::from_utf8(&bytes).is_err() {
@@ -187,14 +171,11 @@ where
         &mut self,
         scratch: &'s mut Vec<u8>,
     ) -> Answer<TextReference<'s, <R::Lent as LendsText>::Text>>
-        ensures found { IfOk result (Answers reads_string
-            (λ t c. c ≡ byte_list (text_bytes R.Lent.Text.text t))
-            (state R.window R.Lent.kept self.old) (state R.window R.Lent.kept self.new)) }
-        ensures lent { IfOk result (λ t.
-            is_lent_text t ≡ (state R.window R.Lent.kept self.old).source.lends) }
-        ensures refused { OnErr result (Refuses reads_string (Some asking_string) bare
-            (refusal_in self.new)
-            (state R.window R.Lent.kept self.old) (state R.window R.Lent.kept self.new)) }
+        ensures found { IfOk result (ReadsText (text_bytes R.Lent.Text.text) self.old self.new) }
+        ensures lent { IfOk result (λ t. is_lent_text t ≡ source_lends self.old) }
+        ensures source { IfOk result (λ t. is_lent_text t ≡ R.Lent.lends) }
+        ensures kept { OnOk result (Keeps self.old self.new) }
+        ensures refused { OnErr result (RefusesAs asking_string bare self.old self.new) }
     {
         let (bytes, _) = self.take_bytes(scratch)?;
         match bytes.to_text() {
@@ -208,11 +189,9 @@ where
     /// A refused growth is [`Error::OutOfMemory`].
     #[inline(always)]
     pub fn read_string(&mut self, alloc: Global) -> Answer<String>
-        ensures found { IfOk result (Answers reads_string (λ s c. c ≡ byte_list (string_bytes s))
-            (state R.window R.Lent.kept self.old) (state R.window R.Lent.kept self.new)) }
-        ensures refused { OnErr result (Refuses reads_string (Some asking_string) owned
-            (refusal_in self.new)
-            (state R.window R.Lent.kept self.old) (state R.window R.Lent.kept self.new)) }
+        ensures found { IfOk result (ReadsText string_bytes self.old self.new) }
+        ensures kept { OnOk result (Keeps self.old self.new) }
+        ensures refused { OnErr result (RefusesAs asking_string owned self.old self.new) }
     {
         let (bytes, _) = self.take_copy(alloc)?;
         if as_text(&bytes).is_none() {

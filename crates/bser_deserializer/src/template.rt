@@ -1,16 +1,13 @@
 //! A template's keys.
-ghost use Rattle.std.specs.Prelude.{◌≡◌, [], map, IfOk, OnErr};
+ghost use Rattle.std.specs.Prelude.{◌≡◌, [], map, IfOk, OnOk, OnErr};
 ghost use Rattle.bser_format.specs.Grammar.{SpellsKey};
 ghost use Rattle.bser_format.specs.declared.errors.Kind.TheVariants.{TemplateKey};
-ghost use Rattle.bser_named.specs.Named.{text_of, count, many};
-ghost use Rattle.bser_bunser.specs.Refusal.{Fails};
-ghost use Rattle.bser_bunser.specs.Tagged.{bunser_window, refusal_of};
-ghost use Rattle.bser_deserializer.specs.Reading.{NamesBy, owned};
-ghost use Rattle.bser_deserializer.specs.Tables.{TookPart, SpellsKeys, SpellsTable};
-ghost use Rattle.bser_deserializer.specs.Templates.{keys_after_number, table};
+ghost use Rattle.bser_named.specs.Named.{text_of};
+ghost use Rattle.bser_bunser.specs.Calls.{HasFailed};
+ghost use Rattle.bser_deserializer.specs.Templates.{TakesPart, SpellsKeys, SpellsKeysAndRows, NamesPart, keys_after_number, keys_and_rows};
 
-use crate::cursor::is_key_tag;
 use bser_bunser::bunser::Bunser;
+use bser_bunser::prefix::is_key_tag;
 use bser_bunser::refusal::Answer;
 use bser_format::errors::{Complaint, Error, Kind};
 use bser_source::read::DeRead;
@@ -23,12 +20,10 @@ fn take_key<R: DeRead>(
     bunser: &mut Bunser<R>,
     scratch: &mut Vec<u8>,
 ) -> Answer<<R::Lent as Lending>::Kept>
-    ensures ok { IfOk result (λ k. TookPart (SpellsKey (R.Lent.kept k))
-        (bunser_window R.window bunser.old) (bunser_window R.window bunser.new)) }
-    ensures err { OnErr result (Fails (refusal_of bunser.new)
-        (bunser_window R.window bunser.old) (bunser_window R.window bunser.new)) }
-    ensures names { OnErr result (NamesBy owned (text_of TemplateKey) (refusal_of bunser.new)
-        (bunser_window R.window bunser.old)) }
+    ensures ok { IfOk result (λ k. TakesPart (SpellsKey (R.Lent.kept k)) bunser.old bunser.new) }
+    ensures kept { OnOk result (bunser.new.refusal ≡ bunser.old.refusal) }
+    ensures err { OnErr result (HasFailed bunser.old bunser.new) }
+    ensures names { OnErr result (NamesPart (text_of TemplateKey) bunser.old bunser.new) }
 {
     bunser.fill(1)?;
     let byte = bunser.buffered()[0];
@@ -51,12 +46,11 @@ fn take_keys<R: DeRead>(
     alloc: Global,
     bunser: &mut Bunser<R>,
 ) -> Answer<Vec<<R::Lent as Lending>::Kept>>
-    ensures ok { IfOk result (λ ks. TookPart (SpellsKeys (map R.Lent.kept ks.items))
-        (bunser_window R.window bunser.old) (bunser_window R.window bunser.new)) }
-    ensures err { OnErr result (Fails (refusal_of bunser.new)
-        (bunser_window R.window bunser.old) (bunser_window R.window bunser.new)) }
-    ensures names { OnErr result (NamesBy owned keys_after_number (refusal_of bunser.new)
-        (bunser_window R.window bunser.old)) }
+    ensures ok { IfOk result (λ ks.
+        TakesPart (SpellsKeys (map R.Lent.kept ks.items)) bunser.old bunser.new) }
+    ensures kept { OnOk result (bunser.new.refusal ≡ bunser.old.refusal) }
+    ensures err { OnErr result (HasFailed bunser.old bunser.new) }
+    ensures names { OnErr result (NamesPart keys_after_number bunser.old bunser.new) }
 {
     let mut keys = Vec::new(alloc);
     let mut scratch = Vec::new(alloc);
@@ -71,16 +65,15 @@ fn take_keys<R: DeRead>(
 }
 
 /// Takes a template's keys, and the number of its rows.
-pub(crate) fn take_table<R: DeRead>(
+pub(crate) fn take_keys_and_rows<R: DeRead>(
     alloc: Global,
     bunser: &mut Bunser<R>,
 ) -> Answer<(Vec<<R::Lent as Lending>::Kept>, usize)>
-    ensures ok { IfOk result (λ t. TookPart (SpellsTable (map R.Lent.kept t.0.items) t.1)
-        (bunser_window R.window bunser.old) (bunser_window R.window bunser.new)) }
-    ensures err { OnErr result (Fails (refusal_of bunser.new)
-        (bunser_window R.window bunser.old) (bunser_window R.window bunser.new)) }
-    ensures names { OnErr result (NamesBy owned table (refusal_of bunser.new)
-        (bunser_window R.window bunser.old)) }
+    ensures ok { IfOk result (λ t.
+        TakesPart (SpellsKeysAndRows (map R.Lent.kept t.0.items) t.1) bunser.old bunser.new) }
+    ensures kept { OnOk result (bunser.new.refusal ≡ bunser.old.refusal) }
+    ensures err { OnErr result (HasFailed bunser.old bunser.new) }
+    ensures names { OnErr result (NamesPart keys_and_rows bunser.old bunser.new) }
 {
     let keys = take_keys(alloc, bunser)?;
     let rows = bunser.count()?;

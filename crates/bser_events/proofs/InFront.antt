@@ -15,13 +15,13 @@ use Rattle.bser_bunser.specs.Tokens.{IsTokenPrefix, tag_of_string}
 use Rattle.bser_bunser.proofs.Readers.{front_there, string_there}
 use Rattle.bser_events.specs.Events as told
 use Rattle.bser_events.specs.Events.{Event, key, events, part_events}
-use Rattle.bser_events.specs.Found.{Found, IsStringTag, value_rest}
+use Rattle.bser_events.specs.Found.{Found, value_rest}
 use Rattle.bser_events.specs.Pieces.{InFront, DueInFront, IsFirst, IsScalar, IsNoScalar, IsDueScalar, IsDueString}
 use Rattle.bser_events.specs.declared.frame.Part.{Part}
 use Rattle.bser_events.specs.declared.frame.Part.TheVariants.{Item, Entry, Field}
 use Rattle.bser_events.proofs.Begins.{value_begins, value_field, skip_there}
 use Rattle.bser_events.proofs.Tables.{scalar_found}
-use Rattle.bser_events.proofs.Texts.{utf8_reads, after_tag}
+use Rattle.bser_events.proofs.Texts.{utf8_reads, after_tag, IsStringTag}
 
 -- ---- values
 

@@ -1,10 +1,10 @@
 -- What is left of the containers that are open: what is read of them, and where that leads.
 use Rattle.std.proofs.Common.{◌≡◌, ℕ, zero, suc, List, [], ◌∷◌, ◌++◌, length, append_assoc, append-nil, refl, sym, ap, subst, ◌∙◌, inl, inr}
-use Rattle.bser_format.specs.Tree.{Tree, rows_of}
+use Rattle.bser_format.specs.Tree.{Tree, null, items_of, rows_of}
 use Rattle.bser_format.specs.declared.errors.Kind.TheVariants.{MapKey}
 use Rattle.bser_named.specs.Named.{Answer, reads, refuses, Reader, give, and_then, ◌>>=◌, many, entry_of, field_of, text_of, with_text_keys}
 use Rattle.std.specs.Prelude.{Option, Some, None}
-use Rattle.bser_events.specs.Events.{Event, key, close, events, part_events, row_events}
+use Rattle.bser_events.specs.Events.{Event, key, close, events, part_events, item_events, row_events}
 use Rattle.bser_events.specs.Frames.{Left, parts_of, Fits, left_events, Takes, IsDone}
 use Rattle.bser_events.specs.declared.frame.Frame.{Frame}
 use Rattle.bser_events.specs.declared.frame.Parts.{Parts}
@@ -193,14 +193,19 @@ leads_ended ev f now es done (k, same, rest) =
     let h = rest d.0 d.1 in
     (h.0, (λ x. same x ∙ ap (and_then k) (d.2 x) ∙ h.1 x), h.2 ∙ ap (λ z. es ++ (z ++ [])) d.3 ∙ append-nil es)
 
--- nothing was read
-pub leads_begins : (n : ℕ) (p : Parts) → Leads (left_events p) (frame_of n p ∷ []) (parts_of n p) []
-leads_begins n p = (
-  λ l. give l,
-  λ x. given (parts_of n p x),
-  λ l fits. (l, (λ x. refl), sym (append-nil (left_events p l))),
-)
+-- of a value nothing was read: it is one item, and no container around it is closed
+abbrev first_item : List Tree → Reader Tree
+first_item [] = give null
+first_item (t ∷ ts) = give t
+
+pub leads_begins : (n : ℕ) → Leads events (frame_of n (Items 1) ∷ []) (with_text_keys n) []
+leads_begins n = (first_item, (λ x. one (with_text_keys n x)), λ l fits. alone l fits)
   where
-    given : {X : Type 0} (o : Answer X) → o ≡ and_then (λ l. give l) o
-    given (reads l b) = refl
-    given (refuses e) = refl
+    one : (o : Answer Tree) → o ≡ and_then first_item (and_then (λ t. many (with_text_keys n) 0 >>= λ ts. give (t ∷ ts)) o)
+    one (reads t b) = refl
+    one (refuses e) = refl
+
+    alone : (l : List Tree) → length l ≡ 1 → Leads events [] (first_item l) (item_events (items_of l) ++ [])
+    alone [] fits = absurd cc
+    alone (t ∷ []) fits = (t, (λ x. refl), sym (append-nil (events t ++ []) ∙ append-nil (events t)))
+    alone (t ∷ u ∷ us) fits = absurd cc

@@ -1,6 +1,7 @@
 -- What follows where a call succeeds, and where it refuses.
 use Rattle.std.proofs.Common.{◌≡◌, true, false, is_ok, ℕ, ◌≤◌, List, [], ◌∷◌, length, drop, get_or, ap, arith}
 use Rattle.std.specs.Prelude.{Result, Ok, Err, OnOk, OnErr}
+use Rattle.bser_bunser.specs.Seen.{Seen}
 
 pub both_ok : {X E : Type 0} (P Q S : Type 0) (r : Result X E) → OnOk r P → OnOk r Q → (P → Q → S) → OnOk r S
 both_ok P Q S (Ok x) p q f = f p q
@@ -30,3 +31,7 @@ is_ill P (Err x) e p = p
 pub first_is : (c : ℕ) (held : List ℕ) → 1 ≤ length held → get_or held 0 0 ≡ c → held ≡ c ∷ drop 1 held
 first_is c [] some e = absurd (omega (arith, some))
 first_is c (x ∷ xs) some e = ap (λ z. z ∷ xs) e
+
+-- a call that changes nothing leaves the window
+pub same_window : (a b : Seen) → a ≡ b → a.window ≡ b.window
+same_window a b e = ap (λ (s : Seen). s.window) e

@@ -1,8 +1,9 @@
 -- Strings and keys that are read and told.
-use Rattle.std.proofs.Common.{◌≡◌, ℕ, Bool, true, false, cond, List, [], ◌∷◌, ◌++◌, length, take, drop, refl, sym, ap, subst, ◌∙◌, arith, inl, inr, IsUtf8}
+use Rattle.std.proofs.Common.{◌≡◌, ◌⊎◌, ◌||◌, ℕ, Bool, true, false, cond, List, [], ◌∷◌, ◌++◌, length, take, drop, refl, sym, ap, subst, ◌∙◌, arith, inl, inr, nat_eq, IsUtf8}
 use Rattle.std.specs.Str.{is_utf8}
 use Rattle.std.proofs.lemmas.Str.{IsUtf8-from_is_utf8, is_utf8-from_IsUtf8}
-use Rattle.std.proofs.lemmas.Bool.{ne_eqb}
+use Rattle.std.proofs.lemmas.Bool.{ne_eqb, eqb-true}
+use Rattle.bser_named.specs.DueReaders.{is_key_tag}
 use Rattle.bser_format.specs.declared.errors.Error.{Error}
 use Rattle.bser_format.specs.declared.errors.Error.TheVariants.{DeInvalidStartByte}
 use Rattle.bser_format.specs.declared.errors.Kind.{Kind}
@@ -17,7 +18,7 @@ use Rattle.bser_bunser.proofs.Readers.{front_there, string_there}
 use Rattle.bser_bunser.proofs.Refusals.{fails_untaken}
 use Rattle.bser_events.specs.Events as events
 use Rattle.bser_events.specs.Events.{Event}
-use Rattle.bser_events.specs.Found.{Found, IsStringTag, Refuses, text_bytes}
+use Rattle.bser_events.specs.Found.{Found, Refuses, text_bytes}
 use Rattle.bser_events.proofs.Takings.{takes_one}
 
 -- ---- texts
@@ -67,6 +68,21 @@ bytes_passed takes n a b before after some told = bytes_found takes n some.text 
 
 -- ---- keys
 
+-- a string has this tag
+abbrev pub IsStringTag : ℕ → Type 0
+IsStringTag tag = (tag ≡ 0x02) ⊎ (tag ≡ 0x0d)
+
+key_tag_told : (t : ℕ) → is_key_tag t ≡ true → IsStringTag t
+key_tag_told t is = at (nat_eq t 0x02) refl is
+  where
+    at : (c : Bool) → nat_eq t 0x02 ≡ c → c || nat_eq t 0x0d ≡ true → IsStringTag t
+    at true q h = inl (eqb-true t 0x02 q)
+    at false q h = inr (eqb-true t 0x0d h)
+
+no_key_tag : (t : ℕ) → is_key_tag t ≡ false → IsStringTag t → ⊥
+no_key_tag t none (inl is) = (let e = subst (λ z. is_key_tag z ≡ false) is none in absurd cc)
+no_key_tag t none (inr is) = (let e = subst (λ z. is_key_tag z ≡ false) is none in absurd cc)
+
 pub after_tag : (kind : Kind) (tag : ℕ) (P : Answer (List ℕ) → Type 0) (x : List ℕ) → IsStringTag tag
     → P (and_then utf8 (string x)) → P (and_then utf8 (and_then utf8 (string x))) → P (text_of kind (tag ∷ x))
 after_tag kind tag P x (inl is) plain text = subst (λ t. P (text_of kind (t ∷ x))) (sym is) plain
@@ -78,10 +94,10 @@ pub record TookKeyTag (old new : Window) : Type 0 where
   pub either : IsStringTag tag
   pub took : Took old new (tag ∷ [])
 
-pub tag_taken : (tag : ℕ) (a b c : Window) → IsStringTag tag → Filled 1 a b → b.buffered ≡ tag ∷ drop 1 b.buffered → c ≡ consumed 1 b → TookKeyTag a c
-tag_taken tag a b c either filled first end = record {
+pub tag_taken : (tag : ℕ) (a b c : Window) → is_key_tag tag ≡ true → Filled 1 a b → b.buffered ≡ tag ∷ drop 1 b.buffered → c ≡ consumed 1 b → TookKeyTag a c
+tag_taken tag a b c is filled first end = record {
   tag = tag;
-  either = either;
+  either = key_tag_told tag is;
   took = subst (λ w. Took a w (tag ∷ [])) (sym end) (subst (Took a (consumed 1 b)) (ap (take 1) first) (took_filled 1 a b filled));
 }
 
@@ -119,9 +135,10 @@ key_refused kind s given a m b tagged counted lent never =
     counted.took)
 
 -- no string begins so
-pub tag_names : (kind : Kind) (tag : ℕ) (a b : Window) → Filled 1 a b → b.buffered ≡ tag ∷ drop 1 b.buffered → (IsStringTag tag → ⊥)
+pub tag_names : (kind : Kind) (tag : ℕ) (a b : Window) → Filled 1 a b → b.buffered ≡ tag ∷ drop 1 b.buffered → is_key_tag tag ≡ false
     → Names (text_of kind) (DeInvalidStartByte kind tag) a
-tag_names kind tag a b filled first never =
+tag_names kind tag a b filled first none =
+    let never = no_key_tag tag none in
     names_rejected (text_of kind) 1 (DeInvalidStartByte kind tag) a b filled.grown
     (record {
       some = omega (arith, filled.enough);

@@ -1,18 +1,21 @@
 -- What a call that reads and tells came to.
-use Rattle.std.specs.Prelude.{◌≡◌, ◌⊎◌, ℕ, zero, suc, List, [], ◌∷◌, ◌++◌, Option, Some, None, ◌==◌, if◌then◌else◌, ⊤, drop}
-use Rattle.bser_format.specs.Tree.{Tree, fields_of}
+use Rattle.std.specs.Prelude.{◌≡◌, ◌⊎◌, ◌<◌, ℕ, zero, suc, Bool, true, List, [], ◌∷◌, ◌++◌, Option, Some, None, ◌==◌, if◌then◌else◌, ⊤, drop}
+use Rattle.bser_format.specs.Tree.{Tree}
 use Rattle.bser_format.specs.declared.errors.Error.{Error}
 use Rattle.bser_format.specs.declared.errors.Error.TheVariants.{OutOfMemory, DeRecursionLimitExceeded}
+use Rattle.bser_format.specs.declared.errors.Kind.{Kind}
 use Rattle.bser_format.specs.declared.errors.Kind.TheVariants as kinds
-use Rattle.bser_named.specs.Named.{Reader, reads, refuse, and_then, give, ◌>>=◌, next, front, utf8, text_of, field_of, many, with_text_keys}
+use Rattle.bser_named.specs.Named.{Reader, reads, refuse, and_then, give, ◌>>=◌, next, front, utf8, text_of, many, with_text_keys}
 use Rattle.bser_named.specs.DueReaders.{less_one}
 use Rattle.bser_source.specs.Window.{Window, Filled, Took}
 use Rattle.bser_bunser.specs.Refusal.{Fails}
-use Rattle.bser_bunser.specs.Names.{Names}
+use Rattle.bser_bunser.specs.Names.{Names, RefusesBy}
+use Rattle.bser_bunser.specs.Seen.{Seen}
 use Rattle.bser_bunser.specs.Tokens.{token, token_after, after_token}
 use Rattle.bser_bunser.specs.declared.prefix.Token.{Token}
 use Rattle.bser_bunser.specs.declared.prefix.Token.TheVariants as tokens
-use Rattle.bser_events.specs.Events.{Event, key, TakesAll, events, field_events, close}
+use Rattle.bser_events.specs.Events as told
+use Rattle.bser_events.specs.Events.{Event, key, key_events, TakesAll, events, close}
 use Rattle.bser_events.specs.Frames.{Left, parts_of, Fits, left_events, IsSmall}
 use Rattle.bser_events.specs.declared.frame.Part.{Part}
 use Rattle.bser_events.specs.declared.frame.Part.TheVariants.{Entry}
@@ -24,10 +27,6 @@ use Rattle.bser_events.specs.declared.frame.Frame.{Frame}
 abbrev pub text_bytes : ℕ → Reader (List ℕ)
 text_bytes n = front n >>= utf8
 
--- so many fields of a row, each with n levels left
-abbrev pub fields_at : ℕ → ℕ → Reader (List (Option Tree))
-fields_at n k = many (field_of (with_text_keys n)) k
-
 -- so many keys of a template
 abbrev pub keys_at : ℕ → Reader (List (List ℕ))
 keys_at k = many (text_of kinds.TemplateKey) k
@@ -35,10 +34,6 @@ keys_at k = many (text_of kinds.TemplateKey) k
 -- what follows a template's tag, with n levels left for what its rows hold
 abbrev pub table_at : ℕ → Reader Tree
 table_at n = after_token (text_of kinds.MapKey) n tokens.Template
-
--- the events of a row's fields
-abbrev pub told_of_fields : List (Option Tree) → List Event
-told_of_fields fs = field_events (fields_of fs)
 
 -- a token after its tag, where no level is left
 abbrev pub leaf_after : ℕ → Reader Token
@@ -77,10 +72,6 @@ pub record LeafAhead (old new : Window) : Type 0 where
 abbrev pub LevelsFor : ℕ → Window → Window → Type 0
 LevelsFor zero old new = LeafAhead old new
 LevelsFor (suc n) old new = new ≡ old
-
--- a string has this tag
-abbrev pub IsStringTag : ℕ → Type 0
-IsStringTag tag = (tag ≡ 0x02) ⊎ (tag ≡ 0x0d)
 
 -- ---- what was found
 
@@ -123,3 +114,51 @@ KeyFound takes _ old new before after = (new ≡ old) × (after ≡ before)
 pub record Refuses {X : Type 0} (wants : Type 0) (r : Reader X) (e : Error) (old new : Window) : Type 0 where
   pub fails : Fails e old new
   pub name : Names r e old ⊎ ((e ≡ OutOfMemory) × wants)
+
+-- ---- what callers see: bunser before and after, and the builder before and after
+
+-- a value with so many levels was read and told
+abbrev pub TellsValue : {B : Type 0} → (B → Event → B → Type 0) → ℕ → Seen → Seen → B → B → Type 0
+TellsValue takes levels old new before after = Found takes (with_text_keys levels) events old.window new.window before after
+
+-- so many keys of a template were read and told
+abbrev pub TellsKeys : {B : Type 0} → (B → Event → B → Type 0) → ℕ → Seen → Seen → B → B → Type 0
+TellsKeys takes count old new before after = Found takes (keys_at count) key_events old.window new.window before after
+
+-- a key was read and told
+abbrev pub TellsKey : {B : Type 0} → (B → Event → B → Type 0) → Kind → Seen → Seen → B → B → Type 0
+TellsKey takes kind old new before after = Found takes (text_of kind) (λ s. key s ∷ []) old.window new.window before after
+
+-- a key was read and told where an entry is due, and else nothing changed
+abbrev pub TellsDueKey : {B : Type 0} → (B → Event → B → Type 0) → Part → Seen → Seen → B → B → Type 0
+TellsDueKey takes due old new before after = KeyFound takes due old.window new.window before after
+
+-- so many bytes were read and told as a text
+abbrev pub TellsText : {B : Type 0} → (B → Event → B → Type 0) → ℕ → Seen → Seen → B → B → Type 0
+TellsText takes len old new before after = Found takes (text_bytes len) (λ s. told.text s ∷ []) old.window new.window before after
+
+-- so many bytes were read, or passed over, and told as a byte string
+abbrev pub TellsBytes : {B : Type 0} → (B → Event → B → Type 0) → ℕ → Seen → Seen → B → B → Type 0
+TellsBytes takes len old new before after = Found takes (front len) (λ s. told.bytes s ∷ []) old.window new.window before after
+
+-- a template was opened, of which this frame is left
+abbrev pub OpensTemplate : {B : Type 0} → (B → Event → B → Type 0) → ℕ → Frame → Seen → Seen → B → B → Type 0
+OpensTemplate takes levels f old new before after = Opened takes (table_at levels) f old.window new.window before after
+
+-- what follows this token was read and told, or it opened a container, of which this frame is left
+abbrev pub TellsRest : {B : Type 0} → (B → Event → B → Type 0) → ℕ → Token → Option Frame → Seen → Seen → B → B → Type 0
+TellsRest takes levels t f old new before after =
+    FoundOrOpened takes (value_rest levels t) old.window new.window before after f
+
+-- no token was taken: refused as one is where so many levels are left
+abbrev pub NoToken : ℕ → Seen → Seen → Type 0
+NoToken levels old new = RefusesBy (token_at levels) new.refusal old.window new.window
+
+-- refused by the name that r gives, or for want of memory where a builder may want some
+abbrev pub RefusesTelling : {X : Type 0} → Bool → Reader X → Seen → Seen → Type 0
+RefusesTelling memory r old new = Refuses (memory ≡ true) r new.refusal old.window new.window
+
+-- a value with so many levels is refused, for want of memory also where there is room for fewer frames
+abbrev pub RefusesValue : Bool → ℕ → ℕ → Seen → Seen → Type 0
+RefusesValue memory room levels old new =
+    Refuses ((memory ≡ true) ⊎ (room < levels)) (with_text_keys levels) new.refusal old.window new.window

@@ -3,3 +3,4 @@ pub mod Told
 pub mod Frames
 pub mod Found
 pub mod Pieces
+pub mod Refusal

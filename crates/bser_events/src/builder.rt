@@ -1,9 +1,15 @@
-//! What is told of a value.
+//! What makes something of a value, and is told each event of it.
 ghost use Rattle.std.specs.Prelude.{◌≡◌, ℕ, Bool, true, false, List, length, OnOk, OnErr};
+ghost use Rattle.bser_format.specs.declared.errors.Error.TheVariants.{OutOfMemory};
+ghost use Rattle.bser_bunser.specs.Calls.{Closes};
 ghost use Rattle.bser_events.specs.Events as events;
 ghost use Rattle.bser_events.specs.Told.{told};
 
 use crate::event::Event;
+use crate::refusal::{Fault, refuse_with};
+use bser_bunser::bunser::Bunser;
+use bser_bunser::refusal::Answer;
+use bser_source::read::DeRead;
 use std::alloc::AllocError;
 
 /// What makes something of the events of a value, as they are read.
@@ -32,6 +38,25 @@ pub trait Builder {
         ensures ok { OnOk result (BYTES ≡ false
             → (s : List ℕ) → length s ≡ len → takes self.old (events.bytes s) self.new) }
         ensures err { OnErr result (memory ≡ true) };
+}
+
+/// Tells the builder an event. Where it has no memory for it, the reader refuses for want of memory.
+#[inline(always)]
+pub fn tell<R: DeRead, B: Builder>(
+    bunser: &mut Bunser<R>,
+    builder: &mut B,
+    event: Event<'_>,
+) -> Answer<()>
+    ensures ok { OnOk result (B.takes builder.old (told event.entry) builder.new) }
+    ensures same { OnOk result (bunser.new ≡ bunser.old) }
+    ensures err { OnErr result (Closes bunser.old bunser.new) }
+    ensures reason { OnErr result (bunser.new.refusal ≡ OutOfMemory) }
+    ensures memory { OnErr result (B.memory ≡ true) }
+{
+    match builder.take(event) {
+        Ok(()) => Ok(()),
+        Err(_) => Err(refuse_with(bunser, Fault::Memory)),
+    }
 }
 
 /// Any value, of which nothing is kept: an unknown field of an object, as a rule.

@@ -8,4 +8,5 @@ mod heads;
 mod parts;
 mod pieces;
 pub mod reading;
+mod refusal;
 mod strings;

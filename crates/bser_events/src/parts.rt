@@ -1,26 +1,25 @@
 //! What follows a token where a value begins.
 ghost use Rattle.std.specs.Prelude.{◌≡◌, ◌≢◌, ◌<◌, true, false, MatchBool, IfOk, OnOk, OnErr};
-ghost use Rattle.bser_bunser.specs.Tagged.{bunser_window, refusal_of};
+ghost use Rattle.bser_bunser.specs.Calls.{Keeps};
 ghost use Rattle.bser_bunser.specs.Tokens.{LengthFits};
-ghost use Rattle.bser_events.specs.Events.{key_events};
 ghost use Rattle.bser_events.specs.Frames.{IsSmall};
 ghost use Rattle.bser_events.specs.Found.{
-  Found,
-  Opened,
-  FoundOrOpened,
   IsInside,
   IsContainer,
-  Refuses,
+  TellsKeys,
+  TellsRest,
+  OpensTemplate,
+  RefusesTelling,
   keys_at,
   table_at,
   value_rest,
 };
 
-use crate::builder::Builder;
+use crate::builder::{Builder, tell};
 use crate::event::Event;
 use crate::frame::{Frame, Parts};
-use crate::heads::{refuse_level, refuse_rows, refuse_tag, tell};
 use crate::pieces::scalar;
+use crate::refusal::{Fault, refuse_with};
 use crate::strings::{read_bytes, read_key, read_text};
 use bser_bunser::bunser::Bunser;
 use bser_bunser::prefix::Token;
@@ -39,16 +38,15 @@ pub fn read_after<R: DeRead, B: Builder>(
     scratch: &mut Vec<u8>,
     builder: &mut B,
 ) -> Answer<Option<Frame>>
-    requires working { (bunser_window R.window bunser.old).failed ≡ false }
+    requires working { bunser.old.window.failed ≡ false }
     requires fits { LengthFits token }
     requires level { IsContainer token → 0 < levels }
-    ensures ok { IfOk result (λ f. FoundOrOpened B.takes (value_rest levels token)
-        (bunser_window R.window bunser.old) (bunser_window R.window bunser.new)
-        builder.old builder.new f) }
+    ensures ok { IfOk result (λ f.
+        TellsRest B.takes levels token f bunser.old bunser.new builder.old builder.new) }
     ensures inside { IfOk result (λ f. IsInside levels f) }
-    ensures err { OnErr result (Refuses (B.memory ≡ true) (value_rest levels token)
-        (refusal_of bunser.new)
-        (bunser_window R.window bunser.old) (bunser_window R.window bunser.new)) }
+    ensures kept { OnOk result (Keeps bunser.old bunser.new) }
+    ensures err { OnErr result
+        (RefusesTelling B.memory (value_rest levels token) bunser.old bunser.new) }
 {
     if let Some(event) = scalar(token) {
         tell(bunser, builder, event)?;
@@ -81,7 +79,7 @@ pub fn read_after<R: DeRead, B: Builder>(
             let frame = read_table(bunser, levels - 1, scratch, builder)?;
             Ok(Some(frame))
         }
-        _ => Err(refuse_tag(bunser, Kind::NextItem, BSER_SKIP)),
+        _ => Err(refuse_with(bunser, Fault::Tag(Kind::NextItem, BSER_SKIP))),
     }
 }
 
@@ -93,22 +91,20 @@ fn read_table<R: DeRead, B: Builder>(
     scratch: &mut Vec<u8>,
     builder: &mut B,
 ) -> Answer<Frame>
-    ensures ok { IfOk result (λ f. Opened B.takes (table_at levels) f
-        (bunser_window R.window bunser.old) (bunser_window R.window bunser.new)
-        builder.old builder.new) }
+    ensures ok { IfOk result (λ f.
+        OpensTemplate B.takes levels f bunser.old bunser.new builder.old builder.new) }
     ensures inside { IfOk result (λ f. f.levels ≡ levels) }
     ensures small { IfOk result (λ f. IsSmall f.parts) }
-    ensures err { OnErr result (Refuses (B.memory ≡ true) (table_at levels)
-        (refusal_of bunser.new)
-        (bunser_window R.window bunser.old) (bunser_window R.window bunser.new)) }
+    ensures kept { OnOk result (Keeps bunser.old bunser.new) }
+    ensures err { OnErr result (RefusesTelling B.memory (table_at levels) bunser.old bunser.new) }
 {
     bunser.fill(1)?;
     let byte = bunser.buffered()[0];
     if byte != BSER_ARRAY {
-        return Err(refuse_tag(bunser, Kind::TemplateKeys, byte));
+        return Err(refuse_with(bunser, Fault::Tag(Kind::TemplateKeys, byte)));
     }
     if levels == 0 {
-        return Err(refuse_level(bunser, Kind::Array));
+        return Err(refuse_with(bunser, Fault::Level(Kind::Array)));
     }
     bunser.consume(1);
     let width = bunser.count()?;
@@ -116,7 +112,7 @@ fn read_table<R: DeRead, B: Builder>(
     read_keys(bunser, width, scratch, builder)?;
     let rows = bunser.count()?;
     if lacks_keys(width, rows) {
-        return Err(refuse_rows(bunser));
+        return Err(refuse_with(bunser, Fault::Rows));
     }
     tell(bunser, builder, Event::Rows { len: rows })?;
     Ok(Frame {
@@ -145,12 +141,11 @@ fn read_keys<R: DeRead, B: Builder>(
     scratch: &mut Vec<u8>,
     builder: &mut B,
 ) -> Answer<()>
-    requires { (bunser_window R.window bunser.old).failed ≡ false }
-    ensures ok { OnOk result (Found B.takes (keys_at count) key_events
-        (bunser_window R.window bunser.old) (bunser_window R.window bunser.new)
-        builder.old builder.new) }
-    ensures err { OnErr result (Refuses (B.memory ≡ true) (keys_at count) (refusal_of bunser.new)
-        (bunser_window R.window bunser.old) (bunser_window R.window bunser.new)) }
+    requires { bunser.old.window.failed ≡ false }
+    ensures ok { OnOk result
+        (TellsKeys B.takes count bunser.old bunser.new builder.old builder.new) }
+    ensures kept { OnOk result (Keeps bunser.old bunser.new) }
+    ensures err { OnErr result (RefusesTelling B.memory (keys_at count) bunser.old bunser.new) }
 {
     for _ in 0..count {
         read_key(bunser, Kind::TemplateKey, scratch, builder)?;

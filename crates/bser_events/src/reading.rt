@@ -1,24 +1,23 @@
 //! Reading what is due, whatever it is: pieces that are buffered by one loop, and one token where
 //! that ends.
-ghost use Rattle.std.specs.Prelude.{◌≡◌, ◌⊎◌, ◌≤◌, ◌<◌, ◌++◌, ◌∷◌, [], true, length, vec_capacity, OnOk, OnErr};
+ghost use Rattle.std.specs.Prelude.{◌≡◌, ◌≤◌, ◌++◌, ◌∷◌, [], length, vec_capacity, OnOk, OnErr};
 ghost use Rattle.bser_format.specs.declared.errors.Kind.TheVariants as kinds;
-ghost use Rattle.bser_named.specs.Named.{text_of, with_text_keys};
-ghost use Rattle.bser_source.specs.Window.{closed};
-ghost use Rattle.bser_bunser.specs.Tagged.{bunser_window, refusal_of};
-ghost use Rattle.bser_events.specs.Events as events;
-ghost use Rattle.bser_events.specs.Frames.{parts_of, left_events, IsSmall};
-ghost use Rattle.bser_events.specs.Found.{Found, KeyFound, Refuses, fields_at, told_of_fields};
+ghost use Rattle.bser_named.specs.Named.{text_of};
+ghost use Rattle.bser_format.specs.declared.errors.Error.TheVariants.{OutOfMemory};
+ghost use Rattle.bser_bunser.specs.Calls.{Keeps, Closes};
+ghost use Rattle.bser_events.specs.Found.{TellsValue, TellsDueKey, RefusesValue, RefusesTelling};
 
-use crate::builder::Builder;
+use crate::builder::{Builder, tell};
 use crate::event::Event;
 use crate::frame::{Frame, Part, Parts};
-use crate::heads::{check_working, refuse_memory, tell, token_within};
+use crate::heads::{check_working, token_within};
 use crate::parts::read_after;
 use crate::pieces::{due_piece, is_skipped};
+use crate::refusal::{Fault, refuse_with};
 use crate::strings::read_key;
 use bser_bunser::bunser::Bunser;
 use bser_bunser::refusal::Answer;
-use bser_format::errors::{Error, Kind};
+use bser_format::errors::Kind;
 use bser_source::read::DeRead;
 
 /// Reads a value where `levels` levels are left, and tells the builder what it finds.
@@ -32,6 +31,9 @@ use bser_source::read::DeRead;
 /// builder is.
 ///
 /// `frames` and `scratch` are room for the reading, and what they held is dropped.
+///
+/// Pieces that are buffered whole are told one after the other, and then taken at once. What stands
+/// after them is read by calls of `bunser`, which may buffer more.
 pub fn read_value<R: DeRead, B: Builder>(
     bunser: &mut Bunser<R>,
     frames: &mut Vec<Frame>,
@@ -39,76 +41,18 @@ pub fn read_value<R: DeRead, B: Builder>(
     levels: usize,
     builder: &mut B,
 ) -> Answer<()>
-    ensures found { OnOk result (Found B.takes (with_text_keys levels) events.events
-        (bunser_window R.window bunser.old) (bunser_window R.window bunser.new)
-        builder.old builder.new) }
-    ensures refused { OnErr result
-        (Refuses ((B.memory ≡ true) ⊎ (vec_capacity frames.old < levels))
-        (with_text_keys levels) (refusal_of bunser.new)
-        (bunser_window R.window bunser.old) (bunser_window R.window bunser.new)) }
-{
-    let whole = Frame {
-        levels,
-        parts: Parts::Items(1),
-    };
-    read_parts(bunser, frames, scratch, whole, builder)
-}
-
-/// Reads the next `fields` fields of a row, each a value or a skip, where `levels` levels are left,
-/// and tells the builder what it finds.
-///
-/// It is refused as [`read_value`] is.
-pub fn read_fields<R: DeRead, B: Builder>(
-    bunser: &mut Bunser<R>,
-    frames: &mut Vec<Frame>,
-    scratch: &mut Vec<u8>,
-    levels: usize,
-    fields: usize,
-    builder: &mut B,
-) -> Answer<()>
-    ensures found { OnOk result (Found B.takes (fields_at levels fields) told_of_fields
-        (bunser_window R.window bunser.old) (bunser_window R.window bunser.new)
-        builder.old builder.new) }
-    ensures refused { OnErr result
-        (Refuses ((B.memory ≡ true) ⊎ (vec_capacity frames.old < levels))
-        (fields_at levels fields) (refusal_of bunser.new)
-        (bunser_window R.window bunser.old) (bunser_window R.window bunser.new)) }
-{
-    let whole = Frame {
-        levels,
-        parts: Parts::Rows {
-            fields,
-            rows: 0,
-            width: fields,
-        },
-    };
-    read_parts(bunser, frames, scratch, whole, builder)
-}
-
-/// Reads what is wanted, and tells the builder what it finds.
-///
-/// Pieces that are buffered whole are told one after the other, and then taken at once. What stands
-/// after them is read by calls of `bunser`, which may buffer more.
-fn read_parts<R: DeRead, B: Builder>(
-    bunser: &mut Bunser<R>,
-    frames: &mut Vec<Frame>,
-    scratch: &mut Vec<u8>,
-    whole: Frame,
-    builder: &mut B,
-) -> Answer<()>
-    requires { IsSmall whole.parts }
     ensures found { OnOk result
-        (Found B.takes (parts_of whole.levels whole.parts) (left_events whole.parts)
-        (bunser_window R.window bunser.old) (bunser_window R.window bunser.new)
-        builder.old builder.new) }
+        (TellsValue B.takes levels bunser.old bunser.new builder.old builder.new) }
+    ensures kept { OnOk result (Keeps bunser.old bunser.new) }
     ensures refused { OnErr result
-        (Refuses ((B.memory ≡ true) ⊎ (vec_capacity frames.old < whole.levels))
-        (parts_of whole.levels whole.parts) (refusal_of bunser.new)
-        (bunser_window R.window bunser.old) (bunser_window R.window bunser.new)) }
+        (RefusesValue B.memory (vec_capacity frames.old) levels bunser.old bunser.new) }
 {
     check_working(bunser)?;
     frames.clear();
-    let mut frame = whole;
+    let mut frame = Frame {
+        levels,
+        parts: Parts::Items(1),
+    };
     'parts: loop {
         let bytes = bunser.buffered();
         let mut at = 0;
@@ -118,7 +62,7 @@ fn read_parts<R: DeRead, B: Builder>(
                 break;
             };
             if builder.take(piece.event).is_err() {
-                return Err(refuse_memory(bunser));
+                return Err(refuse_with(bunser, Fault::Memory));
             }
             at += piece.len;
             due = frame.parts.next_after(wanted);
@@ -154,16 +98,14 @@ fn push_frame<R: DeRead>(
     frame: Frame,
 ) -> Answer<()>
     ensures pushed { OnOk result (frames.new.items ≡ frames.old.items ++ frame ∷ []) }
-    ensures same { OnOk result
-        (bunser_window R.window bunser.new ≡ bunser_window R.window bunser.old) }
+    ensures same { OnOk result (bunser.new ≡ bunser.old) }
     ensures room { OnOk result (vec_capacity frames.old ≤ vec_capacity frames.new) }
     ensures full { OnErr result (vec_capacity frames.old ≤ length frames.old.items) }
-    ensures reason { OnErr result (refusal_of bunser.new ≡ Error.OutOfMemory) }
-    ensures state { OnErr result
-        (bunser_window R.window bunser.new ≡ closed (bunser_window R.window bunser.old)) }
+    ensures reason { OnErr result (bunser.new.refusal ≡ OutOfMemory) }
+    ensures state { OnErr result (Closes bunser.old bunser.new) }
 {
     if frames.push(frame).is_err() {
-        return Err(refuse_memory(bunser));
+        return Err(refuse_with(bunser, Fault::Memory));
     }
     Ok(())
 }
@@ -176,13 +118,12 @@ fn read_due_key<R: DeRead, B: Builder>(
     scratch: &mut Vec<u8>,
     builder: &mut B,
 ) -> Answer<()>
-    ensures ok { OnOk result (KeyFound B.takes due
-        (bunser_window R.window bunser.old) (bunser_window R.window bunser.new)
-        builder.old builder.new) }
+    ensures ok { OnOk result
+        (TellsDueKey B.takes due bunser.old bunser.new builder.old builder.new) }
+    ensures kept { OnOk result (Keeps bunser.old bunser.new) }
     ensures entry { OnErr result (due ≡ Part.Entry) }
-    ensures err { OnErr result (Refuses (B.memory ≡ true) (text_of kinds.MapKey)
-        (refusal_of bunser.new)
-        (bunser_window R.window bunser.old) (bunser_window R.window bunser.new)) }
+    ensures err { OnErr result
+        (RefusesTelling B.memory (text_of kinds.MapKey) bunser.old bunser.new) }
 {
     match due {
         Part::Entry => read_key(bunser, Kind::MapKey, scratch, builder),

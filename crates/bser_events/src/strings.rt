@@ -1,17 +1,16 @@
-//! Strings and keys.
-ghost use Rattle.std.specs.Prelude.{◌≡◌, ◌<◌, ◌^◌, ◌∷◌, [], true, false, MatchBool, OnOk, OnErr};
+//! Strings and keys, read and told.
+ghost use Rattle.std.specs.Prelude.{◌≡◌, ◌<◌, ◌^◌, OnOk, OnErr};
 ghost use Rattle.bser_named.specs.Named.{front, text_of};
-ghost use Rattle.bser_bunser.specs.Tagged.{bunser_window, refusal_of};
-ghost use Rattle.bser_events.specs.Events as events;
-ghost use Rattle.bser_events.specs.Found.{Found, Refuses, IsStringTag, text_bytes};
+ghost use Rattle.bser_bunser.specs.Calls.{Keeps};
+ghost use Rattle.bser_events.specs.Found.{TellsText, TellsBytes, TellsKey, RefusesTelling, text_bytes};
 
-use crate::builder::Builder;
+use crate::builder::{Builder, tell};
 use crate::event::Event;
-use crate::heads::{refuse_memory, refuse_tag, refuse_text, tell};
+use crate::refusal::{Fault, refuse_with};
 use bser_bunser::bunser::Bunser;
+use bser_bunser::prefix::is_key_tag;
 use bser_bunser::refusal::Answer;
 use bser_format::errors::Kind;
-use bser_format::header::{BSER_BYTESTRING, BSER_UTF8STRING};
 use bser_source::read::DeRead;
 use bser_source::text::as_text;
 
@@ -24,16 +23,14 @@ pub fn read_text<R: DeRead, B: Builder>(
     builder: &mut B,
 ) -> Answer<()>
     requires { len < 2 ^ 63 }
-    ensures ok { OnOk result (Found B.takes (text_bytes len) (λ s. events.text s ∷ [])
-        (bunser_window R.window bunser.old) (bunser_window R.window bunser.new)
-        builder.old builder.new) }
-    ensures err { OnErr result (Refuses (B.memory ≡ true) (text_bytes len) (refusal_of bunser.new)
-        (bunser_window R.window bunser.old) (bunser_window R.window bunser.new)) }
+    ensures ok { OnOk result (TellsText B.takes len bunser.old bunser.new builder.old builder.new) }
+    ensures kept { OnOk result (Keeps bunser.old bunser.new) }
+    ensures err { OnErr result (RefusesTelling B.memory (text_bytes len) bunser.old bunser.new) }
 {
     let bytes = bunser.bytes(len, scratch)?;
     match as_text(bytes.get_ref()) {
         Some(text) => tell(bunser, builder, Event::Text(text)),
-        None => Err(refuse_text(bunser)),
+        None => Err(refuse_with(bunser, Fault::Text)),
     }
 }
 
@@ -46,11 +43,10 @@ pub fn read_bytes<R: DeRead, B: Builder>(
     builder: &mut B,
 ) -> Answer<()>
     requires { len < 2 ^ 63 }
-    ensures ok { OnOk result (Found B.takes (front len) (λ s. events.bytes s ∷ [])
-        (bunser_window R.window bunser.old) (bunser_window R.window bunser.new)
-        builder.old builder.new) }
-    ensures err { OnErr result (Refuses (B.memory ≡ true) (front len) (refusal_of bunser.new)
-        (bunser_window R.window bunser.old) (bunser_window R.window bunser.new)) }
+    ensures ok { OnOk result
+        (TellsBytes B.takes len bunser.old bunser.new builder.old builder.new) }
+    ensures kept { OnOk result (Keeps bunser.old bunser.new) }
+    ensures err { OnErr result (RefusesTelling B.memory (front len) bunser.old bunser.new) }
 {
     if B::BYTES {
         let bytes = bunser.bytes(len, scratch)?;
@@ -59,19 +55,8 @@ pub fn read_bytes<R: DeRead, B: Builder>(
     bunser.pass(len)?;
     match builder.bytes_passed(len) {
         Ok(()) => Ok(()),
-        Err(_) => Err(refuse_memory(bunser)),
+        Err(_) => Err(refuse_with(bunser, Fault::Memory)),
     }
-}
-
-/// Whether a string has this tag.
-#[inline(always)]
-fn is_string_tag(byte: u8) -> bool
-    ensures { MatchBool result (IsStringTag byte) (¬ (IsStringTag byte)) }
-{
-    if byte == BSER_BYTESTRING {
-        return true;
-    }
-    byte == BSER_UTF8STRING
 }
 
 /// Reads a key, and tells it.
@@ -84,21 +69,19 @@ pub fn read_key<R: DeRead, B: Builder>(
     scratch: &mut Vec<u8>,
     builder: &mut B,
 ) -> Answer<()>
-    ensures ok { OnOk result (Found B.takes (text_of kind) (λ s. events.key s ∷ [])
-        (bunser_window R.window bunser.old) (bunser_window R.window bunser.new)
-        builder.old builder.new) }
-    ensures err { OnErr result (Refuses (B.memory ≡ true) (text_of kind) (refusal_of bunser.new)
-        (bunser_window R.window bunser.old) (bunser_window R.window bunser.new)) }
+    ensures ok { OnOk result (TellsKey B.takes kind bunser.old bunser.new builder.old builder.new) }
+    ensures kept { OnOk result (Keeps bunser.old bunser.new) }
+    ensures err { OnErr result (RefusesTelling B.memory (text_of kind) bunser.old bunser.new) }
 {
     bunser.fill(1)?;
     let byte = bunser.buffered()[0];
-    if !is_string_tag(byte) {
-        return Err(refuse_tag(bunser, kind, byte));
+    if !is_key_tag(byte) {
+        return Err(refuse_with(bunser, Fault::Tag(kind, byte)));
     }
     bunser.consume(1);
     let bytes = bunser.next_string(scratch)?;
     match as_text(bytes.get_ref()) {
         Some(text) => tell(bunser, builder, Event::Key(text)),
-        None => Err(refuse_text(bunser)),
+        None => Err(refuse_with(bunser, Fault::Text)),
     }
 }

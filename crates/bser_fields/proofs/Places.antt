@@ -16,6 +16,7 @@ use Rattle.bser_named.specs.Asks as asks
 use Rattle.bser_named.specs.Clauses.{after_a_refusal}
 use Rattle.bser_deserializer.specs.Askings.{asking_ignored}
 use Rattle.bser_deserializer.specs.Reading.{Answers, Asking, FillsReadably, IsRefusal, NamesAsked, NamesBy, Refuses, owned, Needs}
+use Rattle.bser_deserializer.specs.Seen.{Seen}
 use Rattle.bser_deserializer.specs.State.{State}
 use Rattle.bser_deserializer.specs.declared.field.Field.TheVariants.{Unknown}
 use Rattle.bser_deserializer.proofs.Refusals.{names_by_more, narrower, unfit_here}
@@ -28,6 +29,7 @@ use Rattle.bser_fields.specs.Absent.{LacksAt}
 use Rattle.bser_fields.specs.Asked.{asked_field, asked_fields}
 use Rattle.bser_fields.specs.Askings.{AllAsked, joined}
 use Rattle.bser_fields.specs.Fields.{ReadsOnce, RefusesOnce, MakesStep, RefusesStep, NamesField, NamesFields}
+use Rattle.bser_fields.specs.Structs.{ReadsNew, RefusesFill}
 
 -- ---- parts of a step
 
@@ -58,8 +60,8 @@ filled_first : (field : StructField) (t : Tree) (c : Content) → field.reads t 
 filled_first field t c e = ap (λ o. option_map (with_found field) (option_and_then (λ d. Some (Some d)) o)) e
 
 -- a field was read that was not before
-pub slot_read : {A : Type 0} (field : StructField) (holds : A → Content → Type 0) (before after : Option A) (s : StructField) (o z : State)
-    → ReadsOnce field.reads holds before after o z → KeepsField field holds before s → MakesStep fill (KeepsField field holds after) s o z
+pub slot_read : {A : Type 0} (field : StructField) (holds : A → Content → Type 0) (before after : Option A) (s : StructField) (o z : Seen)
+    → ReadsOnce field.reads holds before after o z → KeepsField field holds before s → MakesStep fill (KeepsField field holds after) s o.state z.state
 slot_read field holds before after s o z once keeps =
     let a = once.read in
     let same : s ≡ with_found field None = keeps.1 ∙ ap (with_found field) (nothing_kept holds before keeps.0 once.none keeps.2) in
@@ -107,24 +109,25 @@ complaint_first true f e same h = same
 complaint_first false f e same h = absurd cc
 
 -- a field's value is refused, or there is one already
-pub slot_refused : {A : Type 0} (field : StructField) (holds : A → Content → Type 0) (tells : Option (Asking field.reads)) (needs : Needs) (e : Error) (before : Option A) (s : StructField) (o z : State)
-    → RefusesOnce field.reads tells needs e before o z → KeepsField field holds before s → RefusesStep fill needs (NamesField needs tells e s o) e s o z
-slot_refused field holds tells needs e None s o z refused_by keeps =
+pub slot_refused : {A : Type 0} (field : StructField) (holds : A → Content → Type 0) (tells : Option (Asking field.reads)) (needs : Needs) (before : Option A) (s : StructField) (o z : Seen)
+    → RefusesOnce tells needs before o z → KeepsField field holds before s → RefusesFill tells needs s o z
+slot_refused field holds tells needs None s o z refused_by keeps =
     let none : s.found ≡ None = ap (λ (f : StructField). f.found) keeps.1 ∙ keeps.2 in
-    narrower needs (FillsReadably field.reads o) (FillsStep fill s o) (NamesAsked needs tells e o) (NamesField needs tells e s o) e o.source z.source
+    narrower needs (FillsReadably field.reads o.state) (FillsStep fill s o.state) (NamesAsked needs tells z.refusal o.state) (NamesField needs tells z.refusal s o.state) z.refusal o.state.source z.state.source
     (λ text f.
     let p = first_time s f.tree f.next f.made in
     record { tree = f.tree; content = p.0; filled = f.filled; read = ap (λ (y : StructField). y.reads f.tree) (sym keeps.1) ∙ p.1 })
-    (field_named field.reads tells needs e s o none) refused_by
-slot_refused field holds tells needs e (Some v) s o z refused_by keeps =
+    (field_named field.reads tells needs z.refusal s o.state none) refused_by
+slot_refused field holds tells needs (Some v) s o z refused_by keeps =
     let some : s.found ≡ Some keeps.2.0 = ap (λ (f : StructField). f.found) keeps.1 ∙ keeps.2.1 in
-    unfit_here needs (FillsStep fill s o) (NamesField needs tells e s o) e o.source z.source
-    (complaint_kind o.source.failed (complain ItemsLeft) e tt refused_by.name) (complaint_first o.source.failed (complain ItemsLeft) e refused_by.name) (ap (λ (y : State). y.source) refused_by.state)
-    (again_named field.reads tells needs e s o keeps.2.0 some refused_by.name)
+    let failed = o.state.source.failed in
+    unfit_here needs (FillsStep fill s o.state) (NamesField needs tells z.refusal s o.state) z.refusal o.state.source z.state.source
+    (complaint_kind failed (complain ItemsLeft) z.refusal tt refused_by.reason) (complaint_first failed (complain ItemsLeft) z.refusal refused_by.reason) (ap (λ (y : State). y.source) refused_by.state)
+    (again_named field.reads tells needs z.refusal s o.state keeps.2.0 some refused_by.reason)
     (λ text f. let p = first_time s f.tree f.next f.made in let both : None ≡ Some keeps.2.0 = sym p.2 ∙ some in cc)
 
 -- a field was read that was new
-pub first_read : {A : Type 0} (field : StructField) (holds : A → Content → Type 0) (o z : State) (v : A) → field ≡ with_found field None → Answers field.reads holds o z v → MakesStep fill (λ s. FinishesField holds s (Some v)) field o z
+pub first_read : {A : Type 0} (field : StructField) (holds : A → Content → Type 0) (o z : Seen) (v : A) → field ≡ with_found field None → Answers field.reads holds o.state z.state v → ReadsNew holds field o z v
 first_read field holds o z v fresh a = record {
   tree = a.tree;
   next = with_found field (Some a.content);
@@ -137,9 +140,9 @@ first_read field holds o z v fresh a = record {
 }
 
 -- what its type refuses, it refuses
-pub first_read_refused : {A : Type 0} (field : StructField) (holds : A → Content → Type 0) (tells : Option (Asking field.reads)) (needs : Needs) (e : Error) (o z : State)
-    → field ≡ with_found field None → Refuses field.reads tells needs e o z → RefusesStep fill needs (NamesField needs tells e field o) e field o z
-first_read_refused field holds tells needs e o z fresh refused_by = slot_refused field holds tells needs e None field o z refused_by (None, fresh, refl)
+pub first_read_refused : {A : Type 0} (field : StructField) (holds : A → Content → Type 0) (tells : Option (Asking field.reads)) (needs : Needs) (o z : Seen)
+    → field ≡ with_found field None → Refuses field.reads tells needs z.refusal o.state z.state → RefusesFill tells needs field o z
+first_read_refused field holds tells needs o z fresh refused_by = slot_refused field holds tells needs None field o z refused_by (None, fresh, refl)
 
 -- ---- a value of no field
 

@@ -32,9 +32,9 @@ pub both_ok : {A E : Type 0} (P R : A → Type 0) (Q : Type 0) (r : Result A E) 
 both_ok P R Q (Ok v) f p q = f v p q
 both_ok P R Q (Err e) f p q = tt
 
-pub all_err : {A E : Type 0} (P Q R S : Type 0) (r : Result A E) → (P → Q → R → S) → OnErr r P → OnErr r Q → OnErr r R → OnErr r S
-all_err P Q R S (Ok v) f p q h = tt
-all_err P Q R S (Err e) f p q h = f p q h
+pub both_err : {A E : Type 0} (P Q R : Type 0) (r : Result A E) → (P → Q → R) → OnErr r P → OnErr r Q → OnErr r R
+both_err P Q R (Ok v) f p q = tt
+both_err P Q R (Err e) f p q = f p q
 
 -- ---- what is left
 

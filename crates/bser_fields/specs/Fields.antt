@@ -6,11 +6,15 @@ use Rattle.bser_format.specs.Content.{Content, Meaning}
 use Rattle.bser_format.specs.Expected.{Fills, name_due}
 use Rattle.bser_format.specs.declared.errors.Error.{Error}
 use Rattle.bser_named.specs.Asks.{value_at, value_by}
-use Rattle.bser_named.specs.Clauses.{left_over}
+use Rattle.bser_format.specs.declared.errors.Complaint.{Complaint}
+use Rattle.bser_format.specs.declared.errors.Complaint.TheVariants.{ItemsLeft}
+use Rattle.bser_named.specs.Clauses.{after_a_refusal}
+use Rattle.bser_named.specs.Named.{complain}
 use Rattle.bser_source.specs.Window.{Took}
 use Rattle.bser_deserializer.specs.Dues.{name_at}
 use Rattle.bser_deserializer.specs.Fields.{field_of}
 use Rattle.bser_deserializer.specs.Reading.{Answers, Asking, NamesBy, Refuses, RefusesFront, Needs}
+use Rattle.bser_deserializer.specs.Seen.{Seen}
 use Rattle.bser_deserializer.specs.State.{State, past, refused}
 use Rattle.bser_deserializer.specs.declared.field.Field.{Field}
 use Rattle.bser_types.specs.Slots.{StructField, FillsStep}
@@ -19,22 +23,22 @@ use Rattle.bser_fields.specs.Askings.{AllAsked}
 
 -- ---- one value
 
+-- what is due is refused by this complaint, unless a call was refused before
+pub record Complains (complaint : Complaint) (old new : Seen) : Type 0 where
+  pub reason : new.refusal ≡ after_a_refusal old.state.source.failed (complain complaint)
+  pub state : new.state ≡ refused old.state
+
 -- what is due was read into a variable that had no value
-pub record ReadsOnce {A : Type 0} (reads : Meaning) (holds : A → Content → Type 0) (before after : Option A) (old new : State) : Type 0 where
+pub record ReadsOnce {A : Type 0} (reads : Meaning) (holds : A → Content → Type 0) (before after : Option A) (old new : Seen) : Type 0 where
   pub none : before ≡ None
   pub value : A
   pub some : after ≡ Some value
-  pub read : Answers reads holds old new value
-
--- there is a value already
-pub record RefusesTwice (e : Error) (old new : State) : Type 0 where
-  pub name : e ≡ left_over old.source.failed
-  pub state : new ≡ refused old
+  pub read : Answers reads holds old.state new.state value
 
 -- what is due is refused, or there is a value already
-abbrev pub RefusesOnce : {A : Type 0} → (reads : Meaning) → Option (Asking reads) → Needs → Error → Option A → State → State → Type 0
-RefusesOnce reads asks needs e None old new = Refuses reads asks needs e old new
-RefusesOnce reads asks needs e (Some v) old new = RefusesTwice e old new
+abbrev pub RefusesOnce : {A : Type 0} → {reads : Meaning} → Option (Asking reads) → Needs → Option A → Seen → Seen → Type 0
+RefusesOnce {reads = reads} asks needs None old new = Refuses reads asks needs new.refusal old.state new.state
+RefusesOnce asks needs (Some v) old new = Complains ItemsLeft old new
 
 -- ---- a step
 

@@ -5,3 +5,4 @@ pub mod Askings
 pub mod Fields
 pub mod Rows
 pub mod SlotValues
+pub mod Structs

@@ -1,21 +1,9 @@
 //! The entries of an object or a row, read as the fields of a struct.
-ghost use Rattle.std.specs.Prelude.{◌≡◌, ◌<◌, List, length, map, None, true, false, IfOk, OnOk, OnErr};
-ghost use Rattle.bser_format.specs.Content.{each_some};
-ghost use Rattle.bser_format.specs.ReadsScalars.{reads_string};
-ghost use Rattle.bser_named.specs.Clauses.{after_a_refusal};
-ghost use Rattle.bser_named.specs.Named.{complain};
-ghost use Rattle.bser_deserializer.specs.Access.{OpensPairs, after_closing};
-ghost use Rattle.bser_deserializer.specs.Askings.{asking_string};
-ghost use Rattle.bser_deserializer.specs.Fields.{HoldsField};
-ghost use Rattle.bser_deserializer.specs.HoldsLists.{HoldsTuple};
-ghost use Rattle.bser_deserializer.specs.Reading.{Answers, Refuses, bare};
-ghost use Rattle.bser_deserializer.specs.State.{State, refused};
-ghost use Rattle.bser_deserializer.specs.View.{state, refusal_in, pairs_head};
-ghost use Rattle.bser_types.specs.Slots.{StructField, reads_struct, fill_field, struct_needs, FinishesEach, field_at_end};
-ghost use Rattle.bser_fields.specs.Asked.{place_known};
-ghost use Rattle.bser_fields.specs.Askings.{all_asked, asking_struct};
-ghost use Rattle.bser_fields.specs.Fields.{MakesStep, RefusesStep, NamesFields, NamesKey};
-ghost use Rattle.bser_fields.specs.Rows.{AnyField, ReadsRest, RefusesTurns};
+ghost use Rattle.std.specs.Prelude.{◌≡◌, ◌<◌, List, length, None, Some, false, IfOk, OnOk, OnErr};
+ghost use Rattle.bser_types.specs.Accesses.{texts};
+ghost use Rattle.bser_types.specs.Slots.{StructField};
+ghost use Rattle.bser_fields.specs.Fields.{Complains, NamesKey};
+ghost use Rattle.bser_fields.specs.Structs.{ReadsOpen, RefusesOpen, Closes, ReadsName, RefusesName, Steps, fill_by, RefusesBy, ReadsRow, RefusesRow, EndAs};
 
 use crate::slots::Slots;
 use bser_bunser::refusal::{Answer, Refused};
@@ -31,34 +19,9 @@ use bser_types::deserialize::Deserialize;
 use bser_types::impls::ignored::Ignored;
 use std::alloc::Global;
 
-/// Reads the fields of the row that was opened, in any order, and closes it.
-#[inline(always)]
-pub(crate) fn read_row<R: DeRead, F: Slots<R::Lent>>(
-    alloc: Global,
-    from: &mut Deserializer<R>,
-    head: MapHead,
-    names: &[&str],
-) -> Answer<F::Values>
-where
-    R::Lent: LendsText,
-    requires { head.row ≡ true }
-    ensures found { IfOk result (λ v. (o : State)
-        → OpensPairs o (pairs_head head (state R.window R.Lent.kept from.old))
-        → Answers (reads_struct (map (λ r. r.now) names.now) F.fields) (λ v. HoldsTuple (F.holds v))
-        o (state R.window R.Lent.kept from.new) v) }
-    ensures refused { OnErr result ((o : State)
-        → OpensPairs o (pairs_head head (state R.window R.Lent.kept from.old))
-        → Refuses (reads_struct (map (λ r. r.now) names.now) F.fields)
-        (asking_struct (map (λ r. r.now) names.now) F.fields F.asks) (struct_needs F.needs)
-        (refusal_in from.new) o (state R.window R.Lent.kept from.new)) }
-{
-    let fields = read_rest(alloc, from, head.at, names, F::empty())?;
-    finish(from, head, names, fields)
-}
-
 /// Reads the fields of the row from this place on, in any order.
 #[inline(always)]
-fn read_rest<R: DeRead, F: Slots<R::Lent>>(
+pub(crate) fn read_rest<R: DeRead, F: Slots<R::Lent>>(
     alloc: Global,
     from: &mut Deserializer<R>,
     at: usize,
@@ -68,13 +31,9 @@ fn read_rest<R: DeRead, F: Slots<R::Lent>>(
 where
     R::Lent: LendsText,
     requires { (ss : List StructField) × F.keeps fields ss }
-    ensures found { IfOk result (λ read. (ss : List StructField) → F.keeps fields ss
-        → ReadsRest (map (λ r. r.now) names.now) (F.keeps read) ss at
-        (state R.window R.Lent.kept from.old) (state R.window R.Lent.kept from.new)) }
-    ensures refused { OnErr result ((ss : List StructField) → F.keeps fields ss
-        → RefusesTurns AnyField (map (λ r. r.now) names.now) (struct_needs F.needs)
-        (all_asked F.fields F.asks) (refusal_in from.new) ss at
-        (state R.window R.Lent.kept from.old) (state R.window R.Lent.kept from.new)) }
+    ensures found { IfOk result (ReadsRow names.now F.keeps fields at from.old from.new) }
+    ensures refused { OnErr result (RefusesRow names.now F.fields F.asks F.needs (F.keeps fields) at
+        from.old from.new) }
 {
     let mut fields = fields;
     let mut place = at;
@@ -98,15 +57,9 @@ pub(crate) fn read_object<R: DeRead, F: Slots<R::Lent>>(
 where
     R::Lent: LendsText,
     requires { head.row ≡ false }
-    ensures found { IfOk result (λ v. (o : State)
-        → OpensPairs o (pairs_head head (state R.window R.Lent.kept from.old))
-        → Answers (reads_struct (map (λ r. r.now) names.now) F.fields) (λ v. HoldsTuple (F.holds v))
-        o (state R.window R.Lent.kept from.new) v) }
-    ensures refused { OnErr result ((o : State)
-        → OpensPairs o (pairs_head head (state R.window R.Lent.kept from.old))
-        → Refuses (reads_struct (map (λ r. r.now) names.now) F.fields)
-        (asking_struct (map (λ r. r.now) names.now) F.fields F.asks) (struct_needs F.needs)
-        (refusal_in from.new) o (state R.window R.Lent.kept from.new)) }
+    ensures found { IfOk result (ReadsOpen names.now F.fields F.holds head from.old from.new) }
+    ensures refused { OnErr result (RefusesOpen names.now F.fields F.asks F.needs head
+        from.old from.new) }
 {
     let mut fields = F::empty();
     let mut scratch = Vec::new(alloc);
@@ -126,9 +79,8 @@ where
 fn row_field<R: DeRead>(from: &Deserializer<R>, at: usize, names: &[&str]) -> Field
 where
     R::Lent: LendsText,
-    requires { at < length (state R.window R.Lent.kept from.now).keys }
-    ensures { NamesKey (map (λ r. r.now) names.now) at
-        (state R.window R.Lent.kept from.now) result }
+    requires { at < length from.now.state.keys }
+    ensures { NamesKey (texts names.now) at from.now.state result }
 {
     let name = <R::Lent as Lending>::kept_text(&keys_of(from)[at]);
     find_field(names, name.as_bytes())
@@ -143,11 +95,8 @@ fn read_name<R: DeRead>(
 ) -> Answer<Field>
 where
     R::Lent: LendsText,
-    ensures found { IfOk result (Answers reads_string (HoldsField (map (λ r. r.now) names.now))
-        (state R.window R.Lent.kept from.old) (state R.window R.Lent.kept from.new)) }
-    ensures refused { OnErr result (Refuses reads_string (Some asking_string) bare
-        (refusal_in from.new)
-        (state R.window R.Lent.kept from.old) (state R.window R.Lent.kept from.new)) }
+    ensures found { IfOk result (ReadsName names.now from.old from.new) }
+    ensures refused { OnErr result (RefusesName from.old from.new) }
 {
     let name = from.read_text(scratch)?;
     Ok(find_field(names, name.get_ref().as_bytes()))
@@ -165,15 +114,10 @@ fn read_value<R: DeRead, F: Slots<R::Lent>>(
 ) -> Answer<()>
 where
     R::Lent: LendsText,
-    ensures found { OnOk result ((ss : List StructField) → F.keeps fields.old ss
-        → MakesStep (λ fs. fill_field fs field) (F.keeps fields.new) ss
-        (state R.window R.Lent.kept from.old) (state R.window R.Lent.kept from.new)) }
-    ensures refused { OnErr result ((ss : List StructField) → F.keeps fields.old ss
-        → RefusesStep (λ fs. fill_field fs field) (struct_needs F.needs)
-        (NamesFields (struct_needs F.needs) (all_asked F.fields F.asks) (place_known field)
-        (refusal_in from.new) ss (state R.window R.Lent.kept from.old))
-        (refusal_in from.new) ss
-        (state R.window R.Lent.kept from.old) (state R.window R.Lent.kept from.new)) }
+    ensures found { OnOk result (Steps (fill_by field) F.keeps fields.old fields.new
+        from.old from.new) }
+    ensures refused { OnErr result (RefusesBy field F.fields F.asks F.needs
+        (F.keeps fields.old) from.old from.new) }
 {
     match field {
         Field::Known(place) => {
@@ -189,7 +133,7 @@ where
 
 /// Closes the object or row, where each required field was read.
 #[inline(always)]
-fn finish<R: DeRead, F: Slots<R::Lent>>(
+pub(crate) fn finish<R: DeRead, F: Slots<R::Lent>>(
     from: &mut Deserializer<R>,
     head: MapHead,
     names: &[&str],
@@ -197,17 +141,10 @@ fn finish<R: DeRead, F: Slots<R::Lent>>(
 ) -> Answer<F::Values>
 where
     R::Lent: LendsText,
-    ensures values { IfOk result (λ v. (ss : List StructField) → F.keeps fields ss
-        → FinishesEach F.holds ss (Some v)) }
-    ensures closed { OnOk result (state R.window R.Lent.kept from.new
-        ≡ after_closing head.levels head.opened (state R.window R.Lent.kept from.old)) }
-    ensures absent { OnErr result ((ss : List StructField) → F.keeps fields ss
-        → each_some field_at_end ss ≡ None) }
-    ensures reason { OnErr result (refusal_in from.new
-        ≡ after_a_refusal (state R.window R.Lent.kept from.old).source.failed
-        (complain Complaint.TooFewItems)) }
-    ensures refused { OnErr result (state R.window R.Lent.kept from.new
-        ≡ refused (state R.window R.Lent.kept from.old)) }
+    ensures values { IfOk result (λ v. EndAs F.holds (F.keeps fields) (Some v)) }
+    ensures closed { OnOk result (Closes head from.old from.new) }
+    ensures absent { OnErr result (EndAs F.holds (F.keeps fields) None) }
+    ensures refused { OnErr result (Complains Complaint.TooFewItems from.old from.new) }
 {
     match fields.finish() {
         Ok(values) => {
@@ -222,11 +159,7 @@ where
 #[cold]
 #[inline(never)]
 fn refuse_missing<R: DeRead>(from: &mut Deserializer<R>, names: &[&str], place: usize) -> Refused
-    ensures reason { refusal_in from.new
-        ≡ after_a_refusal (state R.window R.Lent.kept from.old).source.failed
-        (complain Complaint.TooFewItems) }
-    ensures state { state R.window R.Lent.kept from.new
-        ≡ refused (state R.window R.Lent.kept from.old) }
+    ensures { Complains Complaint.TooFewItems from.old from.new }
 {
     let refused = from.complain_of(Complaint::TooFewItems, Finding::Missing);
     from.note_field(names, place);

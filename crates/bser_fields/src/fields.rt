@@ -1,12 +1,8 @@
 //! Reading structs by their fields.
-ghost use Rattle.std.specs.Prelude.{map, IfOk, OnErr};
-ghost use Rattle.bser_deserializer.specs.HoldsLists.{HoldsTuple};
-ghost use Rattle.bser_deserializer.specs.Reading.{Answers, Refuses};
-ghost use Rattle.bser_deserializer.specs.View.{state, refusal_in};
-ghost use Rattle.bser_types.specs.Slots.{reads_struct, struct_needs};
-ghost use Rattle.bser_fields.specs.Askings.{asking_struct};
+ghost use Rattle.std.specs.Prelude.{IfOk, OnErr};
+ghost use Rattle.bser_fields.specs.Structs.{ReadsFields, RefusesFields};
 
-use crate::entries::{read_object, read_row};
+use crate::entries::{finish, read_object, read_rest};
 use crate::slots::Slots;
 use bser_bunser::refusal::Answer;
 use bser_deserializer::container::Containers;
@@ -39,13 +35,9 @@ where
     /// [`Complaint::WrongType`]: bser_format::errors::Complaint::WrongType
     #[inline(always)]
     fn read_fields<F: Slots<R::Lent>>(&mut self, alloc: Global, names: &[&str]) -> Answer<F::Values>
-        ensures found { IfOk result (Answers (reads_struct (map (λ r. r.now) names.now) F.fields)
-            (λ v. HoldsTuple (F.holds v))
-            (state R.window R.Lent.kept self.old) (state R.window R.Lent.kept self.new)) }
-        ensures refused { OnErr result (Refuses (reads_struct (map (λ r. r.now) names.now) F.fields)
-            (asking_struct (map (λ r. r.now) names.now) F.fields F.asks) (struct_needs F.needs)
-            (refusal_in self.new)
-            (state R.window R.Lent.kept self.old) (state R.window R.Lent.kept self.new)) }
+        ensures found { IfOk result (ReadsFields names.now F.fields F.holds self.old self.new) }
+        ensures refused { OnErr result (RefusesFields names.now F.fields F.asks F.needs
+            self.old self.new) }
     {
         let head = self.open_pairs()?;
         if !head.row {
@@ -56,6 +48,7 @@ where
             self.close_pairs(head);
             return Ok(values);
         }
-        read_row::<R, F>(alloc, self, head, names)
+        let fields = read_rest(alloc, self, head.at, names, F::empty())?;
+        finish(self, head, names, fields)
     }
 }

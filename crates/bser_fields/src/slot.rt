@@ -1,14 +1,12 @@
 //! A field of a struct, and what was read of it.
-ghost use Rattle.std.specs.Prelude.{◌≡◌, Option, Some, option_map, IfOk, OnOk, OnErr};
+ghost use Rattle.std.specs.Prelude.{◌≡◌, Option, option_map, IfOk, OnOk, OnErr};
 ghost use Rattle.bser_format.specs.Content.{Content};
 ghost use Rattle.bser_deserializer.specs.Holds.{HoldsOption};
-ghost use Rattle.bser_named.specs.Clauses.{left_over};
 ghost use Rattle.bser_deserializer.specs.Reading.{Asking, Needs};
-ghost use Rattle.bser_deserializer.specs.State.{refused};
-ghost use Rattle.bser_deserializer.specs.View.{state, refusal_in};
 ghost use Rattle.bser_types.specs.Askings.{asking_option};
-ghost use Rattle.bser_types.specs.Slots.{StructField, required, optional, fill, KeepsField, FinishesField};
-ghost use Rattle.bser_fields.specs.Fields.{ReadsOnce, RefusesOnce, MakesStep, RefusesStep, NamesField};
+ghost use Rattle.bser_types.specs.Slots.{StructField, required, optional, fill, KeepsField};
+ghost use Rattle.bser_fields.specs.Fields.{Complains, ReadsOnce, RefusesOnce};
+ghost use Rattle.bser_fields.specs.Structs.{Steps, RefusesKept, ReadsNew, RefusesFill, Ends};
 
 use bser_bunser::refusal::{Answer, Refused};
 use bser_deserializer::deserializer::Deserializer;
@@ -48,33 +46,22 @@ pub trait Slot<L: LendsText>: Drop {
     /// A field that was read before is refused by [`Complaint::ItemsLeft`], and a value as its type
     /// refuses it; the field is then as it was, and the deserializer refuses each later call.
     fn fill<R: DeRead<Lent = L>>(&mut self, alloc: Global, from: &mut Deserializer<R>) -> Answer<()>
-        ensures found { OnOk result ((s : StructField) → Self.keeps self.old s
-            → MakesStep fill (Self.keeps self.new) s
-            (state R.window L.kept from.old) (state R.window L.kept from.new)) }
+        ensures found { OnOk result (Steps fill Self.keeps self.old self.new from.old from.new) }
         ensures unchanged { OnErr result (self.new ≡ self.old) }
-        ensures refused { OnErr result ((s : StructField) → Self.keeps self.old s
-            → RefusesStep fill Self.needs
-            (NamesField Self.needs Self.asks (refusal_in from.new) s
-            (state R.window L.kept from.old))
-            (refusal_in from.new) s
-            (state R.window L.kept from.old) (state R.window L.kept from.new)) };
+        ensures refused { OnErr result (RefusesKept Self.asks Self.needs (Self.keeps self.old)
+            from.old from.new) };
 
     /// Reads the value that is due as that of a field that was not read yet.
     ///
     /// A value is refused as its type refuses it; the deserializer then refuses each later call.
     fn read<R: DeRead<Lent = L>>(alloc: Global, from: &mut Deserializer<R>) -> Answer<Self::Value>
-        ensures found { IfOk result (λ v.
-            MakesStep fill (λ s. FinishesField Self.holds s (Some v)) Self.field
-            (state R.window L.kept from.old) (state R.window L.kept from.new)) }
-        ensures refused { OnErr result (RefusesStep fill Self.needs
-            (NamesField Self.needs Self.asks (refusal_in from.new) Self.field
-            (state R.window L.kept from.old))
-            (refusal_in from.new) Self.field
-            (state R.window L.kept from.old) (state R.window L.kept from.new)) };
+        ensures found { IfOk result (ReadsNew Self.holds Self.field from.old from.new) }
+        ensures refused { OnErr result (RefusesFill Self.asks Self.needs Self.field
+            from.old from.new) };
 
     /// The field's value, or None where it is required and absent.
     fn finish(self) -> Option<Self::Value>
-        ensures { (s : StructField) → Self.keeps self s → FinishesField Self.holds s result };
+        ensures { Ends Self.holds (Self.keeps self) result };
 }
 
 /// A field that has to be there.
@@ -182,11 +169,9 @@ fn read_once<R: DeRead, T: Deserialize<R::Lent>>(
 where
     R::Lent: LendsText,
     ensures found { OnOk result (ReadsOnce T.reads T.holds value.old value.new
-        (state R.window R.Lent.kept from.old) (state R.window R.Lent.kept from.new)) }
+        from.old from.new) }
     ensures unchanged { OnErr result (value.new ≡ value.old) }
-    ensures refused { OnErr result (RefusesOnce T.reads T.asks T.needs
-        (refusal_in from.new) value.old
-        (state R.window R.Lent.kept from.old) (state R.window R.Lent.kept from.new)) }
+    ensures refused { OnErr result (RefusesOnce T.asks T.needs value.old from.old from.new) }
 {
     if value.is_some() {
         return Err(refuse_repeated(from));
@@ -199,10 +184,7 @@ where
 #[cold]
 #[inline(never)]
 fn refuse_repeated<R: DeRead>(from: &mut Deserializer<R>) -> Refused
-    ensures reason { refusal_in from.new
-        ≡ left_over (state R.window R.Lent.kept from.old).source.failed }
-    ensures state { state R.window R.Lent.kept from.new
-        ≡ refused (state R.window R.Lent.kept from.old) }
+    ensures { Complains Complaint.ItemsLeft from.old from.new }
 {
     from.complain_of(Complaint::ItemsLeft, Finding::Repeated)
 }

@@ -1,21 +1,17 @@
 //! The fields of a struct, one after another.
-ghost use Rattle.std.specs.Prelude.{◌≡◌, ◌<◌, ◌-◌, ◌^◌, ℕ, List, [], ◌∷◌, length, map, Some, true, false, IfOk, OnOk, OnErr, IfErr, IfSome};
-ghost use Rattle.std.specs.Str.{bytes_eq};
+ghost use Rattle.std.specs.Prelude.{◌≡◌, ◌<◌, ◌^◌, List, [], ◌∷◌, true, false, IfOk, OnOk, OnErr, IfErr, IfSome};
 ghost use Rattle.bser_format.specs.Content.{Content};
 ghost use Rattle.bser_deserializer.specs.Reading.{Needs};
-ghost use Rattle.bser_deserializer.specs.Fields.{field_of};
-ghost use Rattle.bser_deserializer.specs.View.{state, refusal_in};
-ghost use Rattle.bser_types.specs.Slots.{StructField, FinishesField, fill, fill_at, struct_needs, KeepsBoth, FinishesEach};
-ghost use Rattle.bser_fields.specs.Askings.{FieldAskings, all_asked};
-ghost use Rattle.bser_fields.specs.Absent.{LacksAt, ok_of};
-ghost use Rattle.bser_fields.specs.Fields.{MakesStep, RefusesStep, NamesField, NamesFields};
-ghost use Rattle.bser_fields.specs.Rows.{IsInTurn, KeysInTurn, AllInTurn, IsKnown, Turns, RefusesTurns};
+ghost use Rattle.bser_types.specs.Slots.{StructField, fill_at, KeepsBoth};
+ghost use Rattle.bser_fields.specs.Absent.{ok_of};
+ghost use Rattle.bser_fields.specs.Askings.{FieldAskings};
+ghost use Rattle.bser_fields.specs.Structs.{IsUnknown, Steps, RefusesAt, AreInTurn, IsNext, ReadsInTurn, RefusesInTurn, EndAs, Lacks};
 
 use crate::slot::Slot;
 use bser_bunser::refusal::Answer;
 use bser_deserializer::cursor::{Cursor, keys_of};
 use bser_deserializer::deserializer::Deserializer;
-use bser_deserializer::field::{Field, find_field};
+use bser_deserializer::field::{Field, find_field, is_same};
 use bser_source::read::DeRead;
 use bser_source::reference::{Lending, LendsText};
 use bser_types::deserialize::Deserialize;
@@ -56,16 +52,11 @@ pub trait Slots<L: LendsText>: Drop {
         place: usize,
         from: &mut Deserializer<R>,
     ) -> Answer<()>
-        ensures found { OnOk result ((ss : List StructField) → Self.keeps self.old ss
-            → MakesStep (fill_at place) (Self.keeps self.new) ss
-            (state R.window L.kept from.old) (state R.window L.kept from.new)) }
+        ensures found { OnOk result (Steps (fill_at place) Self.keeps self.old self.new
+            from.old from.new) }
         ensures unchanged { OnErr result (self.new ≡ self.old) }
-        ensures refused { OnErr result ((ss : List StructField) → Self.keeps self.old ss
-            → RefusesStep (fill_at place) (struct_needs Self.needs)
-            (NamesFields (struct_needs Self.needs) (all_asked Self.fields Self.asks) (Some place)
-            (refusal_in from.new) ss (state R.window L.kept from.old))
-            (refusal_in from.new) ss
-            (state R.window L.kept from.old) (state R.window L.kept from.new)) };
+        ensures refused { OnErr result (RefusesAt place Self.fields Self.asks Self.needs
+            (Self.keeps self.old) from.old from.new) };
 
     /// Whether the row's keys, from this place on, are these names one after another, each of them
     /// once, and as many as there are fields.
@@ -74,8 +65,7 @@ pub trait Slots<L: LendsText>: Drop {
         place: usize,
         names: &[&str],
     ) -> bool
-        ensures { result ≡ true → AllInTurn (map (λ r. r.now) names.now) (length Self.fields) place
-            (state R.window L.kept from.now) };
+        ensures { result ≡ true → AreInTurn Self.fields names.now place from.now };
 
     /// Reads the row's values as those of the fields one after another.
     ///
@@ -87,22 +77,14 @@ pub trait Slots<L: LendsText>: Drop {
         known: &[&str],
         at: usize,
     ) -> Answer<Self::Values>
-        ensures found { IfOk result (λ v. (names : List (List ℕ)) → (place : ℕ)
-            → KeysInTurn names (length Self.fields) place (state R.window L.kept from.old)
-            → Turns IsKnown names (length Self.fields) (λ ss. FinishesEach Self.holds ss (Some v))
-            Self.fields place (state R.window L.kept from.old) (state R.window L.kept from.new)) }
-        ensures refused { OnErr result ((names : List (List ℕ)) → (place : ℕ)
-            → KeysInTurn names (length Self.fields) place (state R.window L.kept from.old)
-            → RefusesTurns IsKnown names (struct_needs Self.needs)
-            (all_asked Self.fields Self.asks) (refusal_in from.new) Self.fields place
-            (state R.window L.kept from.old) (state R.window L.kept from.new)) };
+        ensures found { IfOk result (ReadsInTurn Self.fields Self.holds from.old from.new) }
+        ensures refused { OnErr result (RefusesInTurn Self.fields Self.asks Self.needs
+            from.old from.new) };
 
     /// The fields' values, or the place of the first that is required and absent.
     fn finish(self) -> Result<Self::Values, usize>
-        ensures values { (ss : List StructField) → Self.keeps self ss
-            → FinishesEach Self.holds ss (ok_of result) }
-        ensures absent { IfErr result (λ place. place < 2 ^ 64 - 1
-            → (ss : List StructField) → Self.keeps self ss → LacksAt place ss) };
+        ensures values { EndAs Self.holds (Self.keeps self) (ok_of result) }
+        ensures absent { IfErr result (Lacks (Self.keeps self)) };
 }
 
 impl<L: LendsText> Slots<L> for () {
@@ -243,10 +225,8 @@ fn names_after<'n, 's, R: DeRead>(
 ) -> Option<&'n [&'s str]>
 where
     R::Lent: LendsText,
-    ensures inside { IfSome result (λ others. place < length
-        (state R.window R.Lent.kept from.now).keys) }
-    ensures turn { IfSome result (λ others. IsInTurn (map (λ r. r.now) names.now)
-        (map (λ r. r.now) others.now) place (state R.window R.Lent.kept from.now)) }
+    ensures fits { IfSome result (λ _. place < 2 ^ 63) }
+    ensures turn { IfSome result (IsNext names.now place from.now) }
 {
     if place >= keys_of(from).len() || names.is_empty() {
         return None;
@@ -262,30 +242,11 @@ where
 /// Whether the name is none of these.
 #[inline(always)]
 fn is_unknown(names: &[&str], name: &str) -> bool
-    ensures yes { result ≡ true → field_of (map (λ r. r.now) names.now) name.now ≡ Field.Unknown }
-    ensures no { result ≡ false → field_of (map (λ r. r.now) names.now) name.now ≡ Field.Unknown
-        → ⊥ }
+    ensures yes { result ≡ true → IsUnknown names.now name.now }
+    ensures no { result ≡ false → IsUnknown names.now name.now → ⊥ }
 {
     match find_field(names, name.as_bytes()) {
         Field::Known(_) => false,
         Field::Unknown => true,
     }
-}
-
-/// Whether these are the same bytes. Each is compared, also after one that differs, so that a name
-/// that is constant is compared by whole words.
-#[inline(always)]
-fn is_same(known: &[u8], name: &[u8]) -> bool
-    ensures { result ≡ bytes_eq known.now name.now }
-{
-    if known.len() != name.len() {
-        return false;
-    }
-    let mut same = true;
-    for place in 0..known.len() {
-        if known[place] != name[place] {
-            same = false;
-        }
-    }
-    same
 }

@@ -1,15 +1,19 @@
 //! Byte strings: bytes that are text by convention, in no promised encoding.
-ghost use Rattle.std.specs.Prelude.{◌≡◌, ◌↔◌, ◌%◌, ◌++◌, nat_eq, refl, chars, flat_map, string_bytes, encode_utf8_all, IsUtf8, Some, IsOk, OnOk, IfOk, IfErr};
+ghost use Rattle.std.specs.Prelude.{◌≡◌, ◌↔◌, ◌%◌, ◌++◌, nat_eq, refl, chars, flat_map};
+ghost use Rattle.std.specs.Prelude.{string_bytes, encode_utf8_all, IsUtf8, Some, IsOk, OnOk, IfOk};
+ghost use Rattle.std.specs.Prelude.{IfErr};
 ghost use Rattle.std.specs.Ordering.{nat_cmp};
 ghost use Rattle.std.specs.Hash as fed;
-ghost use Rattle.std.specs.Cmp.Lexicographic.{pointwise, slice_cmp, nat_list_eq_equiv, nat_list_cmp_total, texts_ties, texts_po};
+ghost use Rattle.std.specs.Cmp.Lexicographic.{pointwise, slice_cmp, nat_list_eq_equiv};
+ghost use Rattle.std.specs.Cmp.Lexicographic.{nat_list_cmp_total, texts_ties, texts_po};
 ghost use Rattle.std.specs.Hash.{items_Alike, same_Alike};
 ghost use Rattle.std.specs.Cmp.{partial_equiv_from_equiv, unsigned_Decides};
 ghost use Rattle.std.specs.Fmt.{WritesOnOk};
 ghost use Rattle.std.specs.Char.{digit_char};
 ghost use Rattle.std.specs.Char.Escape.{escape_default};
 ghost use Rattle.bser_format.specs.ByteStrings.{overwritten, escape_by, quoted_byte};
-ghost use Rattle.bser_format.specs.Escaped.{quoted, escaped_byte, escaped, IsEscaped, escape_debug, display_text, debug_text};
+ghost use Rattle.bser_format.specs.Escaped.{quoted, escaped_byte, escaped, IsEscaped, escape_debug};
+ghost use Rattle.bser_format.specs.Escaped.{display_text, debug_text};
 
 use std::alloc::{AllocError, Global};
 use std::cmp::Ordering;
@@ -18,7 +22,7 @@ use std::hash::{Hash, Hasher};
 use std::marker::Model;
 
 /// The bytes of a BSER byte string, as of a file name. They are UTF-8 by convention alone.
-/// Equality, order and hash go by the bytes; the Rust crate has neither order nor hash.
+/// Equality, order and hash go by the bytes.
 #[derive(Drop)]
 pub struct ByteString {
     bytes: Vec<u8>,
@@ -52,7 +56,7 @@ impl ByteString {
         }
     }
 
-    /// Copies the text's bytes, where the Rust crate has `From<&str>`. The error is that there is no memory for them.
+    /// Copies the text's bytes. The error is that there is no memory for them.
     pub fn from_text(alloc: Global, text: &str) -> Result<Self, AllocError>
         ensures { IfOk result (λ copy. copy ≡ text.now) }
     {
@@ -61,14 +65,14 @@ impl ByteString {
         })
     }
 
-    /// The bytes, where the Rust crate has `Deref`.
+    /// The bytes.
     pub fn as_bytes(&self) -> &[u8]
         ensures { result.now ≡ self.now }
     {
         self.bytes.as_slice()
     }
 
-    /// The bytes, to be changed in place, where the Rust crate has `DerefMut`. Their number stays.
+    /// The bytes, to be changed in place. Their number stays.
     pub fn as_mut_bytes(&mut self) -> &mut [u8]
         ensures* writes_back { sem 𝓛 (Lends the_row (Array u8 0) self.entry result
             (overwritten self.old)) }
@@ -85,8 +89,8 @@ impl ByteString {
         bytes
     }
 
-    /// The bytes as a text, which are not copied. The error, where they aren't UTF-8, is the byte string unchanged.
-    /// In the Rust crate this is `TryInto<String>`, with a `FromUtf8Error`.
+    /// The bytes as a text, which are not copied. The error, where they are not UTF-8, is the byte
+    /// string unchanged.
     pub fn into_string(self) -> Result<String, ByteString>
         ensures ok { IfOk result (λ text. string_bytes text ≡ self) }
         ensures err { IfErr result (λ same. same ≡ self) }
@@ -98,9 +102,9 @@ impl ByteString {
         }
     }
 
-    /// The bytes as a text for people to read: a character in UTF-8 stays, and each other byte is `\x` and two
-    /// lowercase hexadecimal digits. So is each byte of an incomplete character at the end, which the Rust crate
-    /// leaves out. The error is that there is no memory for the text.
+    /// The bytes as a text for people to read: a character in UTF-8 stays, and each other byte is
+    /// `\x` and two lowercase hexadecimal digits, also each byte of an incomplete character at the
+    /// end. The error is that there is no memory for the text.
     pub fn as_escaped_string(&self, alloc: Global) -> Result<String, AllocError>
         ensures text { IfOk result (λ text. string_bytes text ≡ escaped self.now) }
         ensures cut { IfOk result (λ text. IsEscaped self.now (string_bytes text)) }
@@ -114,7 +118,8 @@ impl ByteString {
         Ok(text)
     }
 
-    /// Copies the bytes into memory of this allocator. The error is that there is no memory for them.
+    /// Copies the bytes into memory of this allocator. The error is that there is no memory for
+    /// them.
     pub fn try_clone(&self, alloc: Global) -> Result<Self, AllocError>
         ensures { IfOk result (λ copy. copy ≡ self.now) }
     {
@@ -197,9 +202,10 @@ impl Hash for ByteString {
     }
 }
 
-/// The escaped text in double quotes, with each of its characters escaped once more. A tab, a carriage return, a
-/// newline, either quote and a backslash are `\t`, `\r`, `\n`, `\'`, `\"` and `\\`, other printable ASCII stays, and
-/// every other character is `\u{..}` in lowercase hexadecimal. Width and the like have no effect.
+/// The escaped text in double quotes, with each of its characters escaped once more. A tab, a
+/// carriage return, a newline, either quote and a backslash are `\t`, `\r`, `\n`, `\'`, `\"` and
+/// `\\`, other printable ASCII stays, and every other character is `\u{..}` in lowercase
+/// hexadecimal. Width and the like have no effect.
 impl fmt::Display for ByteString {
     ghost output = { λ s. Some (display_text s) };
 
@@ -249,6 +255,7 @@ fn push_escaped(text: &mut String, bytes: &[u8]) -> Result<(), AllocError>
     Ok(())
 }
 
+/// Writes the escaped bytes between double quotes.
 fn write_quoted<W: fmt::Write>(bytes: &[u8], nul: NulForm, f: &mut fmt::Formatter<W>) -> fmt::Result
     ensures { WritesOnOk W.write_str_gives f.old result
         (encode_utf8_all (quoted (escape_by nul) bytes.now)) f.new }
@@ -272,6 +279,7 @@ fn write_text<W: fmt::Write>(text: &str, nul: NulForm, f: &mut fmt::Formatter<W>
     Ok(())
 }
 
+/// Writes the character in its escaped form, NUL in the form that is asked for.
 fn write_char<W: fmt::Write>(c: char, nul: NulForm, f: &mut fmt::Formatter<W>) -> fmt::Result
     ensures { WritesOnOk W.write_str_gives f.old result (encode_utf8_all (escape_by nul c)) f.new }
 {
@@ -281,6 +289,7 @@ fn write_char<W: fmt::Write>(c: char, nul: NulForm, f: &mut fmt::Formatter<W>) -
     }
 }
 
+/// Writes the character as std's `escape_default` gives it.
 fn write_default<W: fmt::Write>(c: char, f: &mut fmt::Formatter<W>) -> fmt::Result
     ensures { WritesOnOk W.write_str_gives f.old result (encode_utf8_all (escape_default c)) f.new }
 {

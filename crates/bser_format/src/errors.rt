@@ -17,7 +17,6 @@ pub type Result<T> = std::result::Result<T, Error>;
 /// What stood where another byte was wanted, or what nests too deep.
 ///
 /// An enum's name is kept up to [`EnumName::CAPACITY`] bytes, so that a refusal takes no memory.
-/// The crate builds a text for each.
 #[derive(Debug, Clone, Copy, PartialEq, Eq)]
 pub enum Kind {
     /// A value: an unknown tag, or a skip outside a template's field.
@@ -182,7 +181,7 @@ pub enum Error {
     #[error("Invalid magic header: {magic:?}")]
     DeInvalidMagic { magic: [u8; 2] },
     /// Reading: the head announces a longer body than the caller takes. Only the calls with a limit
-    /// of bytes answer it. The crate has no such limit.
+    /// of bytes answer it.
     #[error("while deserializing BSER: body of {announced} bytes, and at most {most} are taken")]
     DeTooLong { announced: usize, most: usize },
     /// Reading: the byte source refused.

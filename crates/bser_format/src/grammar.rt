@@ -2,7 +2,11 @@
 
 ghost use Rattle.bser_format.specs.Content.{Content};
 ghost use Rattle.bser_format.specs.Tree.{Tree};
-ghost use Rattle.bser_format.specs.GrammarLaws.{KeysRise, LastValuesStay, NoOtherKeys, CanonicalBodyIsSpelled, LeastIntegerIsLeast, LeastIntegerIsSpelled, MessageReadingIsExact, MoreLevels, OneFront, OneInteger, OneValue, ReadingIsExact};
+ghost use Rattle.bser_format.specs.GrammarLaws.{KeysRise, LastValuesStay, NoOtherKeys};
+ghost use Rattle.bser_format.specs.GrammarLaws.{CanonicalBodyIsSpelled, LeastIntegerIsLeast};
+ghost use Rattle.bser_format.specs.GrammarLaws.{LeastIntegerIsSpelled, MessageReadingIsExact};
+ghost use Rattle.bser_format.specs.GrammarLaws.{MoreLevels, OneFront, OneInteger, OneValue};
+ghost use Rattle.bser_format.specs.GrammarLaws.{ReadingIsExact};
 
 /// No integer's bytes begin another's.
 pub fn one_integer()

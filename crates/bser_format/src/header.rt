@@ -1,6 +1,9 @@
 //! The tags of the format, and the front of a message.
-ghost use Rattle.std.specs.Prelude.{◌≡◌, IfOk, option_map, string_bytes};
+ghost use Rattle.std.specs.Prelude.{◌≡◌, ◌∷◌, ◌++◌, replicate, IfOk, option_map, string_bytes};
 ghost use Rattle.bser_format.specs.HeaderBytes.{tag_name, description};
+ghost use Rattle.bser_format.specs.declared.header.TheConstants.{BSER_CAP_DISABLE_UNICODE};
+ghost use Rattle.bser_format.specs.declared.header.TheConstants.{BSER_CAP_DISABLE_UNICODE_FOR_ERRORS};
+ghost use Rattle.bser_format.specs.declared.header.TheConstants.{EMPTY_HEADER};
 
 use std::alloc::{AllocError, Global};
 use std::fmt;
@@ -41,6 +44,15 @@ pub const EMPTY_HEADER: &[u8] = b"\x00\x02\x00\x00\x00\x00\x05\x00\x00\x00\x00";
 pub const BSER_CAP_DISABLE_UNICODE: u8 = 1;
 /// The capability that turns texts into byte strings in errors.
 pub const BSER_CAP_DISABLE_UNICODE_FOR_ERRORS: u8 = 2;
+
+/// What the constants are that no call cites: the two capabilities, and the empty
+/// header. The function does nothing, and its contract is the law.
+pub fn constants()
+    ensures disable_unicode { BSER_CAP_DISABLE_UNICODE ≡ 1 }
+    ensures disable_unicode_for_errors { BSER_CAP_DISABLE_UNICODE_FOR_ERRORS ≡ 2 }
+    ensures empty_header { EMPTY_HEADER.now
+        ≡ 0x00 ∷ 0x02 ∷ replicate 4 0x00 ++ (0x05 ∷ replicate 4 0x00) }
+{}
 
 /// Prints a byte by the name of the tag that it is, and an unknown one in decimal.
 #[derive(Debug, Clone, Copy, PartialEq, Eq)]

@@ -1,4 +1,6 @@
-pub mod Limits
+pub mod Announced
 pub mod Ends
 pub mod Messages
+pub mod Heads
+pub mod Within
 pub mod Sources

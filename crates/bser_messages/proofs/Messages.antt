@@ -28,7 +28,7 @@ use Rattle.bser_deserializer.proofs.Clean.{clean_head}
 use Rattle.bser_deserializer.proofs.Refusals.{first_part, sequel, with_needs, by_name, names_any, names_bare, names_by_more, names_by_untaken, no_failure}
 use Rattle.bser_deserializer.specs.View.{not_at_end}
 use Rattle.bser_messages.specs.Messages.{ReadsMessage, ReadsBody, IsReadableMessage, NamesMessage, BeginWithHead, RefusesBody, RefusesMessage}
-use Rattle.bser_messages.proofs.Limits.{left_within, names_within, refuses_within}
+use Rattle.bser_messages.proofs.Announced.{left_within, names_within, refuses_within}
 use Rattle.bser_messages.proofs.Ends.{head_length, head_bad, value_bad, end_bad, end_kind}
 
 -- ---- what was taken

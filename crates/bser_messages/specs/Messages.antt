@@ -1,5 +1,5 @@
 -- What a message as a whole is read as.
-use Rattle.std.specs.Prelude.{◌≡◌, ◌⊎◌, ℕ, suc, ◌≤◌, ◌^◌, max, List, ◌++◌, length, true, Option, Some, None}
+use Rattle.std.specs.Prelude.{◌≡◌, ◌≢◌, ◌⊎◌, Result, IfErr, ℕ, suc, ◌≤◌, ◌^◌, max, List, ◌++◌, length, true, Option, Some, None}
 use Rattle.std.specs.Io.KnownBytes.{Consumes}
 use Rattle.bser_format.specs.Tree.{Tree}
 use Rattle.bser_format.specs.Expand.{expand}
@@ -17,7 +17,7 @@ use Rattle.bser_bunser.specs.Refusal.{failures_by}
 use Rattle.bser_bunser.specs.Tagged.{IsHead}
 use Rattle.bser_deserializer.specs.State.{State, Begins}
 use Rattle.bser_bunser.specs.Names.{Agree}
-use Rattle.bser_deserializer.specs.Reading.{Answers, Asking, ExcusedBy, IsRefusal, MayRefuse, NamesBy, RefusesFront, Needs}
+use Rattle.bser_deserializer.specs.Reading.{Answers, Asking, ExcusedBy, IsRefusal, MayRefuse, NamesBy, RefusesFront, TakesNoMemory, Needs}
 
 -- ---- what is read
 
@@ -89,6 +89,18 @@ pub record RefusesMessage (n : ℕ) (reads : Meaning) (asks : Option (Asking rea
   pub names : NamesMessage n needs asks e old
   pub excuse : (text rest : List ℕ) → IsReadableMessage n reads text → left old ≡ Some (text ++ rest) → ExcusedBy needs (length text) e old
 
+-- what is told of it stays as it was
+abbrev pub Same : {S X : Type 0} → (S → X) → S → S → Type 0
+Same told old new = told new ≡ told old
+
+-- a type that takes no memory is not refused for want of it
+abbrev pub SparesMemory : {A : Type 0} → Needs → Result A Error → Type 0
+SparesMemory needs answer = TakesNoMemory needs → IfErr answer (λ e. e ≢ OutOfMemory)
+
+-- want of memory comes only after a message's head
+abbrev pub HeadFirst : {A : Type 0} → Option (List ℕ) → Result A Error → Type 0
+HeadFirst left answer = IfErr answer (λ e. e ≡ OutOfMemory → BeginWithHead left)
+
 -- ---- slices
 
 -- want of memory, of a type that takes some to read a value
@@ -144,3 +156,8 @@ pub record RefusesReader (n : ℕ) (reads : Meaning) (asks : Option (Asking read
   pub may : IsRefusal e ⊎ IsReaderFault before after e
   pub names : NamesReader n asks e left before after
   pub excuse : (text rest : List ℕ) (c : Content) → ReadsMessageAs n reads text c → left ≡ Some (text ++ rest) → IsReaderFault before after e
+
+-- the same of a reader before and after the call, by what is told of it
+abbrev pub RefusesReading : {S : Type 0} → ℕ → (reads : Meaning) → Option (Asking reads) → (S → Option (List ℕ)) → (S → ℕ) → S → S → Error → Type 0
+RefusesReading n reads asks remaining failures old new e =
+    RefusesReader n reads asks e (remaining old) (failures old) (failures new)

@@ -1,23 +1,24 @@
 //! Reading whole messages.
-ghost use Rattle.std.specs.Prelude.{◌≡◌, ◌≤◌, [], IfOk, IfErr, OnOk, OnErr, ◌≢◌, Some};
+ghost use Rattle.std.specs.Prelude.{◌≡◌, ◌≤◌, IfOk, IfErr, OnOk, Some};
 ghost use Rattle.bser_source.specs.Window.{left};
-ghost use Rattle.bser_deserializer.specs.Reading.{TakesNoMemory};
-ghost use Rattle.bser_deserializer.specs.View.{state, refusal_in};
+ghost use Rattle.bser_deserializer.specs.State.{IsUnread};
+ghost use Rattle.bser_deserializer.specs.declared.deserializer.TheConstants.{MOST_LEVELS};
 ghost use Rattle.bser_messages.specs.Messages.{
-  BeginWithHead,
   BeginsWith,
-  TookMessage,
-  ReadsBody,
+  HeadFirst,
+  Same,
   ReadsMessage,
-  RefusesBody,
   RefusesMessage,
+  RefusesReading,
   RefusesSlice,
-  RefusesReader,
+  SparesMemory,
+  TookMessage,
 };
 
-use bser_bunser::refusal::{Answer, Refused};
+use crate::limited::read_limited;
+use crate::limits::Limits;
 use bser_deserializer::deserializer::{Deserializer, LEVELS};
-use bser_format::errors::{Error, Result};
+use bser_format::errors::Result;
 use bser_source::device::Source;
 use bser_source::io_read::IoRead;
 use bser_source::read::DeRead;
@@ -32,11 +33,11 @@ use std::alloc::Global;
 /// Answers a value exactly where a front of `bytes` is a well-formed message whose tree, templates
 /// written out, the type reads as that value. Refused else by the name of the first fault in the
 /// order of reading, or for want of memory, and that only after the message's head and of a type
-/// that takes memory. The crate takes no allocator.
+/// that takes memory.
 pub fn from_slice<'de, T: Deserialize<&'de [u8]>>(alloc: Global, bytes: &'de [u8]) -> Result<T>
     ensures found { IfOk result (BeginsWith 128 T.reads T.holds bytes.now) }
     ensures refused { IfErr result (λ e. RefusesSlice 128 T.reads T.asks T.needs e bytes.now) }
-    ensures head { IfErr result (λ e. e ≡ Error.OutOfMemory → BeginWithHead (Some bytes.now)) }
+    ensures head { HeadFirst (Some bytes.now) result }
 {
     from_slice_within(alloc, LEVELS, bytes)
 }
@@ -49,10 +50,10 @@ pub fn from_slice_within<'de, T: Deserialize<&'de [u8]>>(
     limit: usize,
     bytes: &'de [u8],
 ) -> Result<T>
-    requires { limit ≤ 1024 }
+    requires { limit ≤ MOST_LEVELS }
     ensures found { IfOk result (BeginsWith limit T.reads T.holds bytes.now) }
     ensures refused { IfErr result (λ e. RefusesSlice limit T.reads T.asks T.needs e bytes.now) }
-    ensures head { IfErr result (λ e. e ≡ Error.OutOfMemory → BeginWithHead (Some bytes.now)) }
+    ensures head { HeadFirst (Some bytes.now) result }
 {
     let mut from = Deserializer::unread(alloc, SliceRead::new(bytes));
     read_message(alloc, limit, &mut from)
@@ -65,16 +66,15 @@ pub fn from_slice_within<'de, T: Deserialize<&'de [u8]>>(
 /// counts aside. Refused else by the name of the first fault in the order of reading, or for want
 /// of memory, and that only after the message's head, and of a type that takes memory or reads bytes
 /// which are copied: never of `bool`, `()` or a number. After a refusal nothing is said of how far
-/// the reader went. The crate takes the reader by value, and no allocator.
+/// the reader went.
 pub fn from_reader<S: Source, T: DeserializeOwned>(alloc: Global, reader: &mut S) -> Result<T>
     ensures found { IfOk result
         (TookMessage 128 T.reads T.holds (S.remaining reader.old) (S.remaining reader.new)) }
-    ensures refused { IfErr result (λ e. RefusesReader 128 T.reads T.asks e
-        (S.remaining reader.old) (S.failures reader.old) (S.failures reader.new)) }
-    ensures kept { OnOk result (S.failures reader.new ≡ S.failures reader.old) }
-    ensures memory { TakesNoMemory T.needs → IfErr result (λ e. e ≢ Error.OutOfMemory) }
-    ensures head { IfErr result (λ e. e ≡ Error.OutOfMemory
-        → BeginWithHead (S.remaining reader.old)) }
+    ensures refused { IfErr result (RefusesReading 128 T.reads T.asks S.remaining S.failures
+        reader.old reader.new) }
+    ensures kept { OnOk result (Same S.failures reader.old reader.new) }
+    ensures memory { SparesMemory T.needs result }
+    ensures head { HeadFirst (S.remaining reader.old) result }
 {
     from_reader_within(alloc, LEVELS, reader)
 }
@@ -87,15 +87,14 @@ pub fn from_reader_within<S: Source, T: DeserializeOwned>(
     limit: usize,
     reader: &mut S,
 ) -> Result<T>
-    requires { limit ≤ 1024 }
+    requires { limit ≤ MOST_LEVELS }
     ensures found { IfOk result
         (TookMessage limit T.reads T.holds (S.remaining reader.old) (S.remaining reader.new)) }
-    ensures refused { IfErr result (λ e. RefusesReader limit T.reads T.asks e
-        (S.remaining reader.old) (S.failures reader.old) (S.failures reader.new)) }
-    ensures kept { OnOk result (S.failures reader.new ≡ S.failures reader.old) }
-    ensures memory { TakesNoMemory T.needs → IfErr result (λ e. e ≢ Error.OutOfMemory) }
-    ensures head { IfErr result (λ e. e ≡ Error.OutOfMemory
-        → BeginWithHead (S.remaining reader.old)) }
+    ensures refused { IfErr result (RefusesReading limit T.reads T.asks S.remaining S.failures
+        reader.old reader.new) }
+    ensures kept { OnOk result (Same S.failures reader.old reader.new) }
+    ensures memory { SparesMemory T.needs result }
+    ensures head { HeadFirst (S.remaining reader.old) result }
 {
     let mut from = Deserializer::unread(alloc, IoRead::new(reader));
     let answer = read_message(alloc, limit, &mut from);
@@ -105,7 +104,7 @@ pub fn from_reader_within<S: Source, T: DeserializeOwned>(
 
 /// Reads one message as a value, by a deserializer that has read nothing.
 ///
-/// Refused as [`from_slice_within`] and [`from_reader_within`] are. The crate has no such call.
+/// Refused as [`from_slice_within`] and [`from_reader_within`] are.
 pub fn read_message<R: DeRead, T: Deserialize<R::Lent>>(
     alloc: Global,
     limit: usize,
@@ -113,47 +112,18 @@ pub fn read_message<R: DeRead, T: Deserialize<R::Lent>>(
 ) -> Result<T>
 where
     R::Lent: LendsText,
-    requires opened { (state R.window R.Lent.kept from.old).opened ≡ 0 }
-    requires keys { (state R.window R.Lent.kept from.old).keys ≡ [] }
-    requires outer { (state R.window R.Lent.kept from.old).outer ≡ [] }
-    requires start { (state R.window R.Lent.kept from.old).source.count ≡ 0 }
+    requires unread { IsUnread from.old.state }
+    requires start { from.old.state.source.count ≡ 0 }
     ensures found { IfOk result (ReadsMessage limit T.reads T.holds
-        (state R.window R.Lent.kept from.old).source (state R.window R.Lent.kept from.new).source) }
+        from.old.state.source from.new.state.source) }
     ensures refused { IfErr result (λ e. RefusesMessage limit T.reads T.asks T.needs e
-        (state R.window R.Lent.kept from.old).source (state R.window R.Lent.kept from.new).source) }
-    ensures memory { TakesNoMemory T.needs → IfErr result (λ e. e ≢ Error.OutOfMemory) }
-    ensures head { IfErr result (λ e. e ≡ Error.OutOfMemory
-        → BeginWithHead (left (state R.window R.Lent.kept from.old).source)) }
+        from.old.state.source from.new.state.source) }
+    ensures memory { SparesMemory T.needs result }
+    ensures head { HeadFirst (left from.old.state.source) result }
 {
-    match read_body(alloc, limit, from) {
-        Ok(value) => {
-            from.end()?;
-            Ok(value)
-        }
-        Err(Refused) => Err(from.take_refusal()),
-    }
-}
-
-/// Reads a message's head and its value.
-fn read_body<R: DeRead, T: Deserialize<R::Lent>>(
-    alloc: Global,
-    limit: usize,
-    from: &mut Deserializer<R>,
-) -> Answer<T>
-where
-    R::Lent: LendsText,
-    requires opened { (state R.window R.Lent.kept from.old).opened ≡ 0 }
-    requires keys { (state R.window R.Lent.kept from.old).keys ≡ [] }
-    requires outer { (state R.window R.Lent.kept from.old).outer ≡ [] }
-    ensures found { IfOk result (ReadsBody limit T.reads T.holds
-        (state R.window R.Lent.kept from.old).source (state R.window R.Lent.kept from.new)) }
-    ensures refused { OnErr result (RefusesBody limit T.reads T.asks T.needs (refusal_in from.new)
-        (state R.window R.Lent.kept from.old).source (state R.window R.Lent.kept from.new).source) }
-    ensures memory { TakesNoMemory T.needs
-        → OnErr result (refusal_in from.new ≢ Error.OutOfMemory) }
-    ensures head { OnErr result (refusal_in from.new ≡ Error.OutOfMemory
-        → BeginWithHead (left (state R.window R.Lent.kept from.old).source)) }
-{
-    from.read_head(limit)?;
-    T::deserialize(alloc, from)
+    let limits = Limits {
+        levels: limit,
+        bytes: usize::MAX,
+    };
+    read_limited(alloc, limits, from)
 }

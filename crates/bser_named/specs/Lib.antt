@@ -2,7 +2,6 @@ pub mod Named
 pub mod DueReaders
 pub mod Asks
 pub mod Clauses
-pub mod Samples
 pub mod NamedLaws
 pub mod TypeLaws
 pub mod Structs

@@ -3,5 +3,3 @@
 #![tactic(auto)]
 
 pub mod laws;
-pub mod refusals;
-pub mod typed_refusals;

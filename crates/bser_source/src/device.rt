@@ -13,8 +13,7 @@ use std::io::{Read, Write};
 
 /// A reader that tells its count of failures, and the bytes left where it knows them.
 ///
-/// The crate reads by std's `Read`, whose faults nobody counts. [`Watched`] makes a source of any
-/// such reader, and a `&mut` to a source is one.
+/// [`Watched`] makes a source of any reader by std's `Read`, and a `&mut` to a source is one.
 pub trait Source {
     // the bytes left, where they are known
     ghost remaining: { Self → Option (List ℕ) };
@@ -38,8 +37,7 @@ pub trait Source {
 
 /// A writer that tells what it takes, and its count of failures.
 ///
-/// The crate writes by std's `Write`, whose faults nobody counts. [`Watched`] makes a sink of any
-/// such writer, and a `&mut` to a sink is one.
+/// [`Watched`] makes a sink of any writer by std's `Write`, and a `&mut` to a sink is one.
 pub trait Sink {
     // from the first state to the second it took these bytes
     ghost took: { Self → Self → List ℕ → Type 0 };

@@ -1,5 +1,6 @@
 //! A byte source over a reader.
 ghost use Rattle.std.specs.Prelude.{refl, ◌≡◌, ◌≢◌, ◌≤◌, ◌<◌, ◌+◌, ◌-◌, ◌^◌, max, true, false, length, IfErr, OnOk};
+ghost use Rattle.bser_source.specs.declared.read.TheConstants.{WINDOW};
 ghost use Rattle.bser_source.specs.Window.{Grown, Filled, closed};
 ghost use Rattle.bser_source.specs.Refusal.{Refused};
 
@@ -22,10 +23,7 @@ use bser_format::errors::ReadCause;
 /// or a call that would raise the count of bytes past the greatest `usize`, bytes that had arrived
 /// are lost, nothing is buffered, and each call that can be refused answers
 /// [`ReadCause::Failed`], that last call too.
-///
-/// The crate's `IoRead` holds one byte at most, and asks the reader for just what a call asks. It
-/// reads again after an interruption, where this answers the fault, goes on after a refusal, and
-/// counts unchecked.
+/// An interruption is a fault too, and is not read again.
 #[derive(Drop)]
 pub struct IoRead<S> {
     reader: S,
@@ -46,8 +44,7 @@ impl<S: Source> IoRead<S> {
 
     /// Reads from the reader's next byte on. Nothing is taken, and nothing announced.
     ///
-    /// The crate takes a `Read`; here [`Watched`](crate::device::Watched) makes a [`Source`]
-    /// of one.
+    /// [`Watched`](crate::device::Watched) makes a [`Source`] of a reader by std's `Read`.
     #[inline(always)]
     pub fn new(reader: S) -> Self
         ensures { ⟦<IoRead<S> as DeRead>⟧.window result
@@ -64,7 +61,7 @@ impl<S: Source> IoRead<S> {
         }
     }
 
-    /// Gives the reader back. Bytes that were buffered are lost. The crate has no such call.
+    /// Gives the reader back. Bytes that were buffered are lost.
     #[inline(always)]
     pub fn into_inner(self) -> S
         ensures { result ≡ io_reader self }
@@ -106,9 +103,9 @@ impl<S: Source> IoRead<S> {
     fn ahead(&self, n: usize) -> usize
         requires front { self.now.start ≡ 0 }
         requires short { self.now.end < n }
-        requires fits { n ≤ 4096 }
+        requires fits { n ≤ WINDOW }
         ensures some { 0 < result }
-        ensures room { self.now.end + result ≤ 4096 }
+        ensures room { self.now.end + result ≤ WINDOW }
         ensures within { self.now.end + result
             ≤ max (self.now.limit - (self.now.arrived - self.now.end)) n }
     {
@@ -121,7 +118,7 @@ impl<S: Source> IoRead<S> {
     fn pull(&mut self, n: usize) -> Result<(), ReadCause>
         requires front { self.old.start ≡ 0 }
         requires short { self.old.end < n }
-        requires fits { n ≤ 4096 }
+        requires fits { n ≤ WINDOW }
         requires working { self.old.failed ≡ false }
         requires counted { self.old.arrived - self.old.end + n < 2 ^ 64 }
         ensures grown { OnOk result (Grown n
@@ -151,7 +148,7 @@ impl<S: Source> IoRead<S> {
     #[inline(never)]
     fn pull_to(&mut self, n: usize) -> Result<(), ReadCause>
         requires short { self.old.end - self.old.start < n }
-        requires fits { n ≤ 4096 }
+        requires fits { n ≤ WINDOW }
         ensures ok { OnOk result (Filled n
             (io_at S.remaining S.failures S.through self.old)
             (io_at S.remaining S.failures S.through self.new)) }

@@ -10,7 +10,7 @@ use crate::text::as_text;
 use bser_format::errors::{Error, ReadCause, Result};
 use std::alloc::Global;
 
-/// A text that a source lends. The crate has no such trait: its references name a lifetime.
+/// A text that a source lends.
 pub trait LendingText: Copy {
     ghost text: { Self → List ℕ };
 
@@ -19,7 +19,7 @@ pub trait LendingText: Copy {
         ensures { result.now ≡ text self.now };
 }
 
-/// Bytes that a source lends. The crate has no such trait: its references name a lifetime.
+/// Bytes that a source lends.
 pub trait Lending: Copy {
     ghost bytes: { Self → List ℕ };
 
@@ -69,8 +69,6 @@ pub trait LendsText: Lending {
 }
 
 /// What a source lends, where that may be bytes of an input of this lifetime.
-///
-/// The crate has no such trait: its sources name a lifetime.
 pub trait LendsFrom<'de>: LendsText {
     /// The lent bytes, for as long as the input stands. None where the source lends nothing.
     fn lent_bytes(given: Reference<'_, Self>) -> Option<&'de [u8]>

@@ -1,6 +1,7 @@
 //! Bytes from a reader to a buffer, and to a scratch.
 ghost use Rattle.std.specs.Prelude.{◌≡◌, ◌≤◌, ◌<◌, ◌+◌, ◌-◌, max, length, drop, take, IfOk, IfErr, OnOk};
 ghost use Rattle.std.specs.Io.KnownBytes.{Consumes, IsAtEnd};
+ghost use Rattle.bser_source.specs.declared.pull.TheConstants.{STEP};
 ghost use Rattle.bser_source.specs.Device.{PullCounts};
 ghost use Rattle.bser_source.specs.Failures.{FillRefused};
 ghost use Rattle.bser_source.specs.Pull.{Reads};
@@ -40,7 +41,7 @@ fn make_room(scratch: &mut Vec<u8>, filled: usize, len: usize) -> Result<(), Rea
     ensures kept { OnOk result (take filled scratch.new.items ≡ take filled scratch.old.items) }
     ensures room { OnOk result (filled < length scratch.new.items) }
     ensures fits { OnOk result (length scratch.new.items ≤ len) }
-    ensures ahead { length scratch.new.items ≤ max (length scratch.old.items) (filled + 65536) }
+    ensures ahead { length scratch.new.items ≤ max (length scratch.old.items) (filled + STEP) }
     ensures err { IfErr result (λ e. e ≡ ReadCause.Memory) }
 {
     if filled < scratch.len() {

@@ -2,6 +2,7 @@
 ghost use Rattle.std.specs.Prelude.{◌≡◌, ◌≢◌, ◌≤◌, ◌<◌, ◌∷◌, [], true, false, length, take, MatchOption, IfOk, IfErr, OnOk};
 ghost use Rattle.std.specs.Int.{w32, to_le_bytes};
 ghost use Rattle.bser_source.specs.Refs.{bytes_of, is_lent};
+ghost use Rattle.bser_source.specs.declared.read.TheConstants.{WINDOW};
 ghost use Rattle.bser_source.specs.Window.{Window, AreOctets, Filled, Peeks, Took, Expects, consumed, closed};
 ghost use Rattle.bser_source.specs.Refusal.{Refused};
 
@@ -35,9 +36,6 @@ pub const WINDOW: usize = 4096;
 /// What is buffered is taken without a refusal. A refusal of a source that lends changes nothing. A
 /// source that copies answers [`ReadCause::Failed`] to each call after a refusal. No call here
 /// answers [`ReadCause::Utf8`].
-///
-/// The crate's trait has the calls from `peek` on and `read_count`, names a lifetime in place of
-/// `Lent`, and answers a text in place of a cause. What its sources are after a refusal is open.
 pub trait DeRead {
     /// What the source lends from its input.
     type Lent: Lending;
@@ -55,7 +53,7 @@ pub trait DeRead {
     /// or where the count of bytes would pass the greatest `usize`. It takes no memory.
     fn fill(&mut self, n: usize) -> Result<(), ReadCause>
         requires some { 0 < n }
-        requires fits { n ≤ 4096 }
+        requires fits { n ≤ WINDOW }
         ensures ok { OnOk result (Filled n (window self.old) (window self.new)) }
         ensures err { IfErr result (λ e. Refused e (window self.old) (window self.new) n) }
         ensures memory { IfErr result (λ e. e ≢ ReadCause.Memory) };
@@ -88,11 +86,11 @@ pub trait DeRead {
     /// calls.
     ///
     /// All else stays as it is, and an announcement of fewer bytes than are still left of an
-    /// earlier one changes nothing. It takes no memory. The crate has no such call.
+    /// earlier one changes nothing. It takes no memory.
     fn expect(&mut self, n: usize)
         ensures { Expects (window self.old) (window self.new) n };
 
-    /// Refuses all calls from now on. The crate has no such call.
+    /// Refuses all calls from now on.
     fn close(&mut self)
         ensures { window self.new ≡ closed (window self.old) };
 
@@ -100,7 +98,7 @@ pub trait DeRead {
     fn read_count(&self) -> usize
         ensures { result ≡ (window self.now).count };
 
-    /// Whether each later call that can be refused is. The crate has no such call.
+    /// Whether each later call that can be refused is.
     fn is_failed(&self) -> bool
         ensures { result ≡ (window self.now).failed };
 
@@ -136,9 +134,6 @@ pub trait DeRead {
     }
 
     /// Takes the first buffered byte. It wants one, which a `peek` that succeeds gives.
-    ///
-    /// The crate's call wants none: over a slice it steps on, past the end too, and over a reader
-    /// it drops the byte of a `peek`, if there was one.
     final fn discard(&mut self)
         requires { 0 < length (window self.old).buffered }
         ensures { window self.new ≡ consumed 1 (window self.old) }
@@ -150,9 +145,6 @@ pub trait DeRead {
     /// held.
     ///
     /// Refusals are those of `gather`.
-    ///
-    /// The crate's call borrows the source for as long as the bytes; this one borrows the scratch
-    /// alone.
     final fn next_bytes<'s>(
         &mut self,
         len: usize,
@@ -193,7 +185,7 @@ pub trait DeRead {
 
     /// Takes four bytes by `next_bytes`, and gives their number, the lowest first.
     ///
-    /// Refusals are those of `next_bytes`. The crate's call reads them in the machine's order.
+    /// Refusals are those of `next_bytes`.
     final fn next_u32(&mut self, scratch: &mut Vec<u8>) -> Result<u32, ReadCause>
         ensures ok { IfOk result (λ n.
             Took (window self.old) (window self.new) (to_le_bytes w32 n)) }

@@ -9,8 +9,7 @@ use bser_format::errors::ReadCause;
 
 /// Bytes that are lent from the input, or that were copied.
 ///
-/// `L` is what the source lends: `&[u8]` of a slice, and [`NoLoan`] of a reader. The crate names two
-/// lifetimes instead.
+/// `L` is what the source lends: `&[u8]` of a slice, and [`NoLoan`] of a reader.
 #[derive(Drop)]
 pub enum Reference<'s, L> {
     /// Bytes of the input.
@@ -20,8 +19,6 @@ pub enum Reference<'s, L> {
 }
 
 /// A text that is lent from the input, or that was copied.
-///
-/// The crate has one `Reference` for bytes and texts.
 #[derive(Drop)]
 pub enum TextReference<'s, T> {
     /// A text of the input.
@@ -45,7 +42,7 @@ impl<'s, L: Lending> Reference<'s, L> {
 impl<'s, L: LendsText> Reference<'s, L> {
     /// The bytes as a text, lent or copied as they are.
     ///
-    /// Bytes that are not UTF-8 are [`ReadCause::Utf8`]. It stands for the crate's `map_result`.
+    /// Bytes that are not UTF-8 are [`ReadCause::Utf8`].
     pub fn to_text(self) -> Result<TextReference<'s, L::Text>, ReadCause>
         ensures ok { IfOk result (λ t. (text_bytes L.Text.text t ≡ bytes_of L.bytes self.entry)
             × IsUtf8 (bytes_of L.bytes self.entry)) }

@@ -8,8 +8,6 @@ use bser_format::errors::ReadCause;
 ///
 /// All that is left is buffered. It refuses past its end alone, by [`ReadCause::Eof`], or by
 /// [`ReadCause::Failed`] after `close`, and is unchanged by a refusal.
-///
-/// The crate's adds a length to its place unchecked, and has no `close`.
 #[derive(Drop)]
 pub struct SliceRead<'a> {
     slice: &'a [u8],

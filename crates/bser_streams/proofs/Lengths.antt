@@ -11,7 +11,7 @@ use Rattle.bser_source.proofs.Windows.{left_took}
 use Rattle.bser_bunser.specs.Tagged.{TookHead}
 use Rattle.bser_messages.proofs.Ends.{head_length}
 use Rattle.bser_streams.specs.Lengths.{HasLength, IsLengthOfEach, TooGreat}
-use Rattle.bser_streams.proofs.Heads.{body_size}
+use Rattle.bser_messages.proofs.Heads.{body_size}
 
 pub each_length : (bytes : List ℕ) (n : ℕ) → HasLength bytes n → IsLengthOfEach bytes n
 each_length bytes n h levels c t text m (x, y, e) =

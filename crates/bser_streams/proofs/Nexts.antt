@@ -14,10 +14,10 @@ use Rattle.bser_source.proofs.Windows.{left_grown, hand_first}
 use Rattle.bser_deserializer.specs.Reading.{Asking, Needs}
 use Rattle.bser_messages.specs.Messages.{NamesReader}
 use Rattle.bser_messages.proofs.Sources.{reader_fresh, blamed_more, fresh_itself, fresh_left}
-use Rattle.bser_streams.specs.Limited.{RefusesWithin}
+use Rattle.bser_messages.specs.Limited.{RefusesWithin}
 use Rattle.bser_streams.specs.Streams.{RefusesNext}
 use Rattle.bser_streams.proofs.Readers.{reader_refused_within}
-use Rattle.bser_streams.proofs.Windows.{refused_before}
+use Rattle.bser_messages.proofs.Within.{refused_before}
 
 -- ---- no byte is left
 

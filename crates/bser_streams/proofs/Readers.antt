@@ -12,7 +12,7 @@ use Rattle.bser_format.specs.Message.{Head}
 use Rattle.bser_messages.specs.Messages.{IsReaderFault}
 use Rattle.bser_messages.proofs.Ends.{head_length}
 use Rattle.bser_messages.proofs.Sources.{reader_fresh, fresh_left, reader_excused, reader_refused}
-use Rattle.bser_streams.specs.Limited.{TookWithin, ReadsWithin, RefusesWithin, RefusesReaderWithin}
+use Rattle.bser_messages.specs.Limited.{TookWithin, ReadsWithin, RefusesWithin, RefusesReaderWithin}
 
 -- where nothing was buffered nor announced, nothing past what was taken left the reader
 reader_gave : (a t : Window) (text : List ℕ) → a.buffered ≡ [] → a.limit ≡ 0 → Took a (with_limit a.limit t) text → Consumes a.beyond t.beyond text

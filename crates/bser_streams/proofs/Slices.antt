@@ -9,7 +9,7 @@ use Rattle.bser_source.specs.Slice.{slice_fresh}
 use Rattle.bser_source.proofs.Windows.{left_took}
 use Rattle.bser_deserializer.specs.Reading.{Asking, ExcusedBy, bare, Needs}
 use Rattle.bser_messages.proofs.Sources.{slice_excused, slice_refused}
-use Rattle.bser_streams.specs.Limited.{BeginsWithin, TookWithin, ReadsWithin, RefusesWithin, RefusesSliceWithin}
+use Rattle.bser_messages.specs.Limited.{BeginsWithin, TookWithin, ReadsWithin, RefusesWithin, RefusesSliceWithin}
 
 -- so many bytes of a slice were taken
 slice_took : {A : Type 0} (n m : ℕ) (reads : Meaning) (holds : A → Content → Type 0) (bytes : List ℕ) (t : Window) (v : A) (k : ℕ) → k ≡ t.count

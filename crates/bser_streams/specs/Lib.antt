@@ -1,4 +1,4 @@
 pub mod Lengths
-pub mod Limited
 pub mod Streams
-pub mod Views
+pub mod Readers
+pub mod Slices

@@ -4,7 +4,6 @@
 
 pub mod length;
 pub mod limited;
-pub mod limits;
 pub mod next;
 pub mod reader_messages;
 pub mod slice_messages;

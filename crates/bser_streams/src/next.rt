@@ -1,13 +1,14 @@
 //! The next message of a reader, or the end of its stream.
-ghost use Rattle.std.specs.Prelude.{◌≡◌, ◌≤◌, ◌^◌, ◌-◌, IfOk, IfErr, OnOk, ◌≢◌};
-ghost use Rattle.bser_deserializer.specs.Reading.{TakesNoMemory};
-ghost use Rattle.bser_streams.specs.Limited.{TookWithin, RefusesReaderWithin};
-ghost use Rattle.bser_streams.specs.Streams.{IsNext, RefusesNext};
+ghost use Rattle.std.specs.Prelude.{◌≤◌, ◌^◌, ◌-◌, IfOk, IfErr, OnOk};
+ghost use Rattle.bser_deserializer.specs.declared.deserializer.TheConstants.{MOST_LEVELS};
+ghost use Rattle.bser_messages.specs.Limited.{TookWithin, RefusesReadingWithin};
+ghost use Rattle.bser_messages.specs.Messages.{HeadFirst, Same, SparesMemory};
+ghost use Rattle.bser_streams.specs.Streams.{IsNext, RefusesNextOf};
 
-use crate::limited::read_within;
-use crate::limits::Limits;
 use bser_deserializer::deserializer::Deserializer;
 use bser_format::errors::{Error, ReadCause, Result};
+use bser_messages::limited::read_limited;
+use bser_messages::limits::Limits;
 use bser_source::device::Source;
 use bser_source::io_read::IoRead;
 use bser_source::read::DeRead;
@@ -18,18 +19,18 @@ use std::alloc::Global;
 /// byte is left.
 ///
 /// A reader that ends inside a message is refused by [`ReadCause::Eof`]. All else is as in
-/// [`from_reader`](bser_messages::message::from_reader). The crate does not tell the two ends apart.
+/// [`from_reader`](bser_messages::message::from_reader).
 pub fn next_message<S: Source, T: DeserializeOwned>(
     alloc: Global,
     reader: &mut S,
 ) -> Result<Option<T>>
     ensures found { IfOk result (IsNext 128 (2 ^ 64 - 1) T.reads T.holds
         (S.remaining reader.old) (S.remaining reader.new)) }
-    ensures refused { IfErr result (λ e. RefusesNext 128 (2 ^ 64 - 1) T.reads T.asks e
-        (S.remaining reader.old) (S.remaining reader.new)
-        (S.failures reader.old) (S.failures reader.new)) }
-    ensures kept { OnOk result (S.failures reader.new ≡ S.failures reader.old) }
-    ensures memory { TakesNoMemory T.needs → IfErr result (λ e. e ≢ Error.OutOfMemory) }
+    ensures refused { IfErr result (RefusesNextOf 128 (2 ^ 64 - 1) T.reads T.asks
+        S.remaining S.failures reader.old reader.new) }
+    ensures kept { OnOk result (Same S.failures reader.old reader.new) }
+    ensures memory { SparesMemory T.needs result }
+    ensures head { HeadFirst (S.remaining reader.old) result }
 {
     next_message_limited(alloc, Limits::new(), reader)
 }
@@ -44,20 +45,20 @@ pub fn next_message_limited<S: Source, T: DeserializeOwned>(
     limits: Limits,
     reader: &mut S,
 ) -> Result<Option<T>>
-    requires { limits.levels ≤ 1024 }
+    requires { limits.levels ≤ MOST_LEVELS }
     ensures found { IfOk result (IsNext limits.levels limits.bytes T.reads T.holds
         (S.remaining reader.old) (S.remaining reader.new)) }
-    ensures refused { IfErr result (λ e. RefusesNext limits.levels limits.bytes T.reads T.asks e
-        (S.remaining reader.old) (S.remaining reader.new)
-        (S.failures reader.old) (S.failures reader.new)) }
-    ensures kept { OnOk result (S.failures reader.new ≡ S.failures reader.old) }
-    ensures memory { TakesNoMemory T.needs → IfErr result (λ e. e ≢ Error.OutOfMemory) }
+    ensures refused { IfErr result (RefusesNextOf limits.levels limits.bytes T.reads T.asks
+        S.remaining S.failures reader.old reader.new) }
+    ensures kept { OnOk result (Same S.failures reader.old reader.new) }
+    ensures memory { SparesMemory T.needs result }
+    ensures head { HeadFirst (S.remaining reader.old) result }
 {
     let mut read = IoRead::new(reader);
     match read.peek() {
         Ok(_first) => {
             let mut from = Deserializer::unread(alloc, read);
-            let answer = read_within(alloc, limits, &mut from);
+            let answer = read_limited(alloc, limits, &mut from);
             let _reader = from.into_inner().into_inner();
             match answer {
                 Ok(value) => Ok(Some(value)),
@@ -78,24 +79,23 @@ pub fn next_message_limited<S: Source, T: DeserializeOwned>(
 ///
 /// As [`from_reader_within`](bser_messages::message::from_reader_within), with one refusal more: a
 /// head that announces a body of more than `limits.bytes` bytes is [`Error::DeTooLong`]. Then the
-/// head was taken, and no byte of the body. The crate has no limit of bytes.
+/// head was taken, and no byte of the body.
 pub fn from_reader_limited<S: Source, T: DeserializeOwned>(
     alloc: Global,
     limits: Limits,
     reader: &mut S,
 ) -> Result<T>
-    requires { limits.levels ≤ 1024 }
+    requires { limits.levels ≤ MOST_LEVELS }
     ensures found { IfOk result (TookWithin limits.levels limits.bytes T.reads T.holds
         (S.remaining reader.old) (S.remaining reader.new)) }
-    ensures refused { IfErr result (λ e.
-        RefusesReaderWithin limits.levels limits.bytes T.reads T.asks e
-        (S.remaining reader.old) (S.remaining reader.new)
-        (S.failures reader.old) (S.failures reader.new)) }
-    ensures kept { OnOk result (S.failures reader.new ≡ S.failures reader.old) }
-    ensures memory { TakesNoMemory T.needs → IfErr result (λ e. e ≢ Error.OutOfMemory) }
+    ensures refused { IfErr result (RefusesReadingWithin limits.levels limits.bytes
+        T.reads T.asks S.remaining S.failures reader.old reader.new) }
+    ensures kept { OnOk result (Same S.failures reader.old reader.new) }
+    ensures memory { SparesMemory T.needs result }
+    ensures head { HeadFirst (S.remaining reader.old) result }
 {
     let mut from = Deserializer::unread(alloc, IoRead::new(reader));
-    let answer = read_within(alloc, limits, &mut from);
+    let answer = read_limited(alloc, limits, &mut from);
     let _reader = from.into_inner().into_inner();
     answer
 }

@@ -1,11 +1,12 @@
 //! The messages of a reader, one after the other.
-ghost use Rattle.std.specs.Prelude.{◌≡◌, ◌≢◌, ◌≤◌, ◌^◌, ◌-◌, true, false, IfOk, IfErr, OnOk, OnErr};
-ghost use Rattle.bser_deserializer.specs.Reading.{TakesNoMemory};
-ghost use Rattle.bser_streams.specs.Streams.{IsNext, RefusesNext, counts_message};
+ghost use Rattle.std.specs.Prelude.{◌≡◌, ◌≤◌, ◌^◌, ◌-◌, true, false, IfOk, IfErr, OnOk, OnErr};
+ghost use Rattle.bser_deserializer.specs.declared.deserializer.TheConstants.{MOST_LEVELS};
+ghost use Rattle.bser_messages.specs.Messages.{HeadFirst, Same, SparesMemory};
+ghost use Rattle.bser_streams.specs.Streams.{IsNext, RefusesNextOf, counts_message};
 
-use crate::limits::Limits;
 use crate::next::next_message_limited;
 use bser_format::errors::{Error, ReadCause, Result};
+use bser_messages::limits::Limits;
 use bser_source::device::Source;
 use bser_types::deserialize::DeserializeOwned;
 use std::alloc::Global;
@@ -13,7 +14,7 @@ use std::alloc::Global;
 /// Reads the messages of a reader one after the other.
 ///
 /// After a refusal nothing is known of where the reader is in a message, so each later call is
-/// refused by [`ReadCause::Failed`]. The crate has no such type.
+/// refused by [`ReadCause::Failed`].
 #[derive(Drop)]
 pub struct ReaderMessages<S> {
     alloc: Global,
@@ -21,11 +22,11 @@ pub struct ReaderMessages<S> {
     reader: S,
     taken: u64,
     failed: bool,
-    ghost levels: { limits.levels ≤ 1024 },
+    ghost levels: { limits.levels ≤ MOST_LEVELS },
 }
 
 impl<S: Source> ReaderMessages<S> {
-    ghost use Rattle.bser_streams.specs.Views.{reader_limits, reader_of, reader_taken, reader_failed, RefusesAgain};
+    ghost use Rattle.bser_streams.specs.Readers.{reader_limits, reader_of, reader_taken, reader_failed, RefusesAgain};
 
     /// Reads from the reader's next byte on, messages of at most 128 levels. Nothing is read yet.
     pub fn new(alloc: Global, reader: S) -> Self
@@ -40,7 +41,7 @@ impl<S: Source> ReaderMessages<S> {
 
     /// Reads from the reader's next byte on, messages within these limits. Nothing is read yet.
     pub fn with_limits(alloc: Global, limits: Limits, reader: S) -> Self
-        requires { limits.levels ≤ 1024 }
+        requires { limits.levels ≤ MOST_LEVELS }
         ensures limits { reader_limits result ≡ limits }
         ensures reader { reader_of result ≡ reader }
         ensures taken { reader_taken result ≡ 0 }
@@ -64,21 +65,21 @@ impl<S: Source> ReaderMessages<S> {
             (reader_limits self.old).levels (reader_limits self.old).bytes T.reads T.holds
             (S.remaining (reader_of self.old)) (S.remaining (reader_of self.new))) }
         ensures kept { OnOk result
-            (S.failures (reader_of self.new) ≡ S.failures (reader_of self.old)) }
+            (Same S.failures (reader_of self.old) (reader_of self.new)) }
         ensures counted { IfOk result (λ answer.
             reader_taken self.new ≡ counts_message answer (reader_taken self.old)) }
         ensures works { OnOk result (reader_failed self.old ≡ false) }
         ensures working { OnOk result (reader_failed self.new ≡ false) }
-        ensures refused { IfErr result (λ e. reader_failed self.old ≡ false → RefusesNext
-            (reader_limits self.old).levels (reader_limits self.old).bytes T.reads T.asks e
-            (S.remaining (reader_of self.old)) (S.remaining (reader_of self.new))
-            (S.failures (reader_of self.old)) (S.failures (reader_of self.new))) }
+        ensures refused { IfErr result (λ e. reader_failed self.old ≡ false
+            → RefusesNextOf (reader_limits self.old).levels (reader_limits self.old).bytes
+            T.reads T.asks S.remaining S.failures (reader_of self.old) (reader_of self.new) e) }
         ensures again { IfErr result (λ e. reader_failed self.old ≡ true
             → RefusesAgain e self.old self.new) }
         ensures failed { OnErr result (reader_failed self.new ≡ true) }
         ensures stays { OnErr result (reader_taken self.new ≡ reader_taken self.old) }
         ensures limits { reader_limits self.new ≡ reader_limits self.old }
-        ensures memory { TakesNoMemory T.needs → IfErr result (λ e. e ≢ Error.OutOfMemory) }
+        ensures memory { SparesMemory T.needs result }
+        ensures head { HeadFirst (S.remaining (reader_of self.old)) result }
     {
         if self.failed {
             return Err(Error::de_reader_error(ReadCause::Failed));
@@ -121,13 +122,7 @@ impl<S: Source> ReaderMessages<S> {
     pub fn into_inner(self) -> S
         ensures { result ≡ reader_of self }
     {
-        let ReaderMessages {
-            alloc: _,
-            limits: _,
-            reader,
-            taken: _,
-            failed: _,
-        } = self;
+        let ReaderMessages { reader, .. } = self;
         reader
     }
 }

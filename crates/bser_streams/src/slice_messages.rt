@@ -1,46 +1,54 @@
 //! The messages of a slice, one after the other.
-ghost use Rattle.std.specs.Prelude.{◌≡◌, ◌≢◌, ◌≤◌, ◌+◌, ◌^◌, ◌-◌, [], length, Some, IfOk, IfErr, OnErr};
-ghost use Rattle.bser_streams.specs.Limited.{RefusesSliceWithin};
+ghost use Rattle.std.specs.Prelude.{◌≡◌, ◌≢◌, ◌≤◌, ◌+◌, ◌^◌, ◌-◌, [], length, Some, IfOk, IfErr, IfNone, OnErr};
+ghost use Rattle.bser_deserializer.specs.declared.deserializer.TheConstants.{MOST_LEVELS};
+ghost use Rattle.bser_messages.specs.Limited.{RefusesSliceWithin};
+ghost use Rattle.bser_messages.specs.Messages.{HeadFirst};
+ghost use Rattle.bser_streams.specs.Slices.{rest_of};
 ghost use Rattle.bser_streams.specs.Streams.{IsNext};
 
 use crate::limited::front_message;
-use crate::limits::Limits;
 use bser_format::errors::Result;
+use bser_messages::limits::Limits;
 use bser_types::deserialize::Deserialize;
 use std::alloc::Global;
+use std::marker::Model;
 
 /// Reads the messages of a slice one after the other, with parts lent from it.
-///
-/// The crate has no such type.
 #[derive(Drop)]
 pub struct SliceMessages<'de> {
     alloc: Global,
     limits: Limits,
     bytes: &'de [u8],
     taken: usize,
-    ghost levels: { limits.levels ≤ 1024 },
+    ghost levels: { limits.levels ≤ MOST_LEVELS },
     ghost within: { taken ≤ length bytes.now },
 }
 
-impl<'de> SliceMessages<'de> {
-    ghost use Rattle.bser_streams.specs.Views.{slice_limits, slice_whole, slice_taken, slice_rest};
+impl<'de> Model for SliceMessages<'de> {
+    ghost use Rattle.bser_streams.specs.Slices.{SliceStream};
 
+    ghost Value = { SliceStream };
+
+    ghost view = { λ s. record { limits = s.limits; whole = s.bytes.now; taken = s.taken } };
+}
+
+impl<'de> SliceMessages<'de> {
     /// Reads from the front of `bytes`, messages of at most 128 levels.
     pub fn new(alloc: Global, bytes: &'de [u8]) -> Self
-        ensures levels { (slice_limits result).levels ≡ 128 }
-        ensures bytes { (slice_limits result).bytes ≡ 2 ^ 64 - 1 }
-        ensures whole { slice_whole result ≡ bytes.entry.now }
-        ensures taken { slice_taken result ≡ 0 }
+        ensures levels { result.limits.levels ≡ 128 }
+        ensures bytes { result.limits.bytes ≡ 2 ^ 64 - 1 }
+        ensures whole { result.whole ≡ bytes.entry.now }
+        ensures taken { result.taken ≡ 0 }
     {
         Self::with_limits(alloc, Limits::new(), bytes)
     }
 
     /// Reads from the front of `bytes`, messages within these limits.
     pub fn with_limits(alloc: Global, limits: Limits, bytes: &'de [u8]) -> Self
-        requires { limits.levels ≤ 1024 }
-        ensures limits { slice_limits result ≡ limits }
-        ensures whole { slice_whole result ≡ bytes.entry.now }
-        ensures taken { slice_taken result ≡ 0 }
+        requires { limits.levels ≤ MOST_LEVELS }
+        ensures limits { result.limits ≡ limits }
+        ensures whole { result.whole ≡ bytes.entry.now }
+        ensures taken { result.taken ≡ 0 }
     {
         SliceMessages {
             alloc,
@@ -57,15 +65,17 @@ impl<'de> SliceMessages<'de> {
     /// again, perhaps as another type.
     pub fn next_message<T: Deserialize<&'de [u8]>>(&mut self) -> Result<Option<T>>
         ensures found { IfOk result (IsNext
-            (slice_limits self.old).levels (slice_limits self.old).bytes T.reads T.holds
-            (Some (slice_rest self.old)) (Some (slice_rest self.new))) }
+            self.old.limits.levels self.old.limits.bytes T.reads T.holds
+            (Some (rest_of self.old)) (Some (rest_of self.new))) }
         ensures refused { IfErr result (λ e. RefusesSliceWithin
-            (slice_limits self.old).levels (slice_limits self.old).bytes
-            T.reads T.asks T.needs e (slice_rest self.old)) }
-        ensures some { OnErr result (slice_rest self.old ≢ []) }
-        ensures stays { OnErr result (slice_taken self.new ≡ slice_taken self.old) }
-        ensures whole { slice_whole self.new ≡ slice_whole self.old }
-        ensures limits { slice_limits self.new ≡ slice_limits self.old }
+            self.old.limits.levels self.old.limits.bytes
+            T.reads T.asks T.needs e (rest_of self.old)) }
+        ensures head { HeadFirst (Some (rest_of self.old)) result }
+        ensures ended { IfOk result (λ a. IfNone a (self.new.taken ≡ self.old.taken)) }
+        ensures some { OnErr result (rest_of self.old ≢ []) }
+        ensures stays { OnErr result (self.new.taken ≡ self.old.taken) }
+        ensures whole { self.new.whole ≡ self.old.whole }
+        ensures limits { self.new.limits ≡ self.old.limits }
     {
         let left: &'de [u8] = &self.bytes[self.taken..];
         if left.is_empty() {
@@ -78,15 +88,15 @@ impl<'de> SliceMessages<'de> {
 
     /// The bytes after the messages that were taken.
     pub fn rest(&self) -> &'de [u8]
-        ensures { result.now ≡ slice_rest self.now }
+        ensures { result.now ≡ rest_of self.now }
     {
         &self.bytes[self.taken..]
     }
 
     /// How many bytes the messages have that were taken: the place of the next one in the slice.
     pub fn taken(&self) -> usize
-        ensures value { result ≡ slice_taken self.now }
-        ensures within { result + length (slice_rest self.now) ≡ length (slice_whole self.now) }
+        ensures value { result ≡ self.now.taken }
+        ensures within { result + length (rest_of self.now) ≡ length self.now.whole }
     {
         self.taken
     }

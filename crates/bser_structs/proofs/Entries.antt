@@ -7,8 +7,9 @@ use Rattle.bser_written.specs.Written.{part_tree, plain_bytes, struct_tree}
 use Rattle.bser_format.specs.declared.errors.Error.{Error}
 use Rattle.bser_ser.specs.Sent.{Sent}
 use Rattle.bser_ser.specs.Ends.{Ends, Stops, text_of, then, field_text, CanBeWritten}
-use Rattle.bser_ser.specs.Stopped.{Answering}
+use Rattle.bser_ser.specs.Stopped.{Tells}
 use Rattle.bser_ser.specs.declared.serializer.Serializer.{Serializer}
+use Rattle.bser_ser.proofs.Sends.{Joins}
 use Rattle.bser_ser.proofs.Ends.{joined, then-assoc, then-nil, nil-then, Ends-both, Stops-first, Stops-second}
 use Rattle.bser_ser.proofs.Structs.{struct_text, field_ends, field_stops}
 use Rattle.bser_ser.proofs.Texts.{entry_text}
@@ -34,31 +35,31 @@ is_count n count (inr x) h = absurd (omega (arith, x.0, h))
 tree_text : (fs : List (List ℕ × Result Tree Error)) (count : ℕ) → count ≡ length fs → count < 2 ^ 63 → text_of (entries_tree fs) ≡ then (Ok (object_head count)) (entries_text fs)
 tree_text fs count e h = rw (e) (ap text_of (tree_within fs (subst (λ (n : ℕ). n < 2 ^ 63) e h)) ∙ (struct_text fs ∙ ap (then (Ok (object_head (length fs)))) (entries_joined fs)))
 
-module _ {S : Type 0} (took : S → S → List ℕ → Type 0) (failures : S → ℕ) (both : (a b c : S) (xs ys : List ℕ) → took a b xs → took b c ys → took a c (xs ++ ys)) where
+module _ {S : Type 0} (sink : Tells S) (both : Joins sink) where
   -- one field
-  pub one_ends : (key : List ℕ) (m : Result Tree Error) (a b c : Serializer S) → Sent took failures a b (canonical_key key) → Ends took failures (text_of m) b c → Ends took failures (entries_text ((key, m) ∷ [])) a c
-  one_ends key m a b c s t = subst (λ (n : Result (List ℕ) Error). Ends took failures n a c) (sym (then-nil (field_text key m))) (field_ends took failures both key m a b c s t)
+  pub one_ends : (key : List ℕ) (m : Result Tree Error) (a b c : Serializer S) → Sent sink a b (canonical_key key) → Ends sink (text_of m) b c → Ends sink (entries_text ((key, m) ∷ [])) a c
+  one_ends key m a b c s t = subst (λ (n : Result (List ℕ) Error). Ends sink n a c) (sym (then-nil (field_text key m))) (field_ends sink both key m a b c s t)
 
   -- a field, and the others
-  pub each_ends : (xs ys : List (List ℕ × Result Tree Error)) (a b c : Serializer S) → Ends took failures (entries_text xs) a b → Ends took failures (entries_text ys) b c → Ends took failures (entries_text (xs ++ ys)) a c
-  each_ends xs ys a b c s t = subst (λ (n : Result (List ℕ) Error). Ends took failures n a c) (sym (entries_append xs ys)) (Ends-both took failures both (entries_text xs) (entries_text ys) a b c s t)
+  pub each_ends : (xs ys : List (List ℕ × Result Tree Error)) (a b c : Serializer S) → Ends sink (entries_text xs) a b → Ends sink (entries_text ys) b c → Ends sink (entries_text (xs ++ ys)) a c
+  each_ends xs ys a b c s t = subst (λ (n : Result (List ℕ) Error). Ends sink n a c) (sym (entries_append xs ys)) (Ends-both sink both (entries_text xs) (entries_text ys) a b c s t)
 
   -- the head, and the fields
-  pub tree_ends : (fs : List (List ℕ × Result Tree Error)) (count : ℕ) → IsCount (length fs) count → count < 2 ^ 63 → (a b c : Serializer S) → Sent took failures a b (object_head count) → Ends took failures (entries_text fs) b c → Ends took failures (text_of (entries_tree fs)) a c
-  tree_ends fs count n h a b c s t = subst (λ (m : Result (List ℕ) Error). Ends took failures m a c) (sym (tree_text fs count (is_count (length fs) count n h) h)) (Ends-both took failures both (Ok (object_head count)) (entries_text fs) a b c s t)
+  pub tree_ends : (fs : List (List ℕ × Result Tree Error)) (count : ℕ) → IsCount (length fs) count → count < 2 ^ 63 → (a b c : Serializer S) → Sent sink a b (object_head count) → Ends sink (entries_text fs) b c → Ends sink (text_of (entries_tree fs)) a c
+  tree_ends fs count n h a b c s t = subst (λ (m : Result (List ℕ) Error). Ends sink m a c) (sym (tree_text fs count (is_count (length fs) count n h) h)) (Ends-both sink both (Ok (object_head count)) (entries_text fs) a b c s t)
 
-module _ {S : Type 0} (took : S → S → List ℕ → Type 0) (answered : Answering S) (failures : S → ℕ) (both : (a b c : S) (xs ys : List ℕ) → took a b xs → took b c ys → took a c (xs ++ ys)) where
-  pub one_stops : (key : List ℕ) (m : Result Tree Error) (a b c : Serializer S) (e : Error) → Sent took failures a b (canonical_key key) → Stops took answered failures (text_of m) b c e → Stops took answered failures (entries_text ((key, m) ∷ [])) a c e
-  one_stops key m a b c e s t = subst (λ (n : Result (List ℕ) Error). Stops took answered failures n a c e) (sym (then-nil (field_text key m))) (field_stops took answered failures both key m a b c e s t)
+module _ {S : Type 0} (sink : Tells S) (both : Joins sink) where
+  pub one_stops : (key : List ℕ) (m : Result Tree Error) (a b c : Serializer S) (e : Error) → Sent sink a b (canonical_key key) → Stops sink (text_of m) b c e → Stops sink (entries_text ((key, m) ∷ [])) a c e
+  one_stops key m a b c e s t = subst (λ (n : Result (List ℕ) Error). Stops sink n a c e) (sym (then-nil (field_text key m))) (field_stops sink both key m a b c e s t)
 
-  pub first_stops : (xs ys : List (List ℕ × Result Tree Error)) (a b : Serializer S) (e : Error) → Stops took answered failures (entries_text xs) a b e → Stops took answered failures (entries_text (xs ++ ys)) a b e
-  first_stops xs ys a b e s = subst (λ (n : Result (List ℕ) Error). Stops took answered failures n a b e) (sym (entries_append xs ys)) (Stops-first took answered failures (entries_text xs) (entries_text ys) a b e s)
+  pub first_stops : (xs ys : List (List ℕ × Result Tree Error)) (a b : Serializer S) (e : Error) → Stops sink (entries_text xs) a b e → Stops sink (entries_text (xs ++ ys)) a b e
+  first_stops xs ys a b e s = subst (λ (n : Result (List ℕ) Error). Stops sink n a b e) (sym (entries_append xs ys)) (Stops-first sink (entries_text xs) (entries_text ys) a b e s)
 
-  pub others_stop : (xs ys : List (List ℕ × Result Tree Error)) (a b c : Serializer S) (e : Error) → Ends took failures (entries_text xs) a b → Stops took answered failures (entries_text ys) b c e → Stops took answered failures (entries_text (xs ++ ys)) a c e
-  others_stop xs ys a b c e s t = subst (λ (n : Result (List ℕ) Error). Stops took answered failures n a c e) (sym (entries_append xs ys)) (Stops-second took answered failures both (entries_text xs) (entries_text ys) a b c e s t)
+  pub others_stop : (xs ys : List (List ℕ × Result Tree Error)) (a b c : Serializer S) (e : Error) → Ends sink (entries_text xs) a b → Stops sink (entries_text ys) b c e → Stops sink (entries_text (xs ++ ys)) a c e
+  others_stop xs ys a b c e s t = subst (λ (n : Result (List ℕ) Error). Stops sink n a c e) (sym (entries_append xs ys)) (Stops-second sink both (entries_text xs) (entries_text ys) a b c e s t)
 
-  pub tree_stops : (fs : List (List ℕ × Result Tree Error)) (count : ℕ) → IsCount (length fs) count → count < 2 ^ 63 → (a b c : Serializer S) (e : Error) → Sent took failures a b (object_head count) → Stops took answered failures (entries_text fs) b c e → Stops took answered failures (text_of (entries_tree fs)) a c e
-  tree_stops fs count n h a b c e s t = subst (λ (m : Result (List ℕ) Error). Stops took answered failures m a c e) (sym (tree_text fs count (is_count (length fs) count n h) h)) (Stops-second took answered failures both (Ok (object_head count)) (entries_text fs) a b c e s t)
+  pub tree_stops : (fs : List (List ℕ × Result Tree Error)) (count : ℕ) → IsCount (length fs) count → count < 2 ^ 63 → (a b c : Serializer S) (e : Error) → Sent sink a b (object_head count) → Stops sink (entries_text fs) b c e → Stops sink (text_of (entries_tree fs)) a c e
+  tree_stops fs count n h a b c e s t = subst (λ (m : Result (List ℕ) Error). Stops sink m a c e) (sym (tree_text fs count (is_count (length fs) count n h) h)) (Stops-second sink both (Ok (object_head count)) (entries_text fs) a b c e s t)
 
 -- a field, and the others
 pub each_writable : (xs ys : List (List ℕ × Result Tree Error)) → EntriesCanBeWritten xs → EntriesCanBeWritten ys → EntriesCanBeWritten (xs ++ ys)

@@ -1,7 +1,13 @@
 -- What the payload of a variant is read as, in a list over the variants.
-use Rattle.std.specs.Prelude.{ℕ, zero, suc, List, [], ◌∷◌, Option}
-use Rattle.bser_format.specs.Content.{Content, one}
-use Rattle.bser_deserializer.specs.Reading.{Asking, Needs}
+use Rattle.std.specs.Prelude.{◌<◌, ◌+◌, ℕ, zero, suc, List, [], ◌∷◌, length, Option}
+use Rattle.bser_format.specs.Content.{Content, one, variant}
+use Rattle.bser_deserializer.specs.Reading.{Answers, Asking, Needs}
+use Rattle.bser_deserializer.specs.Seen.{Seen}
+use Rattle.bser_deserializer.specs.declared.frames.MapHead.{MapHead}
+use Rattle.bser_types.specs.Accesses.{texts, RefusesDue}
+use Rattle.bser_types.specs.Slots.{struct_needs}
+use Rattle.bser_fields.specs.Structs.{Names}
+use Rattle.bser_variants.specs.EnumAccess.{enum_head}
 use Rattle.bser_format.specs.Enums.{Payload, unit, holds, reads_enum}
 use Rattle.bser_format.specs.declared.errors.Error.{Error}
 use Rattle.bser_deserializer.specs.State.{State}
@@ -67,3 +73,32 @@ labelled_askings (n ∷ ns) (p ∷ ps) qs = (qs.0, labelled_askings ns ps qs.1)
 abbrev pub asking_labelled : (name : List ℕ) → (ns : List (List ℕ)) → (ps : List Payload)
     → PayloadAskings ps → Option (Asking (reads_enum (labelled ns ps)))
 asking_labelled name ns ps qs = asking_enum name (labelled ns ps) (labelled_askings ns ps qs)
+
+-- ---- what the calls answer
+
+-- the payload in the object or row of this head, or of a name that stands alone, was read, and v holds it
+abbrev pub GivesPayload : {A : Type 0} → Payload → (A → Content → Type 0) → Option MapHead → Seen → Seen → A → Type 0
+GivesPayload p held head old new v = IsPayloadOf p (held v) (enum_head head old.state) new.state
+
+-- it is refused, as its type tells
+abbrev pub GivesNone : (p : Payload) → PayloadAsking p → Needs → Option MapHead → Seen → Seen → Type 0
+GivesNone p asks needs head old new = RefusesPayloadOf p asks needs new.refusal (enum_head head old.state) new.state
+
+-- the payload of the variant at this place was read, and v holds it, whatever place the first variant has
+abbrev pub GivesAt : {A : Type 0} → ℕ → List Payload → (ℕ → A → Content → Type 0) → Option MapHead → Seen → Seen → A → Type 0
+GivesAt place ps held head old new v =
+    (first : ℕ) → IsPayloadAt ps place (λ c. held first v (variant (first + place) c)) (enum_head head old.state) new.state
+
+-- where there is such a place, the payload is refused, as its type tells
+abbrev pub GivesNoneAt : ℕ → (ps : List Payload) → PayloadAskings ps → List Needs → Option MapHead → Seen → Seen → Type 0
+GivesNoneAt place ps asks needs head old new =
+    place < length ps → RefusesPayloadAt ps asks needs place new.refusal (enum_head head old.state) new.state
+
+-- an enum whose variants have these names and payloads was read, and v holds it
+abbrev pub ReadsEnum : {A : Type 0} → Names → List Payload → (ℕ → A → Content → Type 0) → Seen → Seen → A → Type 0
+ReadsEnum names ps held old new = Answers (reads_enum (labelled (texts names) ps)) (held 0) old.state new.state
+
+-- what is due is refused as that enum, of this name
+abbrev pub RefusesEnum : List ℕ → Names → (ps : List Payload) → PayloadAskings ps → List Needs → Seen → Seen → Type 0
+RefusesEnum name names ps asks needs old new =
+    RefusesDue (reads_enum (labelled (texts names) ps)) (asking_labelled name (texts names) ps asks) (struct_needs needs) old new

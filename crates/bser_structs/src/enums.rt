@@ -1,10 +1,6 @@
 //! The list of an enum's variants, and reading and writing an enum by it.
-ghost use Rattle.std.specs.Prelude.{◌≡◌, List, length, map, IfOk, OnErr};
-ghost use Rattle.bser_format.specs.Enums.{reads_enum};
-ghost use Rattle.bser_deserializer.specs.Reading.{Answers, Refuses};
-ghost use Rattle.bser_deserializer.specs.View.{state, refusal_in};
-ghost use Rattle.bser_types.specs.Slots.{struct_needs};
-ghost use Rattle.bser_structs.specs.Payloads.{labelled, asking_labelled};
+ghost use Rattle.std.specs.Prelude.{◌≡◌, List, length, IfOk, OnErr};
+ghost use Rattle.bser_structs.specs.Payloads.{ReadsEnum, RefusesEnum};
 ghost use Rattle.bser_structs.specs.Variants.{VariantOf};
 
 use crate::payloads::ReadPayloads;
@@ -38,17 +34,12 @@ pub fn read_variants<R: DeRead, P: ReadPayloads<R::Lent>>(
 where
     R::Lent: LendsText,
     requires { length names.now ≡ length (P.payloads payloads.now) }
-    ensures found { IfOk result (Answers
-        (reads_enum (labelled (map (λ r. r.now) names.now) (P.payloads payloads.now)))
-        (P.holds 0)
-        (state R.window R.Lent.kept from.old) (state R.window R.Lent.kept from.new)) }
-    ensures refused { OnErr result (Refuses
-        (reads_enum (labelled (map (λ r. r.now) names.now) (P.payloads payloads.now)))
-        (asking_labelled name.now (map (λ r. r.now) names.now) (P.payloads payloads.now)
-        (P.asks payloads.now)) (struct_needs P.needs) (refusal_in from.new)
-        (state R.window R.Lent.kept from.old) (state R.window R.Lent.kept from.new)) }
+    ensures found { IfOk result (ReadsEnum names.now (P.payloads payloads.now) P.holds
+        from.old from.new) }
+    ensures refused { OnErr result (RefusesEnum name.now names.now (P.payloads payloads.now)
+        (P.asks payloads.now) P.needs from.old from.new) }
 {
-    let (place, head) = open_variant(from, alloc, name, names)?;
+    let (place, head) = open_variant(from, name, names)?;
     payloads.read_at(alloc, place, from, head)
 }
 

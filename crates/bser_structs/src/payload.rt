@@ -1,15 +1,14 @@
 //! The payload of a variant, as it is read.
-ghost use Rattle.std.specs.Prelude.{◌≡◌, map, IfOk, OnErr};
+ghost use Rattle.std.specs.Prelude.{◌≡◌, IfOk, OnErr};
 ghost use Rattle.bser_format.specs.Content.{Content, one};
 ghost use Rattle.bser_format.specs.Enums.{Payload, unit, holds};
 ghost use Rattle.bser_deserializer.specs.HoldsLists.{HoldsTuple};
 ghost use Rattle.bser_deserializer.specs.Reading.{bare, Needs};
-ghost use Rattle.bser_deserializer.specs.View.{state, refusal_in};
+ghost use Rattle.bser_types.specs.Accesses.{texts};
 ghost use Rattle.bser_types.specs.Slots.{reads_struct, struct_needs};
 ghost use Rattle.bser_fields.specs.Askings.{asking_struct};
 ghost use Rattle.bser_variants.specs.Askings.{PayloadAsking};
-ghost use Rattle.bser_variants.specs.EnumAccess.{enum_head};
-ghost use Rattle.bser_structs.specs.Payloads.{IsPayloadOf, RefusesPayloadOf};
+ghost use Rattle.bser_structs.specs.Payloads.{GivesPayload, GivesNone};
 
 use bser_bunser::refusal::Answer;
 use bser_deserializer::container::{Containers, MapHead};
@@ -53,11 +52,10 @@ pub trait ReadPayload<L: LendsText> {
         from: &mut Deserializer<R>,
         head: Option<MapHead>,
     ) -> Answer<Self::Value>
-        ensures found { IfOk result (λ v. IsPayloadOf (payload self.now) (Self.holds v)
-            (enum_head head (state R.window L.kept from.old)) (state R.window L.kept from.new)) }
-        ensures refused { OnErr result (RefusesPayloadOf (payload self.now) (asks self.now)
-            Self.needs (refusal_in from.new)
-            (enum_head head (state R.window L.kept from.old)) (state R.window L.kept from.new)) };
+        ensures found { IfOk result (GivesPayload (payload self.now) Self.holds head
+            from.old from.new) }
+        ensures refused { OnErr result (GivesNone (payload self.now) (asks self.now) Self.needs
+            head from.old from.new) };
 }
 
 /// No payload: the name alone, or null in an object or a row.
@@ -131,13 +129,13 @@ pub struct Struct<'n, F>(pub &'n [&'n str], pub PhantomData<F>);
 impl<'n, L: LendsText, F: Slots<L>> ReadPayload<L> for Struct<'n, F> {
     type Value = F::Values;
 
-    ghost payload = { λ p. holds (reads_struct (map (λ r. r.now) p.0.now) F.fields) };
+    ghost payload = { λ p. holds (reads_struct (texts p.0.now) F.fields) };
 
     ghost holds = { λ v. HoldsTuple (F.holds v) };
 
     ghost needs = { struct_needs F.needs };
 
-    ghost asks = { λ p. asking_struct (map (λ r. r.now) p.0.now) F.fields F.asks };
+    ghost asks = { λ p. asking_struct (texts p.0.now) F.fields F.asks };
 
     #[inline(always)]
     fn read<R: DeRead<Lent = L>>(

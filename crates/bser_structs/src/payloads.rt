@@ -1,11 +1,9 @@
 //! The payloads of an enum's variants, one after another.
-ghost use Rattle.std.specs.Prelude.{◌<◌, ◌+◌, ℕ, List, [], ◌∷◌, length, IfOk, OnErr};
-ghost use Rattle.bser_format.specs.Content.{Content, variant};
-ghost use Rattle.bser_deserializer.specs.Reading.{Needs};
+ghost use Rattle.std.specs.Prelude.{ℕ, List, [], ◌∷◌, IfOk, OnErr};
+ghost use Rattle.bser_format.specs.Content.{Content};
 ghost use Rattle.bser_format.specs.Enums.{Payload};
-ghost use Rattle.bser_deserializer.specs.View.{state, refusal_in};
-ghost use Rattle.bser_variants.specs.EnumAccess.{enum_head};
-ghost use Rattle.bser_structs.specs.Payloads.{IsPayloadAt, PayloadAskings, RefusesPayloadAt, HoldsOneOf};
+ghost use Rattle.bser_deserializer.specs.Reading.{Needs};
+ghost use Rattle.bser_structs.specs.Payloads.{GivesAt, PayloadAskings, GivesNoneAt, HoldsOneOf};
 
 use crate::payload::ReadPayload;
 use bser_bunser::refusal::Answer;
@@ -53,13 +51,10 @@ pub trait ReadPayloads<L: LendsText> {
         from: &mut Deserializer<R>,
         head: Option<MapHead>,
     ) -> Answer<Self::Value>
-        ensures found { IfOk result (λ v. (first : ℕ) → IsPayloadAt (payloads self.now) place
-            (λ c. Self.holds first v (variant (first + place) c))
-            (enum_head head (state R.window L.kept from.old)) (state R.window L.kept from.new)) }
-        ensures refused { OnErr result (place < length (payloads self.now)
-            → RefusesPayloadAt (payloads self.now) (asks self.now) Self.needs place
-            (refusal_in from.new)
-            (enum_head head (state R.window L.kept from.old)) (state R.window L.kept from.new)) };
+        ensures found { IfOk result (GivesAt place (payloads self.now) Self.holds head
+            from.old from.new) }
+        ensures refused { OnErr result (GivesNoneAt place (payloads self.now) (asks self.now)
+            Self.needs head from.old from.new) };
 }
 
 impl<L: LendsText> ReadPayloads<L> for () {

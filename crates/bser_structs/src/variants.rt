@@ -1,8 +1,8 @@
 //! Writing an enum by its variants.
 ghost use Rattle.std.specs.Prelude.{OnOk, IfErr};
 ghost use Rattle.bser_written.specs.Written.{variant_tree};
-ghost use Rattle.bser_ser.specs.Ends.{Ends, Stops, text_of, CanBeWritten};
-ghost use Rattle.bser_structs.specs.Entries.{entries_tree};
+ghost use Rattle.bser_ser.specs.Ends.{CanBeWritten};
+ghost use Rattle.bser_structs.specs.Entries.{fields_variant, VariantEnds, VariantStops, FieldsEnd, FieldsStop};
 
 use crate::writing::{PutFields, put_fields};
 use bser_format::errors::Result;
@@ -22,12 +22,11 @@ pub fn put_variant<W: Sink, T: Serialize>(
     name: &str,
     payload: &T,
 ) -> Result<()>
-    ensures ok { OnOk result (Ends W.took W.failures
-        (text_of (variant_tree name.now (T.meaning payload.now))) out.old out.new) }
-    ensures writable { OnOk result
-        (CanBeWritten (variant_tree name.now (T.meaning payload.now))) }
-    ensures err { IfErr result (Stops W.took W.answered W.failures
-        (text_of (variant_tree name.now (T.meaning payload.now))) out.old out.new) }
+    ensures ok { OnOk result (VariantEnds W.Sink name.now (T.meaning payload.now)
+        out.old out.new) }
+    ensures writable { OnOk result (CanBeWritten (variant_tree name.now (T.meaning payload.now))) }
+    ensures err { IfErr result (VariantStops W.Sink name.now (T.meaning payload.now)
+        out.old out.new) }
 {
     out.put_newtype_variant(name)?;
     payload.serialize(alloc, out)
@@ -44,12 +43,12 @@ pub fn put_variant_fields<W: Sink, F: PutFields>(
     name: &str,
     fields: &F,
 ) -> Result<()>
-    ensures ok { OnOk result (Ends W.took W.failures
-        (text_of (variant_tree name.now (entries_tree (F.entries fields.now)))) out.old out.new) }
+    ensures ok { OnOk result (FieldsEnd W.Sink name.now (F.entries fields.now)
+        out.old out.new) }
     ensures writable { OnOk result
-        (CanBeWritten (variant_tree name.now (entries_tree (F.entries fields.now)))) }
-    ensures err { IfErr result (Stops W.took W.answered W.failures
-        (text_of (variant_tree name.now (entries_tree (F.entries fields.now)))) out.old out.new) }
+        (CanBeWritten (fields_variant name.now (F.entries fields.now))) }
+    ensures err { IfErr result (FieldsStop W.Sink name.now (F.entries fields.now)
+        out.old out.new) }
 {
     out.put_newtype_variant(name)?;
     put_fields(alloc, out, fields)

@@ -2,37 +2,35 @@
 ghost use Rattle.std.specs.Prelude.{ℕ, List, [], ◌∷◌, ◌++◌, length, Result, OnOk, IfErr};
 ghost use Rattle.bser_format.specs.Tree.{Tree};
 ghost use Rattle.bser_format.specs.declared.errors.Error.{Error};
-ghost use Rattle.bser_ser.specs.Ends.{Ends, Stops, text_of, CanBeWritten};
-ghost use Rattle.bser_structs.specs.Entries.{entries_text, entries_tree, given_entry, EntriesCanBeWritten, IsCount};
+ghost use Rattle.bser_ser.specs.Ends.{CanBeWritten};
+ghost use Rattle.bser_structs.specs.Entries.{entries_tree, given_entry, EntriesCanBeWritten, IsCount, EntriesEnd, EntriesStop, ObjectEnds, ObjectStops};
 
 use bser_format::errors::Result;
-use bser_ser::{Serialize, Serializer};
+use bser_ser::{Parts, Serialize, Serializer};
 use bser_source::device::Sink;
 use std::alloc::Global;
 
 /// A field that is written: its name beside its value, as `(&str, &T)` or `(&str, Given<T>)`.
 pub trait PutField {
     // the entries that it is: one, or none where it is left out
-    ghost entries: { Self → List (List ℕ × Result Tree Error) };
+    ghost entry: { Self → List (List ℕ × Result Tree Error) };
 
     /// How many entries it is.
     fn count(&self) -> usize
-        ensures { IsCount (length (entries self.now)) result };
+        ensures { IsCount (length (entry self.now)) result };
 
     /// Puts its key and its value, or nothing where it is left out.
     ///
     /// Refused as [`put_key`](Serializer::put_key) and the value's writing are. After a refusal the
     /// parts before it have been put.
     fn put<W: Sink>(&self, alloc: Global, out: &mut Serializer<W>) -> Result<()>
-        ensures ok { OnOk result (Ends W.took W.failures
-            (entries_text (entries self.now)) out.old out.new) }
-        ensures writable { OnOk result (EntriesCanBeWritten (entries self.now)) }
-        ensures err { IfErr result (Stops W.took W.answered W.failures
-            (entries_text (entries self.now)) out.old out.new) };
+        ensures ok { OnOk result (EntriesEnd W.Sink (entry self.now) out.old out.new) }
+        ensures writable { OnOk result (EntriesCanBeWritten (entry self.now)) }
+        ensures err { IfErr result (EntriesStop W.Sink (entry self.now) out.old out.new) };
 }
 
 impl<'a, 'b, T: Serialize> PutField for (&'a str, &'b T) {
-    ghost entries = { λ f. (f.0.now, T.meaning f.1.now) ∷ [] };
+    ghost entry = { λ f. (f.0.now, T.meaning f.1.now) ∷ [] };
 
     #[inline(always)]
     fn count(&self) -> usize {
@@ -53,7 +51,7 @@ impl<'a, 'b, T: Serialize> PutField for (&'a str, &'b T) {
 pub struct Given<'a, T>(pub &'a Option<T>);
 
 impl<'a, 'b, T: Serialize> PutField for (&'a str, Given<'b, T>) {
-    ghost entries = { λ f. given_entry f.0.now T.meaning f.1.0.now };
+    ghost entry = { λ f. given_entry f.0.now T.meaning f.1.0.now };
 
     #[inline(always)]
     fn count(&self) -> usize {
@@ -85,11 +83,9 @@ pub trait PutFields {
     ///
     /// Refused as [`PutField::put`] is.
     fn put_each<W: Sink>(&self, alloc: Global, out: &mut Serializer<W>) -> Result<()>
-        ensures ok { OnOk result (Ends W.took W.failures
-            (entries_text (entries self.now)) out.old out.new) }
+        ensures ok { OnOk result (EntriesEnd W.Sink (entries self.now) out.old out.new) }
         ensures writable { OnOk result (EntriesCanBeWritten (entries self.now)) }
-        ensures err { IfErr result (Stops W.took W.answered W.failures
-            (entries_text (entries self.now)) out.old out.new) };
+        ensures err { IfErr result (EntriesStop W.Sink (entries self.now) out.old out.new) };
 }
 
 impl PutFields for () {
@@ -107,7 +103,7 @@ impl PutFields for () {
 }
 
 impl<A: PutField, F: PutFields> PutFields for (A, F) {
-    ghost entries = { λ t. A.entries t.0 ++ F.entries t.1 };
+    ghost entries = { λ t. A.entry t.0 ++ F.entries t.1 };
 
     #[inline(always)]
     fn count(&self) -> usize {
@@ -123,19 +119,17 @@ impl<A: PutField, F: PutFields> PutFields for (A, F) {
 
 /// Puts a struct, the object of these fields, in their order.
 ///
-/// Refused with `SerCustom` `CountTooGreat` where there are more than `i64::MAX` fields, and else as
-/// the first part is that is refused. After a refusal the parts before it have been put.
+/// Refused with `SerCustom` `CountTooGreat` where there are more than `i64::MAX` fields, and else
+/// as the first part is that is refused. After a refusal the parts before it have been put.
 #[inline(always)]
 pub fn put_fields<W: Sink, F: PutFields>(
     alloc: Global,
     out: &mut Serializer<W>,
     fields: &F,
 ) -> Result<()>
-    ensures ok { OnOk result (Ends W.took W.failures
-        (text_of (entries_tree (F.entries fields.now))) out.old out.new) }
+    ensures ok { OnOk result (ObjectEnds W.Sink (F.entries fields.now) out.old out.new) }
     ensures writable { OnOk result (CanBeWritten (entries_tree (F.entries fields.now))) }
-    ensures err { IfErr result (Stops W.took W.answered W.failures
-        (text_of (entries_tree (F.entries fields.now))) out.old out.new) }
+    ensures err { IfErr result (ObjectStops W.Sink (F.entries fields.now) out.old out.new) }
 {
     out.put_map(Some(fields.count()))?;
     fields.put_each(alloc, out)

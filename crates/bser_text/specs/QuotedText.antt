@@ -18,6 +18,10 @@ json_escape c =
     if escape_letter c == 0 then (if nat_lt c 0x20 then control_code c else c ∷ [])
     else 0x5C ∷ escape_letter c ∷ []
 
+-- the characters of a text, as they stand between the quotes
+abbrev pub between_quotes : List ℕ → List ℕ
+between_quotes bs = encode_utf8_all (flat_map json_escape (chars bs))
+
 -- the text in quotes, as bytes
 abbrev pub quoted_text : List ℕ → List ℕ
-quoted_text bs = codes "\"" ++ encode_utf8_all (flat_map json_escape (chars bs)) ++ codes "\""
+quoted_text bs = codes "\"" ++ between_quotes bs ++ codes "\""

@@ -1,14 +1,14 @@
 //! Texts in double quotes, as JSON writes them.
-ghost use Rattle.std.specs.Prelude.{◌≡◌, ◌<◌, chars, flat_map, encode_utf8_all};
+ghost use Rattle.std.specs.Prelude.{◌≡◌, ◌<◌, encode_utf8_all};
 ghost use Rattle.std.specs.Char.{digit_char};
 ghost use Rattle.std.specs.Fmt.{WritesOnOk};
-ghost use Rattle.bser_text.specs.QuotedText.{control_code, json_escape, quoted_text};
+ghost use Rattle.bser_text.specs.QuotedText.{control_code, json_escape, between_quotes, quoted_text};
 
 use std::fmt;
 
 /// Writes the text in double quotes. A quote, a backslash, a backspace, a tab, a newline, a form
-/// feed and a carriage return are `\"`, `\\`, `\b`, `\t`, `\n`, `\f` and `\r`, every other character
-/// below the space is `\u00` and two lowercase hexadecimal digits, and all others stay.
+/// feed and a carriage return are `\"`, `\\`, `\b`, `\t`, `\n`, `\f` and `\r`, every other
+/// character below the space is `\u00` and two lowercase hexadecimal digits, and all others stay.
 pub fn write_quoted<W: fmt::Write>(text: &str, f: &mut fmt::Formatter<W>) -> fmt::Result
     ensures { WritesOnOk W.write_str_gives f.old result (quoted_text text.now) f.new }
 {
@@ -18,8 +18,7 @@ pub fn write_quoted<W: fmt::Write>(text: &str, f: &mut fmt::Formatter<W>) -> fmt
 }
 
 fn write_characters<W: fmt::Write>(text: &str, f: &mut fmt::Formatter<W>) -> fmt::Result
-    ensures { WritesOnOk W.write_str_gives f.old result
-        (encode_utf8_all (flat_map json_escape (chars text.now))) f.new }
+    ensures { WritesOnOk W.write_str_gives f.old result (between_quotes text.now) f.new }
 {
     for c in text.chars() {
         write_escaped(c, f)?;

@@ -1,7 +1,7 @@
 -- An entry is put into a hash map as its pair is among the pairs.
 use Rattle.std.proofs.Common.{◌≡◌, ℕ, ◌+◌, Bool, true, false, cond, List, [], length, Option, Some, None, nat_cmp, bytes_eq, refl, sym, ap, subst, ◌∙◌}
 use Rattle.std.proofs.lemmas.Slice.Eq.{bytes_eq-Decides}
-use Rattle.std.specs.Prelude.{if◌then◌else◌, is_some}
+use Rattle.std.specs.Prelude.{if◌then◌else◌, is_some, is_ok, Result, Ok, Err, IfOk, OnOk}
 use Rattle.std.specs.Cmp.Lexicographic.{slice_cmp}
 use Rattle.std.specs.BTreeMap.{insert_entry}
 use Rattle.std.specs.HashMap.{HashMap, Updates, get, hash_map_len}
@@ -68,3 +68,9 @@ module _ {K : Type 0} (name : K → List ℕ) (eq : K → K → Bool) (equal : (
       here q false f =
           let kept : lookup (is_named name q) n.entries ≡ lookup (is_named name q) m.entries = other_keys eq (eq e.0) m.entries n.entries updates.3 (is_named name q) (one_key q) (apart q e.0 f) in
           subst (λ o. HoldsAt holds q o (lookup (bytes_eq q) ps)) (sym kept) (h.at q)
+
+  -- the same of a call that put the entry in
+  pub names_put : {V S E : Type 0} (holds : V → Content → Type 0) (m n : HashMap K V S) (e : K × V) (ps : List (List ℕ × Content)) (d : Content) (r : Result (Option V) E) → is_ok r ≡ true → holds e.1 d → IfOk r (λ was. was ≡ get eq m e.0)
+      → OnOk r (Updates eq m n e.0 (Some e.1)) → IfOk r (λ was. hash_map_len n ≡ hash_map_len m + (if is_some was then 0 else 1)) → HoldsNames name holds m.entries ps → HoldsNames name holds n.entries (with_name ps (name e.0) d)
+  names_put holds m n e ps d (Ok was) ok value old updates more h = names_insert holds m n e ps d was value old updates more h
+  names_put holds m n e ps d (Err f) ok value old updates more h = absurd cc

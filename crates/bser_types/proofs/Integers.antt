@@ -1,8 +1,6 @@
 -- An integer within the range of a type.
 use Rattle.std.proofs.Common.{◌≡◌, ℕ, ◌-◌, ◌^◌, Bool, true, false, cond, List, ◌++◌, Some, None, ap, ◌∙◌, refl, arith}
-use Rattle.std.specs.Prelude.{ℤ, pos, negsuc, if◌then◌else◌, FitsSigned, Result, Ok, Err, OnErr}
-use Rattle.std.specs.Int.{Width, FitsUnsignedBits}
-use mir.Val.{hbits}
+use Rattle.std.specs.Prelude.{ℤ, pos, negsuc, if◌then◌else◌, Result, Ok, Err, OnErr}
 use Rattle.std.proofs.lemmas.Bool.{ltb-true}
 use Rattle.std.proofs.lemmas.Int.{ints}
 use Rattle.bser_format.specs.Tree.{Tree, null, boolean, integer, real, bytes, text, array, object, template}
@@ -20,6 +18,7 @@ use Rattle.bser_deserializer.specs.Reading.{Answers, Refuses, bare}
 use Rattle.bser_deserializer.specs.Holds.{HoldsNumber}
 use Rattle.bser_deserializer.specs.Askings.{asking_integer}
 use Rattle.bser_deserializer.proofs.Clean.{clean_integers}
+use Rattle.bser_types.specs.Ranges.{LiesWithin}
 use Rattle.bser_types.proofs.Taken.{taken_refused}
 
 -- ---- an integer that the type does not hold
@@ -69,13 +68,18 @@ out_of_range fits s mid z e v a out reason state =
 
 -- ---- ranges
 
-pub signed_fits : (bits : ℕ) (w : Width) (v : ℤ) → hbits w ≡ bits - 1 → is_signed bits v ≡ true → FitsSigned w v
-signed_fits bits w (pos n) e h = omega (arith, ints, ltb-true n (2 ^ (bits - 1)) h, ap (λ k. 2 ^ k) e)
-signed_fits bits w (negsuc n) e h = omega (arith, ints, ltb-true n (2 ^ (bits - 1)) h, ap (λ k. 2 ^ k) e)
+pub signed_within : (bits : ℕ) → LiesWithin (is_signed bits) (negsuc (2 ^ (bits - 1) - 1)) (pos (2 ^ (bits - 1) - 1))
+signed_within bits (pos n) f h = (omega (arith, ints, ltb-true n (2 ^ (bits - 1)) h), omega (arith, ints, ltb-true n (2 ^ (bits - 1)) h))
+signed_within bits (negsuc n) f h = (omega (arith, ints, ltb-true n (2 ^ (bits - 1)) h), omega (arith, ints, ltb-true n (2 ^ (bits - 1)) h))
 
-pub unsigned_fits : (bits : ℕ) (v : ℤ) → is_unsigned bits v ≡ true → FitsUnsignedBits bits v
-unsigned_fits bits (pos n) h = ltb-true n (2 ^ bits) h
-unsigned_fits bits (negsuc n) h = absurd cc
+pub unsigned_within : (bits : ℕ) → LiesWithin (is_unsigned bits) (pos 0) (pos (2 ^ bits - 1))
+unsigned_within bits (pos n) f h = (omega (arith, ints), omega (arith, ints, ltb-true n (2 ^ bits) h))
+unsigned_within bits (negsuc n) f h = absurd cc
+
+-- of the range of 64 bits the half that is signed too
+pub half_within : LiesWithin (is_unsigned 64) (pos 0) (pos (2 ^ 63 - 1))
+half_within (pos n) f h = (omega (arith, ints), omega (arith, ints, f))
+half_within (negsuc n) f h = absurd cc
 
 -- ---- calls
 

@@ -1,5 +1,5 @@
 -- A map that is read entry by entry.
-use Rattle.std.proofs.Common.{◌≡◌, ℕ, zero, suc, ◌-◌, List, [], ◌∷◌, map, Ordering, Less, Equal, Greater, nat_cmp, Option, Some, None, option_map, option_and_then, fold, refl, sym, ap, subst, ◌∙◌, ◌<◌, ◌||◌, inl, inr, true, false, arith}
+use Rattle.std.proofs.Common.{◌≡◌, ℕ, zero, suc, ◌-◌, List, [], ◌∷◌, map, Ordering, Less, Equal, Greater, nat_cmp, Option, Some, None, option_map, option_and_then, fold, refl, sym, ap, subst, ◌∙◌, ◌<◌, inl, inr, false, arith}
 use Rattle.std.proofs.lemmas.Bool.{or_left, or_right}
 use Rattle.std.proofs.lemmas.Map.Text.{is_eq-slice_cmp}
 use Rattle.std.proofs.lemmas.Slice.Eq.{bytes_eq-Decides}
@@ -28,14 +28,11 @@ use Rattle.bser_deserializer.specs.HoldsMaps.{HoldsEntries}
 use Rattle.bser_deserializer.proofs.Containers.{pairs_pass}
 use Rattle.bser_types.specs.Accesses.{RefusesEntry}
 use Rattle.bser_types.specs.Askings.{counted, asking_map}
+use Rattle.bser_types.specs.Collected.{with_pair, map_needs}
 use Rattle.bser_types.proofs.Naming.{Asked, StepAsked, HeadAsked, FirstAsked, asked_inside, part_passes}
 use Rattle.bser_types.proofs.Objects.{Outlook, ReadsObjects, ReadsKeys, ReadsValues, AtKey, key_name, key_read, inside_start, inside_key, inside_value, inside_same, inside_end, opening_refused, key_refused, value_refused, room_refused}
 
 -- ---- what the entries come to
-
--- the pairs so far, with one more
-abbrev pub with_pair : List (List ℕ × Content) → List ℕ × Content → List (List ℕ × Content)
-with_pair ps p = insert_entry (slice_cmp nat_cmp) ps p.0 p.1
 
 -- what the entries that are left come to, after these pairs
 abbrev pub map_outlook : Meaning → Meaning → List (List ℕ × Content) → Outlook
@@ -202,10 +199,6 @@ fewer : (w : WantedPairs) → 0 < pairs_left w → pairs_left (pairs_after w) < 
 fewer (entries_of_object k) h = omega (arith, h)
 fewer (fields_of_row []) h = absurd (omega (arith, h))
 fewer (fields_of_row (k ∷ ks)) h = omega arith
-
--- what a map of these keys and values needs
-abbrev pub map_needs : Needs → Needs → Needs
-map_needs key some = record { lent = key.lent || some.lent; memory = true; keys = false; copied = true }
 
 -- the types of a map's keys and of its values, what they ask for, and by which bytes keys are read
 pub record MapOf : Type 1 where

@@ -1,6 +1,6 @@
 -- What is read as an object by one type, and as anything else by another.
 use Rattle.std.specs.Prelude.{Bool, true, false, ◌==◌}
-use Rattle.bser_format.specs.Tree.{Tree, object}
+use Rattle.bser_format.specs.Tree.{object}
 use Rattle.bser_format.specs.Content.{Meaning}
 use Rattle.bser_named.specs.DueReaders.{Seen, tag, name, row, seen}
 use Rattle.bser_named.specs.Asks.{Asks, by_sight}

@@ -3,6 +3,7 @@ use Rattle.std.specs.Prelude.{ℕ, true, List, [], ◌∷◌, Option, Some, None
 use Rattle.std.specs.Str.{is_utf8}
 use Rattle.bser_format.specs.Tree.{Tree, object, entries}
 use Rattle.bser_format.specs.Content.{Content, Meaning}
+pub use Rattle.bser_named.specs.Structs.{read_once}
 use Rattle.bser_deserializer.specs.Reading.{Needs}
 use Rattle.bser_deserializer.specs.Fields.{field_of}
 use Rattle.bser_deserializer.specs.declared.field.Field.{Field}
@@ -28,11 +29,6 @@ step_by_name names step a name t = if is_utf8 name then step a (field_of names n
 -- a struct of fields with these names
 abbrev pub struct_of : {A : Type 0} → List (List ℕ) → (A → Field → Tree → Option A) → A → (A → Option Content) → Meaning
 struct_of names step = object_of (step_by_name names step)
-
--- a field that is read once
-abbrev pub read_once : Meaning → Option Content → Tree → Option (Option Content)
-read_once T None t = option_and_then (λ c. Some (Some c)) (T t)
-read_once T (Some c) t = None
 
 -- what two types need together, and the names of fields, which are copied
 abbrev pub either : Needs → Needs → Needs

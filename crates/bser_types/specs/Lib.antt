@@ -2,8 +2,12 @@ pub mod Accesses
 pub mod Arrays
 pub mod Askings
 pub mod Choices
+pub mod Collected
 pub mod Fold
+pub mod HoldsCows
 pub mod HoldsReals
 pub mod HoldsSets
+pub mod Ranges
+pub mod Rests
 pub mod Slots
 pub mod Tuples

@@ -1,8 +1,8 @@
 //! Types that are read.
 ghost use Rattle.std.specs.Prelude.{◌≡◌, ◌≢◌, false, Option, IfOk, OnErr};
 ghost use Rattle.bser_format.specs.Content.{Content, Meaning, ReadsNoObject};
-ghost use Rattle.bser_deserializer.specs.Reading.{Answers, Asking, Needs, Refuses, TakesNoMemory};
-ghost use Rattle.bser_deserializer.specs.View.{state, refusal_in};
+ghost use Rattle.bser_deserializer.specs.Reading.{Asking, Needs, TakesNoMemory};
+ghost use Rattle.bser_types.specs.Accesses.{ReadsDue, RefusesDue};
 
 use bser_bunser::refusal::Answer;
 use bser_deserializer::deserializer::Deserializer;
@@ -46,13 +46,11 @@ pub trait Deserialize<L: LendsText>: Shape + Drop {
     ///
     /// [`Complaint::BorrowedFromCopying`]: bser_format::errors::Complaint::BorrowedFromCopying
     fn deserialize<R: DeRead<Lent = L>>(alloc: Global, from: &mut Deserializer<R>) -> Answer<Self>
-        ensures found { IfOk result (Answers Self.reads Self.holds
-            (state R.window L.kept from.old) (state R.window L.kept from.new)) }
-        ensures refused { OnErr result (Refuses Self.reads Self.asks Self.needs
-            (refusal_in from.new)
-            (state R.window L.kept from.old) (state R.window L.kept from.new)) }
+        ensures found { IfOk result (ReadsDue Self.reads Self.holds from.old from.new) }
+        ensures refused { OnErr result (RefusesDue Self.reads Self.asks Self.needs
+            from.old from.new) }
         ensures memory { TakesNoMemory Self.needs
-            → OnErr result (refusal_in from.new ≢ Error.OutOfMemory) };
+            → OnErr result (from.new.refusal ≢ Error.OutOfMemory) };
 }
 
 /// A meaning whose values hold nothing that is lent.

@@ -1,10 +1,7 @@
 //! Reading the items of an array.
 ghost use Rattle.std.specs.Prelude.{◌≡◌, ◌<◌, IfOk, OnOk, OnErr};
-ghost use Rattle.bser_deserializer.specs.Access.{NextItem, IsNextItem, RefusesItem, ClosesItems, LeavesItems, items_in};
-ghost use Rattle.bser_deserializer.specs.Parts.{items_left, item_due, items_after};
-ghost use Rattle.bser_deserializer.specs.Required.{RefusesRequired};
-ghost use Rattle.bser_deserializer.specs.State.{awaiting, refused};
-ghost use Rattle.bser_types.specs.Accesses.{open_items, items_reference, items_refusal};
+ghost use Rattle.bser_deserializer.specs.Parts.{items_left};
+ghost use Rattle.bser_types.specs.Accesses.{open_items, items_refusal, SameItemsReference, awaiting_item, past_item, refused_items, GivesElement, RefusesElement, GivesRequired, RefusesRequiredElement, EndsSeq, RefusesSeqEnd};
 
 use crate::deserialize::Deserialize;
 use bser_bunser::refusal::{Answer, Refused};
@@ -27,11 +24,9 @@ pub struct SeqAccess<'a, R: DeRead> {
 }
 
 impl<'a, R: DeRead> SeqAccess<'a, R> {
-    ghost use Rattle.bser_deserializer.specs.View.{state, refusal_in};
-
     /// How many items are left.
     pub fn remaining(&self) -> usize
-        ensures { result ≡ items_left (open_items R.window R.Lent.kept self.now).wanted }
+        ensures { result ≡ items_left (open_items self.now).wanted }
     {
         self.head.remaining
     }
@@ -39,12 +34,8 @@ impl<'a, R: DeRead> SeqAccess<'a, R> {
     /// Makes the next item due.
     #[inline(always)]
     pub(crate) fn await_item(&mut self)
-        ensures same_reference { items_reference self.new ≡ items_reference self.old }
-        ensures awaited { open_items R.window R.Lent.kept self.new ≡
-            items_in (open_items R.window R.Lent.kept self.old)
-            (awaiting (item_due (open_items R.window R.Lent.kept self.old).wanted)
-            (open_items R.window R.Lent.kept self.old).state)
-            (open_items R.window R.Lent.kept self.old).wanted }
+        ensures same_reference { SameItemsReference self.old self.new }
+        ensures awaited { open_items self.new ≡ awaiting_item self.old }
     {
         if self.head.rows {
             self.from.await_row();
@@ -56,12 +47,9 @@ impl<'a, R: DeRead> SeqAccess<'a, R> {
     /// Goes on past the item that was read.
     #[inline(always)]
     pub(crate) fn pass_item(&mut self)
-        requires { 0 < items_left (open_items R.window R.Lent.kept self.old).wanted }
-        ensures same_reference { items_reference self.new ≡ items_reference self.old }
-        ensures passed { open_items R.window R.Lent.kept self.new ≡
-            items_in (open_items R.window R.Lent.kept self.old)
-            (open_items R.window R.Lent.kept self.old).state
-            (items_after (open_items R.window R.Lent.kept self.old).wanted) }
+        requires { 0 < items_left (open_items self.old).wanted }
+        ensures same_reference { SameItemsReference self.old self.new }
+        ensures passed { open_items self.new ≡ past_item self.old }
     {
         self.head.remaining -= 1;
     }
@@ -69,12 +57,9 @@ impl<'a, R: DeRead> SeqAccess<'a, R> {
     /// Refuses all calls from now on, and keeps the reason.
     #[inline(always)]
     pub fn refuse(&mut self, reason: Error) -> Refused
-        ensures same_reference { items_reference self.new ≡ items_reference self.old }
+        ensures same_reference { SameItemsReference self.old self.new }
         ensures reason { items_refusal self.new ≡ reason }
-        ensures state { open_items R.window R.Lent.kept self.new ≡
-            items_in (open_items R.window R.Lent.kept self.old)
-            (refused (open_items R.window R.Lent.kept self.old).state)
-            (open_items R.window R.Lent.kept self.old).wanted }
+        ensures state { open_items self.new ≡ refused_items self.old }
     {
         self.from.refuse(reason)
     }
@@ -85,11 +70,8 @@ impl<'a, R: DeRead> SeqAccess<'a, R> {
     /// [`ReadCause::Failed`](bser_format::errors::ReadCause::Failed) after an earlier refusal.
     #[inline(always)]
     pub fn end(self) -> Answer<()>
-        ensures ok { OnOk result (ClosesItems (open_items R.window R.Lent.kept self.entry)
-            (state R.window R.Lent.kept self.exit.0.now)) }
-        ensures err { OnErr result (LeavesItems (refusal_in self.exit.0.now)
-            (open_items R.window R.Lent.kept self.entry)
-            (state R.window R.Lent.kept self.exit.0.now)) }
+        ensures ok { OnOk result (EndsSeq self.entry self.exit.0.now) }
+        ensures err { OnErr result (RefusesSeqEnd self.entry self.exit.0.now) }
     {
         if self.head.remaining != 0 || self.from.is_failed() {
             return Err(self.from.complain(Complaint::ItemsLeft));
@@ -109,12 +91,9 @@ where
     /// Refused as the type's reading is; the deserializer then refuses each later call.
     #[inline(always)]
     pub fn next_element<T: Deserialize<R::Lent>>(&mut self, alloc: Global) -> Answer<Option<T>>
-        ensures same_reference { items_reference self.new ≡ items_reference self.old }
-        ensures found { IfOk result (NextItem T.reads T.holds
-            (open_items R.window R.Lent.kept self.old) (open_items R.window R.Lent.kept self.new)) }
-        ensures refused { OnErr result (RefusesItem T.reads T.asks T.needs (items_refusal self.new)
-            (open_items R.window R.Lent.kept self.old)
-            (open_items R.window R.Lent.kept self.new).state) }
+        ensures same_reference { SameItemsReference self.old self.new }
+        ensures found { IfOk result (GivesElement T.reads T.holds self.old self.new) }
+        ensures refused { OnErr result (RefusesElement T.reads T.asks T.needs self.old self.new) }
     {
         if self.head.remaining == 0 && !self.from.is_failed() {
             return Ok(None);
@@ -131,13 +110,10 @@ where
     /// Refused else as [`SeqAccess::next_element`] is.
     #[inline(always)]
     pub fn required_element<T: Deserialize<R::Lent>>(&mut self, alloc: Global) -> Answer<T>
-        ensures same_reference { items_reference self.new ≡ items_reference self.old }
-        ensures found { IfOk result (IsNextItem T.reads T.holds
-            (open_items R.window R.Lent.kept self.old) (open_items R.window R.Lent.kept self.new)) }
-        ensures refused { OnErr result (RefusesRequired T.reads T.asks T.needs
-            (items_refusal self.new)
-            (open_items R.window R.Lent.kept self.old)
-            (open_items R.window R.Lent.kept self.new).state) }
+        ensures same_reference { SameItemsReference self.old self.new }
+        ensures found { IfOk result (GivesRequired T.reads T.holds self.old self.new) }
+        ensures refused { OnErr result (RefusesRequiredElement T.reads T.asks T.needs
+            self.old self.new) }
     {
         match self.next_element(alloc)? {
             Some(item) => Ok(item),

@@ -1,49 +1,74 @@
 -- What callers see of an access to a variant.
-use Rattle.std.specs.Prelude.{ℕ, List, Option, Some, None}
+use Rattle.std.specs.Prelude.{◌≡◌, ℕ, Option, Some, None}
 use Rattle.std.specs.Borrow.{MutBor}
-use Rattle.bser_source.specs.Window.{Window}
+use Rattle.bser_deserializer.specs.Seen.{Seen}
 use Rattle.bser_deserializer.specs.State.{State}
 use Rattle.bser_deserializer.specs.declared.frames.MapHead.{MapHead}
-use Rattle.bser_deserializer.specs.View.{state}
-use Rattle.bser_deserializer.specs.declared.deserializer.Deserializer.{Deserializer}
 use Rattle.bser_variants.specs.Variants.{OpenVariant, OpenEnum, name_alone, with_payload, payload_due}
 use Rattle.bser_variants.specs.declared.enum_access.EnumAccess.{EnumAccess}
+use Rattle.bser_variants.specs.declared.variant_access.EnumForm.{EnumForm}
+use Rattle.bser_variants.specs.declared.variant_access.EnumForm.TheVariants as form
 use Rattle.bser_variants.specs.declared.variant_access.UnitVariantAccess.{UnitVariantAccess}
 use Rattle.bser_variants.specs.declared.variant_access.VariantAccess.{VariantAccess}
 
 -- a variant in an object or row of this head, in this state
 abbrev pub variant_head : MapHead → State → OpenVariant
-variant_head h s = record { state = s; payload = payload_due h.row; levels = h.levels; opened = h.opened }
+variant_head h s =
+    record { state = s; payload = payload_due h.row; levels = h.levels; opened = h.opened }
 
 -- the same, or a name alone
 abbrev pub enum_head : Option MapHead → State → OpenEnum
 enum_head None s = name_alone s
 enum_head (Some h) s = with_payload (variant_head h s)
 
--- the variant whose payload an access reads
-abbrev pub open_variant : {R L K : Type 0} → (R → Window) → (K → List ℕ) → VariantAccess R L K → OpenVariant
-open_variant window kept a = variant_head a.head (state window kept a.from.now)
+module _ {R L K : Type 0} where
+  -- the deserializer that is lent to an access to an enum
+  abbrev pub enum_deserializer : EnumAccess R L K → MutBor Seen
+  enum_deserializer a = a.from
 
--- the same of an access to an enum, where a name may stand alone
-abbrev pub open_enum : {R L K : Type 0} → (R → Window) → (K → List ℕ) → EnumAccess R L K → OpenEnum
-open_enum window kept a = enum_head a.head (state window kept a.from.now)
+  -- the variant whose payload it reads, or a name alone
+  abbrev pub open_enum : EnumAccess R L K → OpenEnum
+  open_enum a = enum_head a.head (enum_deserializer a).now.state
 
--- the place of the variant's name
-abbrev pub place_of : {R L K : Type 0} → EnumAccess R L K → ℕ
-place_of a = a.place
+  -- the place of the variant's name
+  abbrev pub place_of : EnumAccess R L K → ℕ
+  place_of a = a.place
 
--- the deserializer that is lent to an access to an enum
-abbrev pub enum_deserializer : {R L K : Type 0} → EnumAccess R L K → MutBor (Deserializer R L K)
-enum_deserializer a = a.from
+  -- it holds this reference to a deserializer
+  abbrev pub IsEnumOf : MutBor Seen → EnumAccess R L K → Type 0
+  IsEnumOf d a = (enum_deserializer a).ghost_name ≡ d.ghost_name
 
--- the same of an access to a payload
-abbrev pub variant_deserializer : {R L K : Type 0} → VariantAccess R L K → MutBor (Deserializer R L K)
-variant_deserializer a = a.from
+  -- the deserializer that is lent to an access to a name alone
+  abbrev pub unit_deserializer : UnitVariantAccess R L K → MutBor Seen
+  unit_deserializer u = u.from
 
--- the same of an access to a name alone
-abbrev pub unit_deserializer : {R L K : Type 0} → UnitVariantAccess R L K → MutBor (Deserializer R L K)
-unit_deserializer a = a.from
+  -- the state in which the name stands alone
+  abbrev pub unit_state : UnitVariantAccess R L K → State
+  unit_state u = (unit_deserializer u).now.state
 
--- the state in which a name stands alone
-abbrev pub unit_state : {R L K : Type 0} → (R → Window) → (K → List ℕ) → UnitVariantAccess R L K → State
-unit_state window kept a = state window kept a.from.now
+  -- the deserializer that is lent to an access to a payload
+  abbrev pub variant_deserializer : VariantAccess R L K → MutBor Seen
+  variant_deserializer v = v.from
+
+  -- the variant whose payload it reads
+  abbrev pub open_variant : VariantAccess R L K → OpenVariant
+  open_variant v = variant_head v.head (variant_deserializer v).now.state
+
+  -- the deserializer that is lent to an access of either form
+  abbrev pub form_deserializer : EnumForm R L K → MutBor Seen
+  form_deserializer (form.Unit u) = unit_deserializer u
+  form_deserializer (form.Object v) = variant_deserializer v
+
+  -- the variant whose payload it reads, or a name alone
+  abbrev pub open_form : EnumForm R L K → OpenEnum
+  open_form (form.Unit u) = name_alone (unit_state u)
+  open_form (form.Object v) = with_payload (open_variant v)
+
+  -- the place of the variant's name
+  abbrev pub place_in : EnumForm R L K → ℕ
+  place_in (form.Unit u) = u.place
+  place_in (form.Object v) = v.place
+
+  -- it holds this reference to a deserializer
+  abbrev pub IsFormOf : MutBor Seen → EnumForm R L K → Type 0
+  IsFormOf d f = (form_deserializer f).ghost_name ≡ d.ghost_name

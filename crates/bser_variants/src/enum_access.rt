@@ -1,17 +1,16 @@
 //! Reading enums.
-ghost use Rattle.std.specs.Prelude.{◌≡◌, map, IfOk, OnOk, OnErr};
-ghost use Rattle.std.specs.Borrow.{sem, RestsIfErr};
-ghost use Rattle.bser_deserializer.specs.contracts.deserializer.Deserializer.{the_row};
-ghost use Rattle.bser_deserializer.specs.View.{state, refusal_in, items_head, pairs_head};
-ghost use Rattle.bser_variants.specs.EnumAccess.{open_enum, place_of, enum_head, enum_deserializer};
-ghost use Rattle.bser_variants.specs.Variants.{RefusesVariant, OpensVariant, IsPayload, IsUnitVariant, RefusesPayload, RefusesUnitVariant, IsTuplePayload, IsStructPayload, RefusesTuple, RefusesStruct};
+ghost use Rattle.std.specs.Prelude.{◌≡◌, IfOk, OnOk, OnErr};
+ghost use Rattle.std.specs.Borrow.{sem};
+ghost use Rattle.bser_types.specs.Accesses.{IsMapOf, IsSeqOf};
+ghost use Rattle.bser_variants.specs.Calls.{GivesNewtype, GivesUnit, IsStructOf, IsTupleOf, OpensEnum, OpensForm, OpensStructHead, OpensTupleHead, RefusesNewtype, RefusesStructHead, RefusesTupleHead, RefusesUnit};
+ghost use Rattle.bser_variants.specs.EnumAccess.{IsEnumOf, IsFormOf, enum_deserializer, enum_head, open_form, place_in, place_of};
+ghost use Rattle.bser_variants.specs.Rests.{enum_rests, form_rests, struct_rests, tuple_rests};
 
-use crate::payload::{open_payload_items, open_payload_pairs};
+use crate::payload::{open_payload_items, open_payload_pairs, read_null, read_payload};
 use crate::variant::open_variant;
-use crate::variant_access::{UnitVariantAccess, VariantAccess};
+use crate::variant_access::{EnumForm, UnitVariantAccess, VariantAccess};
 use bser_bunser::refusal::Answer;
 use bser_deserializer::container::{MapHead, SeqHead};
-use bser_deserializer::cursor::Cursor;
 use bser_deserializer::deserializer::Deserializer;
 use bser_format::errors::Complaint;
 use bser_source::read::DeRead;
@@ -53,10 +52,17 @@ pub trait ReadsEnums {
     /// [`Error::DeRecursionLimitExceeded`]: bser_format::errors::Error::DeRecursionLimitExceeded
     fn read_enum<'a>(
         &'a mut self,
-        alloc: Global,
         name: &str,
         variants: &[&str],
     ) -> Answer<EnumAccess<'a, Self::Source>>;
+
+    /// Reads the name as [`ReadsEnums::read_enum`] does, and refuses as it does, as an access of the
+    /// form that the variant has: a name alone, or an entry whose value is the payload.
+    fn read_enum_form<'a>(
+        &'a mut self,
+        name: &str,
+        variants: &[&str],
+    ) -> Answer<EnumForm<'a, Self::Source>>;
 }
 
 impl<R: DeRead> ReadsEnums for Deserializer<R>
@@ -65,57 +71,62 @@ where
 {
     type Source = R;
 
-    fn read_enum<'a>(
-        &'a mut self,
-        alloc: Global,
-        name: &str,
-        variants: &[&str],
-    ) -> Answer<EnumAccess<'a, R>>
-        ensures* rests { sem 𝓛 (RestsIfErr (the_row R.row R.Lent.row R.Lent.Kept.row) self.entry
-            (λ a. (enum_deserializer a).ghost_name) result (λ d. OnErr result
-            (RefusesVariant name.now (map (λ r. r.now) variants.now) (refusal_in d)
-            (state R.window R.Lent.kept self.old) (state R.window R.Lent.kept d)))) }
-        ensures same_reference { IfOk result (λ a.
-            (enum_deserializer a).ghost_name ≡ self.entry.ghost_name) }
-        ensures found { IfOk result (λ a. OpensVariant (map (λ r. r.now) variants.now)
-            (state R.window R.Lent.kept self.old) (open_enum R.window R.Lent.kept a) (place_of a)) }
+    fn read_enum<'a>(&'a mut self, name: &str, variants: &[&str]) -> Answer<EnumAccess<'a, R>>
+        ensures* rests { sem 𝓛 (enum_rests R.row R.Lent.row R.Lent.Kept.row R.DeRead
+            R.Lent.Lending self.entry result name.now variants.now) }
+        ensures same_reference { IfOk result (IsEnumOf self.entry) }
+        ensures found { IfOk result (OpensEnum variants.now self.old) }
     {
-        let (place, head) = open_variant(self, alloc, name, variants)?;
+        let (place, head) = open_variant(self, name, variants)?;
         Ok(EnumAccess {
             from: self,
             place,
             head,
         })
     }
+
+    fn read_enum_form<'a>(&'a mut self, name: &str, variants: &[&str]) -> Answer<EnumForm<'a, R>>
+        ensures* rests { sem 𝓛 (form_rests R.row R.Lent.row R.Lent.Kept.row R.DeRead
+            R.Lent.Lending self.entry result name.now variants.now) }
+        ensures same_reference { IfOk result (IsFormOf self.entry) }
+        ensures found { IfOk result (OpensForm variants.now self.old) }
+    {
+        let (place, head) = open_variant(self, name, variants)?;
+        Ok(form_of(self, place, head))
+    }
+}
+
+/// An access to the variant at this place, in the object or row of this head, or of a name alone.
+fn form_of<'a, R: DeRead>(
+    from: &'a mut Deserializer<R>,
+    place: usize,
+    head: Option<MapHead>,
+) -> EnumForm<'a, R>
+    ensures same_reference { IsFormOf from.entry result }
+    ensures opened { open_form result ≡ enum_head head from.old.state }
+    ensures place { place_in result ≡ place }
+{
+    match head {
+        None => EnumForm::Unit(UnitVariantAccess { from, place }),
+        Some(head) => EnumForm::Object(VariantAccess { from, place, head }),
+    }
 }
 
 /// Opens the array or template that is a variant's payload, or refuses a name alone.
-fn open_tuple<R: DeRead>(
-    from: &mut Deserializer<R>,
-    alloc: Global,
-    head: Option<MapHead>,
-) -> Answer<SeqHead>
-    ensures found { IfOk result (λ h. IsTuplePayload
-        (enum_head head (state R.window R.Lent.kept from.old))
-        (items_head h (state R.window R.Lent.kept from.new))) }
-    ensures refused { OnErr result (RefusesTuple (refusal_in from.new)
-        (enum_head head (state R.window R.Lent.kept from.old))
-        (state R.window R.Lent.kept from.new)) }
+fn open_tuple<R: DeRead>(from: &mut Deserializer<R>, head: Option<MapHead>) -> Answer<SeqHead>
+    ensures found { IfOk result (OpensTupleHead head from.old from.new) }
+    ensures refused { OnErr result (RefusesTupleHead head from.old from.new) }
 {
     match head {
         None => Err(from.complain(Complaint::WrongType)),
-        Some(entry) => open_payload_items(from, alloc, entry),
+        Some(entry) => open_payload_items(from, entry),
     }
 }
 
 /// Opens the object or row that is a variant's payload, or refuses a name alone.
 fn open_struct<R: DeRead>(from: &mut Deserializer<R>, head: Option<MapHead>) -> Answer<MapHead>
-    ensures found { IfOk result (λ h. IsStructPayload
-        (enum_head head (state R.window R.Lent.kept from.old))
-        (pairs_head h (state R.window R.Lent.kept from.new))) }
-    ensures refused { OnErr result (RefusesStruct (refusal_in from.new)
-        (enum_head head (state R.window R.Lent.kept from.old))
-        (state R.window R.Lent.kept from.new)) }
+    ensures found { IfOk result (OpensStructHead head from.old from.new) }
+    ensures refused { OnErr result (RefusesStructHead head from.old from.new) }
 {
     match head {
         None => Err(from.complain(Complaint::WrongType)),
@@ -124,8 +135,6 @@ fn open_struct<R: DeRead>(from: &mut Deserializer<R>, head: Option<MapHead>) -> 
 }
 
 impl<'a, R: DeRead> EnumAccess<'a, R> {
-    ghost use Rattle.bser_types.specs.Accesses.{open_items, items_reference, open_pairs, pairs_reference};
-
     /// The first place at which the variant's name stands among the names that were passed.
     pub fn place(&self) -> usize
         ensures { result ≡ place_of self.now }
@@ -137,11 +146,8 @@ impl<'a, R: DeRead> EnumAccess<'a, R> {
     ///
     /// Another payload is [`Complaint::WrongType`]; the deserializer then refuses each later call.
     pub fn unit_variant(self) -> Answer<()>
-        ensures found { OnOk result (IsUnitVariant (open_enum R.window R.Lent.kept self.entry)
-            (state R.window R.Lent.kept self.exit.0.now)) }
-        ensures refused { OnErr result (RefusesUnitVariant (refusal_in self.exit.0.now)
-            (open_enum R.window R.Lent.kept self.entry)
-            (state R.window R.Lent.kept self.exit.0.now)) }
+        ensures found { OnOk result (GivesUnit self.entry self.exit.0.now) }
+        ensures refused { OnErr result (RefusesUnit self.entry self.exit.0.now) }
     {
         let EnumAccess {
             from,
@@ -149,8 +155,8 @@ impl<'a, R: DeRead> EnumAccess<'a, R> {
             head,
         } = self;
         match head {
-            None => UnitVariantAccess { from }.unit_variant(),
-            Some(head) => VariantAccess { from, head }.unit_variant(),
+            None => Ok(()),
+            Some(head) => read_null(from, head),
         }
     }
 
@@ -158,22 +164,18 @@ impl<'a, R: DeRead> EnumAccess<'a, R> {
     ///
     /// Refused as [`ReadsContainers::read_seq`](bser_types::container::ReadsContainers::read_seq) is,
     /// and by [`Complaint::WrongType`] where the name stands alone.
-    pub fn tuple_variant(self, alloc: Global) -> Answer<SeqAccess<'a, R>>
-        ensures* rests { sem 𝓛 (RestsIfErr (the_row R.row R.Lent.row R.Lent.Kept.row)
-            (enum_deserializer self.entry) items_reference result
-            (λ d. OnErr result (RefusesTuple (refusal_in d)
-            (open_enum R.window R.Lent.kept self.entry) (state R.window R.Lent.kept d)))) }
-        ensures same_reference { IfOk result (λ a. items_reference a
-            ≡ (enum_deserializer self.entry).ghost_name) }
-        ensures found { IfOk result (λ a. IsTuplePayload
-            (open_enum R.window R.Lent.kept self.entry) (open_items R.window R.Lent.kept a)) }
+    pub fn tuple_variant(self) -> Answer<SeqAccess<'a, R>>
+        ensures* rests { sem 𝓛 (tuple_rests R.row R.Lent.row R.Lent.Kept.row R.DeRead
+            R.Lent.Lending self.entry result) }
+        ensures same_reference { IfOk result (IsSeqOf (enum_deserializer self.entry)) }
+        ensures found { IfOk result (IsTupleOf self.entry) }
     {
         let EnumAccess {
             from,
             place: _,
             head,
         } = self;
-        let items = open_tuple(from, alloc, head)?;
+        let items = open_tuple(from, head)?;
         Ok(items_of(from, items))
     }
 
@@ -182,14 +184,10 @@ impl<'a, R: DeRead> EnumAccess<'a, R> {
     /// Refused as [`ReadsContainers::read_map`](bser_types::container::ReadsContainers::read_map) is,
     /// and by [`Complaint::WrongType`] where the name stands alone.
     pub fn struct_variant(self) -> Answer<MapAccess<'a, R>>
-        ensures* rests { sem 𝓛 (RestsIfErr (the_row R.row R.Lent.row R.Lent.Kept.row)
-            (enum_deserializer self.entry) pairs_reference result
-            (λ d. OnErr result (RefusesStruct (refusal_in d)
-            (open_enum R.window R.Lent.kept self.entry) (state R.window R.Lent.kept d)))) }
-        ensures same_reference { IfOk result (λ a. pairs_reference a
-            ≡ (enum_deserializer self.entry).ghost_name) }
-        ensures found { IfOk result (λ a. IsStructPayload
-            (open_enum R.window R.Lent.kept self.entry) (open_pairs R.window R.Lent.kept a)) }
+        ensures* rests { sem 𝓛 (struct_rests R.row R.Lent.row R.Lent.Kept.row R.DeRead
+            R.Lent.Lending self.entry result) }
+        ensures same_reference { IfOk result (IsMapOf (enum_deserializer self.entry)) }
+        ensures found { IfOk result (IsStructOf self.entry) }
     {
         let EnumAccess {
             from,
@@ -210,12 +208,9 @@ where
     /// Refused as the type's reading is, and by [`Complaint::WrongType`] where the name stands
     /// alone; the deserializer then refuses each later call.
     pub fn newtype_variant<T: Deserialize<R::Lent>>(self, alloc: Global) -> Answer<T>
-        ensures found { IfOk result (IsPayload T.reads T.holds
-            (open_enum R.window R.Lent.kept self.entry)
-            (state R.window R.Lent.kept self.exit.0.now)) }
-        ensures refused { OnErr result (RefusesPayload T.reads T.asks T.needs
-            (refusal_in self.exit.0.now) (open_enum R.window R.Lent.kept self.entry)
-            (state R.window R.Lent.kept self.exit.0.now)) }
+        ensures found { IfOk result (GivesNewtype T.reads T.holds self.entry self.exit.0.now) }
+        ensures refused { OnErr result
+            (RefusesNewtype self.entry T.reads T.asks T.needs self.exit.0.now) }
     {
         let EnumAccess {
             from,
@@ -223,8 +218,8 @@ where
             head,
         } = self;
         match head {
-            None => UnitVariantAccess { from }.newtype_variant(alloc),
-            Some(head) => VariantAccess { from, head }.newtype_variant(alloc),
+            None => Err(from.complain(Complaint::WrongType)),
+            Some(head) => read_payload(alloc, from, head),
         }
     }
 }

@@ -1,22 +1,21 @@
 //! The payload of a variant, in an object or a row of one entry.
-ghost use Rattle.std.specs.Prelude.{◌≡◌, IfOk, OnErr};
-ghost use Rattle.bser_deserializer.specs.Access.{RefusesItems, RefusesPairs};
+ghost use Rattle.std.specs.Prelude.{◌≡◌, IfOk, OnOk, OnErr};
 ghost use Rattle.bser_deserializer.specs.State.{awaiting};
-ghost use Rattle.bser_deserializer.specs.View.{state, refusal_in, items_head, pairs_head};
-ghost use Rattle.bser_variants.specs.EnumAccess.{variant_head};
-ghost use Rattle.bser_variants.specs.Variants.{OpensPayloadItems, OpensPayloadPairs, before_payload, payload_due};
+ghost use Rattle.bser_variants.specs.Calls.{OpensPayloadMap, OpensPayloadSeq, RefusesHeld, RefusesNull, RefusesPayloadMap, RefusesPayloadSeq, TakesNull, TakesPayload};
+ghost use Rattle.bser_variants.specs.Variants.{payload_due};
 
 use bser_bunser::refusal::Answer;
 use bser_deserializer::container::{Containers, MapHead, SeqHead};
 use bser_deserializer::cursor::Cursor;
 use bser_deserializer::deserializer::Deserializer;
 use bser_source::read::DeRead;
+use bser_source::reference::LendsText;
+use bser_types::deserialize::Deserialize;
 use std::alloc::Global;
 
 /// Makes the payload due.
 pub fn await_payload<R: DeRead>(from: &mut Deserializer<R>, head: MapHead)
-    ensures { state R.window R.Lent.kept from.new
-        ≡ awaiting (payload_due head.row) (state R.window R.Lent.kept from.old) }
+    ensures { from.new.state ≡ awaiting (payload_due head.row) from.old.state }
 {
     if head.row {
         from.await_field();
@@ -25,21 +24,45 @@ pub fn await_payload<R: DeRead>(from: &mut Deserializer<R>, head: MapHead)
     }
 }
 
+/// Reads null, or a skipped field, as the payload, and closes the variant's object.
+pub(crate) fn read_null<R: DeRead>(from: &mut Deserializer<R>, head: MapHead) -> Answer<()>
+    ensures found { OnOk result (TakesNull head from.old from.new) }
+    ensures refused { OnErr result (RefusesNull head from.old from.new) }
+{
+    await_payload(from, head);
+    from.read_unit()?;
+    from.close_pairs(head);
+    Ok(())
+}
+
+/// Reads the payload as its type does, and closes the variant's object.
+pub(crate) fn read_payload<R: DeRead, T: Deserialize<R::Lent>>(
+    alloc: Global,
+    from: &mut Deserializer<R>,
+    head: MapHead,
+) -> Answer<T>
+where
+    R::Lent: LendsText,
+    ensures found { IfOk result (TakesPayload head from.old from.new T.reads T.holds) }
+    ensures refused { OnErr result
+        (RefusesHeld head from.old from.new T.reads T.asks T.needs) }
+{
+    await_payload(from, head);
+    let payload = T::deserialize(alloc, from)?;
+    from.close_pairs(head);
+    Ok(payload)
+}
+
 /// Opens the array or template that is the payload. Its end closes the variant's object too.
 pub(crate) fn open_payload_items<R: DeRead>(
     from: &mut Deserializer<R>,
-    alloc: Global,
     head: MapHead,
 ) -> Answer<SeqHead>
-    ensures found { IfOk result (λ h. OpensPayloadItems
-        (variant_head head (state R.window R.Lent.kept from.old))
-        (items_head h (state R.window R.Lent.kept from.new))) }
-    ensures refused { OnErr result (RefusesItems (refusal_in from.new)
-        (before_payload (variant_head head (state R.window R.Lent.kept from.old)))
-        (state R.window R.Lent.kept from.new)) }
+    ensures found { IfOk result (OpensPayloadSeq head from.old from.new) }
+    ensures refused { OnErr result (RefusesPayloadSeq head from.old from.new) }
 {
     await_payload(from, head);
-    let items = from.open_items(alloc)?;
+    let items = from.open_items()?;
     Ok(SeqHead {
         remaining: items.remaining,
         rows: items.rows,
@@ -53,12 +76,8 @@ pub(crate) fn open_payload_pairs<R: DeRead>(
     from: &mut Deserializer<R>,
     head: MapHead,
 ) -> Answer<MapHead>
-    ensures found { IfOk result (λ h. OpensPayloadPairs
-        (variant_head head (state R.window R.Lent.kept from.old))
-        (pairs_head h (state R.window R.Lent.kept from.new))) }
-    ensures refused { OnErr result (RefusesPairs (refusal_in from.new)
-        (before_payload (variant_head head (state R.window R.Lent.kept from.old)))
-        (state R.window R.Lent.kept from.new)) }
+    ensures found { IfOk result (OpensPayloadMap head from.old from.new) }
+    ensures refused { OnErr result (RefusesPayloadMap head from.old from.new) }
 {
     await_payload(from, head);
     let pairs = from.open_pairs()?;

@@ -1,15 +1,10 @@
 //! A variant that stands where an enum is due.
-ghost use Rattle.std.specs.Prelude.{◌≡◌, map, IfOk, OnErr};
+ghost use Rattle.std.specs.Prelude.{◌≡◌, IfOk, OnErr};
 ghost use Rattle.bser_format.specs.Expected.{row_due};
-ghost use Rattle.bser_named.specs.DueReaders.{variant_of_row};
-ghost use Rattle.bser_bunser.specs.Refusal.{Fails};
 ghost use Rattle.bser_deserializer.specs.Dues.{IsValueDue};
-ghost use Rattle.bser_deserializer.specs.Reading.{NamesBy, bare};
 ghost use Rattle.bser_deserializer.specs.State.{refused};
-ghost use Rattle.bser_deserializer.specs.View.{state, refusal_in, IsBefore};
-ghost use Rattle.bser_variants.specs.EnumAccess.{enum_head, variant_head};
-ghost use Rattle.bser_variants.specs.Names.{KeepsName, NamesVariant};
-ghost use Rattle.bser_variants.specs.Variants.{OpensEntry, OpensVariant, RefusesVariant};
+ghost use Rattle.bser_deserializer.specs.View.{IsBefore};
+ghost use Rattle.bser_variants.specs.Calls.{Enters, HasFailed, IsOtherKind, IsTooDeep, MissesRow, NamesObject, NamesValue, Opens, RefusesEnum};
 
 use crate::name::{read_only_key, read_place};
 use bser_bunser::refusal::{Answer, Refused};
@@ -20,57 +15,46 @@ use bser_format::errors::{EnumName, Error, Kind};
 use bser_format::header::{BSER_BYTESTRING, BSER_OBJECT, BSER_UTF8STRING};
 use bser_source::read::DeRead;
 use bser_source::reference::LendsText;
-use std::alloc::Global;
 
 /// Reads the name of the variant that is due: its first place in `variants`, and the head of its
 /// object or row, unless the name stands alone.
 pub fn open_variant<R: DeRead>(
     from: &mut Deserializer<R>,
-    alloc: Global,
     name: &str,
     variants: &[&str],
 ) -> Answer<(usize, Option<MapHead>)>
 where
     R::Lent: LendsText,
-    ensures found { IfOk result (λ p. OpensVariant (map (λ r. r.now) variants.now)
-        (state R.window R.Lent.kept from.old)
-        (enum_head p.1 (state R.window R.Lent.kept from.new)) p.0) }
-    ensures refused { OnErr result (RefusesVariant name.now (map (λ r. r.now) variants.now)
-        (refusal_in from.new)
-        (state R.window R.Lent.kept from.old) (state R.window R.Lent.kept from.new)) }
+    ensures found { IfOk result (Opens variants.now from.old from.new) }
+    ensures refused { OnErr result (RefusesEnum name.now variants.now from.old from.new) }
 {
     match from.due() {
-        Due::Node | Due::Field => open_value(from, alloc, name, variants),
+        Due::Node | Due::Field => open_value(from, name, variants),
         Due::Row => {
-            let (place, head) = open_row(from, alloc, variants)?;
+            let (place, head) = open_row(from, variants)?;
             Ok((place, Some(head)))
         }
-        _ => Ok((read_place(from, alloc, variants)?, None)),
+        _ => Ok((read_place(from, variants)?, None)),
     }
 }
 
 /// Reads the variant that a value or a field is.
 fn open_value<R: DeRead>(
     from: &mut Deserializer<R>,
-    alloc: Global,
     name: &str,
     variants: &[&str],
 ) -> Answer<(usize, Option<MapHead>)>
 where
     R::Lent: LendsText,
-    requires { IsValueDue (state R.window R.Lent.kept from.old).due }
-    ensures found { IfOk result (λ p. OpensVariant (map (λ r. r.now) variants.now)
-        (state R.window R.Lent.kept from.old)
-        (enum_head p.1 (state R.window R.Lent.kept from.new)) p.0) }
-    ensures err { OnErr result (Fails (refusal_in from.new)
-        (state R.window R.Lent.kept from.old).source (state R.window R.Lent.kept from.new).source) }
-    ensures names { OnErr result (NamesVariant name.now (map (λ r. r.now) variants.now)
-        (refusal_in from.new) (state R.window R.Lent.kept from.old)) }
+    requires { IsValueDue from.old.state.due }
+    ensures found { IfOk result (Opens variants.now from.old from.new) }
+    ensures err { OnErr result (HasFailed from.old from.new) }
+    ensures names { OnErr result (NamesValue name.now variants.now from.old from.new) }
 {
     match from.value_tag()? {
-        BSER_BYTESTRING | BSER_UTF8STRING => Ok((read_place(from, alloc, variants)?, None)),
+        BSER_BYTESTRING | BSER_UTF8STRING => Ok((read_place(from, variants)?, None)),
         BSER_OBJECT => {
-            let (place, head) = open_object(from, alloc, name, variants)?;
+            let (place, head) = open_object(from, name, variants)?;
             Ok((place, Some(head)))
         }
         byte => Err(refuse_kind(from, name, byte)),
@@ -81,10 +65,8 @@ where
 #[cold]
 #[inline(never)]
 fn refuse_kind<R: DeRead>(from: &mut Deserializer<R>, name: &str, byte: u8) -> Refused
-    ensures reason { (enum : EnumName) × KeepsName name.now enum
-        × (refusal_in from.new ≡ Error.DeInvalidStartByte (Kind.Enum enum) byte) }
-    ensures state { state R.window R.Lent.kept from.new
-        ≡ refused (state R.window R.Lent.kept from.old) }
+    ensures reason { IsOtherKind name.now byte from.new.refusal }
+    ensures state { from.new.state ≡ refused from.old.state }
 {
     from.refuse(Error::DeInvalidStartByte {
         kind: Kind::Enum(EnumName::new(name)),
@@ -96,10 +78,8 @@ fn refuse_kind<R: DeRead>(from: &mut Deserializer<R>, name: &str, byte: u8) -> R
 #[cold]
 #[inline(never)]
 fn refuse_depth<R: DeRead>(from: &mut Deserializer<R>, name: &str) -> Refused
-    ensures reason { (enum : EnumName) × KeepsName name.now enum
-        × (refusal_in from.new ≡ Error.DeRecursionLimitExceeded (Kind.ObjectLikeEnum enum)) }
-    ensures state { state R.window R.Lent.kept from.new
-        ≡ refused (state R.window R.Lent.kept from.old) }
+    ensures reason { IsTooDeep name.now from.new.refusal }
+    ensures state { from.new.state ≡ refused from.old.state }
 {
     from.refuse(Error::DeRecursionLimitExceeded {
         kind: Kind::ObjectLikeEnum(EnumName::new(name)),
@@ -109,49 +89,34 @@ fn refuse_depth<R: DeRead>(from: &mut Deserializer<R>, name: &str) -> Refused
 /// Reads the name in the object whose tag is next, of which it is the only key.
 fn open_object<R: DeRead>(
     from: &mut Deserializer<R>,
-    alloc: Global,
     name: &str,
     variants: &[&str],
 ) -> Answer<(usize, MapHead)>
 where
     R::Lent: LendsText,
-    requires { IsBefore 0x01 (state R.window R.Lent.kept from.old) }
-    ensures found { IfOk result (λ p. OpensEntry (map (λ r. r.now) variants.now)
-        (state R.window R.Lent.kept from.old)
-        (variant_head p.1 (state R.window R.Lent.kept from.new)) p.0) }
-    ensures err { OnErr result (Fails (refusal_in from.new)
-        (state R.window R.Lent.kept from.old).source (state R.window R.Lent.kept from.new).source) }
-    ensures names { OnErr result (NamesVariant name.now (map (λ r. r.now) variants.now)
-        (refusal_in from.new) (state R.window R.Lent.kept from.old)) }
+    requires { IsBefore 0x01 from.old.state }
+    ensures found { IfOk result (Enters variants.now from.old from.new) }
+    ensures err { OnErr result (HasFailed from.old from.new) }
+    ensures names { OnErr result (NamesObject name.now variants.now from.old from.new) }
 {
     if from.levels() == 0 {
         return Err(refuse_depth(from, name));
     }
     let head = from.open_pairs()?;
-    let place = read_only_key(from, alloc, head, variants)?;
+    let place = read_only_key(from, head, variants)?;
     Ok((place, head))
 }
 
 /// Reads the name in the row that is due, of which it is the only key.
-fn open_row<R: DeRead>(
-    from: &mut Deserializer<R>,
-    alloc: Global,
-    variants: &[&str],
-) -> Answer<(usize, MapHead)>
+fn open_row<R: DeRead>(from: &mut Deserializer<R>, variants: &[&str]) -> Answer<(usize, MapHead)>
 where
     R::Lent: LendsText,
-    requires { (state R.window R.Lent.kept from.old).due
-        ≡ row_due (state R.window R.Lent.kept from.old).keys }
-    ensures found { IfOk result (λ p. OpensEntry (map (λ r. r.now) variants.now)
-        (state R.window R.Lent.kept from.old)
-        (variant_head p.1 (state R.window R.Lent.kept from.new)) p.0) }
-    ensures err { OnErr result (Fails (refusal_in from.new)
-        (state R.window R.Lent.kept from.old).source (state R.window R.Lent.kept from.new).source) }
-    ensures names { OnErr result (NamesBy bare (variant_of_row (map (λ r. r.now) variants.now)
-        (state R.window R.Lent.kept from.old).keys) (refusal_in from.new)
-        (state R.window R.Lent.kept from.old).source) }
+    requires { from.old.state.due ≡ row_due from.old.state.keys }
+    ensures found { IfOk result (Enters variants.now from.old from.new) }
+    ensures err { OnErr result (HasFailed from.old from.new) }
+    ensures names { OnErr result (MissesRow variants.now from.old from.new) }
 {
     let head = from.open_pairs()?;
-    let place = read_only_key(from, alloc, head, variants)?;
+    let place = read_only_key(from, head, variants)?;
     Ok((place, head))
 }

@@ -1,9 +1,7 @@
 //! Integers of any width.
-ghost use Rattle.std.specs.Prelude.{◌≡◌, ◌≢◌, IfOk, IfErr, IfSome, IfNone, OnErr};
+ghost use Rattle.std.specs.Prelude.{◌≡◌, ◌≢◌, IfOk, IfErr, IfSome, IfNone, OnErr, OnOk};
 ghost use Rattle.bser_named.specs.Named.{int};
-ghost use Rattle.bser_bunser.specs.Names.{Names, CutsInteger};
-ghost use Rattle.bser_bunser.specs.Refusal.{Fails};
-ghost use Rattle.bser_bunser.specs.Tagged.{bunser_window, refusal_of, TookInt, LooksForInt};
+ghost use Rattle.bser_bunser.specs.Calls.{TakesInt, LooksFor, Keeps, HasFailed, IsCutShort, FailsBy, AnswersBy};
 
 use crate::bunser::Bunser;
 use crate::prefix::{Look, Prefix, int_prefix};
@@ -18,32 +16,28 @@ impl<R: DeRead> Bunser<R> {
     /// Takes an integer of any width. Where another tag stands nothing is taken, and it is
     /// [`Look::Unexpected`] with [`Unexpected::Tag`].
     ///
-    /// An integer that is cut short, or none at all, is refused as by [`Self::fill`]. The crate has
-    /// no such call.
+    /// An integer that is cut short, or none at all, is refused as by [`Self::fill`].
     #[inline(always)]
     pub fn next_int(&mut self) -> Answer<Look<i64>>
-        ensures ok { IfOk result (λ l.
-            LooksForInt (bunser_window R.window self.old) (bunser_window R.window self.new) l) }
-        ensures err { OnErr result (Fails (refusal_of self.new)
-            (bunser_window R.window self.old) (bunser_window R.window self.new)) }
-        ensures names { OnErr result
-            (CutsInteger (refusal_of self.new) (bunser_window R.window self.old)) }
-        ensures memory { OnErr result (refusal_of self.new ≢ Error.OutOfMemory) }
+        ensures ok { IfOk result (λ l. LooksFor l self.old self.new) }
+        ensures kept { OnOk result (Keeps self.old self.new) }
+        ensures err { OnErr result (HasFailed self.old self.new) }
+        ensures names { OnErr result (IsCutShort self.old self.new) }
+        ensures memory { OnErr result (self.new.refusal ≢ Error.OutOfMemory) }
     {
         match self.buffered_int() {
             Some(number) => Ok(Look::Taken(number)),
-            None => self.next_int_on(),
+            None => self.next_int_slowly(),
         }
     }
 
     /// Takes an integer, where as many bytes are buffered as the longest one has. Else it is `None`,
-    /// and nothing is taken. The crate has no such call.
+    /// and nothing is taken.
     #[inline(always)]
     pub fn buffered_int(&mut self) -> Option<i64>
-        ensures some { IfSome result (λ v.
-            TookInt (bunser_window R.window self.old) (bunser_window R.window self.new) v) }
-        ensures none { IfNone result
-            (bunser_window R.window self.new ≡ bunser_window R.window self.old) }
+        ensures some { IfSome result (λ v. TakesInt v self.old self.new) }
+        ensures none { IfNone result (self.new.window ≡ self.old.window) }
+        ensures kept { Keeps self.old self.new }
     {
         let bytes = self.read.buffered();
         if count_octets(bytes) < LONGEST {
@@ -61,14 +55,12 @@ impl<R: DeRead> Bunser<R> {
     /// Takes an integer of any width, and buffers its bytes before.
     #[cold]
     #[inline(never)]
-    fn next_int_on(&mut self) -> Answer<Look<i64>>
-        ensures ok { IfOk result (λ l.
-            LooksForInt (bunser_window R.window self.old) (bunser_window R.window self.new) l) }
-        ensures err { OnErr result (Fails (refusal_of self.new)
-            (bunser_window R.window self.old) (bunser_window R.window self.new)) }
-        ensures names { OnErr result
-            (CutsInteger (refusal_of self.new) (bunser_window R.window self.old)) }
-        ensures memory { OnErr result (refusal_of self.new ≢ Error.OutOfMemory) }
+    fn next_int_slowly(&mut self) -> Answer<Look<i64>>
+        ensures ok { IfOk result (λ l. LooksFor l self.old self.new) }
+        ensures kept { OnOk result (Keeps self.old self.new) }
+        ensures err { OnErr result (HasFailed self.old self.new) }
+        ensures names { OnErr result (IsCutShort self.old self.new) }
+        ensures memory { OnErr result (self.new.refusal ≢ Error.OutOfMemory) }
     {
         loop {
             match int_prefix(self.read.buffered()) {
@@ -76,7 +68,7 @@ impl<R: DeRead> Bunser<R> {
                     self.read.consume(len);
                     return Ok(Look::Taken(value));
                 }
-                Prefix::Short { need } => self.fill_on(need)?,
+                Prefix::Short { need } => self.fill_slowly(need)?,
                 Prefix::Unexpected(why) => return Ok(Look::Unexpected(why)),
             }
         }
@@ -87,33 +79,25 @@ impl<R: DeRead> Bunser<R> {
     /// Refusals are those of [`Self::check_next_int`].
     #[inline(always)]
     pub(crate) fn int(&mut self) -> Answer<i64>
-        ensures ok { IfOk result (λ v.
-            TookInt (bunser_window R.window self.old) (bunser_window R.window self.new) v) }
-        ensures err { OnErr result (Fails (refusal_of self.new)
-            (bunser_window R.window self.old) (bunser_window R.window self.new)) }
-        ensures names { OnErr result
-            (Names int (refusal_of self.new) (bunser_window R.window self.old)) }
-        ensures memory { OnErr result (refusal_of self.new ≢ Error.OutOfMemory) }
+        ensures ok { IfOk result (λ v. TakesInt v self.old self.new) }
+        ensures kept { OnOk result (Keeps self.old self.new) }
+        ensures refused { OnErr result (FailsBy int self.old self.new) }
     {
         match self.buffered_int() {
             Some(number) => Ok(number),
-            None => self.int_on(),
+            None => self.int_slowly(),
         }
     }
 
     /// Takes an integer of any width, and buffers its bytes before.
     #[cold]
     #[inline(never)]
-    fn int_on(&mut self) -> Answer<i64>
-        ensures ok { IfOk result (λ v.
-            TookInt (bunser_window R.window self.old) (bunser_window R.window self.new) v) }
-        ensures err { OnErr result (Fails (refusal_of self.new)
-            (bunser_window R.window self.old) (bunser_window R.window self.new)) }
-        ensures names { OnErr result
-            (Names int (refusal_of self.new) (bunser_window R.window self.old)) }
-        ensures memory { OnErr result (refusal_of self.new ≢ Error.OutOfMemory) }
+    fn int_slowly(&mut self) -> Answer<i64>
+        ensures ok { IfOk result (λ v. TakesInt v self.old self.new) }
+        ensures kept { OnOk result (Keeps self.old self.new) }
+        ensures refused { OnErr result (FailsBy int self.old self.new) }
     {
-        match self.next_int_on()? {
+        match self.next_int_slowly()? {
             Look::Taken(number) => Ok(number),
             Look::Unexpected(why) => Err(self.refuse_unexpected(Kind::Integer, why)),
         }
@@ -125,12 +109,9 @@ impl<R: DeRead> Bunser<R> {
     /// integer that is cut short, or none at all, is refused as by [`Self::fill`].
     #[inline(always)]
     pub fn check_next_int(&mut self) -> Result<i64>
-        ensures ok { IfOk result (λ v.
-            TookInt (bunser_window R.window self.old) (bunser_window R.window self.new) v) }
-        ensures err { IfErr result (λ e.
-            Fails e (bunser_window R.window self.old) (bunser_window R.window self.new)) }
-        ensures names { IfErr result (λ e. Names int e (bunser_window R.window self.old)) }
-        ensures memory { IfErr result (λ e. e ≢ Error.OutOfMemory) }
+        ensures ok { IfOk result (λ v. TakesInt v self.old self.new) }
+        ensures kept { OnOk result (Keeps self.old self.new) }
+        ensures refused { IfErr result (AnswersBy int self.old self.new) }
     {
         match self.int() {
             Ok(number) => Ok(number),

@@ -1,10 +1,8 @@
 //! Numbers of a width that the caller knows.
-ghost use Rattle.std.specs.Prelude.{◌≡◌, ◌≢◌, ◌<◌, length, IfOk, IfErr, OnErr};
+ghost use Rattle.std.specs.Prelude.{◌<◌, length, IfOk, IfErr, OnErr, OnOk};
 ghost use Rattle.std.specs.Int.{w8, w16, w32, w64};
 ghost use Rattle.bser_named.specs.Named.{front};
-ghost use Rattle.bser_bunser.specs.Names.{Names};
-ghost use Rattle.bser_bunser.specs.Refusal.{ShortOf};
-ghost use Rattle.bser_bunser.specs.Tagged.{bunser_window, refusal_of, TookNumber, TookBits};
+ghost use Rattle.bser_bunser.specs.Calls.{TakesNumber, TakesBits, Keeps, FailsShort, AnswersShort};
 
 use crate::bunser::Bunser;
 use crate::refusal::{Answer, Refused};
@@ -18,13 +16,10 @@ impl<R: DeRead> Bunser<R> {
     /// It wants a buffered byte, which a [`Self::peek`] that succeeds gives. Refusals are those of
     /// [`Self::fill`] for 2 bytes.
     pub fn next_i8(&mut self) -> Result<i8>
-        requires { 0 < length (bunser_window R.window self.old).buffered }
-        ensures ok { IfOk result (λ v.
-            TookNumber w8 (bunser_window R.window self.old) (bunser_window R.window self.new) v) }
-        ensures err { IfErr result (λ e.
-            ShortOf 2 e (bunser_window R.window self.old) (bunser_window R.window self.new)) }
-        ensures names { IfErr result (λ e. Names (front 2) e (bunser_window R.window self.old)) }
-        ensures memory { IfErr result (λ e. e ≢ Error.OutOfMemory) }
+        requires { 0 < length self.old.window.buffered }
+        ensures ok { IfOk result (λ v. TakesNumber w8 v self.old self.new) }
+        ensures kept { OnOk result (Keeps self.old self.new) }
+        ensures refused { IfErr result (AnswersShort 2 self.old self.new) }
     {
         match self.front::<2>() {
             Ok(bytes) => Ok(bytes[1].cast_signed()),
@@ -38,13 +33,10 @@ impl<R: DeRead> Bunser<R> {
     /// It wants a buffered byte, which a [`Self::peek`] that succeeds gives. Refusals are those of
     /// [`Self::fill`] for 3 bytes.
     pub fn next_i16(&mut self) -> Result<i16>
-        requires { 0 < length (bunser_window R.window self.old).buffered }
-        ensures ok { IfOk result (λ v.
-            TookNumber w16 (bunser_window R.window self.old) (bunser_window R.window self.new) v) }
-        ensures err { IfErr result (λ e.
-            ShortOf 3 e (bunser_window R.window self.old) (bunser_window R.window self.new)) }
-        ensures names { IfErr result (λ e. Names (front 3) e (bunser_window R.window self.old)) }
-        ensures memory { IfErr result (λ e. e ≢ Error.OutOfMemory) }
+        requires { 0 < length self.old.window.buffered }
+        ensures ok { IfOk result (λ v. TakesNumber w16 v self.old self.new) }
+        ensures kept { OnOk result (Keeps self.old self.new) }
+        ensures refused { IfErr result (AnswersShort 3 self.old self.new) }
     {
         match self.front::<3>() {
             Ok(bytes) => Ok(LittleEndian::read_i16(&bytes[1..])),
@@ -58,13 +50,10 @@ impl<R: DeRead> Bunser<R> {
     /// It wants a buffered byte, which a [`Self::peek`] that succeeds gives. Refusals are those of
     /// [`Self::fill`] for 5 bytes.
     pub fn next_i32(&mut self) -> Result<i32>
-        requires { 0 < length (bunser_window R.window self.old).buffered }
-        ensures ok { IfOk result (λ v.
-            TookNumber w32 (bunser_window R.window self.old) (bunser_window R.window self.new) v) }
-        ensures err { IfErr result (λ e.
-            ShortOf 5 e (bunser_window R.window self.old) (bunser_window R.window self.new)) }
-        ensures names { IfErr result (λ e. Names (front 5) e (bunser_window R.window self.old)) }
-        ensures memory { IfErr result (λ e. e ≢ Error.OutOfMemory) }
+        requires { 0 < length self.old.window.buffered }
+        ensures ok { IfOk result (λ v. TakesNumber w32 v self.old self.new) }
+        ensures kept { OnOk result (Keeps self.old self.new) }
+        ensures refused { IfErr result (AnswersShort 5 self.old self.new) }
     {
         match self.front::<5>() {
             Ok(bytes) => Ok(LittleEndian::read_i32(&bytes[1..])),
@@ -78,13 +67,10 @@ impl<R: DeRead> Bunser<R> {
     /// It wants a buffered byte, which a [`Self::peek`] that succeeds gives. Refusals are those of
     /// [`Self::fill`] for 9 bytes.
     pub fn next_i64(&mut self) -> Result<i64>
-        requires { 0 < length (bunser_window R.window self.old).buffered }
-        ensures ok { IfOk result (λ v.
-            TookNumber w64 (bunser_window R.window self.old) (bunser_window R.window self.new) v) }
-        ensures err { IfErr result (λ e.
-            ShortOf 9 e (bunser_window R.window self.old) (bunser_window R.window self.new)) }
-        ensures names { IfErr result (λ e. Names (front 9) e (bunser_window R.window self.old)) }
-        ensures memory { IfErr result (λ e. e ≢ Error.OutOfMemory) }
+        requires { 0 < length self.old.window.buffered }
+        ensures ok { IfOk result (λ v. TakesNumber w64 v self.old self.new) }
+        ensures kept { OnOk result (Keeps self.old self.new) }
+        ensures refused { IfErr result (AnswersShort 9 self.old self.new) }
     {
         match self.front::<9>() {
             Ok(bytes) => Ok(LittleEndian::read_i64(&bytes[1..])),
@@ -96,15 +82,12 @@ impl<R: DeRead> Bunser<R> {
     /// the bits of a real.
     ///
     /// It wants a buffered byte, which a [`Self::peek`] that succeeds gives. Refusals are those of
-    /// [`Self::fill`] for 9 bytes. The crate answers a float.
+    /// [`Self::fill`] for 9 bytes.
     pub fn next_f64(&mut self) -> Result<u64>
-        requires { 0 < length (bunser_window R.window self.old).buffered }
-        ensures ok { IfOk result (λ n.
-            TookBits (bunser_window R.window self.old) (bunser_window R.window self.new) n) }
-        ensures err { IfErr result (λ e.
-            ShortOf 9 e (bunser_window R.window self.old) (bunser_window R.window self.new)) }
-        ensures names { IfErr result (λ e. Names (front 9) e (bunser_window R.window self.old)) }
-        ensures memory { IfErr result (λ e. e ≢ Error.OutOfMemory) }
+        requires { 0 < length self.old.window.buffered }
+        ensures ok { IfOk result (λ n. TakesBits n self.old self.new) }
+        ensures kept { OnOk result (Keeps self.old self.new) }
+        ensures refused { IfErr result (AnswersShort 9 self.old self.new) }
     {
         match self.next_bits() {
             Ok(bits) => Ok(bits),
@@ -115,18 +98,13 @@ impl<R: DeRead> Bunser<R> {
     /// Takes the first buffered byte without looking at it, and then 8 bytes, the lowest first, as
     /// the bits of a real.
     ///
-    /// It wants a buffered byte. Refusals are those of [`Self::fill`] for 9 bytes. The crate has no
-    /// such call.
+    /// It wants a buffered byte. Refusals are those of [`Self::fill`] for 9 bytes.
     #[inline(always)]
     pub fn next_bits(&mut self) -> Answer<u64>
-        requires { 0 < length (bunser_window R.window self.old).buffered }
-        ensures ok { IfOk result (λ n.
-            TookBits (bunser_window R.window self.old) (bunser_window R.window self.new) n) }
-        ensures err { OnErr result (ShortOf 9 (refusal_of self.new)
-            (bunser_window R.window self.old) (bunser_window R.window self.new)) }
-        ensures names { OnErr result
-            (Names (front 9) (refusal_of self.new) (bunser_window R.window self.old)) }
-        ensures memory { OnErr result (refusal_of self.new ≢ Error.OutOfMemory) }
+        requires { 0 < length self.old.window.buffered }
+        ensures ok { IfOk result (λ n. TakesBits n self.old self.new) }
+        ensures kept { OnOk result (Keeps self.old self.new) }
+        ensures refused { OnErr result (FailsShort 9 self.old self.new) }
     {
         let bytes = self.front::<9>()?;
         Ok(LittleEndian::read_u64(&bytes[1..]))

@@ -1,12 +1,12 @@
 //! The head of a message, and where its body ends.
-ghost use Rattle.std.specs.Prelude.{◌≡◌, ◌≢◌, ◌-◌, ◌^◌, ◌∷◌, [], pos, true, false, IfOk, IfErr, OnOk, OnErr, min};
+ghost use Rattle.std.specs.Prelude.{◌≡◌, ◌-◌, ◌∷◌, [], false, IfOk, IfErr, OnOk, OnErr};
 ghost use Rattle.std.specs.Int.{w32, to_le_bytes};
 ghost use Rattle.bser_named.specs.Clauses.{after_a_refusal};
 ghost use Rattle.bser_named.specs.Named.{front, magic, head};
-ghost use Rattle.bser_source.specs.Window.{Took, Expects};
-ghost use Rattle.bser_bunser.specs.Names.{Names};
-ghost use Rattle.bser_bunser.specs.Refusal.{ShortOf, Fails, end_refusal};
-ghost use Rattle.bser_bunser.specs.Tagged.{bunser_window, refusal_of, TookHead, EndsAt};
+ghost use Rattle.bser_source.specs.Window.{Expects};
+ghost use Rattle.bser_bunser.specs.Calls.{bytes_taken, Takes, TakesHead, Keeps, FailsShort, FailsBy, AnswersBy};
+ghost use Rattle.bser_bunser.specs.Refusal.{end_refusal};
+ghost use Rattle.bser_bunser.specs.Tagged.{EndsAt};
 
 use crate::bunser::Bunser;
 use crate::refusal::{Answer, Refused};
@@ -32,19 +32,17 @@ impl<R: DeRead> Bunser<R> {
     /// `i64::MAX` is [`Complaint::CountTooGreat`], and another count of bytes than that sum is
     /// [`Error::DeEof`]. After an earlier refusal it is refused by [`ReadCause::Failed`], whatever
     /// the count. A refusal changes nothing.
-    ///
-    /// The crate adds without a check, and makes an `usize` of any sum.
     pub fn end(&self, pdu_info: &PduInfo) -> Result<()>
         ensures ok { OnOk result (EndsAt pdu_info.now.start pdu_info.now.len
-            (bunser_window R.window self.now).count) }
-        ensures working { OnOk result ((bunser_window R.window self.now).failed ≡ false) }
+            self.now.window.count) }
+        ensures working { OnOk result (self.now.window.failed ≡ false) }
         ensures cause { IfErr result (λ e. e ≡
-            after_a_refusal (bunser_window R.window self.now).failed
+            after_a_refusal self.now.window.failed
             (end_refusal pdu_info.now.start pdu_info.now.len
-            (bunser_window R.window self.now).count)) }
-        ensures err { (bunser_window R.window self.now).failed ≡ false → OnErr result
+            self.now.window.count)) }
+        ensures err { self.now.window.failed ≡ false → OnErr result
             (EndsAt pdu_info.now.start pdu_info.now.len
-            (bunser_window R.window self.now).count → ⊥) }
+            self.now.window.count → ⊥) }
     {
         if self.is_failed() {
             return Err(Error::de_reader_error(ReadCause::Failed));
@@ -65,13 +63,9 @@ impl<R: DeRead> Bunser<R> {
 
     /// Takes the two bytes that begin a message.
     fn read_magic(&mut self) -> Answer<()>
-        ensures ok { OnOk result (Took (bunser_window R.window self.old)
-            (bunser_window R.window self.new) (0x00 ∷ 0x02 ∷ [])) }
-        ensures err { OnErr result (Fails (refusal_of self.new)
-            (bunser_window R.window self.old) (bunser_window R.window self.new)) }
-        ensures names { OnErr result
-            (Names magic (refusal_of self.new) (bunser_window R.window self.old)) }
-        ensures memory { OnErr result (refusal_of self.new ≢ Error.OutOfMemory) }
+        ensures ok { OnOk result (Takes (0x00 ∷ 0x02 ∷ []) self.old self.new) }
+        ensures kept { OnOk result (Keeps self.old self.new) }
+        ensures refused { OnErr result (FailsBy magic self.old self.new) }
     {
         let magic = self.front::<2>()?;
         if magic[0] != 0 || magic[1] != 2 {
@@ -82,13 +76,9 @@ impl<R: DeRead> Bunser<R> {
 
     /// Takes the four bytes of the capabilities, the lowest first.
     fn read_capabilities(&mut self) -> Answer<u32>
-        ensures ok { IfOk result (λ c. Took (bunser_window R.window self.old)
-            (bunser_window R.window self.new) (to_le_bytes w32 c)) }
-        ensures err { OnErr result (ShortOf 4 (refusal_of self.new)
-            (bunser_window R.window self.old) (bunser_window R.window self.new)) }
-        ensures names { OnErr result
-            (Names (front 4) (refusal_of self.new) (bunser_window R.window self.old)) }
-        ensures memory { OnErr result (refusal_of self.new ≢ Error.OutOfMemory) }
+        ensures ok { IfOk result (λ c. Takes (to_le_bytes w32 c) self.old self.new) }
+        ensures kept { OnOk result (Keeps self.old self.new) }
+        ensures refused { OnErr result (FailsShort 4 self.old self.new) }
     {
         let bytes = self.front::<4>()?;
         Ok(LittleEndian::read_u32(&bytes))
@@ -96,24 +86,20 @@ impl<R: DeRead> Bunser<R> {
 
     /// Lets the source buffer what it reads, within the next `n` bytes.
     fn announce(&mut self, n: usize)
-        ensures { Expects (bunser_window R.window self.old) (bunser_window R.window self.new) n }
+        ensures window { Expects self.old.window self.new.window n }
+        ensures kept { Keeps self.old self.new }
     {
         self.read.expect(n);
     }
 
     /// Takes the head of a message, and announces the length of its body to the source.
     ///
-    /// Refusals are those of [`Self::read_pdu`]. The crate has no such call.
+    /// Refusals are those of [`Self::read_pdu`].
     pub fn read_head(&mut self) -> Answer<PduInfo>
-        ensures ok { IfOk result (λ info. TookHead (bunser_window R.window self.old)
-            (bunser_window R.window self.new) info.bser_capabilities info.len) }
-        ensures start { IfOk result (λ info. info.start ≡
-            pos (min (bunser_window R.window self.new).count (2 ^ 63 - 1))) }
-        ensures err { OnErr result (Fails (refusal_of self.new)
-            (bunser_window R.window self.old) (bunser_window R.window self.new)) }
-        ensures names { OnErr result
-            (Names head (refusal_of self.new) (bunser_window R.window self.old)) }
-        ensures memory { OnErr result (refusal_of self.new ≢ Error.OutOfMemory) }
+        ensures ok { IfOk result (λ info. TakesHead info self.old self.new) }
+        ensures start { IfOk result (λ i. i.start ≡ bytes_taken self.new) }
+        ensures kept { OnOk result (Keeps self.old self.new) }
+        ensures refused { OnErr result (FailsBy head self.old self.new) }
     {
         self.read_magic()?;
         let bser_capabilities = self.read_capabilities()?;
@@ -133,14 +119,10 @@ impl<R: DeRead> Bunser<R> {
     /// [`bser_format::errors::Kind::Integer`], and a negative one the message
     /// [`Complaint::NegativeLength`]. A head that is cut short is refused as by [`Self::fill`].
     pub fn read_pdu(&mut self) -> Result<PduInfo>
-        ensures ok { IfOk result (λ info. TookHead (bunser_window R.window self.old)
-            (bunser_window R.window self.new) info.bser_capabilities info.len) }
-        ensures start { IfOk result (λ info. info.start ≡
-            pos (min (bunser_window R.window self.new).count (2 ^ 63 - 1))) }
-        ensures err { IfErr result (λ e.
-            Fails e (bunser_window R.window self.old) (bunser_window R.window self.new)) }
-        ensures names { IfErr result (λ e. Names head e (bunser_window R.window self.old)) }
-        ensures memory { IfErr result (λ e. e ≢ Error.OutOfMemory) }
+        ensures ok { IfOk result (λ info. TakesHead info self.old self.new) }
+        ensures start { IfOk result (λ i. i.start ≡ bytes_taken self.new) }
+        ensures kept { OnOk result (Keeps self.old self.new) }
+        ensures refused { IfErr result (AnswersBy head self.old self.new) }
     {
         match self.read_head() {
             Ok(info) => Ok(info),

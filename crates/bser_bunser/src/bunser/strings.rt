@@ -1,18 +1,11 @@
 //! Lengths, and as many bytes.
-ghost use Rattle.std.specs.Prelude.{◌≡◌, ◌≢◌, ◌≤◌, ◌<◌, ◌^◌, pos, length, IfOk, IfErr, IfSome, IfNone, OnOk, OnErr};
+ghost use Rattle.std.specs.Prelude.{◌≡◌, ◌<◌, ◌^◌, pos, length, IfOk, IfErr, IfSome, IfNone, OnOk, OnErr};
 ghost use Rattle.bser_source.specs.Refs.{bytes_of, is_lent};
 ghost use Rattle.bser_named.specs.Clauses.{after_a_refusal};
 ghost use Rattle.bser_named.specs.Named.{complain, front, size, count, string};
-ghost use Rattle.bser_source.specs.Window.{Took, closed};
-ghost use Rattle.bser_bunser.specs.Names.{Names, NamesOrMemory, natural_of, bytes_after};
-ghost use Rattle.bser_bunser.specs.Refusal.{ShortOf, BytesRefused, CopyRefused, Fails};
-ghost use Rattle.bser_bunser.specs.Tagged.{
-  bunser_window,
-  refusal_of,
-  TookInt,
-  TookSome,
-  TookCounted,
-};
+ghost use Rattle.bser_bunser.specs.Calls.{Takes, TakesSome, TakesInt, TakesLent, HasLength, TakesCounted, Keeps, Closes, HasFailed, LacksBytes, LacksCopy, NamedBy, NamesCopy, NamedOrMemory, FailsShort, FailsBy};
+ghost use Rattle.bser_bunser.specs.Names.{Names, natural_of, bytes_after};
+ghost use Rattle.bser_bunser.specs.Refusal.{BytesRefused};
 
 use crate::bunser::Bunser;
 use crate::prefix::short_length;
@@ -27,34 +20,26 @@ impl<R: DeRead> Bunser<R> {
     ///
     /// It takes no memory, however great `len` is: over a reader it takes 4096 bytes at a time.
     /// Refusals are those of [`Self::fill`] for `len` bytes, of which some may have been taken
-    /// then. The crate has no such call.
+    /// then.
     #[inline(always)]
     pub fn pass(&mut self, len: usize) -> Answer<()>
-        ensures ok { OnOk result
-            (TookSome len (bunser_window R.window self.old) (bunser_window R.window self.new)) }
-        ensures err { OnErr result (ShortOf len (refusal_of self.new)
-            (bunser_window R.window self.old) (bunser_window R.window self.new)) }
-        ensures names { OnErr result
-            (Names (front len) (refusal_of self.new) (bunser_window R.window self.old)) }
-        ensures memory { OnErr result (refusal_of self.new ≢ Error.OutOfMemory) }
+        ensures ok { OnOk result (TakesSome len self.old self.new) }
+        ensures kept { OnOk result (Keeps self.old self.new) }
+        ensures refused { OnErr result (FailsShort len self.old self.new) }
     {
         if 0 < len && len <= count_octets(self.read.buffered()) {
             self.read.consume(len);
             return Ok(());
         }
-        self.pass_on(len)
+        self.pass_slowly(len)
     }
 
     /// Takes `len` bytes, those buffered first, and keeps none.
     #[inline(never)]
-    fn pass_on(&mut self, len: usize) -> Answer<()>
-        ensures ok { OnOk result
-            (TookSome len (bunser_window R.window self.old) (bunser_window R.window self.new)) }
-        ensures err { OnErr result (ShortOf len (refusal_of self.new)
-            (bunser_window R.window self.old) (bunser_window R.window self.new)) }
-        ensures names { OnErr result
-            (Names (front len) (refusal_of self.new) (bunser_window R.window self.old)) }
-        ensures memory { OnErr result (refusal_of self.new ≢ Error.OutOfMemory) }
+    fn pass_slowly(&mut self, len: usize) -> Answer<()>
+        ensures ok { OnOk result (TakesSome len self.old self.new) }
+        ensures kept { OnOk result (Keeps self.old self.new) }
+        ensures refused { OnErr result (FailsShort len self.old self.new) }
     {
         if self.read.is_failed() {
             return Err(self.refuse_cause(ReadCause::Failed));
@@ -76,25 +61,22 @@ impl<R: DeRead> Bunser<R> {
     ///
     /// Refusals are those of [`Self::fill`] for `len` bytes, and [`Error::OutOfMemory`] where the
     /// scratch did not grow. Its length grows at most 65,536 bytes ahead of the bytes that arrived.
-    ///
-    /// The crate has no such call.
     #[inline(always)]
     pub fn bytes<'s>(
         &mut self,
         len: usize,
         scratch: &'s mut Vec<u8>,
     ) -> Answer<Reference<'s, R::Lent>>
-        ensures length { IfOk result (λ r. length (bytes_of R.Lent.bytes r) ≡ len) }
-        ensures lent { IfOk result (λ r. is_lent r ≡ (bunser_window R.window self.old).lends) }
-        ensures ok { IfOk result (λ r. Took (bunser_window R.window self.old)
-            (bunser_window R.window self.new) (bytes_of R.Lent.bytes r)) }
-        ensures err { OnErr result (ShortOf len (refusal_of self.new)
-            (bunser_window R.window self.old) (bunser_window R.window self.new)) }
-        ensures names { OnErr result
-            (Names (front len) (refusal_of self.new) (bunser_window R.window self.old)) }
+        ensures length { IfOk result (HasLength R.Lent.bytes len) }
+        ensures lent { IfOk result (λ r. is_lent r ≡ self.old.window.lends) }
+        ensures source { IfOk result (λ r. is_lent r ≡ R.Lent.lends) }
+        ensures ok { IfOk result (TakesLent R.Lent.bytes self.old self.new) }
+        ensures kept { OnOk result (Keeps self.old self.new) }
+        ensures err { OnErr result (LacksBytes len self.old self.new) }
+        ensures names { OnErr result (NamedBy (front len) self.old self.new) }
     {
         if len == 0 || len > count_octets(self.read.buffered()) {
-            return self.bytes_on(len, scratch);
+            return self.bytes_slowly(len, scratch);
         }
         match self.read.lend(len) {
             Some(bytes) => {
@@ -119,19 +101,16 @@ impl<R: DeRead> Bunser<R> {
     ///
     /// Refusals are those of [`Self::fill`] for `len` bytes, and [`Error::OutOfMemory`] where the
     /// copy did not grow. It grows at most 65,536 bytes ahead of the bytes that arrived.
-    /// The crate has no such call.
     #[inline(always)]
     pub fn copy(&mut self, alloc: Global, len: usize) -> Answer<Vec<u8>>
         ensures length { IfOk result (λ c. length c.items ≡ len) }
-        ensures ok { IfOk result (λ c. Took (bunser_window R.window self.old)
-            (bunser_window R.window self.new) c.items) }
-        ensures err { OnErr result (CopyRefused len (refusal_of self.new)
-            (bunser_window R.window self.old) (bunser_window R.window self.new)) }
-        ensures names { OnErr result
-            (NamesOrMemory (front len) (refusal_of self.new) (bunser_window R.window self.old)) }
+        ensures ok { IfOk result (λ c. Takes c.items self.old self.new) }
+        ensures kept { OnOk result (Keeps self.old self.new) }
+        ensures err { OnErr result (LacksCopy len self.old self.new) }
+        ensures names { OnErr result (NamesCopy len self.old self.new) }
     {
         if len == 0 || len > count_octets(self.read.buffered()) {
-            return self.copy_on(alloc, len);
+            return self.copy_slowly(alloc, len);
         }
         let Ok(mut copy) = Vec::with_capacity(alloc, len) else {
             return Err(self.refuse_growth());
@@ -149,15 +128,13 @@ impl<R: DeRead> Bunser<R> {
     /// Takes `len` bytes, more than are buffered or none, as a copy.
     #[cold]
     #[inline(never)]
-    fn copy_on(&mut self, alloc: Global, len: usize) -> Answer<Vec<u8>>
-        requires { (0 < len) → length (bunser_window R.window self.old).buffered < len }
+    fn copy_slowly(&mut self, alloc: Global, len: usize) -> Answer<Vec<u8>>
+        requires { (0 < len) → length self.old.window.buffered < len }
         ensures length { IfOk result (λ c. length c.items ≡ len) }
-        ensures ok { IfOk result (λ c. Took (bunser_window R.window self.old)
-            (bunser_window R.window self.new) c.items) }
-        ensures err { OnErr result (CopyRefused len (refusal_of self.new)
-            (bunser_window R.window self.old) (bunser_window R.window self.new)) }
-        ensures names { OnErr result
-            (NamesOrMemory (front len) (refusal_of self.new) (bunser_window R.window self.old)) }
+        ensures ok { IfOk result (λ c. Takes c.items self.old self.new) }
+        ensures kept { OnOk result (Keeps self.old self.new) }
+        ensures err { OnErr result (LacksCopy len self.old self.new) }
+        ensures names { OnErr result (NamesCopy len self.old self.new) }
     {
         let mut copy = Vec::new(alloc);
         if self.read.is_failed() {
@@ -176,8 +153,8 @@ impl<R: DeRead> Bunser<R> {
     #[cold]
     #[inline(never)]
     fn refuse_growth(&mut self) -> Refused
-        ensures reason { refusal_of self.new ≡ Error.OutOfMemory }
-        ensures state { bunser_window R.window self.new ≡ closed (bunser_window R.window self.old) }
+        ensures reason { self.new.refusal ≡ Error.OutOfMemory }
+        ensures state { Closes self.old self.new }
     {
         self.refuse(Error::OutOfMemory)
     }
@@ -185,19 +162,18 @@ impl<R: DeRead> Bunser<R> {
     /// Takes `len` bytes by a call of the source.
     #[cold]
     #[inline(never)]
-    fn bytes_on<'s>(
+    fn bytes_slowly<'s>(
         &mut self,
         len: usize,
         scratch: &'s mut Vec<u8>,
     ) -> Answer<Reference<'s, R::Lent>>
-        ensures length { IfOk result (λ r. length (bytes_of R.Lent.bytes r) ≡ len) }
-        ensures lent { IfOk result (λ r. is_lent r ≡ (bunser_window R.window self.old).lends) }
-        ensures ok { IfOk result (λ r. Took (bunser_window R.window self.old)
-            (bunser_window R.window self.new) (bytes_of R.Lent.bytes r)) }
-        ensures err { OnErr result (ShortOf len (refusal_of self.new)
-            (bunser_window R.window self.old) (bunser_window R.window self.new)) }
-        ensures names { OnErr result
-            (Names (front len) (refusal_of self.new) (bunser_window R.window self.old)) }
+        ensures length { IfOk result (HasLength R.Lent.bytes len) }
+        ensures lent { IfOk result (λ r. is_lent r ≡ self.old.window.lends) }
+        ensures source { IfOk result (λ r. is_lent r ≡ R.Lent.lends) }
+        ensures ok { IfOk result (TakesLent R.Lent.bytes self.old self.new) }
+        ensures kept { OnOk result (Keeps self.old self.new) }
+        ensures err { OnErr result (LacksBytes len self.old self.new) }
+        ensures names { OnErr result (NamedBy (front len) self.old self.new) }
     {
         match self.read.next_bytes(len, scratch) {
             Ok(bytes) => Ok(bytes),
@@ -211,8 +187,6 @@ impl<R: DeRead> Bunser<R> {
     /// A negative `len` is the message [`Complaint::NegativeLength`]. Other refusals are those of
     /// [`Self::fill`] for `len` bytes, and [`Error::OutOfMemory`] where the scratch did not grow.
     /// Its length grows at most 65,536 bytes ahead of the bytes that arrived.
-    ///
-    /// The crate keeps the scratch itself and borrows the whole reader.
     #[inline(always)]
     pub fn read_bytes<'s>(
         &mut self,
@@ -220,13 +194,11 @@ impl<R: DeRead> Bunser<R> {
         scratch: &'s mut Vec<u8>,
     ) -> Result<Reference<'s, R::Lent>>
         ensures length { IfOk result (λ r. pos (length (bytes_of R.Lent.bytes r)) ≡ len) }
-        ensures lent { IfOk result (λ r. is_lent r ≡ (bunser_window R.window self.old).lends) }
-        ensures ok { IfOk result (λ r. Took (bunser_window R.window self.old)
-            (bunser_window R.window self.new) (bytes_of R.Lent.bytes r)) }
-        ensures err { IfErr result (λ e. BytesRefused len e
-            (bunser_window R.window self.old) (bunser_window R.window self.new)) }
-        ensures names { IfErr result (λ e.
-            Names (bytes_after len) e (bunser_window R.window self.old)) }
+        ensures lent { IfOk result (λ r. is_lent r ≡ self.old.window.lends) }
+        ensures ok { IfOk result (TakesLent R.Lent.bytes self.old self.new) }
+        ensures kept { OnOk result (Keeps self.old self.new) }
+        ensures err { IfErr result (λ e. BytesRefused len e self.old.window self.new.window) }
+        ensures names { IfErr result (λ e. Names (bytes_after len) e self.old.window) }
     {
         if len < 0 {
             return Err(self.refuse_length());
@@ -241,9 +213,9 @@ impl<R: DeRead> Bunser<R> {
     #[cold]
     #[inline(never)]
     fn refuse_length(&mut self) -> Error
-        ensures answer { result ≡ after_a_refusal (bunser_window R.window self.old).failed
+        ensures answer { result ≡ after_a_refusal self.old.window.failed
             (complain Complaint.NegativeLength) }
-        ensures state { bunser_window R.window self.new ≡ closed (bunser_window R.window self.old) }
+        ensures state { Closes self.old self.new }
     {
         let failed = self.read.is_failed();
         self.read.close();
@@ -257,14 +229,10 @@ impl<R: DeRead> Bunser<R> {
     /// Takes an integer of 0 or more, with this complaint of another.
     #[inline(always)]
     fn natural(&mut self, complaint: Complaint) -> Answer<usize>
-        ensures ok { IfOk result (λ n. TookInt (bunser_window R.window self.old)
-            (bunser_window R.window self.new) (pos n)) }
+        ensures ok { IfOk result (λ n. TakesInt (pos n) self.old self.new) }
         ensures fits { IfOk result (λ n. n < 2 ^ 63) }
-        ensures err { OnErr result (Fails (refusal_of self.new)
-            (bunser_window R.window self.old) (bunser_window R.window self.new)) }
-        ensures names { OnErr result
-            (Names (natural_of complaint) (refusal_of self.new) (bunser_window R.window self.old)) }
-        ensures memory { OnErr result (refusal_of self.new ≢ Error.OutOfMemory) }
+        ensures kept { OnOk result (Keeps self.old self.new) }
+        ensures refused { OnErr result (FailsBy (natural_of complaint) self.old self.new) }
     {
         let number = self.int()?;
         if number < 0 {
@@ -278,32 +246,27 @@ impl<R: DeRead> Bunser<R> {
     /// Another byte than an integer's tag is [`Error::DeInvalidStartByte`] of kind
     /// [`bser_format::errors::Kind::Integer`], and an integer below 0 the message
     /// [`Complaint::NegativeLength`]. Other refusals are those of [`Self::fill`] for the bytes
-    /// wanted. The crate has no such call.
+    /// wanted.
     #[inline(always)]
     pub fn length(&mut self) -> Answer<usize>
-        ensures ok { IfOk result (λ n. TookInt (bunser_window R.window self.old)
-            (bunser_window R.window self.new) (pos n)) }
+        ensures ok { IfOk result (λ n. TakesInt (pos n) self.old self.new) }
         ensures fits { IfOk result (λ n. n < 2 ^ 63) }
-        ensures err { OnErr result (Fails (refusal_of self.new)
-            (bunser_window R.window self.old) (bunser_window R.window self.new)) }
-        ensures names { OnErr result
-            (Names size (refusal_of self.new) (bunser_window R.window self.old)) }
-        ensures memory { OnErr result (refusal_of self.new ≢ Error.OutOfMemory) }
+        ensures kept { OnOk result (Keeps self.old self.new) }
+        ensures refused { OnErr result (FailsBy size self.old self.new) }
     {
         match self.buffered_length() {
             Some(len) => Ok(len),
-            None => self.length_on(),
+            None => self.length_slowly(),
         }
     }
 
     /// Takes a length of one byte, where it is buffered. Else it is `None`, and nothing is taken.
     #[inline(always)]
     fn buffered_length(&mut self) -> Option<usize>
-        ensures some { IfSome result (λ n. TookInt (bunser_window R.window self.old)
-            (bunser_window R.window self.new) (pos n)) }
+        ensures some { IfSome result (λ n. TakesInt (pos n) self.old self.new) }
         ensures fits { IfSome result (λ n. n < 2 ^ 63) }
-        ensures none { IfNone result
-            (bunser_window R.window self.new ≡ bunser_window R.window self.old) }
+        ensures none { IfNone result (self.new.window ≡ self.old.window) }
+        ensures kept { Keeps self.old self.new }
     {
         let len = short_length(self.read.buffered())?;
         self.read.consume(2);
@@ -312,15 +275,11 @@ impl<R: DeRead> Bunser<R> {
 
     /// Takes a length of any width.
     #[inline(never)]
-    fn length_on(&mut self) -> Answer<usize>
-        ensures ok { IfOk result (λ n. TookInt (bunser_window R.window self.old)
-            (bunser_window R.window self.new) (pos n)) }
+    fn length_slowly(&mut self) -> Answer<usize>
+        ensures ok { IfOk result (λ n. TakesInt (pos n) self.old self.new) }
         ensures fits { IfOk result (λ n. n < 2 ^ 63) }
-        ensures err { OnErr result (Fails (refusal_of self.new)
-            (bunser_window R.window self.old) (bunser_window R.window self.new)) }
-        ensures names { OnErr result
-            (Names size (refusal_of self.new) (bunser_window R.window self.old)) }
-        ensures memory { OnErr result (refusal_of self.new ≢ Error.OutOfMemory) }
+        ensures kept { OnOk result (Keeps self.old self.new) }
+        ensures refused { OnErr result (FailsBy size self.old self.new) }
     {
         self.natural(Complaint::NegativeLength)
     }
@@ -330,17 +289,13 @@ impl<R: DeRead> Bunser<R> {
     /// Another byte than an integer's tag is [`Error::DeInvalidStartByte`] of kind
     /// [`bser_format::errors::Kind::Integer`], and an integer below 0 the message
     /// [`Complaint::NegativeCount`]. Other refusals are those of [`Self::fill`] for the bytes
-    /// wanted. The crate has no such call.
+    /// wanted.
     #[inline(always)]
     pub fn count(&mut self) -> Answer<usize>
-        ensures ok { IfOk result (λ n. TookInt (bunser_window R.window self.old)
-            (bunser_window R.window self.new) (pos n)) }
+        ensures ok { IfOk result (λ n. TakesInt (pos n) self.old self.new) }
         ensures fits { IfOk result (λ n. n < 2 ^ 63) }
-        ensures err { OnErr result (Fails (refusal_of self.new)
-            (bunser_window R.window self.old) (bunser_window R.window self.new)) }
-        ensures names { OnErr result
-            (Names count (refusal_of self.new) (bunser_window R.window self.old)) }
-        ensures memory { OnErr result (refusal_of self.new ≢ Error.OutOfMemory) }
+        ensures kept { OnOk result (Keeps self.old self.new) }
+        ensures refused { OnErr result (FailsBy count self.old self.new) }
     {
         self.natural(Complaint::NegativeCount)
     }
@@ -351,17 +306,15 @@ impl<R: DeRead> Bunser<R> {
     /// Another byte than an integer's tag is [`Error::DeInvalidStartByte`] of kind
     /// [`bser_format::errors::Kind::Integer`], and a length below 0 the message
     /// [`Complaint::NegativeLength`]. Other refusals are those of [`Self::fill`] for the bytes
-    /// wanted, and [`Error::OutOfMemory`] where the scratch did not grow. The crate has no such
-    /// call.
+    /// wanted, and [`Error::OutOfMemory`] where the scratch did not grow.
     #[inline(always)]
     pub fn next_string<'s>(&mut self, scratch: &'s mut Vec<u8>) -> Answer<Reference<'s, R::Lent>>
-        ensures lent { IfOk result (λ r. is_lent r ≡ (bunser_window R.window self.old).lends) }
-        ensures ok { IfOk result (λ r. TookCounted (bunser_window R.window self.old)
-            (bunser_window R.window self.new) (bytes_of R.Lent.bytes r)) }
-        ensures err { OnErr result (Fails (refusal_of self.new)
-            (bunser_window R.window self.old) (bunser_window R.window self.new)) }
-        ensures names { OnErr result
-            (Names string (refusal_of self.new) (bunser_window R.window self.old)) }
+        ensures lent { IfOk result (λ r. is_lent r ≡ self.old.window.lends) }
+        ensures source { IfOk result (λ r. is_lent r ≡ R.Lent.lends) }
+        ensures ok { IfOk result (λ r. TakesCounted (bytes_of R.Lent.bytes r) self.old self.new) }
+        ensures kept { OnOk result (Keeps self.old self.new) }
+        ensures err { OnErr result (HasFailed self.old self.new) }
+        ensures names { OnErr result (NamedBy string self.old self.new) }
     {
         let len = self.length()?;
         self.bytes(len, scratch)
@@ -370,15 +323,13 @@ impl<R: DeRead> Bunser<R> {
     /// Takes the length and the bytes of a string, of which the tag was taken, as a copy. They need
     /// not be UTF-8.
     ///
-    /// Refusals are those of [`Self::length`] and of [`Self::copy`]. The crate has no such call.
+    /// Refusals are those of [`Self::length`] and of [`Self::copy`].
     #[inline(always)]
     pub fn next_copy(&mut self, alloc: Global) -> Answer<Vec<u8>>
-        ensures ok { IfOk result (λ c. TookCounted (bunser_window R.window self.old)
-            (bunser_window R.window self.new) c.items) }
-        ensures err { OnErr result (Fails (refusal_of self.new)
-            (bunser_window R.window self.old) (bunser_window R.window self.new)) }
-        ensures names { OnErr result
-            (NamesOrMemory string (refusal_of self.new) (bunser_window R.window self.old)) }
+        ensures ok { IfOk result (λ c. TakesCounted c.items self.old self.new) }
+        ensures kept { OnOk result (Keeps self.old self.new) }
+        ensures err { OnErr result (HasFailed self.old self.new) }
+        ensures names { OnErr result (NamedOrMemory string self.old self.new) }
     {
         let len = self.length()?;
         self.copy(alloc, len)

@@ -38,7 +38,7 @@ impl<L: LendsText, T: Deserialize<L>, const N: usize> Deserialize<L> for [T; N] 
         from: &mut Deserializer<R>,
     ) -> Answer<[T; N]> {
         let mut items = Vec::new(alloc);
-        let mut seq = from.read_seq(alloc)?;
+        let mut seq = from.read_seq()?;
         while items.len() < N {
             let item = seq.required_element::<T>(alloc)?;
             match items.push(item) {

@@ -1,14 +1,14 @@
 //! Queues. A template is read as the array of its rows.
-ghost use Rattle.std.specs.Prelude.{true, false, refl, Some, option_map};
+ghost use Rattle.std.specs.Prelude.{◌≡◌, refl, Some, option_map};
 ghost use Rattle.bser_format.specs.ReadsHolders.{reads_vec};
 ghost use Rattle.bser_deserializer.specs.HoldsLists.{HoldsList};
 ghost use Rattle.bser_types.specs.Askings.{asking_vec};
+ghost use Rattle.bser_types.specs.Collected.{list_needs};
 
-use crate::container::ReadsContainers;
+use crate::collects::{Collects, read_items};
 use crate::deserialize::{Deserialize, OwnedShape, Shape};
 use bser_bunser::refusal::Answer;
 use bser_deserializer::deserializer::Deserializer;
-use bser_format::errors::Error;
 use bser_source::read::DeRead;
 use bser_source::reference::LendsText;
 use std::alloc::Global;
@@ -23,7 +23,7 @@ impl<T: Shape> Shape for VecDeque<T> {
 
     ghost holds = { λ q c. HoldsList T.holds q.items c };
 
-    ghost needs = { record { lent = T.needs.lent; memory = true; keys = false; copied = true } };
+    ghost needs = { list_needs T.needs };
 
     ghost asks = { option_map asking_vec T.asks };
 
@@ -35,17 +35,16 @@ impl<L: LendsText, T: Deserialize<L>> Deserialize<L> for VecDeque<T> {
         alloc: Global,
         from: &mut Deserializer<R>,
     ) -> Answer<VecDeque<T>> {
-        let mut items = VecDeque::new(alloc);
-        let mut seq = from.read_seq(alloc)?;
-        while seq.remaining() != 0 {
-            let item = seq.required_element::<T>(alloc)?;
-            match items.push_back(item) {
-                Ok(()) => {}
-                Err(_) => return Err(seq.refuse(Error::OutOfMemory)),
-            }
-        }
-        seq.end()?;
-        Ok(items)
+        read_items(alloc, from, VecDeque::new(alloc))
+    }
+}
+
+impl<T: Drop> Collects<T> for VecDeque<T> {
+    ghost collected = { λ vs q. q.items ≡ vs };
+
+    #[inline(always)]
+    fn collect(&mut self, item: T) -> bool {
+        self.push_back(item).is_ok()
     }
 }
 

@@ -1,16 +1,16 @@
 //! Maps by the hashes of their keys.
-ghost use Rattle.std.specs.Prelude.{◌||◌, None, true, false};
+ghost use Rattle.std.specs.Prelude.{◌||◌, None};
 ghost use Rattle.std.proofs.Common.{ap, ◌∙◌};
 ghost use Rattle.bser_format.specs.ReadsHolders.{reads_map};
-ghost use Rattle.bser_deserializer.specs.HoldsMaps.{HoldsHashMap};
+ghost use Rattle.bser_deserializer.specs.HoldsMaps.{HoldsNames, HoldsHashMap};
 ghost use Rattle.bser_types.specs.Askings.{asking_map};
+ghost use Rattle.bser_types.specs.Collected.{map_needs};
 
-use crate::container::ReadsContainers;
+use crate::collects::{CollectsEntries, read_entries};
 use crate::deserialize::{Deserialize, OwnedShape, Shape};
 use crate::impls::keys::MapKey;
 use bser_bunser::refusal::Answer;
 use bser_deserializer::deserializer::Deserializer;
-use bser_format::errors::Error;
 use bser_source::read::DeRead;
 use bser_source::reference::LendsText;
 use std::alloc::Global;
@@ -26,12 +26,7 @@ impl<K: MapKey, V: Shape> Shape for HashMap<K, V> {
 
     ghost holds = { λ m. HoldsHashMap K.name V.holds m.entries };
 
-    ghost needs = { record {
-      lent = K.needs.lent || V.needs.lent;
-      memory = true;
-      keys = false;
-      copied = true;
-    } };
+    ghost needs = { map_needs K.needs V.needs };
 
     ghost asks = { asking_map K.asks V.asks };
 
@@ -43,16 +38,16 @@ impl<L: LendsText, K: MapKey + Deserialize<L>, V: Deserialize<L>> Deserialize<L>
         alloc: Global,
         from: &mut Deserializer<R>,
     ) -> Answer<HashMap<K, V>> {
-        let mut entries = HashMap::new(alloc);
-        let mut map = from.read_map()?;
-        while let Some((key, value)) = map.next_entry::<K, V>(alloc)? {
-            match entries.insert(key, value) {
-                Ok(old) => drop(old),
-                Err(_) => return Err(map.refuse(Error::OutOfMemory)),
-            }
-        }
-        map.end()?;
-        Ok(entries)
+        read_entries(alloc, from, HashMap::new(alloc))
+    }
+}
+
+impl<K: MapKey + Drop, V: Shape + Drop> CollectsEntries<K, V> for HashMap<K, V> {
+    ghost pairs = { λ m ps. HoldsNames K.name V.holds m.entries ps };
+
+    #[inline(always)]
+    fn put(&mut self, key: K, value: V) -> bool {
+        self.insert(key, value).is_ok()
     }
 }
 

@@ -1,10 +1,10 @@
 //! What is read and not kept.
-ghost use Rattle.std.specs.Prelude.{◌≡◌, refl, Some, None, OnOk, OnErr};
+ghost use Rattle.std.specs.Prelude.{◌≡◌, refl, Some, None, IfOk, OnErr};
 ghost use Rattle.bser_format.specs.Content.{one};
 ghost use Rattle.bser_format.specs.ReadsAny.{reads_ignored};
 ghost use Rattle.bser_deserializer.specs.Askings.{asking_ignored};
-ghost use Rattle.bser_deserializer.specs.Reading.{Answers, Refuses, owned};
-ghost use Rattle.bser_deserializer.specs.View.{state, refusal_in};
+ghost use Rattle.bser_deserializer.specs.Reading.{owned};
+ghost use Rattle.bser_types.specs.Accesses.{SkipsDue, RefusesSkip};
 
 use crate::deserialize::{Deserialize, OwnedShape, Shape};
 use bser_bunser::refusal::Answer;
@@ -28,10 +28,10 @@ impl Shape for Ignored {
 
 impl<L: LendsText> Deserialize<L> for Ignored {
     fn deserialize<R: DeRead<Lent = L>>(
-        alloc: Global,
+        _alloc: Global,
         from: &mut Deserializer<R>,
     ) -> Answer<Ignored> {
-        from.read_any(alloc, &mut Ignored)?;
+        from.read_any(&mut Ignored)?;
         Ok(Ignored)
     }
 }
@@ -40,10 +40,11 @@ impl OwnedShape for Ignored {
     ghost owned = { refl };
 }
 
-/// What skips values: a [`Deserializer`].
+/// What skips values: a [`Deserializer`]. A trait, since the deserializer is a type of a lower crate,
+/// to which only a trait adds calls.
 pub trait SkipsValues {
     /// Skips what is due, of any kind, whole.
-    fn skip_value(&mut self, alloc: Global) -> Answer<()>;
+    fn skip_value(&mut self) -> Answer<()>;
 }
 
 impl<R: DeRead> SkipsValues for Deserializer<R>
@@ -54,15 +55,12 @@ where
     ///
     /// It is read as [`Ignored`] is: well-formed, the keys of its objects UTF-8. It takes memory for
     /// the containers that are open inside, and over a reader for keys and texts. After a refusal
-    /// each later call is refused. The crate's call takes no allocator.
-    fn skip_value(&mut self, alloc: Global) -> Answer<()>
-        ensures found { OnOk result (Answers reads_ignored (λ _ c. c ≡ one)
-            (state R.window R.Lent.kept self.old) (state R.window R.Lent.kept self.new) (tt {0})) }
-        ensures refused { OnErr result (Refuses reads_ignored (Some asking_ignored) owned
-            (refusal_in self.new)
-            (state R.window R.Lent.kept self.old) (state R.window R.Lent.kept self.new)) }
+    /// each later call is refused.
+    fn skip_value(&mut self) -> Answer<()>
+        ensures found { IfOk result (SkipsDue self.old self.new) }
+        ensures refused { OnErr result (RefusesSkip self.old self.new) }
     {
-        Ignored::deserialize(alloc, self)?;
+        Ignored::deserialize(self.allocator(), self)?;
         Ok(())
     }
 }

@@ -1,19 +1,18 @@
 //! Reading integers.
-ghost use Rattle.std.specs.Prelude.{◌≡◌, refl, Some};
-ghost use Rattle.bser_format.specs.ReadsScalars.{is_signed, is_unsigned, reads_signed, reads_unsigned};
-ghost use Rattle.bser_named.specs.Clauses.{after_a_refusal};
-ghost use Rattle.bser_named.specs.Named.{complain};
+ghost use Rattle.std.specs.Prelude.{◌≡◌, ◌≢◌, ◌≤ℤ◌, ℤ, Bool, refl, Some, IfOk, OnErr};
+ghost use Rattle.bser_format.specs.ReadsScalars.{is_signed, is_unsigned, reads_integer, reads_signed, reads_unsigned};
 ghost use Rattle.bser_deserializer.specs.Askings.{asking_integer};
 ghost use Rattle.bser_deserializer.specs.Reading.{bare};
 ghost use Rattle.bser_deserializer.specs.Holds.{HoldsNumber, HoldsSize};
 ghost use Rattle.bser_deserializer.specs.State.{refused};
-ghost use Rattle.bser_deserializer.specs.View.{state, refusal_in};
+ghost use Rattle.bser_types.specs.Accesses.{ReadsDue, RefusesDue};
+ghost use Rattle.bser_types.specs.Ranges.{LiesWithin, out_of_range};
 
 use crate::deserialize::{Deserialize, OwnedShape, Shape};
 use bser_bunser::refusal::{Answer, Refused};
 use bser_deserializer::deserializer::Deserializer;
 use bser_deserializer::note::Finding;
-use bser_format::errors::Complaint;
+use bser_format::errors::{Complaint, Error};
 use bser_source::read::DeRead;
 use bser_source::reference::LendsText;
 use std::alloc::Global;
@@ -22,13 +21,28 @@ use std::alloc::Global;
 #[cold]
 #[inline(never)]
 fn refuse_number<R: DeRead>(from: &mut Deserializer<R>, number: i64) -> Refused
-    ensures reason { refusal_in from.new
-        ≡ after_a_refusal (state R.window R.Lent.kept from.old).source.failed
-        (complain Complaint.IntegerOutOfRange) }
-    ensures state { state R.window R.Lent.kept from.new
-        ≡ refused (state R.window R.Lent.kept from.old) }
+    ensures reason { from.new.refusal ≡ out_of_range from.old.state }
+    ensures state { from.new.state ≡ refused from.old.state }
 {
     from.complain_of(Complaint::IntegerOutOfRange, Finding::OutOfRange(number))
+}
+
+/// Reads an integer from `least` to `most`. Another one is refused as by a type whose range lies
+/// between the two.
+#[inline(always)]
+fn read_within<R: DeRead>(from: &mut Deserializer<R>, least: i64, most: i64) -> Answer<i64>
+    ensures found { IfOk result (ReadsDue (reads_signed 64) HoldsNumber from.old from.new) }
+    ensures low { IfOk result (λ v. least ≤ℤ v) }
+    ensures high { IfOk result (λ v. v ≤ℤ most) }
+    ensures refused { OnErr result ((fits : ℤ → Bool) → LiesWithin fits least most
+        → RefusesDue (reads_integer fits) (Some (asking_integer fits)) bare from.old from.new) }
+    ensures memory { OnErr result (from.new.refusal ≢ Error.OutOfMemory) }
+{
+    let number = from.read_i64()?;
+    if number < least || most < number {
+        return Err(refuse_number(from, number));
+    }
+    Ok(number)
 }
 
 impl Shape for i64 {
@@ -70,11 +84,7 @@ impl Shape for i8 {
 impl<L: LendsText> Deserialize<L> for i8 {
     #[inline(always)]
     fn deserialize<R: DeRead<Lent = L>>(_alloc: Global, from: &mut Deserializer<R>) -> Answer<i8> {
-        let number = from.read_i64()?;
-        match i8::try_from(number) {
-            Ok(narrow) => Ok(narrow),
-            Err(_) => Err(refuse_number(from, number)),
-        }
+        Ok(read_within(from, i8::MIN as i64, i8::MAX as i64)? as i8)
     }
 }
 
@@ -97,11 +107,7 @@ impl Shape for i16 {
 impl<L: LendsText> Deserialize<L> for i16 {
     #[inline(always)]
     fn deserialize<R: DeRead<Lent = L>>(_alloc: Global, from: &mut Deserializer<R>) -> Answer<i16> {
-        let number = from.read_i64()?;
-        match i16::try_from(number) {
-            Ok(narrow) => Ok(narrow),
-            Err(_) => Err(refuse_number(from, number)),
-        }
+        Ok(read_within(from, i16::MIN as i64, i16::MAX as i64)? as i16)
     }
 }
 
@@ -124,11 +130,7 @@ impl Shape for i32 {
 impl<L: LendsText> Deserialize<L> for i32 {
     #[inline(always)]
     fn deserialize<R: DeRead<Lent = L>>(_alloc: Global, from: &mut Deserializer<R>) -> Answer<i32> {
-        let number = from.read_i64()?;
-        match i32::try_from(number) {
-            Ok(narrow) => Ok(narrow),
-            Err(_) => Err(refuse_number(from, number)),
-        }
+        Ok(read_within(from, i32::MIN as i64, i32::MAX as i64)? as i32)
     }
 }
 
@@ -151,11 +153,7 @@ impl Shape for u8 {
 impl<L: LendsText> Deserialize<L> for u8 {
     #[inline(always)]
     fn deserialize<R: DeRead<Lent = L>>(_alloc: Global, from: &mut Deserializer<R>) -> Answer<u8> {
-        let number = from.read_i64()?;
-        match u8::try_from(number) {
-            Ok(narrow) => Ok(narrow),
-            Err(_) => Err(refuse_number(from, number)),
-        }
+        Ok(read_within(from, 0, u8::MAX as i64)? as u8)
     }
 }
 
@@ -178,11 +176,7 @@ impl Shape for u16 {
 impl<L: LendsText> Deserialize<L> for u16 {
     #[inline(always)]
     fn deserialize<R: DeRead<Lent = L>>(_alloc: Global, from: &mut Deserializer<R>) -> Answer<u16> {
-        let number = from.read_i64()?;
-        match u16::try_from(number) {
-            Ok(narrow) => Ok(narrow),
-            Err(_) => Err(refuse_number(from, number)),
-        }
+        Ok(read_within(from, 0, u16::MAX as i64)? as u16)
     }
 }
 
@@ -205,11 +199,7 @@ impl Shape for u32 {
 impl<L: LendsText> Deserialize<L> for u32 {
     #[inline(always)]
     fn deserialize<R: DeRead<Lent = L>>(_alloc: Global, from: &mut Deserializer<R>) -> Answer<u32> {
-        let number = from.read_i64()?;
-        match u32::try_from(number) {
-            Ok(narrow) => Ok(narrow),
-            Err(_) => Err(refuse_number(from, number)),
-        }
+        Ok(read_within(from, 0, u32::MAX as i64)? as u32)
     }
 }
 
@@ -232,11 +222,7 @@ impl Shape for u64 {
 impl<L: LendsText> Deserialize<L> for u64 {
     #[inline(always)]
     fn deserialize<R: DeRead<Lent = L>>(_alloc: Global, from: &mut Deserializer<R>) -> Answer<u64> {
-        let number = from.read_i64()?;
-        match u64::try_from(number) {
-            Ok(narrow) => Ok(narrow),
-            Err(_) => Err(refuse_number(from, number)),
-        }
+        Ok(read_within(from, 0, i64::MAX)? as u64)
     }
 }
 
@@ -263,11 +249,7 @@ impl<L: LendsText> Deserialize<L> for usize {
         _alloc: Global,
         from: &mut Deserializer<R>,
     ) -> Answer<usize> {
-        let number = from.read_i64()?;
-        match usize::try_from(number) {
-            Ok(narrow) => Ok(narrow),
-            Err(_) => Err(refuse_number(from, number)),
-        }
+        Ok(read_within(from, 0, i64::MAX)? as usize)
     }
 }
 

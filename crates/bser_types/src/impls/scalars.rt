@@ -18,8 +18,6 @@ use bser_source::reference::LendsText;
 use std::alloc::Global;
 
 /// The 64 bits of a real.
-///
-/// The crate has floats in its place.
 #[derive(Debug, Clone, Copy, PartialEq, Eq)]
 pub struct RealBits(pub u64);
 

@@ -1,11 +1,13 @@
 //! Strings and characters.
-ghost use Rattle.std.specs.Prelude.{◌≡◌, refl, Some, chars, string_bytes};
-ghost use Rattle.std.specs.Cow.{cow_str_bytes};
+ghost use Rattle.std.specs.Prelude.{◌≡◌, ◌≢◌, true, refl, Some, chars, string_bytes, IfOk, OnErr};
+ghost use Rattle.std.specs.Cow.{IsBorrowedStr};
 ghost use Rattle.bser_format.specs.ReadsScalars.{reads_slice, reads_string, reads_byte_string, reads_char, one_char};
 ghost use Rattle.bser_deserializer.specs.HoldsTexts.{HoldsBytes, HoldsChar, char_content};
 ghost use Rattle.bser_deserializer.specs.Askings.{asking_bytes, asking_string, asking_char};
-ghost use Rattle.bser_deserializer.specs.Reading.{copying, owned, lending};
+ghost use Rattle.bser_deserializer.specs.Reading.{TakesNoMemory, copying, owned, lending};
+ghost use Rattle.bser_types.specs.Accesses.{ReadsDue, RefusesDue};
 ghost use Rattle.bser_types.specs.Askings.{asking_byte_string};
+ghost use Rattle.bser_types.specs.HoldsCows.{HoldsCow};
 
 use crate::deserialize::{Deserialize, OwnedShape, Shape};
 use bser_bunser::refusal::Answer;
@@ -80,7 +82,7 @@ impl<'de, L: LendsFrom<'de>> Deserialize<L> for &'de str {
 impl<'de> Shape for CowStr<'de> {
     ghost reads = { reads_string };
 
-    ghost holds = { λ s. HoldsBytes (cow_str_bytes s) };
+    ghost holds = { HoldsCow };
 
     ghost needs = { owned };
 
@@ -94,7 +96,13 @@ impl<'de, L: LendsFrom<'de>> Deserialize<L> for CowStr<'de> {
     fn deserialize<R: DeRead<Lent = L>>(
         alloc: Global,
         from: &mut Deserializer<R>,
-    ) -> Answer<CowStr<'de>> {
+    ) -> Answer<CowStr<'de>>
+        ensures found { IfOk result (ReadsDue reads_string HoldsCow from.old from.new) }
+        ensures borrowed { IfOk result (λ s. L.lends ≡ true → IsBorrowedStr s) }
+        ensures refused { OnErr result (RefusesDue reads_string (Some asking_string) owned
+            from.old from.new) }
+        ensures memory { TakesNoMemory owned → OnErr result (from.new.refusal ≢ Error.OutOfMemory) }
+    {
         let mut scratch = Vec::new(alloc);
         match from.read_text(&mut scratch)? {
             TextReference::Copied(text) => match String::from_str(alloc, text) {

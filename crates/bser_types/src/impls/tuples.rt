@@ -37,7 +37,7 @@ impl<A: Shape> Shape for (A,) {
 
 impl<L: LendsText, A: Deserialize<L>> Deserialize<L> for (A,) {
     fn deserialize<R: DeRead<Lent = L>>(alloc: Global, from: &mut Deserializer<R>) -> Answer<(A,)> {
-        let mut seq = from.read_seq(alloc)?;
+        let mut seq = from.read_seq()?;
         let only = seq.required_element::<A>(alloc)?;
         seq.end()?;
         Ok((only,))
@@ -71,7 +71,7 @@ impl<L: LendsText, A: Deserialize<L>, B: Deserialize<L>> Deserialize<L> for (A, 
         alloc: Global,
         from: &mut Deserializer<R>,
     ) -> Answer<(A, B)> {
-        let mut seq = from.read_seq(alloc)?;
+        let mut seq = from.read_seq()?;
         let first = seq.required_element::<A>(alloc)?;
         let second = seq.required_element::<B>(alloc)?;
         seq.end()?;
@@ -109,7 +109,7 @@ impl<L: LendsText, A: Deserialize<L>, B: Deserialize<L>, C: Deserialize<L>> Dese
         alloc: Global,
         from: &mut Deserializer<R>,
     ) -> Answer<(A, B, C)> {
-        let mut seq = from.read_seq(alloc)?;
+        let mut seq = from.read_seq()?;
         let first = seq.required_element::<A>(alloc)?;
         let second = seq.required_element::<B>(alloc)?;
         let third = seq.required_element::<C>(alloc)?;
@@ -156,7 +156,7 @@ impl<
         alloc: Global,
         from: &mut Deserializer<R>,
     ) -> Answer<(A, B, C, D)> {
-        let mut seq = from.read_seq(alloc)?;
+        let mut seq = from.read_seq()?;
         let first = seq.required_element::<A>(alloc)?;
         let second = seq.required_element::<B>(alloc)?;
         let third = seq.required_element::<C>(alloc)?;

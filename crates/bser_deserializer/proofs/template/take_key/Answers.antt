@@ -12,16 +12,16 @@ returns-then-not-is_key_tag-clause-names g c =
 pub returns-in_err-bytes-clause-names : goal.returns-in_err-bytes-clause-names
 returns-in_err-bytes-clause-names g c =
     let p = err_from_is_err_and c.from_residual-in_err-bytes.result c.from_residual-in_err-bytes.ensures.1 in
-    let first = took_first _ _ _ _ c.buffered.ensures c.in_ok-fill.ensures.ok c.consume.ensures in
+    let first = took_first _ _ _ _ c.buffered.ensures c.in_ok-fill.ensures.ok c.consume.ensures.window in
     rw p.1 (key_refused _ _ _ _ (sym c.is_key_tag.ensures ∙ c.if-not-is_key_tag.false) first c.in_err-bytes.ensures.names)
 
 pub returns-in-Ok-clause-ok : goal.returns-in-Ok-clause-ok
 returns-in-Ok-clause-ok g c =
-    let first = took_first _ _ _ _ c.buffered.ensures c.in_ok-fill.ensures.ok c.consume.ensures in
+    let first = took_first _ _ _ _ c.buffered.ensures c.in_ok-fill.ensures.ok c.consume.ensures.window in
     rw c.in-Ok.ensures.ok (took_key _ _ _ _ _ (sym c.is_key_tag.ensures ∙ c.if-not-is_key_tag.false) first c.in_ok-bytes.ensures.ok c.in-Ok.ensures.utf8)
 
 pub returns-in-Err-clause-names : goal.returns-in-Err-clause-names
 returns-in-Err-clause-names g c =
-    let first = took_first _ _ _ _ c.buffered.ensures c.in_ok-fill.ensures.ok c.consume.ensures in
+    let first = took_first _ _ _ _ c.buffered.ensures c.in_ok-fill.ensures.ok c.consume.ensures.window in
     rw c.refuse-in-Err.ensures.reason
     (kept_refused _ _ _ _ _ _ _ (sym c.is_key_tag.ensures ∙ c.if-not-is_key_tag.false) first c.in_ok-bytes.ensures.ok c.in-Err.ensures.err)

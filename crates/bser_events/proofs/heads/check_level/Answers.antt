@@ -1,32 +1,45 @@
-use Rattle.std.proofs.Common.{arith, get_or, refl, sym, ap, ◌∙◌}
+use Rattle.std.proofs.Common.{rules, arith, get_or, refl, sym, ap, ◌∙◌}
 use Rattle.std.proofs.lemmas.Result.{err_from_is_err_and}
 use Rattle.bser_format.specs.declared.errors.Kind.TheVariants as kinds
 use Rattle.bser_events.proofs.Outcomes.{first_is}
 use Rattle.bser_events.proofs.Begins.{level_names, level_left, no_level, none_names, leaf_ahead}
 use Rattle.bser_events.proofs.heads.check_level.Goals as goal
 
-pub returns-in-0-clause-names : goal.returns-in-0-clause-names
-returns-in-0-clause-names g c =
+pub returns-in-0-clause-err : goal.returns-in-0-clause-err
+returns-in-0-clause-err g c =
     let filled = c.in_ok-fill.ensures.ok in
-    rw c.refuse_level.ensures.reason (no_level c.args.levels _ _ c.if-levels-ne0.false (level_names kinds.Array 0x00 _ _ filled (first_is 0x00 _ filled.enough (ap (λ l. get_or l 0 0) (sym c.buffered.ensures) ∙ c.in-0.is)) (λ y. refl)))
+    record {
+      err = search rules;
+      names = rw c.refuse_with.ensures.reason (no_level c.args.levels _ _ c.if-levels-ne0.false (level_names kinds.Array 0x00 _ _ filled (first_is 0x00 _ filled.enough (ap (λ l. get_or l 0 0) (sym c.buffered.ensures) ∙ c.in-0.is)) (λ y. refl)));
+      memory = search rules;
+    }
 
-pub returns-in-1-clause-names : goal.returns-in-1-clause-names
-returns-in-1-clause-names g c =
+pub returns-in-1-clause-err : goal.returns-in-1-clause-err
+returns-in-1-clause-err g c =
     let filled = c.in_ok-fill.ensures.ok in
-    rw c.refuse_level-in-1.ensures.reason (no_level c.args.levels _ _ c.if-levels-ne0.false (level_names kinds.Object 0x01 _ _ filled (first_is 0x01 _ filled.enough (ap (λ l. get_or l 0 0) (sym c.buffered.ensures) ∙ c.in-1.is)) (λ y. refl)))
+    record {
+      err = search rules;
+      names = rw c.refuse_with-in-1.ensures.reason (no_level c.args.levels _ _ c.if-levels-ne0.false (level_names kinds.Object 0x01 _ _ filled (first_is 0x01 _ filled.enough (ap (λ l. get_or l 0 0) (sym c.buffered.ensures) ∙ c.in-1.is)) (λ y. refl)));
+      memory = search rules;
+    }
 
-pub returns-in-11-clause-names : goal.returns-in-11-clause-names
-returns-in-11-clause-names g c =
+pub returns-in-11-clause-err : goal.returns-in-11-clause-err
+returns-in-11-clause-err g c =
     let filled = c.in_ok-fill.ensures.ok in
-    rw c.refuse_level-in-11.ensures.reason (no_level c.args.levels _ _ c.if-levels-ne0.false (level_names kinds.Template 0x0b _ _ filled (first_is 0x0b _ filled.enough (ap (λ l. get_or l 0 0) (sym c.buffered.ensures) ∙ c.in-11.is)) (λ y. refl)))
+    record {
+      err = search rules;
+      names = rw c.refuse_with-in-11.ensures.reason (no_level c.args.levels _ _ c.if-levels-ne0.false (level_names kinds.Template 0x0b _ _ filled (first_is 0x0b _ filled.enough (ap (λ l. get_or l 0 0) (sym c.buffered.ensures) ∙ c.in-11.is)) (λ y. refl)));
+      memory = search rules;
+    }
 
 pub returns-then-levels-ne0-clause-ok : goal.returns-then-levels-ne0-clause-ok
 returns-then-levels-ne0-clause-ok g c = level_left c.args.levels _ _ c.if-levels-ne0.true refl
 
-pub returns-in_err-fill-clause-names : goal.returns-in_err-fill-clause-names
-returns-in_err-fill-clause-names g c =
+pub returns-in_err-fill-clause-err : goal.returns-in_err-fill-clause-err
+returns-in_err-fill-clause-err g c =
     let p = err_from_is_err_and c.from_residual.result c.from_residual.ensures.1 in
-    rw p.1 (no_level c.args.levels _ _ c.if-levels-ne0.false (none_names _ _ c.in_err-fill.ensures.names))
+    let no = c.in_err-fill.ensures.refused in
+    rw p.1 (record { err = search rules; names = no_level c.args.levels _ _ c.if-levels-ne0.false (none_names _ _ no.names); memory = no.memory })
 
 pub returns-in_default-clause-ok : goal.returns-in_default-clause-ok
 returns-in_default-clause-ok g c =

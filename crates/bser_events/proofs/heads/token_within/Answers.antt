@@ -9,7 +9,9 @@ pub returns-clause-level : goal.returns-clause-level
 returns-clause-level g c = within_level c.args.levels c.token.result _ _ _ c.in_ok-check_level.ensures.ok c.token.ensures.ok
 
 pub returns-clause-err : goal.returns-clause-err
-returns-clause-err g c = each_err _ _ c.token.result c.token.ensures.err (within_fails c.args.levels _ _ _ _ c.in_ok-check_level.ensures.ok)
-
-pub returns-clause-names : goal.returns-clause-names
-returns-clause-names g c = each_err _ _ c.token.result c.token.ensures.names (within_names c.args.levels _ _ _ c.in_ok-check_level.ensures.ok)
+returns-clause-err g c =
+    each_err _ _ c.token.result c.token.ensures.refused (λ r. record {
+      err = within_fails c.args.levels _ _ _ _ c.in_ok-check_level.ensures.ok r.err;
+      names = within_names c.args.levels _ _ _ c.in_ok-check_level.ensures.ok r.names;
+      memory = r.memory;
+    })

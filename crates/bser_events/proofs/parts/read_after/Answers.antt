@@ -4,20 +4,21 @@ use Rattle.bser_named.specs.Named.{front}
 use Rattle.bser_events.specs.Events as events
 use Rattle.bser_events.specs.Found.{text_bytes}
 use Rattle.bser_events.proofs.Tables.{array_at, object_at, string_tree, skip_refused}
+use Rattle.bser_events.proofs.Outcomes.{same_window}
 use Rattle.bser_events.proofs.InFront.{scalar_at, only_skip}
 use Rattle.bser_events.proofs.parts.read_after.Goals as goal
 
 pub returns-in_ok-tell-in-Array-clause-ok : goal.returns-in_ok-tell-in-Array-clause-ok
 returns-in_ok-tell-in-Array-clause-ok g c =
-    array_at g.B.Builder.takes c.args.levels c.in-Array.len c.args.token _ _ _ _ c.in-Array.is c.requires.level c.requires.working c.in_ok-tell-in-Array.ensures.same c.in_ok-tell-in-Array.ensures.ok
+    array_at g.B.Builder.takes c.args.levels c.in-Array.len c.args.token _ _ _ _ c.in-Array.is c.requires.level c.requires.working (same_window _ _ c.in_ok-tell-in-Array.ensures.same) c.in_ok-tell-in-Array.ensures.ok
 
 pub returns-in_ok-tell-in-Object-clause-ok : goal.returns-in_ok-tell-in-Object-clause-ok
 returns-in_ok-tell-in-Object-clause-ok g c =
-    object_at g.B.Builder.takes c.args.levels c.in-Object.len c.args.token _ _ _ _ c.in-Object.is c.requires.level c.requires.working c.in_ok-tell-in-Object.ensures.same c.in_ok-tell-in-Object.ensures.ok
+    object_at g.B.Builder.takes c.args.levels c.in-Object.len c.args.token _ _ _ _ c.in-Object.is c.requires.level c.requires.working (same_window _ _ c.in_ok-tell-in-Object.ensures.same) c.in_ok-tell-in-Object.ensures.ok
 
 pub returns-in-Some-clause-ok : goal.returns-in-Some-clause-ok
 returns-in-Some-clause-ok g c =
-    scalar_at g.B.Builder.takes c.args.levels c.args.token _ _ _ _ _ c.in-Some.ensures c.requires.working c.in_ok-tell.ensures.same c.in_ok-tell.ensures.ok
+    scalar_at g.B.Builder.takes c.args.levels c.args.token _ _ _ _ _ c.in-Some.ensures c.requires.working (same_window _ _ c.in_ok-tell.ensures.same) c.in_ok-tell.ensures.ok
 
 pub returns-in_default-token : goal.returns-in_default-token
 returns-in_default-token g c =
@@ -25,7 +26,8 @@ returns-in_default-token g c =
     record {
       ok = tt;
       inside = tt;
-      err = skip_refused _ c.args.levels c.args.token _ _ _ (only_skip c.args.token c.in_default.ensures n.not-Str n.not-Array n.not-Object n.not-Template) c.requires.working c.refuse_tag.ensures.reason c.refuse_tag.ensures.state;
+      kept = tt;
+      err = skip_refused _ c.args.levels c.args.token _ _ _ (only_skip c.args.token c.in_default.ensures n.not-Str n.not-Array n.not-Object n.not-Template) c.requires.working c.refuse_with.ensures.reason c.refuse_with.ensures.state;
     }
 
 pub returns-in_ok-read_text-in-Str-clause-ok : goal.returns-in_ok-read_text-in-Str-clause-ok

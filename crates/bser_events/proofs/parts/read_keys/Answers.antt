@@ -1,4 +1,4 @@
-use Rattle.std.proofs.Common.{◌≡◌, ◌+◌, ◌-◌, suc, [], ◌∷◌, arith}
+use Rattle.std.proofs.Common.{◌≡◌, ◌+◌, ◌-◌, suc, [], ◌∷◌, arith, refl, ◌∙◌}
 use Rattle.std.proofs.lemmas.Result.{err_from_is_err_and}
 use Rattle.bser_format.specs.declared.errors.Kind.TheVariants.{TemplateKey}
 use Rattle.bser_named.specs.Named.{text_of}
@@ -11,22 +11,23 @@ use Rattle.bser_events.proofs.parts.read_keys.Goals as goal
 pub loop-init : goal.loop-init
 loop-init g c =
     let all : c.args.count - 0 ≡ c.args.count = omega arith in
-    rw all (midway_begins g.B.Builder.takes (keys_at c.args.count) (KeysLeft c.args.count) _ _ c.requires (keys_begin c.args.count))
+    rw all (record { midway = midway_begins g.B.Builder.takes (keys_at c.args.count) (KeysLeft c.args.count) _ _ c.requires (keys_begin c.args.count); kept = refl })
 
 pub loop-preserved : goal.loop-preserved
 loop-preserved g c =
     let more : c.args.count - c.loop.counter ≡ suc (c.args.count - (c.loop.counter + 1)) = omega (arith, c.loop-test.true) in
-    midway_found g.B.Builder.takes (keys_at c.args.count) (text_of TemplateKey) (λ s. key s ∷ []) (KeysLeft (c.args.count - (c.loop.counter + 1))) _ _ _ _ _ _
-    (keys_due g.B.Builder.takes c.args.count _ _ _ _ _ _ more c.loop.invariant) c.in_ok-read_key.ensures.ok
+    let midway = midway_found g.B.Builder.takes (keys_at c.args.count) (text_of TemplateKey) (λ s. key s ∷ []) (KeysLeft (c.args.count - (c.loop.counter + 1))) _ _ _ _ _ _
+    (keys_due g.B.Builder.takes c.args.count _ _ _ _ _ _ more c.loop.invariant.midway) c.in_ok-read_key.ensures.ok in
+    record { midway = midway; kept = c.in_ok-read_key.ensures.kept ∙ c.loop.invariant.kept }
 
 pub returns-in_err-read_key-clause-err : goal.returns-in_err-read_key-clause-err
 returns-in_err-read_key-clause-err g c =
     let p = err_from_is_err_and c.from_residual.result c.from_residual.ensures.1 in
     let more : c.args.count - c.loop.counter ≡ suc (c.args.count - (c.loop.counter + 1)) = omega (arith, c.loop-test.true) in
     rw p.1 (midway_refused g.B.Builder.takes (keys_at c.args.count) (text_of TemplateKey) (λ s. key s ∷ []) (KeysLeft (c.args.count - (c.loop.counter + 1))) _ _ _ _ _ _ _ _ (λ h. h)
-    (keys_due g.B.Builder.takes c.args.count _ _ _ _ _ _ more c.loop.invariant) c.in_err-read_key.ensures.err)
+    (keys_due g.B.Builder.takes c.args.count _ _ _ _ _ _ more c.loop.invariant.midway) c.in_err-read_key.ensures.err)
 
 pub returns-clause-ok : goal.returns-clause-ok
 returns-clause-ok g c =
     let last : c.args.count - c.loop.counter ≡ 0 = omega (arith, c.loop-test.false) in
-    keys_end g.B.Builder.takes c.args.count _ _ _ _ _ last c.loop.invariant
+    keys_end g.B.Builder.takes c.args.count _ _ _ _ _ last c.loop.invariant.midway

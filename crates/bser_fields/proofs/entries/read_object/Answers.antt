@@ -3,12 +3,11 @@ use Rattle.std.proofs.lemmas.Result.{err_from_is_err_and}
 use Rattle.bser_deserializer.specs.Reading.{Needs}
 use Rattle.bser_deserializer.specs.State.{State}
 use Rattle.bser_deserializer.specs.declared.frames.MapHead.{MapHead}
-use Rattle.bser_deserializer.specs.View.{state, refusal_in}
 use Rattle.bser_types.specs.Slots.{StructField, struct_needs}
 use Rattle.bser_fields.specs.Askings.{AllAsked, all_asked}
 use Rattle.bser_fields.proofs.Structs.{struct_start}
 use Rattle.bser_deserializer.specs.Parts.{wanted_pairs, pairs_left}
-use Rattle.bser_fields.proofs.Turns.{both_ok, all_err, object_over, object_step, object_refused, object_name_refused, struct_ended, struct_lacks}
+use Rattle.bser_fields.proofs.Turns.{both_ok, both_err, object_over, object_step, object_refused, object_name_refused, struct_ended, struct_lacks}
 use Rattle.bser_fields.proofs.entries.read_object.Goals as goal
 
 pub loop-head-init : goal.loop-head-init
@@ -26,12 +25,12 @@ returns-in_err-field-clause-refused g c =
     let needs : Needs = struct_needs g.F.Slots.needs in
     let i = c.loop-head.invariant in
     let h : MapHead = c.loop-head.head in
-    let s : State = state g.R.DeRead.window g.R.Lent.Lending.kept c.loop-head.from in
-    let k : State = state g.R.DeRead.window g.R.Lent.Lending.kept c.await_key.new.self in
-    let z : State = state g.R.DeRead.window g.R.Lent.Lending.kept c.read_name.new.from in
+    let s : State = c.loop-head.from.state in
+    let k : State = c.await_key.new.self.state in
+    let z : State = c.read_name.new.from.state in
     let some : 0 < h.at = omega (arith, c.loop-head-test.true) in
     let p = err_from_is_err_and c.from_residual.result c.from_residual.ensures.1 in
-    rw p.1 (λ o opens. object_name_refused names start tells needs (refusal_in c.read_name.new.from) o z i.found h s k i.row some c.await_key.ensures (i.at o opens) c.in_err-field.ensures.refused)
+    rw p.1 (λ o opens. object_name_refused names start tells needs c.read_name.new.from.refusal o z i.found h s k i.row some c.await_key.ensures (i.at o opens) c.in_err-field.ensures.refused)
 
 pub returns-in_err-read_value-clause-refused : goal.returns-in_err-read_value-clause-refused
 returns-in_err-read_value-clause-refused g c =
@@ -41,14 +40,14 @@ returns-in_err-read_value-clause-refused g c =
     let needs : Needs = struct_needs g.F.Slots.needs in
     let i = c.loop-head.invariant in
     let h : MapHead = c.loop-head.head in
-    let s : State = state g.R.DeRead.window g.R.Lent.Lending.kept c.loop-head.from in
-    let k : State = state g.R.DeRead.window g.R.Lent.Lending.kept c.await_key.new.self in
-    let m : State = state g.R.DeRead.window g.R.Lent.Lending.kept c.read_name.new.from in
-    let q : State = state g.R.DeRead.window g.R.Lent.Lending.kept c.await_node.new.self in
-    let z : State = state g.R.DeRead.window g.R.Lent.Lending.kept c.read_value.new.from in
+    let s : State = c.loop-head.from.state in
+    let k : State = c.await_key.new.self.state in
+    let m : State = c.read_name.new.from.state in
+    let q : State = c.await_node.new.self.state in
+    let z : State = c.read_value.new.from.state in
     let some : 0 < h.at = omega (arith, c.loop-head-test.true) in
     let p = err_from_is_err_and c.from_residual-in_err-read_value.result c.from_residual-in_err-read_value.ensures.1 in
-    rw p.1 (λ o opens. object_refused names start tells needs (refusal_in c.read_value.new.from) o z i.found c.in_ok-field.field h s k m q i.row some c.await_key.ensures (i.at o opens) c.in_ok-field.ensures.found c.await_node.ensures (c.in_err-read_value.ensures.refused i.found i.kept))
+    rw p.1 (λ o opens. object_refused names start tells needs c.read_value.new.from.refusal o z i.found c.in_ok-field.field h s k m q i.row some c.await_key.ensures (i.at o opens) c.in_ok-field.ensures.found c.await_node.ensures (c.in_err-read_value.ensures.refused i.found i.kept))
 
 pub loop-head-preserved : goal.loop-head-preserved
 loop-head-preserved g c =
@@ -57,11 +56,11 @@ loop-head-preserved g c =
     let tells : Option (AllAsked start) = all_asked start g.F.Slots.asks in
     let i = c.loop-head.invariant in
     let h : MapHead = c.loop-head.head in
-    let s : State = state g.R.DeRead.window g.R.Lent.Lending.kept c.loop-head.from in
-    let k : State = state g.R.DeRead.window g.R.Lent.Lending.kept c.await_key.new.self in
-    let m : State = state g.R.DeRead.window g.R.Lent.Lending.kept c.read_name.new.from in
-    let q : State = state g.R.DeRead.window g.R.Lent.Lending.kept c.await_node.new.self in
-    let z : State = state g.R.DeRead.window g.R.Lent.Lending.kept c.read_value.new.from in
+    let s : State = c.loop-head.from.state in
+    let k : State = c.await_key.new.self.state in
+    let m : State = c.read_name.new.from.state in
+    let q : State = c.await_node.new.self.state in
+    let z : State = c.read_value.new.from.state in
     let some : 0 < h.at = omega (arith, c.loop-head-test.true) in
     let p = c.in_ok-read_value.ensures.found i.found i.kept in
     record {
@@ -78,8 +77,8 @@ returns-clause-found g c =
     let tells : Option (AllAsked start) = all_asked start g.F.Slots.asks in
     let i = c.loop-head.invariant in
     let h : MapHead = c.loop-head.head in
-    let s : State = state g.R.DeRead.window g.R.Lent.Lending.kept c.loop-head.from in
-    let z : State = state g.R.DeRead.window g.R.Lent.Lending.kept c.finish.new.from in
+    let s : State = c.loop-head.from.state in
+    let z : State = c.finish.new.from.state in
     let over : pairs_left (wanted_pairs s.keys h.row h.at) ≡ 0 = object_over s.keys h.row h.at i.row c.loop-head-test.false in
     both_ok _ _ _ c.finish.result (λ v values closes o opens. struct_ended names start tells g.F.Slots.holds o z i.found h s v (i.at o opens) over closes (values i.found i.kept)) c.finish.ensures.values c.finish.ensures.closed
 
@@ -91,7 +90,7 @@ returns-clause-refused g c =
     let needs : Needs = struct_needs g.F.Slots.needs in
     let i = c.loop-head.invariant in
     let h : MapHead = c.loop-head.head in
-    let s : State = state g.R.DeRead.window g.R.Lent.Lending.kept c.loop-head.from in
-    let z : State = state g.R.DeRead.window g.R.Lent.Lending.kept c.finish.new.from in
+    let s : State = c.loop-head.from.state in
+    let z : State = c.finish.new.from.state in
     let over : pairs_left (wanted_pairs s.keys h.row h.at) ≡ 0 = object_over s.keys h.row h.at i.row c.loop-head-test.false in
-    all_err _ _ _ _ c.finish.result (λ absent reason closes o opens. struct_lacks names start tells needs (refusal_in c.finish.new.from) o z i.found h s (i.at o opens) over (absent i.found i.kept) reason closes) c.finish.ensures.absent c.finish.ensures.reason c.finish.ensures.refused
+    both_err _ _ _ c.finish.result (λ absent by o opens. struct_lacks names start tells needs c.finish.new.from.refusal o z i.found h s (i.at o opens) over (absent i.found i.kept) by.reason by.state) c.finish.ensures.absent c.finish.ensures.refused

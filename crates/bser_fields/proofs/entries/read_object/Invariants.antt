@@ -1,7 +1,7 @@
 use Rattle.std.proofs.Common.{◌≡◌, List, map, false}
 use Rattle.bser_deserializer.specs.Access.{OpensPairs}
 use Rattle.bser_deserializer.specs.State.{State}
-use Rattle.bser_deserializer.specs.View.{state, pairs_head}
+use Rattle.bser_deserializer.specs.View.{pairs_head}
 use Rattle.bser_types.specs.Slots.{StructField}
 use Rattle.bser_fields.specs.Askings.{all_asked}
 use Rattle.bser_fields.proofs.Structs.{AtField}
@@ -12,8 +12,8 @@ invariant-loop-head g l = record {
   row : l.head.row ≡ false;
   found : List StructField;
   kept : g.F.Slots.keeps l.fields found;
-  at : (o : State) → OpensPairs o (pairs_head l.fn.head (state g.R.DeRead.window g.R.Lent.Lending.kept l.fn.from))
-      → AtField (map (λ r. r.now) l.fn.names) g.F.Slots.fields (all_asked g.F.Slots.fields g.F.Slots.asks) o found (pairs_head l.head (state g.R.DeRead.window g.R.Lent.Lending.kept l.from));
+  at : (o : State) → OpensPairs o (pairs_head l.fn.head l.fn.from.state)
+      → AtField (map (λ r. r.now) l.fn.names) g.F.Slots.fields (all_asked g.F.Slots.fields g.F.Slots.asks) o found (pairs_head l.head l.from.state);
 }
 
 abbrev pub decreases-loop-head : goal.decreases-loop-head

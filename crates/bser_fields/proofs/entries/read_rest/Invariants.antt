@@ -1,5 +1,4 @@
 use Rattle.std.proofs.Common.{◌-◌, List, length, map}
-use Rattle.bser_deserializer.specs.View.{state}
 use Rattle.bser_types.specs.Slots.{StructField}
 use Rattle.bser_fields.specs.Rows.{AnyField, ReadsTurns}
 use Rattle.bser_fields.proofs.entries.read_rest.Given as goal
@@ -9,8 +8,8 @@ invariant-loop-place g l = record {
   some : (ss : List StructField) × g.F.Slots.keeps l.fields ss;
   read : (ss : List StructField) → g.F.Slots.keeps l.fn.fields ss
       → ReadsTurns AnyField (map (λ r. r.now) l.fn.names) (g.F.Slots.keeps l.fields) ss l.fn.at l.place
-      (state g.R.DeRead.window g.R.Lent.Lending.kept l.fn.from) (state g.R.DeRead.window g.R.Lent.Lending.kept l.from);
+      l.fn.from.state l.from.state;
 }
 
 abbrev pub decreases-loop-place : goal.decreases-loop-place
-decreases-loop-place g l = length l.from.keys.items - l.place
+decreases-loop-place g l = length l.from.state.keys - l.place

@@ -1,15 +1,14 @@
 use Rattle.std.proofs.Common.{ap}
 use Rattle.std.proofs.lemmas.Result.{err_from_is_err_and}
 use Rattle.bser_deserializer.specs.State.{State}
-use Rattle.bser_deserializer.specs.View.{state}
 use Rattle.bser_fields.specs.Askings.{all_asked}
 use Rattle.bser_fields.proofs.Places.{unnamed_refused}
 use Rattle.bser_fields.proofs.entries.read_value.Goals as goal
 
 pub returns-in_err-deserialize-in-Unknown-clause-refused : goal.returns-in_err-deserialize-in-Unknown-clause-refused
 returns-in_err-deserialize-in-Unknown-clause-refused g c =
-    let o : State = state g.R.DeRead.window g.R.Lent.Lending.kept c.args.from.now in
-    let z : State = state g.R.DeRead.window g.R.Lent.Lending.kept c.deserialize.new.from in
+    let o : State = c.args.from.now.state in
+    let z : State = c.deserialize.new.from.state in
     let p = err_from_is_err_and c.from_residual.result c.from_residual.ensures.1 in
     rw (p.1, c.in-Unknown.is) (λ ss keeps. unnamed_refused g.F.Slots.fields (all_asked g.F.Slots.fields g.F.Slots.asks) g.F.Slots.needs _ ss o z c.in_err-deserialize-in-Unknown.ensures.refused)
 

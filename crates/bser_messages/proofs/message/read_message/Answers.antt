@@ -1,13 +1,12 @@
--- A message that was read, and one that does not end where it was to.
-use Rattle.std.proofs.lemmas.Result.{err_from_is_err_and}
-use Rattle.bser_messages.proofs.Messages.{read_whole, end_refused}
+-- A message of any length that was read, or refused.
+use Rattle.bser_deserializer.proofs.Openings.{if_ok}
+use Rattle.bser_messages.proofs.Sources.{if_refused}
+use Rattle.bser_messages.proofs.Within.{unlimited_refused}
 use Rattle.bser_messages.proofs.message.read_message.Goals as goal
 
-pub returns-in_err-end-in-Ok-clause-refused : goal.returns-in_err-end-in-Ok-clause-refused
-returns-in_err-end-in-Ok-clause-refused g c =
-    let p = err_from_is_err_and c.from_residual.result c.from_residual.ensures.1 in
-    rw (p.1, p.2) (end_refused c.args.limit g.T.Shape.reads g.T.Shape.asks g.T.Shape.holds g.T.Shape.needs _ _ _ c.in-Ok.value c.requires.start c.in-Ok.ensures.found c.in_err-end-in-Ok.ensures.err c.in_err-end-in-Ok.ensures.name)
+pub returns-clause-found : goal.returns-clause-found
+returns-clause-found g c = if_ok _ _ c.read_limited.result (λ v u. u.whole) c.read_limited.ensures.found
 
-pub returns-in_ok-end-in-Ok-clause-found : goal.returns-in_ok-end-in-Ok-clause-found
-returns-in_ok-end-in-Ok-clause-found g c =
-    read_whole c.args.limit g.T.Shape.reads g.T.Shape.holds _ _ c.in-Ok.value c.in-Ok.ensures.found c.in_ok-end-in-Ok.ensures.ok
+pub returns-clause-refused : goal.returns-clause-refused
+returns-clause-refused g c =
+    if_refused c.read_limited.result _ _ (λ e u. unlimited_refused c.args.limit g.T.Shape.reads g.T.Shape.asks g.T.Shape.needs e _ _ u) c.read_limited.ensures.refused

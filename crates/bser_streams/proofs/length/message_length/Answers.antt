@@ -14,7 +14,7 @@ returns-then-length-clause-refused c =
     let start = to_z-of_z w64 c.in-Ok.info.start start_fits in
     let len = to_z-of_z w64 c.in-Ok.info.len len_fits in
     let n : ℕ = nat_abs c.in-Ok.info.start + nat_abs c.in-Ok.info.len in
-    inr (told_great c.args.bytes.now _ _ _ _ _ n _ (c.new-2.ensures ∙ c.new.ensures) c.in-Ok.ensures.ok c.in-Ok.ensures.start (omega (arith, ints, c.in-Ok.ensures.ok.value, c.in-Ok.ensures.start))
+    inr (told_great c.args.bytes.now _ _ _ _ _ n _ (c.new-2.ensures.window ∙ c.new.ensures) c.in-Ok.ensures.ok c.in-Ok.ensures.start (omega (arith, ints, c.in-Ok.ensures.ok.value, c.in-Ok.ensures.start))
     (omega (arith, ints, start, len, c.in-Ok.ensures.ok.value, c.in-Ok.ensures.start, c.if-length.true)) c.de_custom.ensures)
 
 pub returns-in-Ok-clause-whole : goal.returns-in-Ok-clause-whole
@@ -23,7 +23,7 @@ returns-in-Ok-clause-whole c =
     let len_fits : SFits w64 c.in-Ok.info.len = search rules in
     let start = to_z-of_z w64 c.in-Ok.info.start start_fits in
     let len = to_z-of_z w64 c.in-Ok.info.len len_fits in
-    told_length c.args.bytes.now _ _ _ _ _ _ (c.new-2.ensures ∙ c.new.ensures) c.in-Ok.ensures.ok c.in-Ok.ensures.start (omega (arith, ints, start, len, c.in-Ok.ensures.ok.value, c.in-Ok.ensures.start))
+    told_length c.args.bytes.now _ _ _ _ _ _ (c.new-2.ensures.window ∙ c.new.ensures) c.in-Ok.ensures.ok c.in-Ok.ensures.start (omega (arith, ints, start, len, c.in-Ok.ensures.ok.value, c.in-Ok.ensures.start))
 
 pub returns-in-Ok-clause-each : goal.returns-in-Ok-clause-each
 returns-in-Ok-clause-each c =
@@ -31,4 +31,4 @@ returns-in-Ok-clause-each c =
     let len_fits : SFits w64 c.in-Ok.info.len = search rules in
     let start = to_z-of_z w64 c.in-Ok.info.start start_fits in
     let len = to_z-of_z w64 c.in-Ok.info.len len_fits in
-    each_length c.args.bytes.now _ (told_length c.args.bytes.now _ _ _ _ _ _ (c.new-2.ensures ∙ c.new.ensures) c.in-Ok.ensures.ok c.in-Ok.ensures.start (omega (arith, ints, start, len, c.in-Ok.ensures.ok.value, c.in-Ok.ensures.start)))
+    each_length c.args.bytes.now _ (told_length c.args.bytes.now _ _ _ _ _ _ (c.new-2.ensures.window ∙ c.new.ensures) c.in-Ok.ensures.ok c.in-Ok.ensures.start (omega (arith, ints, start, len, c.in-Ok.ensures.ok.value, c.in-Ok.ensures.start)))

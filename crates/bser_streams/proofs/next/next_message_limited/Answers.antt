@@ -1,7 +1,7 @@
 -- The next message of a reader.
 use Rattle.std.proofs.Common.{rules, ap}
-use Rattle.bser_messages.proofs.Sources.{none_counted}
-use Rattle.bser_streams.proofs.Windows.{read_before}
+use Rattle.bser_messages.proofs.Sources.{none_counted, reader_head}
+use Rattle.bser_messages.proofs.Within.{head_before, read_before}
 use Rattle.bser_streams.proofs.Readers.{reader_took, took_known}
 use Rattle.bser_streams.proofs.Nexts.{next_known, next_refused, reader_fails, no_want}
 use Rattle.bser_streams.proofs.next.next_message_limited.Goals as goal
@@ -34,4 +34,10 @@ returns-in_default g c = record {
   kept = tt;
   refused = rw c.de_reader_error.ensures (reader_fails c.args.limits.levels c.args.limits.bytes g.T.Shape.reads g.T.Shape.asks c.in-Err.cause _ _ _ _ _ _ _ c.new-read.ensures (search rules) c.in_default.not-Eof c.in-Err.ensures.memory c.in-Err.ensures.err);
   memory = λ none. rw c.de_reader_error.ensures (no_want c.in-Err.cause c.in-Err.ensures.memory);
+  head = rw c.de_reader_error.ensures (λ memory. absurd (no_want c.in-Err.cause c.in-Err.ensures.memory memory));
 }
+
+pub returns-in-Err-answer-clause-head : goal.returns-in-Err-answer-clause-head
+returns-in-Err-answer-clause-head g c =
+    let head = rw c.unread-from.ensures.source at c.in-Err-answer.ensures.head in
+    λ memory. reader_head _ _ _ _ c.new-read.ensures (head_before _ _ c.in-Ok.ensures.ok.filled.grown (head memory))

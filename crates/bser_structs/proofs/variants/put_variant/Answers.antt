@@ -6,11 +6,11 @@ use Rattle.bser_structs.proofs.variants.put_variant.Goals as goal
 
 pub returns-clause-ok : goal.returns-clause-ok
 returns-clause-ok g c =
-    MatchResult-weaker c.serialize.result c.serialize.ensures.ok (λ _ t. payload_ends g.W.Sink.took g.W.Sink.failures g.met.W.Sink.took_both c.args.name.now (g.T.Serialize.meaning c.args.payload.now) c.args.out.now c.put_newtype_variant.new.self c.serialize.new.out c.in_ok-put_newtype_variant.ensures.0 t) (λ _ t. t)
+    MatchResult-weaker c.serialize.result c.serialize.ensures.ok (λ _ t. payload_ends g.W.Sink g.met.W.Sink.took_both c.args.name.now (g.T.Serialize.meaning c.args.payload.now) c.args.out.now c.put_newtype_variant.new.self c.serialize.new.out c.in_ok-put_newtype_variant.ensures.0 t) (λ _ t. t)
 
 pub returns-clause-err : goal.returns-clause-err
 returns-clause-err g c =
-    MatchResult-weaker c.serialize.result c.serialize.ensures.err (λ _ t. t) (λ e t. payload_stops g.W.Sink.took g.W.Sink.answered g.W.Sink.failures g.met.W.Sink.took_both c.args.name.now (g.T.Serialize.meaning c.args.payload.now) c.args.out.now c.put_newtype_variant.new.self c.serialize.new.out e c.in_ok-put_newtype_variant.ensures.0 t)
+    MatchResult-weaker c.serialize.result c.serialize.ensures.err (λ _ t. t) (λ e t. payload_stops g.W.Sink g.met.W.Sink.took_both c.args.name.now (g.T.Serialize.meaning c.args.payload.now) c.args.out.now c.put_newtype_variant.new.self c.serialize.new.out e c.in_ok-put_newtype_variant.ensures.0 t)
 
 pub returns-clause-writable : goal.returns-clause-writable
 returns-clause-writable g c = MatchResult-weaker c.serialize.result c.serialize.ensures.writable (λ _ t. variant_writable c.args.name.now (g.T.Serialize.meaning c.args.payload.now) (search rules) t) (λ _ t. t)

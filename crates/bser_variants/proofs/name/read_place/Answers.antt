@@ -1,11 +1,10 @@
 use Rattle.std.proofs.Common.{map}
 use Rattle.bser_deserializer.specs.State.{State}
-use Rattle.bser_deserializer.specs.View.{state}
 use Rattle.bser_variants.proofs.Opened.{unknown_names}
 use Rattle.bser_variants.proofs.name.read_place.Goals as goal
 
 pub returns-in-Unknown-clause-names : goal.returns-in-Unknown-clause-names
 returns-in-Unknown-clause-names g c =
-    let s : State = state g.R.DeRead.window g.R.Lent.Lending.kept c.args.from.now in
-    let m : State = state g.R.DeRead.window g.R.Lent.Lending.kept c.read_name.new.from in
+    let s : State = c.args.from.now.state in
+    let m : State = c.read_name.new.from.state in
     unknown_names (map (λ r. r.now) c.args.variants.now) _ s m c.in_ok-place.field-0 c.in_ok-place.ensures.found c.in-Unknown.is c.complain.ensures.reason

@@ -12,5 +12,5 @@ pub returns-in-Found-clause-some : goal.returns-in-Found-clause-some
 returns-in-Found-clause-some g c =
     let fits : SFits w64 c.in-Found.value = search rules in
     let front = rw c.buffered-bytes.ensures at c.in-Found.ensures in
-    rw c.consume.ensures
-    (took_int c.in-Found.len c.in-Found.value _ _ _ (to_z-of_z w64 c.in-Found.value fits) (look int (g.R.DeRead.window c.args.self.now.read)) (g.met.R.DeRead.refuses c.args.self.now.read) front.0 front.1)
+    rw (← c.self.view_is, c.consume.ensures)
+    (took_int c.in-Found.len c.in-Found.value _ _ _ (to_z-of_z w64 c.in-Found.value fits) (look int (g.R.DeRead.window c.self.inside.read)) (g.met.R.DeRead.refuses c.self.inside.read) front.0 front.1)

@@ -8,5 +8,5 @@ use Rattle.bser_bunser.proofs.bunser.Bunser.buffered_length.Goals as goal
 pub returns-clause-some : goal.returns-clause-some
 returns-clause-some g c =
     let front = rw c.buffered.ensures at c.in_ok-len.ensures.length in
-    rw c.consume.ensures
-    (took_int 2 (pos c.in_ok-len.len) _ _ _ refl (look int (g.R.DeRead.window c.args.self.now.read)) (g.met.R.DeRead.refuses c.args.self.now.read) front.0 front.1)
+    rw (← c.self.view_is, c.consume.ensures)
+    (took_int 2 (pos c.in_ok-len.len) _ _ _ refl (look int (g.R.DeRead.window c.self.inside.read)) (g.met.R.DeRead.refuses c.self.inside.read) front.0 front.1)

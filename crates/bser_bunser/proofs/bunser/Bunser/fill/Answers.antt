@@ -6,7 +6,7 @@ use Rattle.bser_bunser.proofs.bunser.Bunser.fill.Goals as goal
 
 pub returns-then-n-count_octets-clause-ok : goal.returns-then-n-count_octets-clause-ok
 returns-then-n-count_octets-clause-ok g c =
-    let a = g.R.DeRead.window c.args.self.now.read in
+    let a = g.R.DeRead.window c.self.inside.read in
     let fits : c.args.n ≤ length a.buffered = omega (arith, c.count_octets.ensures.len, ap length c.buffered.ensures) in
     let octets : AreOctets a.buffered = subst AreOctets c.buffered.ensures c.count_octets.ensures.octets in
-    filled_here c.args.n a a refl octets fits (works a.failed a.buffered c.args.n (g.met.R.DeRead.refuses c.args.self.now.read) c.requires.some fits)
+    rw (← c.self.view_is) (filled_here c.args.n a a refl octets fits (works a.failed a.buffered c.args.n (g.met.R.DeRead.refuses c.self.inside.read) c.requires.some fits))

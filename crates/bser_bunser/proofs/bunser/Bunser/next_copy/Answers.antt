@@ -8,7 +8,7 @@ use Rattle.bser_bunser.proofs.bunser.Bunser.next_copy.Goals as goal
 pub returns-in_err-len-clause-names : goal.returns-in_err-len-clause-names
 returns-in_err-len-clause-names g c =
     let p = err_from_is_err_and c.from_residual.result c.from_residual.ensures.1 in
-    rw p.1 (inl (names_first size front _ _ c.in_err-len.ensures.names))
+    rw p.1 (inl (names_first size front _ _ c.in_err-len.ensures.refused.names))
 
 pub returns-clause-names : goal.returns-clause-names
 returns-clause-names g c =

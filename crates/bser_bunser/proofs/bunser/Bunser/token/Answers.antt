@@ -1,3 +1,4 @@
+use Rattle.std.proofs.Common.{rules, refl, ◌∙◌}
 use Rattle.std.proofs.lemmas.Result.{err_from_is_err_and}
 use Rattle.bser_bunser.specs.Tokens.{token}
 use Rattle.bser_bunser.proofs.Names.{names_rejected}
@@ -6,13 +7,14 @@ use Rattle.bser_bunser.proofs.Tokens.{took_token, token_fits}
 use Rattle.bser_bunser.proofs.bunser.Bunser.token.Goals as goal
 
 pub loop-value-init : goal.loop-value-init
-loop-value-init g c = look token (g.R.DeRead.window c.args.self.now.read)
+loop-value-init g c = record { looking = look token c.args.self.now.window; kept = refl }
 
 pub returns-in-Found-clause-ok : goal.returns-in-Found-clause-ok
 returns-in-Found-clause-ok g c =
+    let here = rw (← c.self.view_is) at c.loop-value.invariant.looking in
     let front = rw c.buffered.ensures at c.in-Found.ensures in
     rw c.consume.ensures
-    (took_token c.in-Found.len c.in-Found.value _ _ c.loop-value.invariant (g.met.R.DeRead.refuses c.loop-value.self.read) front.0 front.1)
+    (took_token c.in-Found.len c.in-Found.value _ _ here (g.met.R.DeRead.refuses c.self.inside.read) front.0 front.1)
 
 pub returns-in-Found-clause-fits : goal.returns-in-Found-clause-fits
 returns-in-Found-clause-fits g c =
@@ -21,16 +23,23 @@ returns-in-Found-clause-fits g c =
 
 pub loop-value-preserved : goal.loop-value-preserved
 loop-value-preserved g c =
+    let here = rw (← c.self.view_is) at c.loop-value.invariant.looking in
     let front = rw c.buffered.ensures at c.in-Short.ensures in
-    look_again token c.in-Short.need _ _ _ c.loop-value.invariant front c.in_ok-fill_on-in-Short.ensures.ok
+    let again = look_again token c.in-Short.need _ _ _ here front (rw (← c.self.view_is) at c.in_ok-fill_slowly-in-Short.ensures.ok) in
+    record { looking = again; kept = c.in_ok-fill_slowly-in-Short.ensures.kept ∙ c.loop-value.invariant.kept }
 
-pub returns-in_err-fill_on-in-Short-clause-names : goal.returns-in_err-fill_on-in-Short-clause-names
-returns-in_err-fill_on-in-Short-clause-names g c =
+pub returns-in_err-fill_slowly-in-Short-clause-refused : goal.returns-in_err-fill_slowly-in-Short-clause-refused
+returns-in_err-fill_slowly-in-Short-clause-refused g c =
+    let here = rw (← c.self.view_is) at c.loop-value.invariant.looking in
     let p = err_from_is_err_and c.from_residual.result c.from_residual.ensures.1 in
     let front = rw c.buffered.ensures at c.in-Short.ensures in
-    rw p.1 (look_names token c.in-Short.need _ _ _ _ c.loop-value.invariant front c.in_err-fill_on-in-Short.ensures.err)
+    let no = c.in_err-fill_slowly-in-Short.ensures.refused in
+    let names = look_names token c.in-Short.need _ _ _ _ here front (rw (← c.self.view_is) at no.err) in
+    rw p.1 (record { err = search rules; names = names; memory = no.memory })
 
-pub returns-in-Unexpected-clause-names : goal.returns-in-Unexpected-clause-names
-returns-in-Unexpected-clause-names g c =
+pub returns-in-Unexpected-clause-refused : goal.returns-in-Unexpected-clause-refused
+returns-in-Unexpected-clause-refused g c =
+    let here = rw (← c.self.view_is) at c.loop-value.invariant.looking in
     let front = rw c.buffered.ensures at c.in-Unexpected.ensures in
-    rw c.refuse_unexpected.ensures.reason (names_rejected token c.loop-value.invariant.need _ _ _ c.loop-value.invariant.grown front)
+    let names = names_rejected token here.need _ _ _ here.grown front in
+    record { err = search rules; names = rw c.refuse_unexpected.ensures.reason names; memory = c.refuse_unexpected.ensures.memory }

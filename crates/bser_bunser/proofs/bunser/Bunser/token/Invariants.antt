@@ -1,12 +1,13 @@
-use Rattle.std.proofs.Common.{◌-◌, length}
-use Rattle.bser_bunser.specs.Tagged.{bunser_window}
+use Rattle.std.proofs.Common.{◌≡◌, ◌-◌, length}
 use Rattle.bser_bunser.specs.Tokens.{token}
 use Rattle.bser_bunser.proofs.Looks.{Looking}
 use Rattle.bser_bunser.proofs.bunser.Bunser.token.Given as goal
 
 abbrev pub invariant-loop-value : goal.invariant-loop-value
-invariant-loop-value g l =
-    Looking token (bunser_window g.R.DeRead.window l.initial.self) (bunser_window g.R.DeRead.window l.self)
+invariant-loop-value g l = record {
+  looking : Looking token l.initial.self.window l.self.window;
+  kept : l.self.refusal ≡ l.initial.self.refusal;
+}
 
 abbrev pub decreases-loop-value : goal.decreases-loop-value
-decreases-loop-value g l = 10 - length (bunser_window g.R.DeRead.window l.self).buffered
+decreases-loop-value g l = 10 - length l.self.window.buffered

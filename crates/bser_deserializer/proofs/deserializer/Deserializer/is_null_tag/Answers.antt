@@ -4,4 +4,5 @@ use Rattle.bser_deserializer.proofs.deserializer.Deserializer.is_null_tag.Goals 
 
 pub returns-in_default : goal.returns-in_default
 returns-in_default g c =
-    sym (null_elsewhere (map g.R.Lent.Lending.kept c.args.self.now.keys.items) c.args.self.now.place c.args.self.now.due c.args.tag c.in_default.not-Field)
+    rw (← c.self.view_is)
+    (sym (null_elsewhere (map g.R.Lent.Lending.kept c.self.inside.keys.items) c.self.inside.place c.self.inside.due c.args.tag c.in_default.not-Field))

@@ -4,4 +4,5 @@ use Rattle.bser_deserializer.proofs.deserializer.Deserializer.is_value_due.Goals
 
 pub returns-else-eq-clause-no : goal.returns-else-eq-clause-no
 returns-else-eq-clause-no g c = λ e.
-    no_value_due (map g.R.Lent.Lending.kept c.args.self.now.keys.items) c.args.self.now.place c.args.self.now.due (search rules) (search rules)
+    rw (← c.self.view_is)
+    (no_value_due (map g.R.Lent.Lending.kept c.self.inside.keys.items) c.self.inside.place c.self.inside.due (search rules) (search rules))

@@ -3,7 +3,6 @@ use Rattle.std.proofs.Common.{◌∙◌, sym}
 use Rattle.bser_format.specs.ReadsScalars.{reads_slice}
 use Rattle.bser_deserializer.specs.Askings.{asking_bytes}
 use Rattle.bser_deserializer.specs.State.{State}
-use Rattle.bser_deserializer.specs.View.{state}
 use Rattle.bser_deserializer.proofs.Strings.{told_bad, told_good, bytes_not_utf8}
 use Rattle.bser_deserializer.proofs.Texts.{bytes_answer}
 use Rattle.bser_deserializer.proofs.Copies.{owning}
@@ -12,9 +11,9 @@ use Rattle.bser_deserializer.proofs.deserializer.Deserializer.read_byte_string.G
 
 pub returns-then-is_err-clause-refused : goal.returns-then-is_err-clause-refused
 returns-then-is_err-clause-refused g c =
-    let s : State = state g.R.DeRead.window g.R.Lent.Lending.kept c.args.self.now in
-    let m : State = state g.R.DeRead.window g.R.Lent.Lending.kept c.take_copy.new.self in
-    let n : State = state g.R.DeRead.window g.R.Lent.Lending.kept c.refuse_utf8.new.self in
+    let s : State = c.args.self.now.state in
+    let m : State = c.take_copy.new.self.state in
+    let n : State = c.refuse_utf8.new.self.state in
     let bad = told_bad c.from_utf8.result _ _ _ _ c.deref.ensures.value c.from_utf8.ensures.cases (sym c.is_err.ensures.value ∙ c.if-is_err.true) in
     rw c.refuse_utf8.ensures.reason (owning reads_slice asking_bytes _ s n (bytes_not_utf8 s m n _ _ c.in_ok-bytes.ensures.found c.if-is_text.true bad c.refuse_utf8.ensures.state))
 

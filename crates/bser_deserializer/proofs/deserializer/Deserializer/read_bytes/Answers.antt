@@ -2,7 +2,6 @@
 use Rattle.std.proofs.Common.{◌∙◌, sym}
 use Rattle.bser_source.specs.Refs.{bytes_of}
 use Rattle.bser_deserializer.specs.State.{State}
-use Rattle.bser_deserializer.specs.View.{state}
 use Rattle.bser_deserializer.proofs.Strings.{told_bad, told_good, bytes_not_utf8}
 use Rattle.bser_deserializer.proofs.Texts.{bytes_answer}
 use Rattle.bser_deserializer.proofs.deserializer.Deserializer.read_bytes.Goals.{else-is_text-via-then-is_text+else-is_err, else-is_text-via-else-is_text}
@@ -10,9 +9,9 @@ use Rattle.bser_deserializer.proofs.deserializer.Deserializer.read_bytes.Goals a
 
 pub returns-then-is_err-clause-refused : goal.returns-then-is_err-clause-refused
 returns-then-is_err-clause-refused g c =
-    let s : State = state g.R.DeRead.window g.R.Lent.Lending.kept c.args.self.now in
-    let m : State = state g.R.DeRead.window g.R.Lent.Lending.kept c.take_bytes.new.self in
-    let n : State = state g.R.DeRead.window g.R.Lent.Lending.kept c.refuse_utf8.new.self in
+    let s : State = c.args.self.now.state in
+    let m : State = c.take_bytes.new.self.state in
+    let n : State = c.refuse_utf8.new.self.state in
     let bad = told_bad c.from_utf8.result _ _ _ _ c.get_ref.ensures c.from_utf8.ensures.cases (sym c.is_err.ensures.value ∙ c.if-is_err.true) in
     rw c.refuse_utf8.ensures.reason (bytes_not_utf8 s m n _ _ c.in_ok-bytes.ensures.found c.if-is_text.true bad c.refuse_utf8.ensures.state)
 

@@ -5,7 +5,6 @@ use Rattle.std.proofs.lemmas.Result.{err_from_is_err_and}
 use Rattle.bser_format.specs.ReadsScalars.{reads_string}
 use Rattle.bser_deserializer.specs.Askings.{asking_string}
 use Rattle.bser_deserializer.specs.State.{State}
-use Rattle.bser_deserializer.specs.View.{state}
 use Rattle.bser_deserializer.proofs.Strings.{text_not_utf8}
 use Rattle.bser_deserializer.proofs.Texts.{text_answer}
 use Rattle.bser_deserializer.proofs.Copies.{owning, text_copy_refused, told_none}
@@ -13,16 +12,16 @@ use Rattle.bser_deserializer.proofs.deserializer.Deserializer.read_string.Goals 
 
 pub returns-in_err-bytes-clause-refused : goal.returns-in_err-bytes-clause-refused
 returns-in_err-bytes-clause-refused g c =
-    let s : State = state g.R.DeRead.window g.R.Lent.Lending.kept c.args.self.now in
-    let n : State = state g.R.DeRead.window g.R.Lent.Lending.kept c.take_copy.new.self in
+    let s : State = c.args.self.now.state in
+    let n : State = c.take_copy.new.self.state in
     let p = err_from_is_err_and c.from_residual.result c.from_residual.ensures.1 in
     rw p.1 (text_copy_refused _ s n c.in_err-bytes.ensures.refused)
 
 pub returns-then-is_none-clause-refused : goal.returns-then-is_none-clause-refused
 returns-then-is_none-clause-refused g c =
-    let s : State = state g.R.DeRead.window g.R.Lent.Lending.kept c.args.self.now in
-    let m : State = state g.R.DeRead.window g.R.Lent.Lending.kept c.take_copy.new.self in
-    let n : State = state g.R.DeRead.window g.R.Lent.Lending.kept c.refuse_utf8.new.self in
+    let s : State = c.args.self.now.state in
+    let m : State = c.take_copy.new.self.state in
+    let n : State = c.refuse_utf8.new.self.state in
     let bad = told_none c.as_text.result _ _ _ c.deref.ensures.value c.as_text.ensures (c.is_none.ensures ∙ ap not c.if-is_none.true) in
     rw c.refuse_utf8.ensures.reason (owning reads_string asking_string _ s n (text_not_utf8 s m n _ _ c.in_ok-bytes.ensures.found bad c.refuse_utf8.ensures.state))
 

@@ -4,22 +4,21 @@ use Rattle.std.proofs.lemmas.Result.{err_from_is_err_and}
 use Rattle.bser_events.proofs.Outcomes.{both_ok}
 use Rattle.bser_source.specs.Refs.{bytes_of}
 use Rattle.bser_deserializer.specs.State.{State}
-use Rattle.bser_deserializer.specs.View.{state}
 use Rattle.bser_deserializer.proofs.Told.{any_key_refused, any_text_key, any_bytes_key}
 use Rattle.bser_deserializer.proofs.deserializer.Deserializer.tell_key.Goals as goal
 
 pub returns-in_err-bytes-clause-refused : goal.returns-in_err-bytes-clause-refused
 returns-in_err-bytes-clause-refused g c =
-    let s : State = state g.R.DeRead.window g.R.Lent.Lending.kept c.args.self.now in
-    let n : State = state g.R.DeRead.window g.R.Lent.Lending.kept c.read_bytes.new.self in
+    let s : State = c.args.self.now.state in
+    let n : State = c.read_bytes.new.self.state in
     let p = err_from_is_err_and c.from_residual.result c.from_residual.ensures.1 in
     rw p.1 (any_key_refused _ s n c.requires c.in_err-bytes.ensures.refused)
 
 pub returns-in-Some-clause-found : goal.returns-in-Some-clause-found
 returns-in-Some-clause-found g c =
-    let s : State = state g.R.DeRead.window g.R.Lent.Lending.kept c.args.self.now in
-    let m : State = state g.R.DeRead.window g.R.Lent.Lending.kept c.read_bytes.new.self in
-    let z : State = state g.R.DeRead.window g.R.Lent.Lending.kept c.tell.new.self in
+    let s : State = c.args.self.now.state in
+    let m : State = c.read_bytes.new.self.state in
+    let z : State = c.tell.new.self.state in
     let same : c.in-Some.text.now ≡ bytes_of g.R.Lent.Lending.bytes c.in_ok-bytes.bytes = c.in-Some.ensures.0 ∙ c.get_ref.ensures in
     both_ok _ _ _ c.tell.result c.tell.ensures.ok c.tell.ensures.same
     (λ told kept. any_text_key (bytes_of g.R.Lent.Lending.bytes) g.B.Builder.takes s m z c.in_ok-bytes.bytes c.in-Some.text.now c.args.builder.now c.tell.new.builder c.requires
@@ -27,9 +26,9 @@ returns-in-Some-clause-found g c =
 
 pub returns-in-None-clause-found : goal.returns-in-None-clause-found
 returns-in-None-clause-found g c =
-    let s : State = state g.R.DeRead.window g.R.Lent.Lending.kept c.args.self.now in
-    let m : State = state g.R.DeRead.window g.R.Lent.Lending.kept c.read_bytes.new.self in
-    let z : State = state g.R.DeRead.window g.R.Lent.Lending.kept c.tell-in-None.new.self in
+    let s : State = c.args.self.now.state in
+    let m : State = c.read_bytes.new.self.state in
+    let z : State = c.tell-in-None.new.self.state in
     let same : c.get_ref-in-None.result.now ≡ c.get_ref.result.now = c.get_ref-in-None.ensures ∙ sym c.get_ref.ensures in
     both_ok _ _ _ c.tell-in-None.result c.tell-in-None.ensures.ok c.tell-in-None.ensures.same
     (λ told kept. any_bytes_key (bytes_of g.R.Lent.Lending.bytes) g.B.Builder.takes s m z c.in_ok-bytes.bytes c.get_ref-in-None.result.now c.args.builder.now c.tell-in-None.new.builder c.requires

@@ -1,8 +1,7 @@
 use Rattle.std.proofs.Common.{option_map, refl}
 use Rattle.bser_deserializer.specs.Holds.{HoldsOption}
 use Rattle.bser_types.specs.Askings.{asking_option}
-use Rattle.bser_deserializer.specs.State.{State}
-use Rattle.bser_deserializer.specs.View.{state}
+use Rattle.bser_deserializer.specs.Seen.{Seen}
 use Rattle.bser_deserializer.proofs.Openings.{if_ok, if_err}
 use Rattle.bser_types.specs.Slots.{optional}
 use Rattle.bser_fields.proofs.Places.{first_read, first_read_refused}
@@ -10,12 +9,12 @@ use Rattle.bser_fields.proofs.slot.OptionalSlot.read.Goals as goal
 
 pub returns-clause-found : goal.returns-clause-found
 returns-clause-found g c =
-    let o : State = state g.R.DeRead.window g.L.Lending.kept c.args.from.now in
-    let z : State = state g.R.DeRead.window g.L.Lending.kept c.deserialize.new.from in
+    let o : Seen = c.args.from.now in
+    let z : Seen = c.deserialize.new.from in
     if_ok _ _ c.deserialize.result (λ v a. first_read (optional g.T.Shape.reads) (HoldsOption g.T.Shape.holds) o z v refl a) c.deserialize.ensures.found
 
 pub returns-clause-refused : goal.returns-clause-refused
 returns-clause-refused g c =
-    let o : State = state g.R.DeRead.window g.L.Lending.kept c.args.from.now in
-    let z : State = state g.R.DeRead.window g.L.Lending.kept c.deserialize.new.from in
-    if_err _ _ c.deserialize.result (λ r. first_read_refused (optional g.T.Shape.reads) (HoldsOption g.T.Shape.holds) (option_map asking_option g.T.Shape.asks) g.T.Shape.needs _ o z refl r) c.deserialize.ensures.refused
+    let o : Seen = c.args.from.now in
+    let z : Seen = c.deserialize.new.from in
+    if_err _ _ c.deserialize.result (λ r. first_read_refused (optional g.T.Shape.reads) (HoldsOption g.T.Shape.holds) (option_map asking_option g.T.Shape.asks) g.T.Shape.needs o z refl r) c.deserialize.ensures.refused

@@ -1,6 +1,5 @@
 use Rattle.std.proofs.Common.{◌≡◌, ◌-◌, suc, arith}
 use Rattle.bser_deserializer.specs.State.{State}
-use Rattle.bser_deserializer.specs.View.{state}
 use Rattle.bser_deserializer.proofs.Openings.{if_ok, if_err}
 use Rattle.bser_fields.specs.Askings.{all_asked}
 use Rattle.bser_fields.proofs.Places.{read_first, read_later, first_refused, later_refused}
@@ -12,8 +11,8 @@ returns-then-place-eq0-clause-found g c =
 
 pub returns-then-place-eq0-clause-refused : goal.returns-then-place-eq0-clause-refused
 returns-then-place-eq0-clause-refused g c =
-    let o : State = state g.R.DeRead.window g.L.Lending.kept c.args.from.now in
-    let z : State = state g.R.DeRead.window g.L.Lending.kept c.fill.new.from in
+    let o : State = c.args.from.now.state in
+    let z : State = c.fill.new.from.state in
     if_err _ _ c.fill.result (first_refused g.A.Slot.field g.F.Slots.fields g.A.Slot.asks (all_asked g.F.Slots.fields g.F.Slots.asks) (g.A.Slot.keeps c.args.self.now.0) (g.F.Slots.keeps c.args.self.now.1) g.A.Slot.needs g.F.Slots.needs _ o z c.args.place c.if-place-eq0.true) c.fill.ensures.refused
 
 pub returns-else-place-eq0-clause-found : goal.returns-else-place-eq0-clause-found
@@ -23,7 +22,7 @@ returns-else-place-eq0-clause-found g c =
 
 pub returns-else-place-eq0-clause-refused : goal.returns-else-place-eq0-clause-refused
 returns-else-place-eq0-clause-refused g c =
-    let o : State = state g.R.DeRead.window g.L.Lending.kept c.args.from.now in
-    let z : State = state g.R.DeRead.window g.L.Lending.kept c.fill_at.new.from in
+    let o : State = c.args.from.now.state in
+    let z : State = c.fill_at.new.from.state in
     let later : c.args.place ≡ suc (c.args.place - 1) = omega (arith, c.if-place-eq0.false) in
     if_err _ _ c.fill_at.result (later_refused g.A.Slot.field g.F.Slots.fields g.A.Slot.asks (all_asked g.F.Slots.fields g.F.Slots.asks) (g.A.Slot.keeps c.args.self.now.0) (g.F.Slots.keeps c.args.self.now.1) g.A.Slot.needs g.F.Slots.needs _ o z c.args.place (c.args.place - 1) later) c.fill_at.ensures.refused

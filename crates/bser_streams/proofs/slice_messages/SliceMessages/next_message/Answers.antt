@@ -4,4 +4,5 @@ use Rattle.bser_streams.proofs.slice_messages.SliceMessages.next_message.Goals a
 
 pub returns-clause-found : goal.returns-clause-found
 returns-clause-found g c =
-    rest_took c.args.self.now.limits.levels c.args.self.now.limits.bytes g.T.Shape.reads g.T.Shape.holds c.args.self.now.bytes.now c.args.self.now.taken c.in_ok-value.length c.in_ok-value.value c.in_ok-value.ensures.found
+    rw (← c.self.view_is)
+    (rest_took c.self.inside.limits.levels c.self.inside.limits.bytes g.T.Shape.reads g.T.Shape.holds c.self.inside.bytes.now c.self.inside.taken c.in_ok-value.length c.in_ok-value.value c.in_ok-value.ensures.found)

@@ -6,7 +6,6 @@ use Rattle.bser_deserializer.specs.Reading.{Asking, Needs}
 use Rattle.bser_deserializer.specs.State.{State}
 use Rattle.bser_deserializer.specs.Nodes.{SeesNode}
 use Rattle.bser_deserializer.specs.declared.node.Node.TheVariants as kinds
-use Rattle.bser_deserializer.specs.View.{state}
 use Rattle.bser_types.proofs.Taken.{wider_type}
 use Rattle.bser_types.specs.Choices.{reads_object_or}
 use Rattle.bser_types.proofs.Choices.{neither_seen, object_seen, object_answers, object_refused, other_seen, other_answers, other_refused}
@@ -25,16 +24,16 @@ needs g = record { lent = g.O.Shape.needs.lent || g.T.Shape.needs.lent; memory =
 pub returns-in_err-node-clause-refused : goal.returns-in_err-node-clause-refused
 returns-in_err-node-clause-refused g c =
     let p = err_from_is_err_and c.from_residual.result c.from_residual.ensures.1 in
-    let s : State = state g.R.DeRead.window g.L.Lending.kept c.args.from.now in
-    let z : State = state g.R.DeRead.window g.L.Lending.kept c.node.new.self in
+    let s : State = c.args.from.now.state in
+    let z : State = c.node.new.self.state in
     rw p.1 (neither_seen g.O.Shape.reads g.T.Shape.reads (asks g) (needs g) s z _ (head_asked g.O.Shape.reads g.T.Shape.reads g.O.Shape.asks g.T.Shape.asks s) c.in_err-node.ensures.refused)
 
 pub returns-in_err-object-in-Object-clause-refused : goal.returns-in_err-object-in-Object-clause-refused
 returns-in_err-object-in-Object-clause-refused g c =
     let p = err_from_is_err_and c.from_residual-in_err-object-in-Object.result c.from_residual-in_err-object-in-Object.ensures.1 in
-    let s : State = state g.R.DeRead.window g.L.Lending.kept c.args.from.now in
-    let mid : State = state g.R.DeRead.window g.L.Lending.kept c.node.new.self in
-    let z : State = state g.R.DeRead.window g.L.Lending.kept c.deserialize.new.from in
+    let s : State = c.args.from.now.state in
+    let mid : State = c.node.new.self.state in
+    let z : State = c.deserialize.new.from.state in
     let own : Needs = g.O.Shape.needs in
     let sees : SeesNode s mid kinds.Object = subst (SeesNode s mid) c.in-Object.is c.in_ok-node.ensures.found in
     rw p.1 (object_refused g.O.Shape.reads g.T.Shape.reads g.O.Shape.asks (asks g) (needs g) s mid z _ sees
@@ -43,18 +42,18 @@ returns-in_err-object-in-Object-clause-refused g c =
 
 pub returns-in_ok-object-in-Object-clause-found : goal.returns-in_ok-object-in-Object-clause-found
 returns-in_ok-object-in-Object-clause-found g c =
-    let s : State = state g.R.DeRead.window g.L.Lending.kept c.args.from.now in
-    let mid : State = state g.R.DeRead.window g.L.Lending.kept c.node.new.self in
-    let z : State = state g.R.DeRead.window g.L.Lending.kept c.deserialize.new.from in
+    let s : State = c.args.from.now.state in
+    let mid : State = c.node.new.self.state in
+    let z : State = c.deserialize.new.from.state in
     let sees : SeesNode s mid kinds.Object = subst (SeesNode s mid) c.in-Object.is c.in_ok-node.ensures.found in
     object_answers g.O.Shape.reads g.T.Shape.reads g.O.Shape.holds (HoldsObjectOr g.O.Shape.holds g.T.Shape.holds) s mid z c.in_ok-object-in-Object.object (Object c.in_ok-object-in-Object.object) sees (λ k held. held) c.in_ok-object-in-Object.ensures.found
 
 pub returns-in_err-other-in_default : goal.returns-in_err-other-in_default
 returns-in_err-other-in_default g c =
     let p = err_from_is_err_and c.from_residual-in_err-other-in_default.result c.from_residual-in_err-other-in_default.ensures.1 in
-    let s : State = state g.R.DeRead.window g.L.Lending.kept c.args.from.now in
-    let mid : State = state g.R.DeRead.window g.L.Lending.kept c.node.new.self in
-    let z : State = state g.R.DeRead.window g.L.Lending.kept c.deserialize-in_default.new.from in
+    let s : State = c.args.from.now.state in
+    let mid : State = c.node.new.self.state in
+    let z : State = c.deserialize-in_default.new.from.state in
     let own : Needs = g.T.Shape.needs in
     let sees = c.in_ok-node.ensures.found in
     rw p.1 (record {
@@ -67,9 +66,9 @@ returns-in_err-other-in_default g c =
 
 pub returns-in_ok-other-in_default : goal.returns-in_ok-other-in_default
 returns-in_ok-other-in_default g c =
-    let s : State = state g.R.DeRead.window g.L.Lending.kept c.args.from.now in
-    let mid : State = state g.R.DeRead.window g.L.Lending.kept c.node.new.self in
-    let z : State = state g.R.DeRead.window g.L.Lending.kept c.deserialize-in_default.new.from in
+    let s : State = c.args.from.now.state in
+    let mid : State = c.node.new.self.state in
+    let z : State = c.deserialize-in_default.new.from.state in
     let sees = c.in_ok-node.ensures.found in
     record {
       found = other_answers g.O.Shape.reads g.T.Shape.reads g.T.Shape.holds (HoldsObjectOr g.O.Shape.holds g.T.Shape.holds) s mid z _ c.in_ok-other-in_default.other (Other c.in_ok-other-in_default.other) sees c.in_default.not-Object (λ k held. held) c.in_ok-other-in_default.ensures.found;

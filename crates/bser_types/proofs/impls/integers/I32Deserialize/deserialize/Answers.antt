@@ -1,26 +1,9 @@
--- An integer that was read is outside the type's range.
-use Rattle.std.proofs.Common.{◌≡◌, refl, sym, subst, rules, arith, true}
-use Rattle.std.specs.Prelude.{FitsSigned}
-use Rattle.std.specs.Int.{w32, w64}
-use mir.Val.{SFits, to_z, of_z}
-use Rattle.std.proofs.lemmas.Int.{ints}
 use Rattle.std.proofs.lemmas.Result.{err_from_is_err_and}
 use Rattle.bser_format.specs.ReadsScalars.{is_signed}
-use Rattle.bser_deserializer.specs.State.{State}
-use Rattle.bser_deserializer.specs.View.{state}
-use Rattle.bser_types.proofs.Integers.{out_of_range, signed_fits}
+use Rattle.bser_types.proofs.Integers.{signed_within}
 use Rattle.bser_types.proofs.impls.integers.I32Deserialize.deserialize.Goals as goal
 
-pub returns-in_err-number-clause-refused : goal.returns-in_err-number-clause-refused
-returns-in_err-number-clause-refused g c =
+pub returns-in_err-read_within-clause-refused : goal.returns-in_err-read_within-clause-refused
+returns-in_err-read_within-clause-refused g c =
     let p = err_from_is_err_and c.from_residual.result c.from_residual.ensures.1 in
-    rw p.1 (c.in_err-number.ensures.refused (is_signed 32))
-
-pub returns-in-Err-clause-refused : goal.returns-in-Err-clause-refused
-returns-in-Err-clause-refused g c =
-    let fits : SFits w64 c.in_ok-number.number = search rules in
-    let same : to_z w64 (of_z w64 c.in_ok-number.number) ≡ c.in_ok-number.number = omega (arith, ints) in
-    let out = λ (h : is_signed 32 c.in_ok-number.number ≡ true). c.in-Err.ensures (subst (FitsSigned w32) (sym same) (signed_fits 32 w32 c.in_ok-number.number refl h)) in
-    let s : State = state g.R.DeRead.window g.L.Lending.kept c.args.from.now in
-    let mid : State = state g.R.DeRead.window g.L.Lending.kept c.read_i64.new.self in
-    out_of_range (is_signed 32) s mid _ _ _ c.in_ok-number.ensures.found out c.refuse_number.ensures.reason c.refuse_number.ensures.state
+    rw p.1 (c.in_err-read_within.ensures.refused (is_signed 32) (signed_within 32))

@@ -1,80 +1,9 @@
-use Rattle.std.proofs.Common.{◌∙◌, sym, refl, ap}
-use Rattle.std.proofs.lemmas.Result.{err_from_is_err_and}
-use Rattle.bser_deserializer.specs.HoldsMaps.{HoldsEntries, HoldsMap}
 use Rattle.bser_deserializer.specs.State.{State}
-use Rattle.bser_deserializer.specs.View.{state}
-use Rattle.bser_deserializer.specs.Access.{OpenPairs}
-use Rattle.bser_types.specs.Accesses.{open_pairs}
-use Rattle.bser_types.proofs.Maps.{HoldsPairs, map_start, map_entry, map_end, map_refused, entry_refused, entry_fewer, holds_insert, insert_refused}
-use Rattle.bser_types.proofs.impls.maps.BTreeMapDeserialize.deserialize.Invariants.{types}
+use Rattle.bser_types.proofs.Collected.{read_as}
 use Rattle.bser_types.proofs.impls.maps.BTreeMapDeserialize.deserialize.Goals as goal
-
-pub returns-in_err-map-clause-refused : goal.returns-in_err-map-clause-refused
-returns-in_err-map-clause-refused g c =
-    let p = err_from_is_err_and c.from_residual.result c.from_residual.ensures.1 in
-    let o : State = state g.R.DeRead.window g.L.Lending.kept c.args.from.now in
-    let z : State = state g.R.DeRead.window g.L.Lending.kept c.read_map.follows.lender-at-none in
-    rw p.1 (map_refused (types g) _ o z (rw c.in_err-map.was at c.read_map.follows.holds-at-none))
-
-pub loop-entries-init : goal.loop-entries-init
-loop-entries-init g c =
-    let o : State = state g.R.DeRead.window g.L.Lending.kept c.args.from.now in
-    let u : OpenPairs = open_pairs g.R.DeRead.window g.L.Lending.kept c.in_ok-map.map in
-    let held : HoldsPairs = HoldsEntries g.K.MapKey.name g.V.Shape.holds c.new-entries.result.entries in
-    record { same_reference = refl; at = map_start (types g) o held u (rw c.new-entries.ensures.empty tt) c.in_ok-map.ensures.found }
-
-pub returns-in_err-key-clause-refused : goal.returns-in_err-key-clause-refused
-returns-in_err-key-clause-refused g c =
-    let p = err_from_is_err_and c.from_residual-in_err-key.result c.from_residual-in_err-key.ensures.1 in
-    let i = c.loop-entries.invariant in
-    let n = c.in_err-key.ensures in
-    let o : State = state g.R.DeRead.window g.L.Lending.kept c.args.from.now in
-    let z : State = state g.R.DeRead.window g.L.Lending.kept c.next_entry.new.self.from.now in
-    let u : OpenPairs = open_pairs g.R.DeRead.window g.L.Lending.kept c.loop-entries.map in
-    let held : HoldsPairs = HoldsEntries g.K.MapKey.name g.V.Shape.holds c.loop-entries.entries.entries in
-    rw (p.1, c.in_err-key.from-in-Break-branch-2-1-own.given.1 (sym (n.same_reference ∙ i.same_reference ∙ c.in_ok-map.ensures.same_reference)))
-    (entry_refused (types g) _ o z held u i.at n.refused)
-
-pub returns-in-Err-clause-refused : goal.returns-in-Err-clause-refused
-returns-in-Err-clause-refused g c =
-    let i = c.loop-entries.invariant in
-    let n = c.in_ok-key.ensures in
-    let o : State = state g.R.DeRead.window g.L.Lending.kept c.args.from.now in
-    let u : OpenPairs = open_pairs g.R.DeRead.window g.L.Lending.kept c.loop-entries.map in
-    let t : OpenPairs = open_pairs g.R.DeRead.window g.L.Lending.kept c.next_entry.new.self in
-    let z : OpenPairs = open_pairs g.R.DeRead.window g.L.Lending.kept c.refuse.new.self in
-    let held : HoldsPairs = HoldsEntries g.K.MapKey.name g.V.Shape.holds c.loop-entries.entries.entries in
-    rw (c.from-in-Err-1.given.1 (sym (c.refuse.ensures.same_reference ∙ n.same_reference ∙ i.same_reference ∙ c.in_ok-map.ensures.same_reference)))
-    (insert_refused (types g) _ o z.state held u t _ i.at (rw c.in-Some.is at n.found) c.refuse.ensures.reason (ap (λ (y : OpenPairs). y.state.source) c.refuse.ensures.state))
-
-pub loop-entries-smaller : goal.loop-entries-smaller
-loop-entries-smaller g c =
-    let u : OpenPairs = open_pairs g.R.DeRead.window g.L.Lending.kept c.loop-entries.map in
-    let t : OpenPairs = open_pairs g.R.DeRead.window g.L.Lending.kept c.next_entry.new.self in
-    entry_fewer g.K.Shape.reads g.V.Shape.reads g.K.Shape.holds g.V.Shape.holds u t _ (rw c.in-Some.is at c.in_ok-key.ensures.found)
-
-pub loop-entries-preserved : goal.loop-entries-preserved
-loop-entries-preserved g c =
-    let i = c.loop-entries.invariant in
-    let n = c.in_ok-key.ensures in
-    let o : State = state g.R.DeRead.window g.L.Lending.kept c.args.from.now in
-    let u : OpenPairs = open_pairs g.R.DeRead.window g.L.Lending.kept c.loop-entries.map in
-    let t : OpenPairs = open_pairs g.R.DeRead.window g.L.Lending.kept c.next_entry.new.self in
-    let held : HoldsPairs = HoldsEntries g.K.MapKey.name g.V.Shape.holds c.loop-entries.entries.entries in
-    let after : HoldsPairs = HoldsEntries g.K.MapKey.name g.V.Shape.holds c.insert.new.self.entries in
-    record {
-      same_reference = n.same_reference ∙ i.same_reference;
-      at = map_entry (types g) o held after u t _ i.at (rw c.in-Some.is at n.found) (λ d ps h held. rw c.in-Ok.ensures.entries (holds_insert g.K.MapKey.name g.K.Ord.cmp g.met.K.MapKey.ordered_by_name g.V.Shape.holds c.loop-entries.entries.entries ps _ _ _ d refl h held));
-    }
 
 pub returns-clause-found : goal.returns-clause-found
 returns-clause-found g c =
-    let i = c.loop-entries.invariant in
-    let n = c.in_ok-key.ensures in
-    let o : State = state g.R.DeRead.window g.L.Lending.kept c.args.from.now in
-    let z : State = state g.R.DeRead.window g.L.Lending.kept c.end.new.self.0 in
-    let u : OpenPairs = open_pairs g.R.DeRead.window g.L.Lending.kept c.loop-entries.map in
-    let t : OpenPairs = open_pairs g.R.DeRead.window g.L.Lending.kept c.next_entry.new.self in
-    let held : HoldsPairs = HoldsEntries g.K.MapKey.name g.V.Shape.holds c.loop-entries.entries.entries in
-    rw (c.from-2-1.given.1 (sym (n.same_reference ∙ i.same_reference ∙ c.in_ok-map.ensures.same_reference)))
-    (map_end (types g) (λ m. HoldsMap g.K.MapKey.name g.V.Shape.holds m.entries) o z held u t c.loop-entries.entries (λ ps h. record { pairs = ps; list = refl; held = h }) i.at (rw c.in_default.is at n.found) c.in_ok-end.ensures.ok)
+    let o : State = c.args.from.now.state in
+    let z : State = c.read_entries.new.from.state in
+    read_as _ _ _ _ o z (λ v k h. record { pairs = h.entries; list = h.list; held = h.held }) c.read_entries.ensures.found

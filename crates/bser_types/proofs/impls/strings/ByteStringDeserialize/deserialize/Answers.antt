@@ -4,7 +4,6 @@ use Rattle.std.proofs.lemmas.Result.{err_from_is_err_and}
 use Rattle.bser_deserializer.specs.State.{State}
 use Rattle.bser_deserializer.specs.Nodes.{SeesNode}
 use Rattle.bser_deserializer.specs.declared.node.Node.TheVariants as kinds
-use Rattle.bser_deserializer.specs.View.{state}
 use Rattle.bser_deserializer.proofs.Openings.{if_ok, if_err}
 use Rattle.bser_types.proofs.ByteLists.{nothing_seen, array_answers, array_refused, string_answers, string_refused}
 use Rattle.bser_types.proofs.impls.strings.ByteStringDeserialize.deserialize.Goals as goal
@@ -12,32 +11,32 @@ use Rattle.bser_types.proofs.impls.strings.ByteStringDeserialize.deserialize.Goa
 pub returns-in_err-node-clause-refused : goal.returns-in_err-node-clause-refused
 returns-in_err-node-clause-refused g c =
     let p = err_from_is_err_and c.from_residual.result c.from_residual.ensures.1 in
-    let s : State = state g.R.DeRead.window g.L.Lending.kept c.args.from.now in
-    let z : State = state g.R.DeRead.window g.L.Lending.kept c.node.new.self in
+    let s : State = c.args.from.now.state in
+    let z : State = c.node.new.self.state in
     rw p.1 (nothing_seen s z _ c.in_err-node.ensures.refused)
 
 pub returns-in_err-deserialize-in-Array-clause-refused : goal.returns-in_err-deserialize-in-Array-clause-refused
 returns-in_err-deserialize-in-Array-clause-refused g c =
     let p = err_from_is_err_and c.from_residual-in_err-deserialize-in-Array.result c.from_residual-in_err-deserialize-in-Array.ensures.1 in
-    let s : State = state g.R.DeRead.window g.L.Lending.kept c.args.from.now in
-    let mid : State = state g.R.DeRead.window g.L.Lending.kept c.node.new.self in
-    let z : State = state g.R.DeRead.window g.L.Lending.kept c.deserialize.new.from in
+    let s : State = c.args.from.now.state in
+    let mid : State = c.node.new.self.state in
+    let z : State = c.deserialize.new.from.state in
     let sees : SeesNode s mid kinds.Array = subst (SeesNode s mid) c.in-Array.is c.in_ok-node.ensures.found in
     rw p.1 (array_refused s mid z _ sees c.in_err-deserialize-in-Array.ensures.refused)
 
 pub returns-in_ok-deserialize-in-Array-clause-found : goal.returns-in_ok-deserialize-in-Array-clause-found
 returns-in_ok-deserialize-in-Array-clause-found g c =
-    let s : State = state g.R.DeRead.window g.L.Lending.kept c.args.from.now in
-    let mid : State = state g.R.DeRead.window g.L.Lending.kept c.node.new.self in
-    let z : State = state g.R.DeRead.window g.L.Lending.kept c.deserialize.new.from in
+    let s : State = c.args.from.now.state in
+    let mid : State = c.node.new.self.state in
+    let z : State = c.deserialize.new.from.state in
     let sees : SeesNode s mid kinds.Array = subst (SeesNode s mid) c.in-Array.is c.in_ok-node.ensures.found in
     rw c.from_vec.ensures (array_answers s mid z c.in_ok-deserialize-in-Array.field-0 sees c.in_ok-deserialize-in-Array.ensures.found)
 
 pub returns-in_default : goal.returns-in_default
 returns-in_default g c =
-    let s : State = state g.R.DeRead.window g.L.Lending.kept c.args.from.now in
-    let mid : State = state g.R.DeRead.window g.L.Lending.kept c.node.new.self in
-    let z : State = state g.R.DeRead.window g.L.Lending.kept c.read_byte_string.new.self in
+    let s : State = c.args.from.now.state in
+    let mid : State = c.node.new.self.state in
+    let z : State = c.read_byte_string.new.self.state in
     let sees = c.in_ok-node.ensures.found in
     record {
       found = if_ok _ _ c.read_byte_string.result (λ v a. string_answers s mid z _ v sees a) c.read_byte_string.ensures.found;

@@ -1,7 +1,0 @@
-use Rattle.bser_bunser.proofs.Refusals.{short_of}
-use Rattle.bser_bunser.proofs.Names.{short_names}
-use Rattle.bser_bunser.proofs.bunser.Bunser.fill_on.Goals as goal
-
-pub returns-in-Err-clause-names : goal.returns-in-Err-clause-names
-returns-in-Err-clause-names g c =
-    rw c.refuse_cause.ensures.reason (short_names c.args.n _ _ _ (short_of c.args.n c.in-Err.cause _ _ c.in-Err.ensures.err))

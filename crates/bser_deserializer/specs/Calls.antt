@@ -1,0 +1,200 @@
+-- What a call on a deserializer answers, by what callers see of it before and after.
+use Rattle.std.specs.Prelude.{◌≡◌, ◌≢◌, ℕ, ℤ, Bool, true, false, MatchBool, List, Some}
+use Rattle.bser_format.specs.Content.{Content, Meaning}
+use Rattle.bser_format.specs.ReadsScalars.{reads_signed, reads_slice, reads_string}
+use Rattle.bser_format.specs.Expected.{row_due}
+use Rattle.bser_format.specs.Errors.{error_of}
+use Rattle.bser_format.specs.declared.errors.Complaint.{Complaint}
+use Rattle.bser_format.specs.declared.errors.Error.{Error}
+use Rattle.bser_format.specs.declared.errors.Error.TheVariants.{OutOfMemory}
+use Rattle.bser_format.specs.declared.errors.ReadCause.TheVariants.{Failed}
+use Rattle.bser_named.specs.Named as named
+use Rattle.bser_named.specs.Named.{complain, field_of, with_text_keys}
+use Rattle.bser_named.specs.DueReaders.{seen, nothing_here, items_at}
+use Rattle.bser_named.specs.Clauses.{after_a_refusal}
+use Rattle.bser_source.specs.Window.{Window}
+use Rattle.bser_bunser.specs.Names.{Names}
+use Rattle.bser_bunser.specs.Refusal.{Fails}
+use Rattle.bser_events.specs.Events.{Event}
+use Rattle.bser_deserializer.specs.Access.{OpensItems, OpensPairs, RefusesItems, RefusesPairs, KeysOutside, IsItemsHead, after_closing}
+use Rattle.bser_deserializer.specs.Any.{TookAny, TookValue, TookField}
+use Rattle.bser_deserializer.specs.Askings.{asking_bytes, asking_ignored, asking_integer}
+use Rattle.bser_deserializer.specs.Holds.{HoldsNumber}
+use Rattle.bser_deserializer.specs.HoldsTexts.{HoldsBytes}
+use Rattle.bser_deserializer.specs.Nodes.{BeginsNode, TookNull, IsOther}
+use Rattle.bser_deserializer.specs.Parts.{wanted_items}
+use Rattle.bser_deserializer.specs.Reading.{Answers, Asking, Needs, NamesBy, NamesDue, Refuses, RefusesFront, bare, owned}
+use Rattle.bser_deserializer.specs.Seen.{Seen}
+use Rattle.bser_deserializer.specs.State.{awaiting, past}
+use Rattle.bser_deserializer.specs.Strings.{TookBytes}
+use Rattle.bser_deserializer.specs.View.{value_here, items_head, pairs_head}
+use Rattle.bser_deserializer.specs.declared.frames.SeqHead.{SeqHead}
+use Rattle.bser_deserializer.specs.declared.frames.MapHead.{MapHead}
+
+-- ---- any call
+
+-- the reason that is kept stays, and what the first refusal tells
+pub record Keeps (old new : Seen) : Type 0 where
+  pub refusal : new.refusal ≡ old.refusal
+  pub note : new.note ≡ old.note
+
+-- what holds after any refusal
+abbrev pub HasFailed : Seen → Seen → Type 0
+HasFailed old new = Fails new.refusal old.state.source new.state.source
+
+-- whether bytes are lent, and not copied
+abbrev pub source_lends : Seen → Bool
+source_lends s = s.state.source.lends
+
+-- this complaint, or the refusal of a call after an earlier one
+abbrev pub complained : Complaint → Seen → Error
+complained complaint s = after_a_refusal s.state.source.failed (complain complaint)
+
+-- the complaint of a call where nothing is due
+abbrev pub nothing_due_in : Seen → Error
+nothing_due_in s = after_a_refusal s.state.source.failed (nothing_here s.state.opened)
+
+-- what was due was taken, and nothing is due
+abbrev pub TookDue : Seen → Seen → Type 0
+TookDue old new = new.state ≡ past old.state new.state.source
+
+-- ---- heads of messages
+
+-- no head of a message is taken: the first fault is named, or the earlier refusal
+pub record RefusesBegin (e : Error) (old : Window) : Type 0 where
+  pub names : Names named.head e old
+  pub before : old.failed ≡ true → e ≡ error_of Failed
+  pub memory : e ≢ OutOfMemory
+
+-- ---- scalars and strings
+
+-- what was due is read, and v holds it
+abbrev pub Reads : {A : Type 0} → Meaning → (A → Content → Type 0) → Seen → Seen → A → Type 0
+Reads reads holds old new v = Answers reads holds old.state new.state v
+
+-- what is due is refused by the name that it is asked for, with these needs
+abbrev pub RefusesAs : {reads : Meaning} → Asking reads → Needs → Seen → Seen → Type 0
+RefusesAs asking needs old new = Refuses _ (Some asking) needs new.refusal old.state new.state
+
+-- an integer of 64 bits is read
+abbrev pub ReadsInteger : Seen → Seen → ℤ → Type 0
+ReadsInteger = Reads (reads_signed 64) HoldsNumber
+
+-- what is due is refused as integers of any range are
+abbrev pub RefusesInteger : Seen → Seen → Type 0
+RefusesInteger old new = (fits : ℤ → Bool) → RefusesAs (asking_integer fits) bare old new
+
+-- a string's bytes, or a key's, are read
+abbrev pub ReadsBytes : {A : Type 0} → (A → List ℕ) → Seen → Seen → A → Type 0
+ReadsBytes bytes = Reads reads_slice (λ v. HoldsBytes (bytes v))
+
+-- a text, or a key, is read
+abbrev pub ReadsText : {A : Type 0} → (A → List ℕ) → Seen → Seen → A → Type 0
+ReadsText bytes = Reads reads_string (λ v. HoldsBytes (bytes v))
+
+-- what is due is refused as bytes are
+abbrev pub RefusesBytes : Seen → Seen → Type 0
+RefusesBytes = RefusesAs asking_bytes bare
+
+-- what is due is refused as bytes are of which a copy is wanted
+abbrev pub RefusesCopy : Seen → Seen → Type 0
+RefusesCopy = RefusesAs asking_bytes owned
+
+-- the bytes of the string or key that was due were taken, and whether they stood under the text's tag
+abbrev pub TakesBytes : {A : Type 0} → (A → List ℕ) → Seen → Seen → A × Bool → Type 0
+TakesBytes bytes old new p = TookBytes old.state new.state p.1 (bytes p.0)
+
+-- the key of a row's field was taken
+abbrev pub TakesName : {A : Type 0} → (A → List ℕ) → Seen → Seen → A → Type 0
+TakesName bytes old new v = TookBytes old.state new.state false (bytes v)
+
+-- ---- tags
+
+-- what is due is of no kind that may stand there, and is refused by the name of that
+abbrev pub RefusesNode : Seen → Seen → Type 0
+RefusesNode old new =
+    RefusesFront bare (BeginsNode old.state.due) (NamesBy bare (seen old.state.opened old.state.due) new.refusal old.state.source) new.refusal old.state.source new.state.source
+
+-- true where a null was taken, and else another kind of value is due
+abbrev pub TakesNull : Seen → Seen → Bool → Type 0
+TakesNull old new b = MatchBool b (TookNull old.state new.state) (IsOther old.state new.state)
+
+-- no value's tag stands there, and the first fault is named
+abbrev pub NamesTag : Seen → Seen → Type 0
+NamesTag old new = NamesBy bare (value_here old.state.opened old.state.due) new.refusal old.state.source
+
+-- ---- containers
+
+-- an array or a template is opened by this head
+abbrev pub ItemsOpened : Seen → Seen → SeqHead → Type 0
+ItemsOpened old new h = OpensItems old.state (items_head h new.state)
+
+-- neither an array nor a template is opened
+abbrev pub ItemsRefused : Seen → Seen → Type 0
+ItemsRefused old new = RefusesItems new.refusal old.state new.state
+
+-- the same, with these needs
+abbrev pub ItemsRefusedBy : Needs → Seen → Seen → Type 0
+ItemsRefusedBy needs old new =
+    RefusesFront needs (IsItemsHead old.state) (NamesDue needs (items_at old.state.levels) new.refusal old.state) new.refusal old.state.source new.state.source
+
+-- an object or a row is opened by this head
+abbrev pub PairsOpened : Seen → Seen → MapHead → Type 0
+PairsOpened old new h = OpensPairs old.state (pairs_head h new.state)
+
+-- neither an object nor a row is opened
+abbrev pub PairsRefused : Seen → Seen → Type 0
+PairsRefused old new = RefusesPairs new.refusal old.state new.state
+
+-- what this head opened is closed, but for the keys of templates
+abbrev pub ItemsClosed : SeqHead → Seen → Seen → Type 0
+ItemsClosed h old new =
+    new.state ≡ record (after_closing h.levels h.opened old.state) { keys = new.state.keys; outer = new.state.outer }
+
+-- closing what this head opened gives the keys outside a template back
+abbrev pub KeysGivenBack : SeqHead → Seen → Seen → Type 0
+KeysGivenBack h old new = (k : ℕ) → KeysOutside (wanted_items old.state.keys h.rows k) old.state new.state
+
+-- ---- whatever is due
+
+-- what was due was taken and told
+abbrev pub AnyTold : {B : Type 0} → (B → Event → B → Type 0) → B → B → Seen → Seen → Type 0
+AnyTold takes before after old new = TookAny takes before after old.state new.state
+
+-- the key that was due was taken and told
+abbrev pub KeyTold : {B : Type 0} → (B → Event → B → Type 0) → B → B → Seen → Seen → Type 0
+KeyTold = AnyTold
+
+-- a row was taken as if it was due, and told
+abbrev pub RowTold : {B : Type 0} → (B → Event → B → Type 0) → B → B → Seen → Seen → Type 0
+RowTold takes before after old new =
+    TookAny takes before after (awaiting (row_due old.state.keys) old.state) new.state
+
+-- a value was taken and told
+abbrev pub ValueTold : {B : Type 0} → (B → Event → B → Type 0) → B → B → Seen → Seen → Type 0
+ValueTold takes before after old new =
+    TookValue takes old.state.levels before after old.state.source new.state.source
+
+-- a row's field was taken and told
+abbrev pub FieldTold : {B : Type 0} → (B → Event → B → Type 0) → B → B → Seen → Seen → Type 0
+FieldTold takes before after old new =
+    TookField takes old.state.levels before after old.state.source new.state.source
+
+-- what is due, whatever it is, is refused by the first fault
+abbrev pub RefusesAny : Seen → Seen → Type 0
+RefusesAny = RefusesAs asking_ignored owned
+
+-- a row is refused as if it was due
+abbrev pub RefusesRow : Seen → Seen → Type 0
+RefusesRow old new =
+    RefusesAny (record old { state = awaiting (row_due old.state.keys) old.state }) new
+
+-- the first fault of a value is named
+abbrev pub NamesValue : Seen → Seen → Type 0
+NamesValue old new =
+    NamesBy owned (with_text_keys old.state.levels) new.refusal old.state.source
+
+-- the first fault of a row's field is named
+abbrev pub NamesField : Seen → Seen → Type 0
+NamesField old new =
+    NamesBy owned (field_of (with_text_keys old.state.levels)) new.refusal old.state.source

@@ -1,0 +1,26 @@
+//! How much of a message is taken.
+ghost use Rattle.std.specs.Prelude.{◌≡◌, ◌^◌, ◌-◌};
+
+use bser_deserializer::deserializer::LEVELS;
+
+/// How deep a message may nest, and how long its body may be.
+#[derive(Debug, Clone, Copy, PartialEq, Eq)]
+pub struct Limits {
+    /// The levels of containers, at most [`MOST_LEVELS`](bser_deserializer::deserializer::MOST_LEVELS) where a message is read.
+    pub levels: usize,
+    /// The bytes of the body that a head may announce. The head itself is not counted.
+    pub bytes: usize,
+}
+
+impl Limits {
+    /// 128 levels, and bodies of any length.
+    pub const fn new() -> Self
+        ensures levels { result.levels ≡ 128 }
+        ensures bytes { result.bytes ≡ 2 ^ 64 - 1 }
+    {
+        Limits {
+            levels: LEVELS,
+            bytes: usize::MAX,
+        }
+    }
+}
