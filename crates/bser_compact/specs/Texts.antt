@@ -5,10 +5,6 @@ use Rattle.bser_format.specs.Tree.{Tree, array, object, template, Fields, no_fie
 use Rattle.bser_format.specs.Canonical.{least_count, canonical_text, canonical_body, canonical_fields, FieldsAreWritable}
 use Rattle.bser_written.specs.Compact.{keys, values, same_keys, as_template, fold_templates, fold_items, fold_entries}
 use Rattle.bser_written.specs.Pieces.{array_head, template_tag}
-use Rattle.bser_ser.specs.Ends.{Broken}
-use Rattle.bser_ser.specs.Sent.{refusal_of}
-use Rattle.bser_ser.specs.Stopped.{Answering}
-use Rattle.bser_ser.specs.declared.serializer.Serializer.{Serializer}
 use Rattle.bser_value.specs.declared.value.Value.{Value}
 use Rattle.bser_value.specs.ValueView.{tree_of, items_view, entries_view}
 
@@ -16,21 +12,24 @@ use Rattle.bser_value.specs.ValueView.{tree_of, items_view, entries_view}
 abbrev pub compact_tree : Value → Tree
 compact_tree v = fold_templates (tree_of v)
 
--- a beginning of the text was put, and there is an excuse for the rest, which the serializer keeps
-abbrev pub Breaks : {S : Type 0} → (S → S → List ℕ → Type 0) → Answering S → (S → ℕ) → Serializer S → Serializer S → List ℕ → Type 0
-Breaks took answered failures old new text = Broken took answered failures text old new (refusal_of new)
-
 -- ---- values
 
 abbrev pub value_text : Value → List ℕ
 value_text v = canonical_body (compact_tree v)
 
 -- an array that is no template
+abbrev pub compact_items : List Value → Tree
+compact_items vs = array (fold_items (items_view vs))
+
 abbrev pub items_text : List Value → List ℕ
-items_text vs = canonical_body (array (fold_items (items_view vs)))
+items_text vs = canonical_body (compact_items vs)
+
+-- an object
+abbrev pub compact_entries : List (String Global × Value) → Tree
+compact_entries es = object (fold_entries (entries_view es))
 
 abbrev pub entries_text : List (String Global × Value) → List ℕ
-entries_text es = canonical_body (object (fold_entries (entries_view es)))
+entries_text es = canonical_body (compact_entries es)
 
 -- ---- templates
 

@@ -1,17 +1,14 @@
 //! Whole messages in the compact form.
-ghost use Rattle.std.specs.Prelude.{◌≡◌, Ok, OnOk, OnErr, IfErr};
+ghost use Rattle.std.specs.Prelude.{Ok, OnOk, IfErr};
 ghost use Rattle.std.specs.List.{AllByRecursion};
-ghost use Rattle.bser_format.specs.Tree.{array, object};
 ghost use Rattle.bser_format.specs.Canonical.{IsWritable};
-ghost use Rattle.bser_written.specs.Compact.{fold_items, fold_entries};
+ghost use Rattle.bser_ser.specs.Ends.{AddsText};
 ghost use Rattle.bser_ser.specs.Message.{Wrote, Missed};
-ghost use Rattle.bser_ser.specs.Sent.{Sent};
-ghost use Rattle.bser_value.specs.ValueView.{items_view, entries_view};
-ghost use Rattle.bser_compact.specs.Texts.{compact_tree, Breaks, value_text, items_text, entries_text, rows_text, row_text, RowIsWritable};
+ghost use Rattle.bser_compact.specs.Texts.{compact_tree, compact_items, compact_entries, value_text, items_text, entries_text, rows_text, row_text, RowIsWritable};
 
 use crate::template::{add_template_head, shared_keys};
 use bser_ser::message::serialize_to;
-use bser_ser::{PutRefused, Serialize, Serializer};
+use bser_ser::{Parts, PutRefused, Serialize, Serializer};
 use bser_source::device::Sink;
 use bser_value::value::Value;
 use std::alloc::Global;
@@ -19,31 +16,26 @@ use std::collections::BTreeMap;
 
 /// Writes one message with the value as its body, in the compact form, to a writer that is lent.
 ///
-/// It is written as [`serialize_to`] writes it, but for arrays of at least two objects that all have
-/// the same keys, and at least one: each such array is a template, its keys as texts in rising byte
-/// order, and no field is skipped. No message that reads as the value is shorter.
+/// It is written as [`serialize_to`] writes it, but for arrays of at least two objects that all
+/// have the same keys, and at least one: each such array is a template, its keys as texts in rising
+/// byte order, and no field is skipped. No message that reads as the value is shorter.
 ///
 /// The value is gone through twice, once to measure and once to write, and each time it is found
 /// again which arrays are templates: nothing is copied or kept. Refusals, and what the writer has
 /// taken after them, are those of `serialize_to`: `OutOfMemory`, `SerCustom` `CountTooGreat` for a
 /// body longer than `i64::MAX` bytes, and the writer's fault (`Io`).
-///
-/// The crate never writes a template.
 pub fn serialize_compact<W: Sink>(
     alloc: Global,
     writer: &mut W,
     value: &Value,
 ) -> bser_format::errors::Result<()>
-    ensures ok { OnOk result (Wrote W.took (Ok (compact_tree value.now)) writer.old writer.new) }
-    ensures kept { OnOk result (W.failures writer.new ≡ W.failures writer.old) }
-    ensures err { IfErr result
-        (Missed W.took W.answered W.failures
-        (Ok (compact_tree value.now)) writer.old writer.new) }
+    ensures ok { OnOk result (Wrote W.Sink (Ok (compact_tree value.now)) writer.old writer.new) }
+    ensures err { IfErr result (Missed W.Sink (Ok (compact_tree value.now)) writer.old writer.new) }
 {
     serialize_to(alloc, writer, &Compact { value })
 }
 
-// A value that is written in the compact form.
+/// A value that is written in the compact form.
 #[derive(Drop)]
 struct Compact<'a> {
     value: &'a Value,
@@ -64,14 +56,12 @@ impl Serialize for Compact<'_> {
     }
 }
 
-// Puts a value. The serializer keeps the reason of a refusal.
+/// Puts a value. The serializer keeps the reason of a refusal.
 #[cycle(add)]
 #[inline(always)]
 fn add_compact<W: Sink>(value: &Value, out: &mut Serializer<W>) -> Result<(), PutRefused>
-    ensures ok { OnOk result (Sent W.took W.failures out.old out.new (value_text value.now)) }
+    ensures put { AddsText W.Sink out.old out.new (value_text value.now) result }
     ensures writable { OnOk result (IsWritable (compact_tree value.now)) }
-    ensures err { OnErr result (Breaks W.took W.answered W.failures out.old out.new
-        (value_text value.now)) }
 {
     match value {
         Value::Array(items) => match shared_keys(items) {
@@ -91,17 +81,14 @@ fn add_compact<W: Sink>(value: &Value, out: &mut Serializer<W>) -> Result<(), Pu
     }
 }
 
-// Puts an array that is no template.
+/// Puts an array that is no template.
 #[cycle(add)]
 #[inline(never)]
 fn add_items<W: Sink>(items: &Vec<Value>, out: &mut Serializer<W>) -> Result<(), PutRefused>
-    ensures ok { OnOk result (Sent W.took W.failures out.old out.new (items_text items.now.items)) }
-    ensures writable { OnOk result
-        (IsWritable (array (fold_items (items_view items.now.items)))) }
-    ensures err { OnErr result
-        (Breaks W.took W.answered W.failures out.old out.new (items_text items.now.items)) }
+    ensures put { AddsText W.Sink out.old out.new (items_text items.now.items) result }
+    ensures writable { OnOk result (IsWritable (compact_items items.now.items)) }
 {
-    out.add_array(items.len())?;
+    out.add_seq(items.len())?;
     for item in items {
         add_compact(item, out)?;
     }
@@ -114,14 +101,10 @@ fn add_entries<W: Sink>(
     entries: &BTreeMap<String, Value>,
     out: &mut Serializer<W>,
 ) -> Result<(), PutRefused>
-    ensures ok { OnOk result
-        (Sent W.took W.failures out.old out.new (entries_text entries.now.entries)) }
-    ensures writable { OnOk result
-        (IsWritable (object (fold_entries (entries_view entries.now.entries)))) }
-    ensures err { OnErr result
-        (Breaks W.took W.answered W.failures out.old out.new (entries_text entries.now.entries)) }
+    ensures put { AddsText W.Sink out.old out.new (entries_text entries.now.entries) result }
+    ensures writable { OnOk result (IsWritable (compact_entries entries.now.entries)) }
 {
-    out.add_object(entries.len())?;
+    out.add_map(entries.len())?;
     for (key, value) in entries {
         out.add_text_key(key.as_str())?;
         add_compact(value, out)?;
@@ -129,14 +112,12 @@ fn add_entries<W: Sink>(
     Ok(())
 }
 
-// Puts the rows of a template.
+/// Puts the rows of a template.
 #[cycle(add)]
 #[inline(never)]
 fn add_rows<W: Sink>(items: &Vec<Value>, out: &mut Serializer<W>) -> Result<(), PutRefused>
-    ensures ok { OnOk result (Sent W.took W.failures out.old out.new (rows_text items.now.items)) }
+    ensures put { AddsText W.Sink out.old out.new (rows_text items.now.items) result }
     ensures writable { OnOk result (AllByRecursion RowIsWritable items.now.items) }
-    ensures err { OnErr result
-        (Breaks W.took W.answered W.failures out.old out.new (rows_text items.now.items)) }
 {
     for item in items {
         add_row(item, out)?;
@@ -144,13 +125,11 @@ fn add_rows<W: Sink>(items: &Vec<Value>, out: &mut Serializer<W>) -> Result<(), 
     Ok(())
 }
 
-// Puts the fields of an object, which are its values.
+/// Puts the fields of an object, which are its values.
 #[cycle(add)]
 fn add_row<W: Sink>(item: &Value, out: &mut Serializer<W>) -> Result<(), PutRefused>
-    ensures ok { OnOk result (Sent W.took W.failures out.old out.new (row_text item.now)) }
+    ensures put { AddsText W.Sink out.old out.new (row_text item.now) result }
     ensures writable { OnOk result (RowIsWritable item.now) }
-    ensures err { OnErr result (Breaks W.took W.answered W.failures out.old out.new
-        (row_text item.now)) }
 {
     if let Value::Object(entries) = item {
         for (_, value) in entries.iter() {

@@ -1,12 +1,12 @@
 //! Which arrays are templates, and the heads of templates.
-ghost use Rattle.std.specs.Prelude.{◌≡◌, ◌<◌, ◌^◌, length, OnOk, OnErr, option_map};
+ghost use Rattle.std.specs.Prelude.{◌≡◌, ◌<◌, ◌^◌, length, OnOk, option_map};
 ghost use Rattle.std.specs.List.{AllByRecursion};
 ghost use Rattle.bser_format.specs.Canonical.{IsWritableText};
 ghost use Rattle.bser_written.specs.Compact.{same_keys};
-ghost use Rattle.bser_ser.specs.Sent.{Sent};
-ghost use Rattle.bser_compact.specs.Texts.{Breaks, has_keys, head_text, names_of, template_names};
+ghost use Rattle.bser_ser.specs.Ends.{AddsText};
+ghost use Rattle.bser_compact.specs.Texts.{has_keys, head_text, names_of, template_names};
 
-use bser_ser::{PutRefused, Serializer};
+use bser_ser::{Parts, PutRefused, Serializer};
 use bser_source::device::Sink;
 use bser_value::value::Value;
 use std::collections::BTreeMap;
@@ -19,15 +19,12 @@ pub fn add_template_head<W: Sink>(
     out: &mut Serializer<W>,
 ) -> Result<(), PutRefused>
     requires { rows < 2 ^ 63 }
-    ensures ok { OnOk result
-        (Sent W.took W.failures out.old out.new (head_text first.now.entries rows)) }
+    ensures put { AddsText W.Sink out.old out.new (head_text first.now.entries rows) result }
     ensures few { OnOk result (length (names_of first.now.entries) < 2 ^ 63) }
     ensures texts { OnOk result (AllByRecursion IsWritableText (names_of first.now.entries)) }
-    ensures err { OnErr result
-        (Breaks W.took W.answered W.failures out.old out.new (head_text first.now.entries rows)) }
 {
     out.add_template()?;
-    out.add_array(first.len())?;
+    out.add_seq(first.len())?;
     for (key, _) in first.iter() {
         out.add_text(key.as_str())?;
     }
@@ -56,7 +53,7 @@ pub fn shared_keys(items: &[Value]) -> Option<&BTreeMap<String, Value>>
     Some(first)
 }
 
-// Whether it is an object with the keys of this one.
+/// Whether it is an object with the keys of this one.
 fn is_object_of(item: &Value, first: &BTreeMap<String, Value>) -> bool
     ensures { result ≡ has_keys (names_of first.now.entries) item.now }
 {

@@ -1,40 +1,45 @@
 -- One message read as a `Value`, and that value written in a form: as its tree, or as another tree that stands for the same.
-use Rattle.std.specs.Prelude.{◌≡◌, ℕ, ◌<◌, ◌^◌, List, length, Option, Ok, ◌⊎◌}
+use Rattle.std.specs.Prelude.{◌≡◌, ◌<◌, ◌^◌, length, Some, Ok, ◌⊎◌}
 use Rattle.bser_format.specs.Tree.{Tree}
 use Rattle.bser_format.specs.Canonical.{canonical_body, canonical_message}
-use Rattle.bser_format.specs.Content.{Meaning}
+use Rattle.bser_format.specs.ReadsAny.{reads_value}
 use Rattle.bser_format.specs.declared.errors.Error.{Error}
-use Rattle.bser_deserializer.specs.Reading.{Asking}
+use Rattle.bser_source.specs.declared.device.Source as Source
+use Rattle.bser_deserializer.specs.Askings.{asking_value}
 use Rattle.bser_ser.specs.Message.{Missed}
-use Rattle.bser_ser.specs.Stopped.{Answering}
+use Rattle.bser_ser.specs.Stopped.{Takes, Tells}
 use Rattle.bser_messages.specs.Messages.{TookMessage, RefusesReader}
 use Rattle.bser_value.specs.ValueView.{tree_of, HoldsValue}
 use Rattle.bser_value.specs.declared.value.Value.{Value}
 
--- the canonical form is that of the tree itself
-abbrev pub canonical_form : Tree → Tree
-canonical_form t = t
+-- in the canonical form a tree is written as it is
+abbrev pub canonical : Tree → Tree
+canonical t = t
 
--- exactly one message was taken, which reads as a value, and exactly that value's message in the form was written
-pub record Rewrote {R W : Type 0} (form : Tree → Tree) (reads : Meaning) (left : R → Option (List ℕ)) (took : W → W → List ℕ → Type 0) (old new : R) (before after : W) : Type 0 where
+-- what a reader tells: the bytes left and its count of failures
+abbrev pub Gives : Type 0 → Type 1
+Gives R = Source.Ghosts R
+
+-- exactly one message was taken, which reads as a value, and exactly that value's message in the form was written; neither counted a failure
+pub record Rewrote {R W : Type 0} (form : Tree → Tree) (source : Gives R) (sink : Tells W) (old new : R) (before after : W) : Type 0 where
   pub value : Value
-  pub read : TookMessage 128 reads HoldsValue (left old) (left new) value
-  pub written : took before after (canonical_message (form (tree_of value)))
+  pub read : TookMessage 128 reads_value HoldsValue (source.remaining old) (source.remaining new) value
+  pub kept : source.failures new ≡ source.failures old
+  pub written : Takes sink before after (canonical_message (form (tree_of value)))
   pub short : length (canonical_body (form (tree_of value))) < 2 ^ 63
 
 -- reading was refused, and nothing was written
-pub record Unread {R W : Type 0} (reads : Meaning) (asks : Option (Asking reads)) (left : R → Option (List ℕ)) (failures : R → ℕ) (old new : R) (before after : W) (e : Error) : Type 0 where
-  pub refused : RefusesReader 128 reads asks e (left old) (failures old) (failures new)
+pub record Unread {R W : Type 0} (source : Gives R) (old new : R) (before after : W) (e : Error) : Type 0 where
+  pub refused : RefusesReader 128 reads_value (Some asking_value) e (source.remaining old) (source.failures old) (source.failures new)
   pub untouched : after ≡ before
 
 -- exactly one message was taken, which reads as a value, and the writing of that value was refused
-pub record Unwritten {R W : Type 0} (form : Tree → Tree) (reads : Meaning) (left : R → Option (List ℕ)) (failures : R → ℕ) (took : W → W → List ℕ → Type 0) (answered : Answering W) (faults : W → ℕ) (old new : R) (before after : W) (e : Error) : Type 0 where
+pub record Unwritten {R W : Type 0} (form : Tree → Tree) (source : Gives R) (sink : Tells W) (old new : R) (before after : W) (e : Error) : Type 0 where
   pub value : Value
-  pub read : TookMessage 128 reads HoldsValue (left old) (left new) value
-  pub kept : failures new ≡ failures old
-  pub missed : Missed took answered faults (Ok (form (tree_of value))) before after e
+  pub read : TookMessage 128 reads_value HoldsValue (source.remaining old) (source.remaining new) value
+  pub kept : source.failures new ≡ source.failures old
+  pub missed : Missed sink (Ok (form (tree_of value))) before after e
 
 -- a refusal, of the reading or of the writing
-abbrev pub RefusesRewriting : {R W : Type 0} → (Tree → Tree) → (reads : Meaning) → Option (Asking reads) → (R → Option (List ℕ)) → (R → ℕ) → (W → W → List ℕ → Type 0) → Answering W → (W → ℕ) → R → R → W → W → Error → Type 0
-RefusesRewriting form reads asks left failures took answered faults old new before after e =
-    Unread reads asks left failures old new before after e ⊎ Unwritten form reads left failures took answered faults old new before after e
+abbrev pub RefusesRewriting : {R W : Type 0} → (Tree → Tree) → Gives R → Tells W → R → R → W → W → Error → Type 0
+RefusesRewriting form source sink old new before after e = Unread source old new before after e ⊎ Unwritten form source sink old new before after e

@@ -1,3 +1,4 @@
 pub mod Canon
 pub mod Line
 pub mod Arguments
+pub mod Process

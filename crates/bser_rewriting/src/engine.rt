@@ -1,14 +1,13 @@
 //! One message in, and its canonical or its compact message out.
-ghost use Rattle.std.specs.Prelude.{◌≡◌, OnOk, IfErr};
+ghost use Rattle.std.specs.Prelude.{OnOk, IfErr};
 ghost use Rattle.bser_written.specs.Compact.{fold_templates};
-ghost use Rattle.bser_rewriting.specs.Canon.{Rewrote, RefusesRewriting, canonical_form};
+ghost use Rattle.bser_rewriting.specs.Canon.{Rewrote, RefusesRewriting, canonical};
 
 use bser_compact::message::serialize_compact;
 use bser_format::errors::Result;
 use bser_messages::message::from_reader;
 use bser_ser::message::serialize_to;
 use bser_source::device::{Sink, Source};
-use bser_types::deserialize::Shape;
 use bser_value::value::Value;
 use std::alloc::Global;
 
@@ -23,14 +22,9 @@ use std::alloc::Global;
 #[tactic(auto, using(crate::proofs::Writing::writing_refused))]
 pub fn canon<R: Source, W: Sink>(alloc: Global, reader: &mut R, writer: &mut W) -> Result<()>
     ensures ok { OnOk result
-        (Rewrote canonical_form ⟦<Value as Shape>⟧.reads R.remaining W.took
-        reader.old reader.new writer.old writer.new) }
-    ensures reader_kept { OnOk result (R.failures reader.new ≡ R.failures reader.old) }
-    ensures writer_kept { OnOk result (W.failures writer.new ≡ W.failures writer.old) }
+        (Rewrote canonical R.Source W.Sink reader.old reader.new writer.old writer.new) }
     ensures refused { IfErr result
-        (RefusesRewriting canonical_form ⟦<Value as Shape>⟧.reads
-        ⟦<Value as Shape>⟧.asks R.remaining R.failures W.took
-        W.answered W.failures reader.old reader.new writer.old writer.new) }
+        (RefusesRewriting canonical R.Source W.Sink reader.old reader.new writer.old writer.new) }
 {
     let value: Value = from_reader(alloc, reader)?;
     serialize_to(alloc, writer, &value)
@@ -45,14 +39,9 @@ pub fn canon_compact<R: Source, W: Sink>(
     writer: &mut W,
 ) -> Result<()>
     ensures ok { OnOk result
-        (Rewrote fold_templates ⟦<Value as Shape>⟧.reads R.remaining W.took
-        reader.old reader.new writer.old writer.new) }
-    ensures reader_kept { OnOk result (R.failures reader.new ≡ R.failures reader.old) }
-    ensures writer_kept { OnOk result (W.failures writer.new ≡ W.failures writer.old) }
+        (Rewrote fold_templates R.Source W.Sink reader.old reader.new writer.old writer.new) }
     ensures refused { IfErr result
-        (RefusesRewriting fold_templates ⟦<Value as Shape>⟧.reads
-        ⟦<Value as Shape>⟧.asks R.remaining R.failures W.took
-        W.answered W.failures reader.old reader.new writer.old writer.new) }
+        (RefusesRewriting fold_templates R.Source W.Sink reader.old reader.new writer.old writer.new) }
 {
     let read: Value = from_reader(alloc, reader)?;
     serialize_compact(alloc, writer, &read)

@@ -3,5 +3,6 @@
 #![tactic(auto)]
 
 pub mod engine;
+pub mod process;
 pub mod program;
 pub mod standard;

@@ -1,14 +1,13 @@
 //! The program over any streams.
-ghost use Rattle.std.specs.Prelude.{◌≡◌, ◌≢◌, ◌≤◌, ◌<◌, ◌↔◌, [], ◌∷◌, ◌++◌, codes, length, string_bytes, OnOk, IfOk, IfErr, None};
+ghost use Rattle.std.specs.Prelude.{◌≡◌, ◌≢◌, ◌≤◌, ◌<◌, [], ◌∷◌, ◌++◌, codes, length, string_bytes};
+ghost use Rattle.std.specs.Prelude.{OnOk, IfOk, IfErr, None};
 ghost use Rattle.bser_rewriting.specs.Canon.{Rewrote, RefusesRewriting};
-ghost use Rattle.bser_rewriting.specs.Arguments.{IsUnknown, asked, form_of, in_form};
-ghost use Rattle.bser_rewriting.specs.Line.{IsReport, PutsLine, PutsReport};
+ghost use Rattle.bser_rewriting.specs.Arguments.{IsUnknown, asked, form_of, in_form, words};
+ghost use Rattle.bser_rewriting.specs.Line.{IsReport, PutsLine, PutsReport, unknown_argument};
 
 use crate::engine::{canon, canon_compact};
 use bser_format::errors::Error;
 use bser_source::device::{Sink, Source};
-use bser_types::deserialize::Shape;
-use bser_value::value::Value;
 use std::alloc::{AllocError, Global};
 
 /// The status after the message was written.
@@ -32,7 +31,7 @@ enum Form {
 /// 1 where it refuses, with the error's text on a line of `errors`. With any other argument, or a
 /// second one, it is 2, there is a line on `errors`, and nothing is read or written.
 ///
-/// The status stands also where its line can't be written.
+/// The status stands also where its line cannot be written.
 pub fn run<R: Source, W: Sink, E: Sink>(
     alloc: Global,
     args: &[String],
@@ -40,24 +39,16 @@ pub fn run<R: Source, W: Sink, E: Sink>(
     writer: &mut W,
     errors: &mut E,
 ) -> u8
-    ensures argument { IsUnknown args.now → result ≡ UNKNOWN_ARGUMENT }
+    ensures argument { IsUnknown args.now → result ≡ 2 }
     ensures untouched { IsUnknown args.now → (reader.new ≡ reader.old) × (writer.new ≡ writer.old) }
-    ensures line { IsUnknown args.now →
-        PutsLine E.took E.failures (codes "bser_canon: unknown argument" ++ 10 ∷ [])
-        errors.old errors.new }
-    ensures status { (form_of args.now ≢ None) → result ≤ REFUSED }
-    ensures done { result ≡ DONE →
-        Rewrote (asked args.now) ⟦<Value as Shape>⟧.reads R.remaining W.took
+    ensures line { IsUnknown args.now → PutsLine E.Sink unknown_argument errors.old errors.new }
+    ensures status { (form_of (words args.now) ≢ None) → result ≤ 1 }
+    ensures done { result ≡ 0 → Rewrote (asked args.now) R.Source W.Sink
         reader.old reader.new writer.old writer.new }
-    ensures reader_kept { result ≡ DONE → R.failures reader.new ≡ R.failures reader.old }
-    ensures writer_kept { result ≡ DONE → W.failures writer.new ≡ W.failures writer.old }
-    ensures quiet { result ≡ DONE → errors.new ≡ errors.old }
-    ensures told { result ≡ REFUSED → PutsReport E.took E.failures errors.old errors.new }
-    ensures refused { result ≡ REFUSED →
-        (e : Error)
-        × RefusesRewriting (asked args.now) ⟦<Value as Shape>⟧.reads
-        ⟦<Value as Shape>⟧.asks R.remaining R.failures W.took
-        W.answered W.failures reader.old reader.new writer.old writer.new e }
+    ensures quiet { result ≡ 0 → errors.new ≡ errors.old }
+    ensures told { result ≡ 1 → PutsReport E.Sink errors.old errors.new }
+    ensures refused { result ≡ 1 → (e : Error) × RefusesRewriting (asked args.now) R.Source W.Sink
+        reader.old reader.new writer.old writer.new e }
 {
     let Some(form) = form_asked(args) else {
         put(errors, b"bser_canon: unknown argument\n");
@@ -75,7 +66,7 @@ pub fn run<R: Source, W: Sink, E: Sink>(
 /// Writes a line with the error's text, as far as the writer takes it. Where there is no memory for
 /// the text, the line says so.
 pub fn report<E: Sink>(alloc: Global, errors: &mut E, error: &Error)
-    ensures { PutsReport E.took E.failures errors.old errors.new }
+    ensures { PutsReport E.Sink errors.old errors.new }
 {
     match report_line(alloc, error) {
         Ok(line) => put(errors, line.as_bytes()),
@@ -83,9 +74,9 @@ pub fn report<E: Sink>(alloc: Global, errors: &mut E, error: &Error)
     }
 }
 
-// The form that the arguments ask for, where the program knows them.
+/// The form that the arguments ask for, where the program knows them.
 fn form_asked(args: &[String]) -> Option<Form>
-    ensures { result ≡ form_of args.now }
+    ensures { result ≡ form_of (words args.now) }
 {
     match args {
         [] => Some(Form::Canonical),
@@ -94,22 +85,17 @@ fn form_asked(args: &[String]) -> Option<Form>
     }
 }
 
-// Rewrites one message in this form.
+/// Rewrites one message in this form.
 fn rewrite<R: Source, W: Sink>(
     alloc: Global,
     form: Form,
     reader: &mut R,
     writer: &mut W,
 ) -> Result<(), Error>
-    ensures ok { OnOk result
-        (Rewrote (in_form form) ⟦<Value as Shape>⟧.reads R.remaining W.took
+    ensures ok { OnOk result (Rewrote (in_form form) R.Source W.Sink
         reader.old reader.new writer.old writer.new) }
-    ensures reader_kept { OnOk result (R.failures reader.new ≡ R.failures reader.old) }
-    ensures writer_kept { OnOk result (W.failures writer.new ≡ W.failures writer.old) }
-    ensures refused { IfErr result
-        (RefusesRewriting (in_form form) ⟦<Value as Shape>⟧.reads
-        ⟦<Value as Shape>⟧.asks R.remaining R.failures W.took
-        W.answered W.failures reader.old reader.new writer.old writer.new) }
+    ensures refused { IfErr result (RefusesRewriting (in_form form) R.Source W.Sink
+        reader.old reader.new writer.old writer.new) }
 {
     match form {
         Form::Canonical => canon(alloc, reader, writer),
@@ -117,7 +103,7 @@ fn rewrite<R: Source, W: Sink>(
     }
 }
 
-// The line with the error's text.
+/// The line with the error's text.
 fn report_line(alloc: Global, error: &Error) -> Result<String, AllocError>
     ensures { IfOk result (λ line. IsReport (string_bytes line)) }
 {
@@ -125,9 +111,9 @@ fn report_line(alloc: Global, error: &Error) -> Result<String, AllocError>
     format!(in alloc; "bser_canon: {text}\n")
 }
 
-// Writes the line, as far as the writer takes it.
+/// Writes the line, as far as the writer takes it.
 fn put<E: Sink>(errors: &mut E, line: &[u8])
-    ensures { PutsLine E.took E.failures line.now errors.old errors.new }
+    ensures { PutsLine E.Sink line.now errors.old errors.new }
 {
     let mut done = 0;
     while done < line.len() {

@@ -3,10 +3,10 @@ use Rattle.std.proofs.Common.{◌≡◌, ℕ, List, [], ◌∷◌, ◌++◌, app
 use Rattle.std.proofs.Common.{Result, Ok, Err, inr}
 use Rattle.std.proofs.lemmas.Result.{MatchResult-weaker}
 use Rattle.bser_ser.specs.Sent.{Sent, Refused, IsExcuse, Adds, refusal_of}
-use Rattle.bser_ser.specs.Stopped.{Answering}
+use Rattle.bser_ser.specs.Stopped.{Tells}
 use Rattle.bser_ser.specs.declared.serializer.Serializer.{Serializer}
 use Rattle.bser_format.specs.declared.errors.Error.{Error}
-use Rattle.bser_ser.proofs.Sends.{Sent-both, Refused-after}
+use Rattle.bser_ser.proofs.Sends.{Joins, Sent-both, Refused-after}
 use Rattle.bser_ser.specs.Ends.{Ends, Stops, then}
 
 abbrev pub joined : {A : Type 0} → (A → Result (List ℕ) Error) → List A → Result (List ℕ) Error
@@ -32,89 +32,88 @@ joined-append g [] ys = sym (nil-then (joined g ys))
 joined-append g (x ∷ xs) ys = ap (then (g x)) (joined-append g xs ys) ∙ sym (then-assoc (g x) (joined g xs) (joined g ys))
 
 -- a put after a call that put nothing
-pub Adds-after : {S A E : Type 0} (took : S → S → List ℕ → Type 0) (answered : Answering S) (failures : S → ℕ) → ((a b c : S) (xs ys : List ℕ) → took a b xs → took b c ys → took a c (xs ++ ys))
-    → (a b c : Serializer S) (piece : List ℕ) (r : Result A E) → Sent took failures a b [] → Adds took answered failures b c piece r → Adds took answered failures a c piece r
-Adds-after took answered failures both a b c piece r s x =
+pub Adds-after : {S A E : Type 0} (sink : Tells S) → Joins sink → (a b c : Serializer S) (piece : List ℕ) (r : Result A E) → Sent sink a b [] → Adds sink b c piece r → Adds sink a c piece r
+Adds-after sink both a b c piece r s x =
     MatchResult-weaker r x (λ _ t. (Sent-both both a b c [] piece s t.0, t.1))
-    (λ _ t. (Refused-after took answered failures both a b c [] [] (refusal_of c) s t.0, t.1))
+    (λ _ t. (Refused-after sink both a b c [] [] (refusal_of c) s t.0, t.1))
 
-module _ {S : Type 0} (took : S → S → List ℕ → Type 0) (answered : Answering S) (failures : S → ℕ) where
+module _ {S : Type 0} (sink : Tells S) where
   -- nothing was written
-  pub Stops-none : (m : Result (List ℕ) Error) (a b : Serializer S) (e : Error) → Refused took answered failures a b [] e → IsExcuse e → Stops took answered failures m a b e
+  pub Stops-none : (m : Result (List ℕ) Error) (a b : Serializer S) (e : Error) → Refused sink a b [] e → IsExcuse e → Stops sink m a b e
   Stops-none (Err d) a b e s x = record { front = []; refused = s; why = inr x }
   Stops-none (Ok bs) a b e s x = record { front = []; rest = bs; is = refl; refused = s; excuse = x }
 
-  pub Stops-first : (m n : Result (List ℕ) Error) (a b : Serializer S) (e : Error) → Stops took answered failures m a b e → Stops took answered failures (then m n) a b e
+  pub Stops-first : (m n : Result (List ℕ) Error) (a b : Serializer S) (e : Error) → Stops sink m a b e → Stops sink (then m n) a b e
   Stops-first (Err d) n a b e s = s
   Stops-first (Ok xs) (Err d) a b e s = record { front = s.front; refused = s.refused; why = inr s.excuse }
   Stops-first (Ok xs) (Ok ys) a b e s = record { front = s.front; rest = s.rest ++ ys; is = ap (λ zs. zs ++ ys) s.is ∙ append_assoc s.front s.rest ys; refused = s.refused; excuse = s.excuse }
 
-module _ {S : Type 0} (took : S → S → List ℕ → Type 0) (failures : S → ℕ) (both : (a b c : S) (xs ys : List ℕ) → took a b xs → took b c ys → took a c (xs ++ ys)) where
-  pub Ends-both : (m n : Result (List ℕ) Error) (a b c : Serializer S) → Ends took failures m a b → Ends took failures n b c → Ends took failures (then m n) a c
+module _ {S : Type 0} (sink : Tells S) (both : Joins sink) where
+  pub Ends-both : (m n : Result (List ℕ) Error) (a b c : Serializer S) → Ends sink m a b → Ends sink n b c → Ends sink (then m n) a c
   Ends-both (Err d) n a b c s t = absurd s
   Ends-both (Ok xs) (Err d) a b c s t = absurd t
   Ends-both (Ok xs) (Ok ys) a b c s t = Sent-both both a b c xs ys s t
 
-module _ {S : Type 0} (took : S → S → List ℕ → Type 0) (answered : Answering S) (failures : S → ℕ) (both : (a b c : S) (xs ys : List ℕ) → took a b xs → took b c ys → took a c (xs ++ ys)) where
-  pub Stops-second : (m n : Result (List ℕ) Error) (a b c : Serializer S) (e : Error) → Ends took failures m a b → Stops took answered failures n b c e → Stops took answered failures (then m n) a c e
+module _ {S : Type 0} (sink : Tells S) (both : Joins sink) where
+  pub Stops-second : (m n : Result (List ℕ) Error) (a b c : Serializer S) (e : Error) → Ends sink m a b → Stops sink n b c e → Stops sink (then m n) a c e
   Stops-second (Err d) n a b c e s t = absurd s
-  Stops-second (Ok xs) (Err d) a b c e s t = record { front = xs ++ t.front; refused = Refused-after took answered failures both a b c xs t.front e s t.refused; why = t.why }
+  Stops-second (Ok xs) (Err d) a b c e s t = record { front = xs ++ t.front; refused = Refused-after sink both a b c xs t.front e s t.refused; why = t.why }
   Stops-second (Ok xs) (Ok ys) a b c e s t = record {
     front = xs ++ t.front;
     rest = t.rest;
     is = ap (λ zs. xs ++ zs) t.is ∙ sym (append_assoc xs t.front t.rest);
-    refused = Refused-after took answered failures both a b c xs t.front e s t.refused;
+    refused = Refused-after sink both a b c xs t.front e s t.refused;
     excuse = t.excuse;
   }
 
 -- of all, those before rest are written, after a head
-pub record UpTo {S A : Type 0} (took : S → S → List ℕ → Type 0) (failures : S → ℕ) (h : List ℕ) (g : A → Result (List ℕ) Error) (all rest : List A) (old new : Serializer S) : Type 0 where
+pub record UpTo {S A : Type 0} (sink : Tells S) (h : List ℕ) (g : A → Result (List ℕ) Error) (all rest : List A) (old new : Serializer S) : Type 0 where
   pub done : List A
   pub split : all ≡ done ++ rest
-  pub ended : Ends took failures (then (Ok h) (joined g done)) old new
+  pub ended : Ends sink (then (Ok h) (joined g done)) old new
 
-module _ {S A : Type 0} (took : S → S → List ℕ → Type 0) (failures : S → ℕ) (h : List ℕ) (g : A → Result (List ℕ) Error) where
-  pub UpTo-start : (all rest : List A) (a b : Serializer S) → rest ≡ all → Sent took failures a b h → UpTo took failures h g all rest a b
+module _ {S A : Type 0} (sink : Tells S) (h : List ℕ) (g : A → Result (List ℕ) Error) where
+  pub UpTo-start : (all rest : List A) (a b : Serializer S) → rest ≡ all → Sent sink a b h → UpTo sink h g all rest a b
   UpTo-start all rest a b is s = record { done = []; split = sym is; ended = rw append-nil s }
 
-  pub UpTo-all : (all rest : List A) (a b : Serializer S) → UpTo took failures h g all rest a b → rest ≡ [] → Ends took failures (then (Ok h) (joined g all)) a b
-  UpTo-all all rest a b u none = subst (λ (xs : List A). Ends took failures (then (Ok h) (joined g xs)) a b) (sym (u.split ∙ ap (λ ys. u.done ++ ys) none ∙ append-nil u.done)) u.ended
+  pub UpTo-all : (all rest : List A) (a b : Serializer S) → UpTo sink h g all rest a b → rest ≡ [] → Ends sink (then (Ok h) (joined g all)) a b
+  UpTo-all all rest a b u none = subst (λ (xs : List A). Ends sink (then (Ok h) (joined g xs)) a b) (sym (u.split ∙ ap (λ ys. u.done ++ ys) none ∙ append-nil u.done)) u.ended
 
-module _ {S A : Type 0} (took : S → S → List ℕ → Type 0) (failures : S → ℕ) (both : (a b c : S) (xs ys : List ℕ) → took a b xs → took b c ys → took a c (xs ++ ys)) (h : List ℕ) (g : A → Result (List ℕ) Error) where
-  pub UpTo-more : (all rest left : List A) (x : A) (a b c : Serializer S) → UpTo took failures h g all rest a b → rest ≡ x ∷ left → Ends took failures (g x) b c → UpTo took failures h g all left a c
+module _ {S A : Type 0} (sink : Tells S) (both : Joins sink) (h : List ℕ) (g : A → Result (List ℕ) Error) where
+  pub UpTo-more : (all rest left : List A) (x : A) (a b c : Serializer S) → UpTo sink h g all rest a b → rest ≡ x ∷ left → Ends sink (g x) b c → UpTo sink h g all left a c
   UpTo-more all rest left x a b c u step t = record {
     done = u.done ++ x ∷ [];
     split = u.split ∙ ap (λ ys. u.done ++ ys) step ∙ sym (append_assoc u.done (x ∷ []) left);
-    ended = subst (λ (m : Result (List ℕ) Error). Ends took failures m a c)
+    ended = subst (λ (m : Result (List ℕ) Error). Ends sink m a c)
         (then-assoc (Ok h) (joined g u.done) (g x) ∙ ap (then (Ok h)) (ap (then (joined g u.done)) (sym (then-nil (g x))) ∙ sym (joined-append g u.done (x ∷ []))))
-        (Ends-both took failures both _ (g x) a b c u.ended t);
+        (Ends-both sink both _ (g x) a b c u.ended t);
   }
 
-module _ {S A : Type 0} (took : S → S → List ℕ → Type 0) (answered : Answering S) (failures : S → ℕ) (both : (a b c : S) (xs ys : List ℕ) → took a b xs → took b c ys → took a c (xs ++ ys)) (h : List ℕ) (g : A → Result (List ℕ) Error) where
-  pub UpTo-stops : (all rest left : List A) (x : A) (a b c : Serializer S) (e : Error) → UpTo took failures h g all rest a b → rest ≡ x ∷ left → Stops took answered failures (g x) b c e → Stops took answered failures (then (Ok h) (joined g all)) a c e
+module _ {S A : Type 0} (sink : Tells S) (both : Joins sink) (h : List ℕ) (g : A → Result (List ℕ) Error) where
+  pub UpTo-stops : (all rest left : List A) (x : A) (a b c : Serializer S) (e : Error) → UpTo sink h g all rest a b → rest ≡ x ∷ left → Stops sink (g x) b c e → Stops sink (then (Ok h) (joined g all)) a c e
   UpTo-stops all rest left x a b c e u step t =
       let whole : joined g all ≡ then (joined g u.done) (then (g x) (joined g left)) = ap (joined g) (u.split ∙ ap (λ ys. u.done ++ ys) step) ∙ joined-append g u.done (x ∷ left) in
-      subst (λ (m : Result (List ℕ) Error). Stops took answered failures m a c e)
+      subst (λ (m : Result (List ℕ) Error). Stops sink m a c e)
       (then-assoc (then (Ok h) (joined g u.done)) (g x) (joined g left) ∙ (then-assoc (Ok h) (joined g u.done) (then (g x) (joined g left)) ∙ ap (then (Ok h)) (sym whole)))
-      (Stops-first took answered failures _ (joined g left) a c e (Stops-second took answered failures both _ (g x) a b c e u.ended t))
+      (Stops-first sink _ (joined g left) a c e (Stops-second sink both _ (g x) a b c e u.ended t))
 
-module _ {S : Type 0} (took : S → S → List ℕ → Type 0) (failures : S → ℕ) (both : (a b c : S) (xs ys : List ℕ) → took a b xs → took b c ys → took a c (xs ++ ys)) (m : Result (List ℕ) Error) where
+module _ {S : Type 0} (sink : Tells S) (both : Joins sink) (m : Result (List ℕ) Error) where
   -- nothing more was put
-  pub Ends-flushed : (a b c : Serializer S) → Ends took failures m a b → Sent took failures b c [] → Ends took failures m a c
-  Ends-flushed a b c s t = subst (λ (n : Result (List ℕ) Error). Ends took failures n a c) (then-nil m) (Ends-both took failures both m (Ok []) a b c s t)
+  pub Ends-flushed : (a b c : Serializer S) → Ends sink m a b → Sent sink b c [] → Ends sink m a c
+  Ends-flushed a b c s t = subst (λ (n : Result (List ℕ) Error). Ends sink n a c) (then-nil m) (Ends-both sink both m (Ok []) a b c s t)
 
-module _ {S : Type 0} (took : S → S → List ℕ → Type 0) (answered : Answering S) (failures : S → ℕ) (both : (a b c : S) (xs ys : List ℕ) → took a b xs → took b c ys → took a c (xs ++ ys)) (m : Result (List ℕ) Error) where
-  pub Stops-flushed : (a b c : Serializer S) (e : Error) → Ends took failures m a b → Refused took answered failures b c [] e → IsExcuse e → Stops took answered failures m a c e
-  Stops-flushed a b c e s t x = subst (λ (n : Result (List ℕ) Error). Stops took answered failures n a c e) (then-nil m)
-      (Stops-second took answered failures both m (Ok []) a b c e s (Stops-none took answered failures (Ok []) b c e t x))
+module _ {S : Type 0} (sink : Tells S) (both : Joins sink) (m : Result (List ℕ) Error) where
+  pub Stops-flushed : (a b c : Serializer S) (e : Error) → Ends sink m a b → Refused sink b c [] e → IsExcuse e → Stops sink m a c e
+  Stops-flushed a b c e s t x = subst (λ (n : Result (List ℕ) Error). Stops sink n a c e) (then-nil m)
+      (Stops-second sink both m (Ok []) a b c e s (Stops-none sink (Ok []) b c e t x))
 
 -- what the writer took of a text
-module _ {S : Type 0} (took : S → S → List ℕ → Type 0) (failures : S → ℕ) where
-  pub ended_tied : (m : Result (List ℕ) Error) (a b : Serializer S) → Ends took failures m a b → (taken : List ℕ) × took a.writer b.writer taken
+module _ {S : Type 0} (sink : Tells S) where
+  pub ended_tied : (m : Result (List ℕ) Error) (a b : Serializer S) → Ends sink m a b → (taken : List ℕ) × sink.took a.writer b.writer taken
   ended_tied (Err d) a b s = absurd s
   ended_tied (Ok bs) a b s = (s.taken, s.took_it)
 
-module _ {S : Type 0} (took : S → S → List ℕ → Type 0) (answered : Answering S) (failures : S → ℕ) where
-  pub stopped_tied : (m : Result (List ℕ) Error) (a b : Serializer S) (e : Error) → Stops took answered failures m a b e → (taken : List ℕ) × took a.writer b.writer taken
+module _ {S : Type 0} (sink : Tells S) where
+  pub stopped_tied : (m : Result (List ℕ) Error) (a b : Serializer S) (e : Error) → Stops sink m a b e → (taken : List ℕ) × sink.took a.writer b.writer taken
   stopped_tied (Err d) a b e s = (s.refused.taken, s.refused.took_it)
   stopped_tied (Ok bs) a b e s = (s.refused.taken, s.refused.took_it)

@@ -7,8 +7,9 @@ use Rattle.bser_written.specs.Written.{part_tree, plain_bytes, tuple_tree, struc
 use Rattle.bser_format.specs.declared.errors.Error.{Error}
 use Rattle.bser_ser.specs.Sent.{Sent, Refused, IsExcuse}
 use Rattle.bser_ser.specs.Ends.{Ends, Stops, text_of, then}
-use Rattle.bser_ser.specs.Stopped.{Answering}
+use Rattle.bser_ser.specs.Stopped.{Tells}
 use Rattle.bser_ser.specs.declared.serializer.Serializer.{Serializer}
+use Rattle.bser_ser.proofs.Sends.{Joins}
 use Rattle.bser_ser.proofs.Ends.{joined, then-assoc, Ends-both, Stops-second, Stops-none, UpTo, UpTo-start, UpTo-more, UpTo-all, UpTo-stops}
 use Rattle.bser_ser.proofs.Texts.{item_text, entry_text, array_text, object_text}
 
@@ -38,39 +39,39 @@ pub struct_text : (fields : List (List ℕ × Result Tree Error)) → text_of (s
 struct_text fields = object_text plain_bytes part_tree fields
 
 -- A value of which the text is a head and its parts, written part by part.
-module _ {S A : Type 0} (took : S → S → List ℕ → Type 0) (failures : S → ℕ) (both : (a b c : S) (xs ys : List ℕ) → took a b xs → took b c ys → took a c (xs ++ ys))
+module _ {S A : Type 0} (sink : Tells S) (both : Joins sink)
     (head : List ℕ) (part : A → Result (List ℕ) Error) (parts : List A) (m : Result Tree Error) (whole : text_of m ≡ then (Ok head) (joined part parts)) where
-  pub walk_start : (a b : Serializer S) → Sent took failures a b head → UpTo took failures head part parts parts a b
-  walk_start a b s = UpTo-start took failures head part parts parts a b refl s
+  pub walk_start : (a b : Serializer S) → Sent sink a b head → UpTo sink head part parts parts a b
+  walk_start a b s = UpTo-start sink head part parts parts a b refl s
 
-  pub walk_more : {x : A} {rest : List A} {a b : Serializer S} (c : Serializer S) → UpTo took failures head part parts (x ∷ rest) a b → Ends took failures (part x) b c → UpTo took failures head part parts rest a c
-  walk_more {x = x} {rest = rest} {a = a} {b = b} c u t = UpTo-more took failures both head part parts (x ∷ rest) rest x a b c u refl t
+  pub walk_more : {x : A} {rest : List A} {a b : Serializer S} (c : Serializer S) → UpTo sink head part parts (x ∷ rest) a b → Ends sink (part x) b c → UpTo sink head part parts rest a c
+  walk_more {x = x} {rest = rest} {a = a} {b = b} c u t = UpTo-more sink both head part parts (x ∷ rest) rest x a b c u refl t
 
-  pub walk_all : {a b : Serializer S} → UpTo took failures head part parts [] a b → Ends took failures (text_of m) a b
-  walk_all {a = a} {b = b} u = subst (λ (t : Result (List ℕ) Error). Ends took failures t a b) (sym whole) (UpTo-all took failures head part parts [] a b u refl)
+  pub walk_all : {a b : Serializer S} → UpTo sink head part parts [] a b → Ends sink (text_of m) a b
+  walk_all {a = a} {b = b} u = subst (λ (t : Result (List ℕ) Error). Ends sink t a b) (sym whole) (UpTo-all sink head part parts [] a b u refl)
 
-module _ {S A : Type 0} (took : S → S → List ℕ → Type 0) (answered : Answering S) (failures : S → ℕ) (both : (a b c : S) (xs ys : List ℕ) → took a b xs → took b c ys → took a c (xs ++ ys))
+module _ {S A : Type 0} (sink : Tells S) (both : Joins sink)
     (head : List ℕ) (part : A → Result (List ℕ) Error) (parts : List A) (m : Result Tree Error) (whole : text_of m ≡ then (Ok head) (joined part parts)) where
-  pub walk_stop : {x : A} {rest : List A} {a b : Serializer S} (c : Serializer S) (e : Error) → UpTo took failures head part parts (x ∷ rest) a b → Stops took answered failures (part x) b c e → Stops took answered failures (text_of m) a c e
-  walk_stop {x = x} {rest = rest} {a = a} {b = b} c e u t = subst (λ (n : Result (List ℕ) Error). Stops took answered failures n a c e) (sym whole) (UpTo-stops took answered failures both head part parts (x ∷ rest) rest x a b c e u refl t)
+  pub walk_stop : {x : A} {rest : List A} {a b : Serializer S} (c : Serializer S) (e : Error) → UpTo sink head part parts (x ∷ rest) a b → Stops sink (part x) b c e → Stops sink (text_of m) a c e
+  walk_stop {x = x} {rest = rest} {a = a} {b = b} c e u t = subst (λ (n : Result (List ℕ) Error). Stops sink n a c e) (sym whole) (UpTo-stops sink both head part parts (x ∷ rest) rest x a b c e u refl t)
 
 -- A field: its key, and then its value.
-module _ {S : Type 0} (took : S → S → List ℕ → Type 0) (failures : S → ℕ) (both : (a b c : S) (xs ys : List ℕ) → took a b xs → took b c ys → took a c (xs ++ ys)) (key : List ℕ) (m : Result Tree Error) where
-  pub field_ends : (a b c : Serializer S) → Sent took failures a b (canonical_key key) → Ends took failures (text_of m) b c → Ends took failures (entry_text plain_bytes part_tree (key, m)) a c
-  field_ends a b c s t = Ends-both took failures both (Ok (canonical_key key)) (text_of m) a b c s t
+module _ {S : Type 0} (sink : Tells S) (both : Joins sink) (key : List ℕ) (m : Result Tree Error) where
+  pub field_ends : (a b c : Serializer S) → Sent sink a b (canonical_key key) → Ends sink (text_of m) b c → Ends sink (entry_text plain_bytes part_tree (key, m)) a c
+  field_ends a b c s t = Ends-both sink both (Ok (canonical_key key)) (text_of m) a b c s t
 
-module _ {S : Type 0} (took : S → S → List ℕ → Type 0) (answered : Answering S) (failures : S → ℕ) (both : (a b c : S) (xs ys : List ℕ) → took a b xs → took b c ys → took a c (xs ++ ys)) (key : List ℕ) (m : Result Tree Error) where
-  pub field_stops_at_key : (a b : Serializer S) (e : Error) → Refused took answered failures a b [] e → IsExcuse e → Stops took answered failures (entry_text plain_bytes part_tree (key, m)) a b e
-  field_stops_at_key a b e s x = Stops-none took answered failures (entry_text plain_bytes part_tree (key, m)) a b e s x
+module _ {S : Type 0} (sink : Tells S) (both : Joins sink) (key : List ℕ) (m : Result Tree Error) where
+  pub field_stops_at_key : (a b : Serializer S) (e : Error) → Refused sink a b [] e → IsExcuse e → Stops sink (entry_text plain_bytes part_tree (key, m)) a b e
+  field_stops_at_key a b e s x = Stops-none sink (entry_text plain_bytes part_tree (key, m)) a b e s x
 
-  pub field_stops : (a b c : Serializer S) (e : Error) → Sent took failures a b (canonical_key key) → Stops took answered failures (text_of m) b c e → Stops took answered failures (entry_text plain_bytes part_tree (key, m)) a c e
-  field_stops a b c e s t = Stops-second took answered failures both (Ok (canonical_key key)) (text_of m) a b c e s t
+  pub field_stops : (a b c : Serializer S) (e : Error) → Sent sink a b (canonical_key key) → Stops sink (text_of m) b c e → Stops sink (entry_text plain_bytes part_tree (key, m)) a c e
+  field_stops a b c e s t = Stops-second sink both (Ok (canonical_key key)) (text_of m) a b c e s t
 
 -- A variant's head, and then its payload.
-module _ {S : Type 0} (took : S → S → List ℕ → Type 0) (failures : S → ℕ) (both : (a b c : S) (xs ys : List ℕ) → took a b xs → took b c ys → took a c (xs ++ ys)) (name : List ℕ) (m : Result Tree Error) where
-  pub payload_ends : (a b c : Serializer S) → Sent took failures a b (newtype_variant_head name) → Ends took failures (text_of m) b c → Ends took failures (text_of (variant_tree name m)) a c
-  payload_ends a b c s t = subst (λ (n : Result (List ℕ) Error). Ends took failures n a c) (sym (variant_text name m)) (Ends-both took failures both (Ok (newtype_variant_head name)) (text_of m) a b c s t)
+module _ {S : Type 0} (sink : Tells S) (both : Joins sink) (name : List ℕ) (m : Result Tree Error) where
+  pub payload_ends : (a b c : Serializer S) → Sent sink a b (newtype_variant_head name) → Ends sink (text_of m) b c → Ends sink (text_of (variant_tree name m)) a c
+  payload_ends a b c s t = subst (λ (n : Result (List ℕ) Error). Ends sink n a c) (sym (variant_text name m)) (Ends-both sink both (Ok (newtype_variant_head name)) (text_of m) a b c s t)
 
-module _ {S : Type 0} (took : S → S → List ℕ → Type 0) (answered : Answering S) (failures : S → ℕ) (both : (a b c : S) (xs ys : List ℕ) → took a b xs → took b c ys → took a c (xs ++ ys)) (name : List ℕ) (m : Result Tree Error) where
-  pub payload_stops : (a b c : Serializer S) (e : Error) → Sent took failures a b (newtype_variant_head name) → Stops took answered failures (text_of m) b c e → Stops took answered failures (text_of (variant_tree name m)) a c e
-  payload_stops a b c e s t = subst (λ (n : Result (List ℕ) Error). Stops took answered failures n a c e) (sym (variant_text name m)) (Stops-second took answered failures both (Ok (newtype_variant_head name)) (text_of m) a b c e s t)
+module _ {S : Type 0} (sink : Tells S) (both : Joins sink) (name : List ℕ) (m : Result Tree Error) where
+  pub payload_stops : (a b c : Serializer S) (e : Error) → Sent sink a b (newtype_variant_head name) → Stops sink (text_of m) b c e → Stops sink (text_of (variant_tree name m)) a c e
+  payload_stops a b c e s t = subst (λ (n : Result (List ℕ) Error). Stops sink n a c e) (sym (variant_text name m)) (Stops-second sink both (Ok (newtype_variant_head name)) (text_of m) a b c e s t)

@@ -7,8 +7,9 @@ use Rattle.bser_written.specs.Written.{map_ok, item_before, entry_before, writte
 use Rattle.bser_format.specs.declared.errors.Error.{Error}
 use Rattle.bser_ser.specs.Sent.{Sent}
 use Rattle.bser_ser.specs.Ends.{Ends, Stops, text_of, then}
-use Rattle.bser_ser.specs.Stopped.{Answering}
+use Rattle.bser_ser.specs.Stopped.{Tells}
 use Rattle.bser_ser.specs.declared.serializer.Serializer.{Serializer}
+use Rattle.bser_ser.proofs.Sends.{Joins}
 use Rattle.bser_ser.proofs.Ends.{joined, UpTo, UpTo-start, UpTo-more, UpTo-all, UpTo-stops}
 
 -- a count, and what is written after it
@@ -69,52 +70,52 @@ array_text f xs = as_array (written_items f xs) (length xs) (joined (item_text f
 pub object_text : {K V : Type 0} (k : K → List ℕ) (f : V → Result Tree Error) (es : List (K × V)) → text_of (object_tree k f es) ≡ then (Ok (object_head (length es))) (joined (entry_text k f) es)
 object_text k f es = as_object (written_entries k f es) (length es) (joined (entry_text k f) es) (entries_joined k f es)
 
-module _ {S A : Type 0} (took : S → S → List ℕ → Type 0) (failures : S → ℕ) (f : A → Result Tree Error) (xs : List A) where
-  pub Ends-array : (rest : List A) (a b : Serializer S) → UpTo took failures (array_head (length xs)) (item_text f) xs rest a b → rest ≡ [] → Ends took failures (text_of (array_tree f xs)) a b
-  Ends-array rest a b u none = subst (λ (m : Result (List ℕ) Error). Ends took failures m a b) (sym (array_text f xs)) (UpTo-all took failures (array_head (length xs)) (item_text f) xs rest a b u none)
+module _ {S A : Type 0} (sink : Tells S) (f : A → Result Tree Error) (xs : List A) where
+  pub Ends-array : (rest : List A) (a b : Serializer S) → UpTo sink (array_head (length xs)) (item_text f) xs rest a b → rest ≡ [] → Ends sink (text_of (array_tree f xs)) a b
+  Ends-array rest a b u none = subst (λ (m : Result (List ℕ) Error). Ends sink m a b) (sym (array_text f xs)) (UpTo-all sink (array_head (length xs)) (item_text f) xs rest a b u none)
 
-module _ {S A : Type 0} (took : S → S → List ℕ → Type 0) (answered : Answering S) (failures : S → ℕ) (f : A → Result Tree Error) (xs : List A) where
-  pub Stops-array : ((a b c : S) (xs ys : List ℕ) → took a b xs → took b c ys → took a c (xs ++ ys)) → (rest left : List A) (x : A) (a b c : Serializer S) (e : Error)
-      → UpTo took failures (array_head (length xs)) (item_text f) xs rest a b → rest ≡ x ∷ left → Stops took answered failures (text_of (f x)) b c e → Stops took answered failures (text_of (array_tree f xs)) a c e
+module _ {S A : Type 0} (sink : Tells S) (f : A → Result Tree Error) (xs : List A) where
+  pub Stops-array : Joins sink → (rest left : List A) (x : A) (a b c : Serializer S) (e : Error)
+      → UpTo sink (array_head (length xs)) (item_text f) xs rest a b → rest ≡ x ∷ left → Stops sink (text_of (f x)) b c e → Stops sink (text_of (array_tree f xs)) a c e
   Stops-array both rest left x a b c e u step t =
-      subst (λ (m : Result (List ℕ) Error). Stops took answered failures m a c e) (sym (array_text f xs)) (UpTo-stops took answered failures both (array_head (length xs)) (item_text f) xs rest left x a b c e u step t)
+      subst (λ (m : Result (List ℕ) Error). Stops sink m a c e) (sym (array_text f xs)) (UpTo-stops sink both (array_head (length xs)) (item_text f) xs rest left x a b c e u step t)
 
-module _ {S K V : Type 0} (took : S → S → List ℕ → Type 0) (failures : S → ℕ) (k : K → List ℕ) (f : V → Result Tree Error) (es : List (K × V)) where
-  pub Ends-object : (rest : List (K × V)) (a b : Serializer S) → UpTo took failures (object_head (length es)) (entry_text k f) es rest a b → rest ≡ [] → Ends took failures (text_of (object_tree k f es)) a b
-  Ends-object rest a b u none = subst (λ (m : Result (List ℕ) Error). Ends took failures m a b) (sym (object_text k f es)) (UpTo-all took failures (object_head (length es)) (entry_text k f) es rest a b u none)
+module _ {S K V : Type 0} (sink : Tells S) (k : K → List ℕ) (f : V → Result Tree Error) (es : List (K × V)) where
+  pub Ends-object : (rest : List (K × V)) (a b : Serializer S) → UpTo sink (object_head (length es)) (entry_text k f) es rest a b → rest ≡ [] → Ends sink (text_of (object_tree k f es)) a b
+  Ends-object rest a b u none = subst (λ (m : Result (List ℕ) Error). Ends sink m a b) (sym (object_text k f es)) (UpTo-all sink (object_head (length es)) (entry_text k f) es rest a b u none)
 
-module _ {S K V : Type 0} (took : S → S → List ℕ → Type 0) (answered : Answering S) (failures : S → ℕ) (k : K → List ℕ) (f : V → Result Tree Error) (es : List (K × V)) where
-  pub Stops-object : ((a b c : S) (xs ys : List ℕ) → took a b xs → took b c ys → took a c (xs ++ ys)) → (rest left : List (K × V)) (x : K × V) (a b c : Serializer S) (e : Error)
-      → UpTo took failures (object_head (length es)) (entry_text k f) es rest a b → rest ≡ x ∷ left → Stops took answered failures (entry_text k f x) b c e → Stops took answered failures (text_of (object_tree k f es)) a c e
+module _ {S K V : Type 0} (sink : Tells S) (k : K → List ℕ) (f : V → Result Tree Error) (es : List (K × V)) where
+  pub Stops-object : Joins sink → (rest left : List (K × V)) (x : K × V) (a b c : Serializer S) (e : Error)
+      → UpTo sink (object_head (length es)) (entry_text k f) es rest a b → rest ≡ x ∷ left → Stops sink (entry_text k f x) b c e → Stops sink (text_of (object_tree k f es)) a c e
   Stops-object both rest left x a b c e u step t =
-      subst (λ (m : Result (List ℕ) Error). Stops took answered failures m a c e) (sym (object_text k f es)) (UpTo-stops took answered failures both (object_head (length es)) (entry_text k f) es rest left x a b c e u step t)
+      subst (λ (m : Result (List ℕ) Error). Stops sink m a c e) (sym (object_text k f es)) (UpTo-stops sink both (object_head (length es)) (entry_text k f) es rest left x a b c e u step t)
 
 -- a tuple, part by part
-module _ {S : Type 0} (took : S → S → List ℕ → Type 0) (failures : S → ℕ) (both : (a b c : S) (xs ys : List ℕ) → took a b xs → took b c ys → took a c (xs ++ ys)) (parts : List (Result Tree Error)) where
+module _ {S : Type 0} (sink : Tells S) (both : Joins sink) (parts : List (Result Tree Error)) where
   -- the parts before rest are written, after the head
   abbrev pub Parts : List (Result Tree Error) → Serializer S → Serializer S → Type 0
-  Parts rest a b = UpTo took failures (array_head (length parts)) (item_text part_tree) parts rest a b
+  Parts rest a b = UpTo sink (array_head (length parts)) (item_text part_tree) parts rest a b
 
-  pub parts_start : (a b : Serializer S) → Sent took failures a b (array_head (length parts)) → Parts parts a b
-  parts_start a b s = UpTo-start took failures (array_head (length parts)) (item_text part_tree) parts parts a b refl s
+  pub parts_start : (a b : Serializer S) → Sent sink a b (array_head (length parts)) → Parts parts a b
+  parts_start a b s = UpTo-start sink (array_head (length parts)) (item_text part_tree) parts parts a b refl s
 
-  pub parts_more : {m : Result Tree Error} {rest : List (Result Tree Error)} {a b : Serializer S} (c : Serializer S) → Parts (m ∷ rest) a b → Ends took failures (text_of m) b c → Parts rest a c
-  parts_more {m = m} {rest = rest} {a = a} {b = b} c u t = UpTo-more took failures both (array_head (length parts)) (item_text part_tree) parts (m ∷ rest) rest m a b c u refl t
+  pub parts_more : {m : Result Tree Error} {rest : List (Result Tree Error)} {a b : Serializer S} (c : Serializer S) → Parts (m ∷ rest) a b → Ends sink (text_of m) b c → Parts rest a c
+  parts_more {m = m} {rest = rest} {a = a} {b = b} c u t = UpTo-more sink both (array_head (length parts)) (item_text part_tree) parts (m ∷ rest) rest m a b c u refl t
 
-  pub parts_all : (a b : Serializer S) → Parts [] a b → Ends took failures (text_of (tuple_tree parts)) a b
-  parts_all a b u = Ends-array took failures part_tree parts [] a b u refl
+  pub parts_all : (a b : Serializer S) → Parts [] a b → Ends sink (text_of (tuple_tree parts)) a b
+  parts_all a b u = Ends-array sink part_tree parts [] a b u refl
 
-module _ {S : Type 0} (took : S → S → List ℕ → Type 0) (answered : Answering S) (failures : S → ℕ) (both : (a b c : S) (xs ys : List ℕ) → took a b xs → took b c ys → took a c (xs ++ ys)) (parts : List (Result Tree Error)) where
-  pub parts_stop : {m : Result Tree Error} {rest : List (Result Tree Error)} {a b : Serializer S} (c : Serializer S) (e : Error) → Parts took failures both parts (m ∷ rest) a b → Stops took answered failures (text_of m) b c e → Stops took answered failures (text_of (tuple_tree parts)) a c e
-  parts_stop {m = m} {rest = rest} {a = a} {b = b} c e u t = Stops-array took answered failures part_tree parts both (m ∷ rest) rest m a b c e u refl t
+module _ {S : Type 0} (sink : Tells S) (both : Joins sink) (parts : List (Result Tree Error)) where
+  pub parts_stop : {m : Result Tree Error} {rest : List (Result Tree Error)} {a b : Serializer S} (c : Serializer S) (e : Error) → Parts sink both parts (m ∷ rest) a b → Stops sink (text_of m) b c e → Stops sink (text_of (tuple_tree parts)) a c e
+  parts_stop {m = m} {rest = rest} {a = a} {b = b} c e u t = Stops-array sink part_tree parts both (m ∷ rest) rest m a b c e u refl t
 
 slice_within : {A : Type 0} (f : A → Result Tree Error) (xs : List A) → length xs < 2 ^ 63 → slice_tree f xs ≡ array_tree f xs
 slice_within f xs h = grind (arith, h)
 
-module _ {S A : Type 0} (took : S → S → List ℕ → Type 0) (failures : S → ℕ) (f : A → Result Tree Error) (xs : List A) where
-  pub Ends-slice : (a b : Serializer S) → length xs < 2 ^ 63 → Ends took failures (text_of (array_tree f xs)) a b → Ends took failures (text_of (slice_tree f xs)) a b
-  Ends-slice a b h s = subst (λ (m : Result Tree Error). Ends took failures (text_of m) a b) (sym (slice_within f xs h)) s
+module _ {S A : Type 0} (sink : Tells S) (f : A → Result Tree Error) (xs : List A) where
+  pub Ends-slice : (a b : Serializer S) → length xs < 2 ^ 63 → Ends sink (text_of (array_tree f xs)) a b → Ends sink (text_of (slice_tree f xs)) a b
+  Ends-slice a b h s = subst (λ (m : Result Tree Error). Ends sink (text_of m) a b) (sym (slice_within f xs h)) s
 
-module _ {S A : Type 0} (took : S → S → List ℕ → Type 0) (answered : Answering S) (failures : S → ℕ) (f : A → Result Tree Error) (xs : List A) where
-  pub Stops-slice : (a b : Serializer S) (e : Error) → length xs < 2 ^ 63 → Stops took answered failures (text_of (array_tree f xs)) a b e → Stops took answered failures (text_of (slice_tree f xs)) a b e
-  Stops-slice a b e h s = subst (λ (m : Result Tree Error). Stops took answered failures (text_of m) a b e) (sym (slice_within f xs h)) s
+module _ {S A : Type 0} (sink : Tells S) (f : A → Result Tree Error) (xs : List A) where
+  pub Stops-slice : (a b : Serializer S) (e : Error) → length xs < 2 ^ 63 → Stops sink (text_of (array_tree f xs)) a b e → Stops sink (text_of (slice_tree f xs)) a b e
+  Stops-slice a b e h s = subst (λ (m : Result Tree Error). Stops sink (text_of m) a b e) (sym (slice_within f xs h)) s

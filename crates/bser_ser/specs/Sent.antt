@@ -1,18 +1,16 @@
 -- What a serializer's writer took, and what is still pending.
-use Rattle.std.specs.Prelude.{◌≡◌, ℕ, ◌+◌, ◌<◌, ◌≤◌, ◌^◌, List, [], ◌++◌, length, Option, Some, None, ⊤, Result, MatchResult, ◌⊎◌}
+use Rattle.std.specs.Prelude.{◌≡◌, ℕ, ℤ, ◌+◌, ◌<◌, ◌≤◌, ◌^◌, List, [], ◌∷◌, ◌++◌, length, Option, Some, None, ⊤, Result, MatchResult, ◌⊎◌}
+use Rattle.bser_format.specs.Canonical.{least_integer, least_count}
+use Rattle.bser_written.specs.Pieces.{newtype_variant_head}
 use Rattle.bser_format.specs.declared.errors.Collection.{Collection}
 use Rattle.bser_format.specs.declared.errors.Complaint.TheVariants.{CountTooGreat}
 use Rattle.bser_format.specs.declared.errors.Error.{Error}
 use Rattle.bser_format.specs.declared.errors.Error.TheVariants.{OutOfMemory, Io, SerU64TooBig, SerNeedSize, SerCustom}
 use Rattle.bser_format.specs.declared.errors.Message.TheVariants.{Fixed}
 use Rattle.std.specs.declared.io.Error as io
-use Rattle.bser_ser.specs.Stopped.{Answering, Accounts}
-use Rattle.bser_ser.specs.declared.count.CountWrite.{CountWrite}
+use Rattle.bser_ser.specs.Stopped.{Tells, Takes, Accounts}
 use Rattle.bser_ser.specs.declared.serializer.Serializer.{Serializer}
-
--- the bytes that were counted
-abbrev pub count_of : CountWrite → ℕ
-count_of c = c.count
+use Rattle.bser_ser.specs.declared.serializer.TheConstants.{MOST_PENDING}
 
 -- the serializer's writer
 abbrev pub writer_of : {S : Type 0} → Serializer S → S
@@ -22,19 +20,37 @@ writer_of s = s.writer
 abbrev pub pending_of : {S : Type 0} → Serializer S → List ℕ
 pending_of s = s.pending.items
 
--- what the writer took, followed by what is pending, grew by these bytes, and the writer counted no failure
-pub record Sent {S : Type 0} (took : S → S → List ℕ → Type 0) (failures : S → ℕ) (old new : Serializer S) (bytes : List ℕ) : Type 0 where
+-- a fault of the writer, or else want of memory
+abbrev pub reason : Option io.Error → Error
+reason None = OutOfMemory
+reason (Some fault) = Io fault
+
+-- why the last put was refused, and want of memory before the first
+abbrev pub refusal_of : {S : Type 0} → Serializer S → Error
+refusal_of s = reason s.fault
+
+-- the kept reason stays
+abbrev pub KeepsReason : {S : Type 0} → Serializer S → Serializer S → Type 0
+KeepsReason old new = refusal_of new ≡ refusal_of old
+
+-- what the writer took, followed by what is pending, grew by these bytes, the writer counted no failure, and the kept reason stays
+pub record Sent {S : Type 0} (sink : Tells S) (old new : Serializer S) (bytes : List ℕ) : Type 0 where
   pub taken : List ℕ
-  pub took_it : took (writer_of old) (writer_of new) taken
+  pub took_it : sink.took (writer_of old) (writer_of new) taken
   pub grew : pending_of old ++ bytes ≡ taken ++ pending_of new
-  pub kept : failures (writer_of new) ≡ failures (writer_of old)
+  pub kept : sink.failures (writer_of new) ≡ sink.failures (writer_of old)
+  pub reason_kept : KeepsReason old new
 
 -- after these bytes a put was refused, and where that was the writer's fault, it is the writer's answer
-pub record Refused {S : Type 0} (took : S → S → List ℕ → Type 0) (answered : Answering S) (failures : S → ℕ) (old new : Serializer S) (bytes : List ℕ) (e : Error) : Type 0 where
+pub record Refused {S : Type 0} (sink : Tells S) (old new : Serializer S) (bytes : List ℕ) (e : Error) : Type 0 where
   pub taken : List ℕ
-  pub took_it : took (writer_of old) (writer_of new) taken
+  pub took_it : sink.took (writer_of old) (writer_of new) taken
   pub grew : pending_of old ++ bytes ≡ taken ++ pending_of new
-  pub why : Accounts took answered failures (writer_of old) (writer_of new) (pending_of old ++ bytes) e
+  pub why : Accounts sink (writer_of old) (writer_of new) (pending_of old ++ bytes) e
+
+-- nothing was put, for the reason that the serializer keeps
+abbrev pub NotPut : {S : Type 0} → Tells S → Serializer S → Serializer S → Type 0
+NotPut sink old new = Refused sink old new [] (refusal_of new)
 
 -- want of memory, or a fault of the writer
 abbrev pub IsExcuse : Error → Type 0
@@ -42,44 +58,51 @@ IsExcuse OutOfMemory = ⊤
 IsExcuse (Io e) = ⊤
 IsExcuse _ = ⊥
 
--- a fault of the writer, or else want of memory
-abbrev pub reason : Option io.Error → Error
-reason None = OutOfMemory
-reason (Some fault) = Io fault
-
--- why the last put was refused
-abbrev pub refusal_of : {S : Type 0} → Serializer S → Error
-refusal_of s = reason s.fault
-
--- over this writer, and nothing is pending
+-- over this writer, nothing is pending, and nothing was refused
 abbrev pub IsNew : {S : Type 0} → Serializer S → S → Type 0
-IsNew s w = (writer_of s ≡ w) × (pending_of s ≡ [])
+IsNew s w = (writer_of s ≡ w) × (pending_of s ≡ []) × (refusal_of s ≡ OutOfMemory)
 
 -- nothing is pending
 abbrev pub IsFlushed : {S : Type 0} → Serializer S → Type 0
 IsFlushed s = pending_of s ≡ []
 
--- at most 4096 bytes were pending before the piece was put
+-- the writer took all that was pending, and counted no failure
+abbrev pub Finishes : {S : Type 0} → Tells S → Serializer S → S → Type 0
+Finishes sink s writer = Takes sink (writer_of s) writer (pending_of s)
+
+-- bytes under a tag, their count before them
+abbrev pub string_piece : ℕ → List ℕ → List ℕ
+string_piece tag bytes = tag ∷ (least_count (length bytes) ++ bytes)
+
+-- a variant's head, and its payload's tag and count
+abbrev pub payload_head : List ℕ → ℕ → ℤ → List ℕ
+payload_head name tag n = newtype_variant_head name ++ tag ∷ least_integer n
+
+-- a piece is appended, or nothing
+abbrev pub Appends : {A E : Type 0} → List ℕ → List ℕ → List ℕ → Result A E → Type 0
+Appends old new piece r = MatchResult r (λ _. new ≡ old ++ piece) (λ _. new ≡ old)
+
+-- at most MOST_PENDING bytes were pending before the piece was put
 abbrev pub IsWithin : {S : Type 0} → Serializer S → List ℕ → Type 0
-IsWithin s piece = length (pending_of s) ≤ 4096 + length piece
+IsWithin s piece = length (pending_of s) ≤ MOST_PENDING + length piece
 
 -- a put appends its piece, or, for a reason of its own or with an excuse, nothing
-abbrev pub PutsOr : {S A : Type 0} → (Error → Type 0) → (S → S → List ℕ → Type 0) → Answering S → (S → ℕ) → Serializer S → Serializer S → List ℕ → Result A Error → Type 0
-PutsOr Reason took answered failures old new piece r = MatchResult r
-    (λ _. Sent took failures old new piece × IsWithin new piece)
-    (λ e. Refused took answered failures old new [] e × (IsExcuse e ⊎ Reason e))
+abbrev pub PutsOr : {S A : Type 0} → (Error → Type 0) → Tells S → Serializer S → Serializer S → List ℕ → Result A Error → Type 0
+PutsOr Reason sink old new piece r = MatchResult r
+    (λ _. Sent sink old new piece × IsWithin new piece)
+    (λ e. Refused sink old new [] e × (IsExcuse e ⊎ Reason e))
 
 -- a put appends its piece or, with an excuse, nothing
-abbrev pub Puts : {S A : Type 0} → (S → S → List ℕ → Type 0) → Answering S → (S → ℕ) → Serializer S → Serializer S → List ℕ → Result A Error → Type 0
-Puts took answered failures old new piece r = MatchResult r
-    (λ _. Sent took failures old new piece × IsWithin new piece)
-    (λ e. Refused took answered failures old new [] e × IsExcuse e)
+abbrev pub Puts : {S A : Type 0} → Tells S → Serializer S → Serializer S → List ℕ → Result A Error → Type 0
+Puts sink old new piece r = MatchResult r
+    (λ _. Sent sink old new piece × IsWithin new piece)
+    (λ e. Refused sink old new [] e × IsExcuse e)
 
 -- a put appends its piece or, with an excuse that the serializer keeps, nothing
-abbrev pub Adds : {S A E : Type 0} → (S → S → List ℕ → Type 0) → Answering S → (S → ℕ) → Serializer S → Serializer S → List ℕ → Result A E → Type 0
-Adds took answered failures old new piece r = MatchResult r
-    (λ _. Sent took failures old new piece × IsWithin new piece)
-    (λ _. Refused took answered failures old new [] (refusal_of new) × IsExcuse (refusal_of new))
+abbrev pub Adds : {S A E : Type 0} → Tells S → Serializer S → Serializer S → List ℕ → Result A E → Type 0
+Adds sink old new piece r = MatchResult r
+    (λ _. Sent sink old new piece × IsWithin new piece)
+    (λ _. NotPut sink old new × IsExcuse (refusal_of new))
 
 -- an integer above the greatest i64
 abbrev pub IsTooBig : ℕ → Error → Type 0
@@ -104,7 +127,6 @@ abbrev pub count_or_zero : Option ℕ → ℕ
 count_or_zero None = 0
 count_or_zero (Some n) = n
 
--- the writer took all that was pending, and counted no failure
-pub record Finishes {S : Type 0} (took : S → S → List ℕ → Type 0) (failures : S → ℕ) (old : Serializer S) (writer : S) : Type 0 where
-  pub took_it : took (writer_of old) writer (pending_of old)
-  pub kept : failures writer ≡ failures (writer_of old)
+-- a put appends the head of so many items or entries, or, where they are miscounted or with an excuse, nothing
+abbrev pub PutsHead : {S A : Type 0} → Collection → (ℕ → List ℕ) → Tells S → Serializer S → Serializer S → Option ℕ → Result A Error → Type 0
+PutsHead kind head sink old new count r = PutsOr (IsMiscounted kind count) sink old new (head (count_or_zero count)) r

@@ -1,9 +1,9 @@
 //! The puts of a serializer that keep the reason of a refusal in it.
 ghost use Rattle.std.specs.Prelude.{◌≡◌, ◌<◌, ◌≤◌, ◌^◌, ◌∷◌, ◌++◌, [], length, take};
-ghost use Rattle.std.specs.Int.{w32, to_le_bytes};
 ghost use Rattle.bser_format.specs.Canonical.{least_integer, least_count};
 ghost use Rattle.bser_written.specs.Pieces.{null_piece, bool_piece, integer_piece, real_piece, text_piece, bytes_piece, key_piece, array_head, object_head, template_tag, newtype_variant_head};
-ghost use Rattle.bser_ser.specs.Sent.{Adds, refusal_of};
+ghost use Rattle.bser_ser.specs.Message.{front_of};
+ghost use Rattle.bser_ser.specs.Sent.{Adds, payload_head, string_piece, refusal_of};
 
 use crate::integer::{LONGEST, spell};
 use crate::pending::{append_both, append_front, append_variant, append_variant_of};
@@ -17,17 +17,54 @@ use bser_source::device::Sink;
 use byteorder::{ByteOrder, LittleEndian};
 use std::result::Result;
 
-/// The puts for a value of many parts, which hand no error from part to part.
+/// What puts a value of many parts, and hands no error from part to part: a [`Serializer`]. It is a
+/// trait only so that the crates above can call what users are not handed.
 ///
 /// Each call does what the put of its name does. Where it is refused it answers [`PutRefused`], and
-/// [`refusal`](Serializer::refusal) tells why: the fault that the writer answered at this call
-/// (`Io`), or `OutOfMemory`.
-///
-/// The crate has none of these calls.
-impl<W: Sink> Serializer<W> {
-    /// Why the last call that answered [`PutRefused`] did so.
+/// [`refusal`](Self::refusal) tells why: the fault that the writer answered at this call (`Io`), or
+/// `OutOfMemory`. Every other call keeps that reason.
+pub trait Parts {
+    /// Why the last call that answered [`PutRefused`] did so, and `OutOfMemory` before the first.
+    fn refusal(&self) -> Error;
+
+    /// Puts null.
+    fn add_null(&mut self) -> Result<(), PutRefused>;
+
+    /// Puts a truth value.
+    fn add_bool(&mut self, v: bool) -> Result<(), PutRefused>;
+
+    /// Puts an integer in its least size.
+    fn add_i64(&mut self, v: i64) -> Result<(), PutRefused>;
+
+    /// Puts a real, given by its 64 bits.
+    fn add_real_bits(&mut self, bits: u64) -> Result<(), PutRefused>;
+
+    /// Puts a text.
+    fn add_text(&mut self, text: &str) -> Result<(), PutRefused>;
+
+    /// Puts a byte string.
+    fn add_bytes(&mut self, bytes: &[u8]) -> Result<(), PutRefused>;
+
+    /// Puts an object's key that is a text, as [`put_key`](Serializer::put_key) does.
+    fn add_text_key(&mut self, key: &str) -> Result<(), PutRefused>;
+
+    /// Puts an array's head; the items follow.
+    fn add_seq(&mut self, count: usize) -> Result<(), PutRefused>
+        requires { count < 2 ^ 63 };
+
+    /// Puts an object's head; for each entry its key and its value follow.
+    fn add_map(&mut self, count: usize) -> Result<(), PutRefused>
+        requires { count < 2 ^ 63 };
+
+    /// Puts a template's tag. The rest of its head follows: [`add_seq`](Self::add_seq) for the
+    /// count of its keys, each key as a text, and the count of its rows as an integer; then the
+    /// fields of each row.
+    fn add_template(&mut self) -> Result<(), PutRefused>;
+}
+
+impl<W: Sink> Parts for Serializer<W> {
     #[cold]
-    pub fn refusal(&self) -> Error
+    fn refusal(&self) -> Error
         ensures { result ≡ refusal_of self.now }
     {
         match self.fault {
@@ -36,26 +73,23 @@ impl<W: Sink> Serializer<W> {
         }
     }
 
-    /// Puts null.
     #[inline(always)]
-    pub fn add_null(&mut self) -> Result<(), PutRefused>
-        ensures { Adds W.took W.answered W.failures self.old self.new null_piece result }
+    fn add_null(&mut self) -> Result<(), PutRefused>
+        ensures { Adds W.Sink self.old self.new null_piece result }
     {
         self.append(&[BSER_NULL])
     }
 
-    /// Puts a truth value.
     #[inline(always)]
-    pub fn add_bool(&mut self, v: bool) -> Result<(), PutRefused>
-        ensures { Adds W.took W.answered W.failures self.old self.new (bool_piece v) result }
+    fn add_bool(&mut self, v: bool) -> Result<(), PutRefused>
+        ensures { Adds W.Sink self.old self.new (bool_piece v) result }
     {
         self.append(&[if v { BSER_TRUE } else { BSER_FALSE }])
     }
 
-    /// Puts an integer in its least size.
     #[inline(always)]
-    pub fn add_i64(&mut self, v: i64) -> Result<(), PutRefused>
-        ensures { Adds W.took W.answered W.failures self.old self.new (integer_piece v) result }
+    fn add_i64(&mut self, v: i64) -> Result<(), PutRefused>
+        ensures { Adds W.Sink self.old self.new (integer_piece v) result }
     {
         let mut integer = [0; LONGEST];
         let len = spell(&mut integer, v);
@@ -65,73 +99,65 @@ impl<W: Sink> Serializer<W> {
         self.append_pending_front(&integer, len)
     }
 
-    /// Puts a real, given by its 64 bits.
     #[inline(always)]
-    pub fn add_real_bits(&mut self, bits: u64) -> Result<(), PutRefused>
-        ensures { Adds W.took W.answered W.failures self.old self.new (real_piece bits) result }
+    fn add_real_bits(&mut self, bits: u64) -> Result<(), PutRefused>
+        ensures { Adds W.Sink self.old self.new (real_piece bits) result }
     {
         let mut piece = [BSER_REAL; 9];
         LittleEndian::write_u64(&mut piece[1..], bits);
         self.append(&piece)
     }
 
-    /// Puts a text.
     #[inline(always)]
-    pub fn add_text(&mut self, text: &str) -> Result<(), PutRefused>
-        ensures { Adds W.took W.answered W.failures self.old self.new (text_piece text.now) result }
+    fn add_text(&mut self, text: &str) -> Result<(), PutRefused>
+        ensures { Adds W.Sink self.old self.new (text_piece text.now) result }
     {
         self.add_string(BSER_UTF8STRING, text.as_bytes())
     }
 
-    /// Puts a byte string.
     #[inline(always)]
-    pub fn add_bytes(&mut self, bytes: &[u8]) -> Result<(), PutRefused>
-        ensures { Adds W.took W.answered W.failures self.old self.new
-            (bytes_piece bytes.now) result }
+    fn add_bytes(&mut self, bytes: &[u8]) -> Result<(), PutRefused>
+        ensures { Adds W.Sink self.old self.new (bytes_piece bytes.now) result }
     {
         self.add_string(BSER_BYTESTRING, bytes)
     }
 
-    /// Puts an object's key that is a text, as [`put_key`](Serializer::put_key) does.
     #[inline(always)]
-    pub fn add_text_key(&mut self, key: &str) -> Result<(), PutRefused>
-        ensures { Adds W.took W.answered W.failures self.old self.new (key_piece key.now) result }
+    fn add_text_key(&mut self, key: &str) -> Result<(), PutRefused>
+        ensures { Adds W.Sink self.old self.new (key_piece key.now) result }
     {
         self.add_text(key)
     }
 
-    /// Puts an array's head; the items follow.
     #[inline(always)]
-    pub fn add_array(&mut self, count: usize) -> Result<(), PutRefused>
+    fn add_seq(&mut self, count: usize) -> Result<(), PutRefused>
         requires { count < 2 ^ 63 }
-        ensures { Adds W.took W.answered W.failures self.old self.new (array_head count) result }
+        ensures { Adds W.Sink self.old self.new (array_head count) result }
     {
         self.add_head(BSER_ARRAY, count)
     }
 
-    /// Puts an object's head; for each entry its key and its value follow.
     #[inline(always)]
-    pub fn add_object(&mut self, count: usize) -> Result<(), PutRefused>
+    fn add_map(&mut self, count: usize) -> Result<(), PutRefused>
         requires { count < 2 ^ 63 }
-        ensures { Adds W.took W.answered W.failures self.old self.new (object_head count) result }
+        ensures { Adds W.Sink self.old self.new (object_head count) result }
     {
         self.add_head(BSER_OBJECT, count)
     }
 
-    /// Puts a template's tag. The rest of its head follows: [`add_array`](Self::add_array) for the
-    /// count of its keys, each key as a text, and the count of its rows as an integer; then the
-    /// fields of each row.
     #[inline(always)]
-    pub fn add_template(&mut self) -> Result<(), PutRefused>
-        ensures { Adds W.took W.answered W.failures self.old self.new template_tag result }
+    fn add_template(&mut self) -> Result<(), PutRefused>
+        ensures { Adds W.Sink self.old self.new template_tag result }
     {
         self.append(&[BSER_TEMPLATE])
     }
+}
 
-    // Puts the head of an enum's variant with one value.
+/// What these calls are made of.
+impl<W: Sink> Serializer<W> {
+    /// Puts the head of an enum's variant with one value.
     pub(crate) fn add_variant(&mut self, name: &str) -> Result<(), PutRefused>
-        ensures { Adds W.took W.answered W.failures self.old self.new
-            (newtype_variant_head name.now) result }
+        ensures { Adds W.Sink self.old self.new (newtype_variant_head name.now) result }
     {
         self.make_room()?;
         match append_variant(&mut self.pending, name) {
@@ -140,15 +166,14 @@ impl<W: Sink> Serializer<W> {
         }
     }
 
-    // Puts a variant's head, and its payload's tag and count.
+    /// Puts a variant's head, and its payload's tag and count.
     pub(crate) fn add_variant_of(
         &mut self,
         name: &str,
         tag: u8,
         count: i64,
     ) -> Result<(), PutRefused>
-        ensures { Adds W.took W.answered W.failures self.old self.new
-            (newtype_variant_head name.now ++ tag ∷ least_integer count) result }
+        ensures { Adds W.Sink self.old self.new (payload_head name.now tag count) result }
     {
         self.make_room()?;
         match append_variant_of(&mut self.pending, name, tag, count) {
@@ -157,22 +182,20 @@ impl<W: Sink> Serializer<W> {
         }
     }
 
-    // Puts the front of a message whose body has this many bytes.
+    /// Puts the front of a message whose body has this many bytes.
     pub(crate) fn add_front(&mut self, body: i64) -> Result<(), PutRefused>
-        ensures { Adds W.took W.answered W.failures self.old self.new
-            (0 ∷ 2 ∷ (to_le_bytes w32 0 ++ least_integer body)) result }
+        ensures { Adds W.Sink self.old self.new (front_of body) result }
     {
         let mut integer = [0; LONGEST];
         let len = spell(&mut integer, body);
         self.append_parts(&[0, 2, 0, 0, 0, 0], &integer[..len])
     }
 
-    // Puts a container's tag and its count.
+    /// Puts a container's tag and its count.
     #[inline(always)]
     fn add_head(&mut self, tag: u8, count: usize) -> Result<(), PutRefused>
         requires { count < 2 ^ 63 }
-        ensures { Adds W.took W.answered W.failures self.old self.new
-            (tag ∷ least_count count) result }
+        ensures { Adds W.Sink self.old self.new (tag ∷ least_count count) result }
     {
         if count < 0x80 {
             return self.append(&[tag, BSER_INT8, count as u8]);
@@ -180,45 +203,35 @@ impl<W: Sink> Serializer<W> {
         self.add_great_counted(tag, count as i64, &[])
     }
 
-    // Puts a string under this tag.
+    /// Puts a string under this tag.
     #[inline(always)]
     fn add_string(&mut self, tag: u8, bytes: &[u8]) -> Result<(), PutRefused>
-        ensures { Adds W.took W.answered W.failures self.old self.new
-            (tag ∷ (least_count (length bytes.now) ++ bytes.now)) result }
+        ensures { Adds W.Sink self.old self.new (string_piece tag bytes.now) result }
     {
         if bytes.len() < 0x80 {
-            return self.add_short(tag, bytes.len() as u8, bytes);
+            let count = bytes.len() as u8;
+            if self.is_taken_at_once(&[tag, BSER_INT8, count], bytes) {
+                return Ok(());
+            }
+            return self.append_pending_short(tag, count, bytes);
         }
         self.add_great_counted(tag, bytes.len() as i64, bytes)
     }
 
-    // Puts a tag and a count of one byte, and then these bytes.
-    #[inline(always)]
-    fn add_short(&mut self, tag: u8, count: u8, bytes: &[u8]) -> Result<(), PutRefused>
-        ensures { Adds W.took W.answered W.failures self.old self.new
-            (tag ∷ 3 ∷ count ∷ bytes.now) result }
-    {
-        if self.is_taken_at_once(&[tag, BSER_INT8, count], bytes) {
-            return Ok(());
-        }
-        self.append_pending_short(tag, count, bytes)
-    }
-
-    // Puts a tag and a count, and then these bytes, whatever size the count takes.
+    /// Puts a tag and a count, and then these bytes, whatever size the count takes.
     #[inline(never)]
     fn add_great_counted(&mut self, tag: u8, count: i64, bytes: &[u8]) -> Result<(), PutRefused>
-        ensures { Adds W.took W.answered W.failures self.old self.new
-            (tag ∷ (least_integer count ++ bytes.now)) result }
+        ensures { Adds W.Sink self.old self.new (tag ∷ (least_integer count ++ bytes.now)) result }
     {
         let mut head = [tag; LONGEST + 1];
         let len = spell(&mut head[1..], count);
         self.append_parts(&head[..len + 1], bytes)
     }
 
-    // Puts a piece.
+    /// Puts a piece.
     #[inline(always)]
     fn append(&mut self, piece: &[u8]) -> Result<(), PutRefused>
-        ensures { Adds W.took W.answered W.failures self.old self.new piece.now result }
+        ensures { Adds W.Sink self.old self.new piece.now result }
     {
         if self.is_taken_at_once(piece, &[]) {
             return Ok(());
@@ -226,10 +239,10 @@ impl<W: Sink> Serializer<W> {
         self.append_pending(piece)
     }
 
-    // Puts a piece where it waits for the writer.
+    /// Puts a piece where it waits for the writer.
     #[inline(always)]
     fn append_pending(&mut self, piece: &[u8]) -> Result<(), PutRefused>
-        ensures { Adds W.took W.answered W.failures self.old self.new piece.now result }
+        ensures { Adds W.Sink self.old self.new piece.now result }
     {
         self.make_room()?;
         match self.pending.extend_from_slice(piece) {
@@ -238,23 +251,22 @@ impl<W: Sink> Serializer<W> {
         }
     }
 
-    // Puts a piece that is given in two parts.
+    /// Puts a piece that is given in two parts.
     #[inline]
-    fn append_parts(&mut self, front: &[u8], back: &[u8]) -> Result<(), PutRefused>
-        ensures { Adds W.took W.answered W.failures self.old self.new
-            (front.now ++ back.now) result }
+    fn append_parts(&mut self, head: &[u8], end: &[u8]) -> Result<(), PutRefused>
+        ensures { Adds W.Sink self.old self.new (head.now ++ end.now) result }
     {
-        if self.is_taken_at_once(front, back) {
+        if self.is_taken_at_once(head, end) {
             return Ok(());
         }
-        self.append_pending_parts(front, back)
+        self.append_pending_parts(head, end)
     }
 
-    // Puts the first n bytes of `bytes` where they wait for the writer.
+    /// Puts the first n bytes of `bytes` where they wait for the writer.
     #[inline(always)]
     fn append_pending_front(&mut self, bytes: &[u8], n: usize) -> Result<(), PutRefused>
         requires { n ≤ length bytes.now }
-        ensures { Adds W.took W.answered W.failures self.old self.new (take n bytes.now) result }
+        ensures { Adds W.Sink self.old self.new (take n bytes.now) result }
     {
         self.make_room()?;
         match append_front(&mut self.pending, bytes, n) {
@@ -263,11 +275,10 @@ impl<W: Sink> Serializer<W> {
         }
     }
 
-    // Puts a tag and a count of one byte, and then these bytes, where they wait for the writer.
+    /// Puts a tag and a count of one byte, and then these bytes, where they wait for the writer.
     #[inline(never)]
     fn append_pending_short(&mut self, tag: u8, count: u8, bytes: &[u8]) -> Result<(), PutRefused>
-        ensures { Adds W.took W.answered W.failures self.old self.new
-            (tag ∷ 3 ∷ count ∷ bytes.now) result }
+        ensures { Adds W.Sink self.old self.new (tag ∷ 3 ∷ count ∷ bytes.now) result }
     {
         self.make_room()?;
         match append_both(&mut self.pending, &[tag, BSER_INT8, count], bytes) {
@@ -276,14 +287,13 @@ impl<W: Sink> Serializer<W> {
         }
     }
 
-    // Puts a piece that is given in two parts where it waits for the writer.
+    /// Puts a piece that is given in two parts where it waits for the writer.
     #[inline(never)]
-    fn append_pending_parts(&mut self, front: &[u8], back: &[u8]) -> Result<(), PutRefused>
-        ensures { Adds W.took W.answered W.failures self.old self.new
-            (front.now ++ back.now) result }
+    fn append_pending_parts(&mut self, head: &[u8], end: &[u8]) -> Result<(), PutRefused>
+        ensures { Adds W.Sink self.old self.new (head.now ++ end.now) result }
     {
         self.make_room()?;
-        match append_both(&mut self.pending, front, back) {
+        match append_both(&mut self.pending, head, end) {
             Ok(()) => Ok(()),
             Err(_) => Err(self.out_of_memory()),
         }

@@ -1,6 +1,7 @@
 //! The least spelling of an integer.
 ghost use Rattle.std.specs.Prelude.{◌≡◌, ◌≤◌, length, take};
 ghost use Rattle.bser_format.specs.Canonical.{least_integer, is_within as within};
+ghost use Rattle.bser_ser.specs.declared.integer.TheConstants.{LONGEST};
 
 use bser_format::header::{BSER_INT8, BSER_INT16, BSER_INT32, BSER_INT64};
 use byteorder::{ByteOrder, LittleEndian};
@@ -11,8 +12,8 @@ pub const LONGEST: usize = 9;
 /// Writes the least spelling of `v` to the front of `buf`, and answers how many bytes it takes.
 #[inline]
 pub fn spell(buf: &mut [u8], v: i64) -> usize
-    requires { 9 ≤ length buf.old }
-    ensures bound { result ≤ 9 }
+    requires { LONGEST ≤ length buf.old }
+    ensures bound { result ≤ LONGEST }
     ensures spelled { take result buf.new ≡ least_integer v }
 {
     if is_within(0x80, v) {
@@ -35,7 +36,7 @@ pub fn spell(buf: &mut [u8], v: i64) -> usize
     LONGEST
 }
 
-// Whether v is at least -limit and below it.
+/// Whether v is at least -limit and below it.
 fn is_within(limit: u64, v: i64) -> bool
     ensures { result ≡ within limit v }
 {

@@ -10,7 +10,6 @@ ghost use Rattle.bser_format.specs.declared.errors.Error.{Error};
 ghost use Rattle.bser_ser.specs.Ends.{Ends, Stops, text_of, CanBeWritten};
 
 mod adds;
-mod count;
 mod holders;
 mod integer;
 mod lists;
@@ -22,23 +21,23 @@ mod scalars;
 mod serializer;
 mod tuples;
 
-pub use crate::count::CountWrite;
+pub use crate::adds::Parts;
 pub use crate::serializer::{PutRefused, Serializer};
 use bser_format::errors::Result;
+pub use bser_source::count::CountWrite;
 use bser_source::device::Sink;
 use std::alloc::Global;
 
 /// A value that can be written.
 ///
-/// The crate takes serde's trait, and a type there says only how it is written. Here it also says
-/// as which tree, or with which error it is refused.
+/// A type says how it is written, and as which tree, or with which error it is refused.
 pub trait Serialize {
     // the value's tree, or the error that says why it has none
     ghost meaning: { Self → Result Tree Error };
 
     /// Puts the canonical text of the value's tree. On success the tree can be written: each of its
-    /// numbers and counts is in its range, each text is UTF-8, and each row of a template has a field
-    /// for each key.
+    /// numbers and counts is in its range, each text is UTF-8, and each row of a template has a
+    /// field for each key.
     ///
     /// A value without a tree is refused with the error that `meaning` names, as an integer above
     /// `i64::MAX` with [`SerU64TooBig`](bser_format::errors::Error::SerU64TooBig) and itself, and a
@@ -47,9 +46,7 @@ pub trait Serialize {
     /// own, and `OutOfMemory`. After a refusal the parts before it have been put. The writer counts
     /// a failure only for an `Io`.
     fn serialize<W: Sink>(&self, alloc: Global, out: &mut Serializer<W>) -> Result<()>
-        ensures ok { OnOk result (Ends W.took W.failures
-            (text_of (meaning self.now)) out.old out.new) }
+        ensures ok { OnOk result (Ends W.Sink (text_of (meaning self.now)) out.old out.new) }
         ensures writable { OnOk result (CanBeWritten (meaning self.now)) }
-        ensures err { IfErr result (Stops W.took W.answered W.failures
-            (text_of (meaning self.now)) out.old out.new) };
+        ensures err { IfErr result (Stops W.Sink (text_of (meaning self.now)) out.old out.new) };
 }

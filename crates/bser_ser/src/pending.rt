@@ -1,8 +1,9 @@
 //! The bytes that a writer has still to take.
-ghost use Rattle.std.specs.Prelude.{◌≡◌, ◌≤◌, List, ℕ, [], ◌∷◌, ◌++◌, length, take, drop, OnOk, OnErr, IfErr};
+ghost use Rattle.std.specs.Prelude.{◌≡◌, ◌≤◌, [], ◌∷◌, ◌++◌, length, take, drop, OnOk, IfErr};
 ghost use Rattle.bser_format.specs.Canonical.{least_integer};
 ghost use Rattle.bser_format.specs.declared.errors.Error.TheVariants.{Io};
-ghost use Rattle.bser_ser.specs.Stopped.{Accounts};
+ghost use Rattle.bser_ser.specs.Sent.{Appends, payload_head};
+ghost use Rattle.bser_ser.specs.Stopped.{Accounts, TookAllBut};
 ghost use Rattle.bser_written.specs.Pieces.{newtype_variant_head};
 
 use crate::integer::{LONGEST, spell};
@@ -16,8 +17,7 @@ use std::result::Result;
 /// Appends two pieces, or nothing.
 #[inline(always)]
 pub fn append_both(pending: &mut Vec<u8>, front: &[u8], back: &[u8]) -> Result<(), AllocError>
-    ensures ok { OnOk result (pending.new.items ≡ pending.old.items ++ (front.now ++ back.now)) }
-    ensures err { OnErr result (pending.new.items ≡ pending.old.items) }
+    ensures { Appends pending.old.items pending.new.items (front.now ++ back.now) result }
 {
     let before = pending.len();
     pending.extend_from_slice(front)?;
@@ -35,8 +35,7 @@ pub fn append_both(pending: &mut Vec<u8>, front: &[u8], back: &[u8]) -> Result<(
 #[inline(always)]
 pub fn append_front(pending: &mut Vec<u8>, bytes: &[u8], n: usize) -> Result<(), AllocError>
     requires { n ≤ length bytes.now }
-    ensures ok { OnOk result (pending.new.items ≡ pending.old.items ++ take n bytes.now) }
-    ensures err { OnErr result (pending.new.items ≡ pending.old.items) }
+    ensures { Appends pending.old.items pending.new.items (take n bytes.now) result }
 {
     let before = pending.len();
     pending.extend_from_slice(bytes)?;
@@ -46,8 +45,7 @@ pub fn append_front(pending: &mut Vec<u8>, bytes: &[u8], n: usize) -> Result<(),
 
 /// Appends a tag and a count, or nothing.
 pub fn append_head(pending: &mut Vec<u8>, tag: u8, count: i64) -> Result<(), AllocError>
-    ensures ok { OnOk result (pending.new.items ≡ pending.old.items ++ tag ∷ least_integer count) }
-    ensures err { OnErr result (pending.new.items ≡ pending.old.items) }
+    ensures { Appends pending.old.items pending.new.items (tag ∷ least_integer count) result }
 {
     let mut head = [tag; LONGEST + 1];
     let len = spell(&mut head[1..], count);
@@ -56,9 +54,7 @@ pub fn append_head(pending: &mut Vec<u8>, tag: u8, count: i64) -> Result<(), All
 
 /// Appends an object's head for one entry, and the entry's key, or nothing.
 pub fn append_variant(pending: &mut Vec<u8>, name: &str) -> Result<(), AllocError>
-    ensures ok { OnOk result (pending.new.items
-        ≡ pending.old.items ++ newtype_variant_head name.now) }
-    ensures err { OnErr result (pending.new.items ≡ pending.old.items) }
+    ensures { Appends pending.old.items pending.new.items (newtype_variant_head name.now) result }
 {
     let before = pending.len();
     pending.extend_from_slice(&[BSER_OBJECT, BSER_INT8, 1])?;
@@ -78,9 +74,7 @@ pub fn append_variant_of(
     tag: u8,
     count: i64,
 ) -> Result<(), AllocError>
-    ensures ok { OnOk result (pending.new.items ≡ pending.old.items ++
-        (newtype_variant_head name.now ++ tag ∷ least_integer count)) }
-    ensures err { OnErr result (pending.new.items ≡ pending.old.items) }
+    ensures { Appends pending.old.items pending.new.items (payload_head name.now tag count) result }
 {
     let before = pending.len();
     append_variant(pending, name)?;
@@ -96,11 +90,10 @@ pub fn append_variant_of(
 /// The fault is the writer's own, or of kind `WriteZero` where it took nothing. Where none is
 /// answered, none was counted, and else one.
 pub fn send<W: Sink>(writer: &mut W, pending: &mut Vec<u8>) -> io::Result<()>
-    ensures sent { (taken : List ℕ) × W.took writer.old writer.new taken ×
-        (pending.old.items ≡ taken ++ pending.new.items) }
+    ensures sent { TookAllBut W.Sink writer.old writer.new pending.old.items pending.new.items }
     ensures ok { OnOk result (pending.new.items ≡ []) }
     ensures kept { OnOk result (W.failures writer.new ≡ W.failures writer.old) }
-    ensures err { IfErr result (λ e. Accounts W.took W.answered W.failures
+    ensures err { IfErr result (λ e. Accounts W.Sink
         writer.old writer.new pending.old.items (Io e)) }
 {
     let mut done = 0;
@@ -123,7 +116,7 @@ pub fn send<W: Sink>(writer: &mut W, pending: &mut Vec<u8>) -> io::Result<()>
     Ok(())
 }
 
-// Takes the first n bytes away.
+/// Takes the first n bytes away.
 fn cut_front(pending: &mut Vec<u8>, n: usize)
     requires { n ≤ length pending.old.items }
     ensures { pending.new.items ≡ drop n pending.old.items }

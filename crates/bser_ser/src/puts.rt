@@ -1,11 +1,12 @@
 //! The puts of a serializer.
-ghost use Rattle.std.specs.Prelude.{◌≡◌, pos, ◌<◌, ◌^◌, ◌∷◌, ◌++◌, [], length, OnOk, IfOk, IfErr, encode_utf8};
-ghost use Rattle.std.specs.Int.{w32, to_le_bytes};
-ghost use Rattle.bser_format.specs.Canonical.{least_integer, least_count, IsWritableText};
+ghost use Rattle.std.specs.Prelude.{◌≡◌, pos, ◌<◌, ◌^◌, OnOk, IfOk, IfErr, encode_utf8};
+ghost use Rattle.bser_format.specs.Canonical.{IsWritableText};
 ghost use Rattle.bser_written.specs.Pieces.{null_piece, bool_piece, integer_piece, real_piece, text_piece, bytes_piece, key_piece, array_head, object_head, template_tag, newtype_variant_head, tuple_variant_head, struct_variant_head};
 ghost use Rattle.bser_format.specs.declared.errors.Collection.TheVariants.{Sequence, Map};
-ghost use Rattle.bser_ser.specs.Sent.{Puts, PutsOr, IsTooBig, IsTooMany, IsMiscounted, IsCounted, count_or_zero};
+ghost use Rattle.bser_ser.specs.Message.{front_of};
+ghost use Rattle.bser_ser.specs.Sent.{Puts, PutsOr, PutsHead, IsTooBig, IsTooMany, IsCounted, payload_head};
 
+use crate::adds::Parts;
 use crate::serializer::Serializer;
 use bser_format::errors::{Collection, Complaint, Error, Result};
 use bser_format::header::{BSER_ARRAY, BSER_OBJECT};
@@ -17,12 +18,10 @@ use bser_source::device::Sink;
 /// `Io`: it is what the writer answered, or of kind `WriteZero` where it took nothing, and is not
 /// tried again. A growth that is refused is `OutOfMemory`. Other refusals stand at each put. The
 /// writer counts one failure for an `Io`, and none where a put succeeds or is refused otherwise.
-///
-/// The crate has serde's `serialize_` calls in the place of the puts.
 impl<W: Sink> Serializer<W> {
     /// Puts null.
     pub fn put_null(&mut self) -> Result<()>
-        ensures { Puts W.took W.answered W.failures self.old self.new null_piece result }
+        ensures { Puts W.Sink self.old self.new null_piece result }
     {
         match self.add_null() {
             Ok(()) => Ok(()),
@@ -32,7 +31,7 @@ impl<W: Sink> Serializer<W> {
 
     /// Puts a truth value.
     pub fn put_bool(&mut self, v: bool) -> Result<()>
-        ensures { Puts W.took W.answered W.failures self.old self.new (bool_piece v) result }
+        ensures { Puts W.Sink self.old self.new (bool_piece v) result }
     {
         match self.add_bool(v) {
             Ok(()) => Ok(()),
@@ -42,7 +41,7 @@ impl<W: Sink> Serializer<W> {
 
     /// Puts an integer in its least size.
     pub fn put_i64(&mut self, v: i64) -> Result<()>
-        ensures { Puts W.took W.answered W.failures self.old self.new (integer_piece v) result }
+        ensures { Puts W.Sink self.old self.new (integer_piece v) result }
     {
         match self.add_i64(v) {
             Ok(()) => Ok(()),
@@ -52,8 +51,7 @@ impl<W: Sink> Serializer<W> {
 
     /// Puts an integer in its least size. One above `i64::MAX` is refused with `SerU64TooBig`.
     pub fn put_u64(&mut self, v: u64) -> Result<()>
-        ensures put { PutsOr (IsTooBig v) W.took W.answered W.failures self.old self.new
-            (integer_piece (pos v)) result }
+        ensures put { PutsOr (IsTooBig v) W.Sink self.old self.new (integer_piece (pos v)) result }
         ensures fits { OnOk result (v < 2 ^ 63) }
     {
         match i64::try_from(v) {
@@ -64,7 +62,7 @@ impl<W: Sink> Serializer<W> {
 
     /// Puts a real, given by its 64 bits.
     pub fn put_real_bits(&mut self, bits: u64) -> Result<()>
-        ensures { Puts W.took W.answered W.failures self.old self.new (real_piece bits) result }
+        ensures { Puts W.Sink self.old self.new (real_piece bits) result }
     {
         match self.add_real_bits(bits) {
             Ok(()) => Ok(()),
@@ -74,8 +72,7 @@ impl<W: Sink> Serializer<W> {
 
     /// Puts a text.
     pub fn put_text(&mut self, text: &str) -> Result<()>
-        ensures put { Puts W.took W.answered W.failures self.old self.new
-            (text_piece text.now) result }
+        ensures put { Puts W.Sink self.old self.new (text_piece text.now) result }
         ensures writable { OnOk result (IsWritableText text.now) }
     {
         match self.add_text(text) {
@@ -86,8 +83,7 @@ impl<W: Sink> Serializer<W> {
 
     /// Puts the text of one character.
     pub fn put_char(&mut self, c: char) -> Result<()>
-        ensures put { Puts W.took W.answered W.failures self.old self.new
-            (text_piece (encode_utf8 c)) result }
+        ensures put { Puts W.Sink self.old self.new (text_piece (encode_utf8 c)) result }
         ensures writable { OnOk result (IsWritableText (encode_utf8 c)) }
     {
         let mut buf = [0; 4];
@@ -96,8 +92,7 @@ impl<W: Sink> Serializer<W> {
 
     /// Puts a byte string.
     pub fn put_bytes(&mut self, bytes: &[u8]) -> Result<()>
-        ensures { Puts W.took W.answered W.failures self.old self.new
-            (bytes_piece bytes.now) result }
+        ensures { Puts W.Sink self.old self.new (bytes_piece bytes.now) result }
     {
         match self.add_bytes(bytes) {
             Ok(()) => Ok(()),
@@ -107,7 +102,7 @@ impl<W: Sink> Serializer<W> {
 
     /// Puts an object's key: a text where it is UTF-8, else a byte string.
     pub fn put_key(&mut self, key: &[u8]) -> Result<()>
-        ensures { Puts W.took W.answered W.failures self.old self.new (key_piece key.now) result }
+        ensures { Puts W.Sink self.old self.new (key_piece key.now) result }
     {
         match str::from_utf8(key) {
             Ok(text) => self.put_text(text),
@@ -115,9 +110,9 @@ impl<W: Sink> Serializer<W> {
         }
     }
 
-    // Puts an object's key that is a text.
+    /// Puts an object's key that is a text.
     pub(crate) fn put_text_key(&mut self, key: &str) -> Result<()>
-        ensures { Puts W.took W.answered W.failures self.old self.new (key_piece key.now) result }
+        ensures { Puts W.Sink self.old self.new (key_piece key.now) result }
     {
         self.put_text(key)
     }
@@ -127,8 +122,7 @@ impl<W: Sink> Serializer<W> {
     /// A missing count is refused with `SerNeedSize`, and one above `i64::MAX` with `SerCustom`
     /// `CountTooGreat`.
     pub fn put_seq(&mut self, count: Option<usize>) -> Result<()>
-        ensures put { PutsOr (IsMiscounted Sequence count) W.took W.answered W.failures
-            self.old self.new (array_head (count_or_zero count)) result }
+        ensures put { PutsHead Sequence array_head W.Sink self.old self.new count result }
         ensures counted { OnOk result (IsCounted count) }
     {
         let Some(n) = count else {
@@ -137,7 +131,7 @@ impl<W: Sink> Serializer<W> {
             });
         };
         let count = checked(n)?;
-        match self.add_array(count) {
+        match self.add_seq(count) {
             Ok(()) => Ok(()),
             Err(_) => Err(self.refusal()),
         }
@@ -148,8 +142,7 @@ impl<W: Sink> Serializer<W> {
     /// A missing count is refused with `SerNeedSize`, and one above `i64::MAX` with `SerCustom`
     /// `CountTooGreat`.
     pub fn put_map(&mut self, count: Option<usize>) -> Result<()>
-        ensures put { PutsOr (IsMiscounted Map count) W.took W.answered W.failures self.old self.new
-            (object_head (count_or_zero count)) result }
+        ensures put { PutsHead Map object_head W.Sink self.old self.new count result }
         ensures counted { OnOk result (IsCounted count) }
     {
         let Some(n) = count else {
@@ -158,19 +151,19 @@ impl<W: Sink> Serializer<W> {
             });
         };
         let count = checked(n)?;
-        match self.add_object(count) {
+        match self.add_map(count) {
             Ok(()) => Ok(()),
             Err(_) => Err(self.refusal()),
         }
     }
 
-    /// Puts a template's tag. The rest of its head follows: [`put_seq`](Self::put_seq) for the count
-    /// of its keys, [`put_key`](Self::put_key) for each key, and [`put_i64`](Self::put_i64) for the
-    /// count of its rows; then for each row a value for each key.
+    /// Puts a template's tag. The rest of its head follows: [`put_seq`](Self::put_seq) for the
+    /// count of its keys, [`put_key`](Self::put_key) for each key, and [`put_i64`](Self::put_i64)
+    /// for the count of its rows; then for each row a value for each key.
     ///
-    /// Nothing checks that what follows makes a template. The crate never writes one.
+    /// Nothing checks that what follows makes a template.
     pub fn put_template(&mut self) -> Result<()>
-        ensures { Puts W.took W.answered W.failures self.old self.new template_tag result }
+        ensures { Puts W.Sink self.old self.new template_tag result }
     {
         match self.add_template() {
             Ok(()) => Ok(()),
@@ -180,8 +173,7 @@ impl<W: Sink> Serializer<W> {
 
     /// Puts the head of an enum's variant with one value, which follows.
     pub fn put_newtype_variant(&mut self, name: &str) -> Result<()>
-        ensures { Puts W.took W.answered W.failures self.old self.new
-            (newtype_variant_head name.now) result }
+        ensures { Puts W.Sink self.old self.new (newtype_variant_head name.now) result }
     {
         match self.add_variant(name) {
             Ok(()) => Ok(()),
@@ -194,7 +186,7 @@ impl<W: Sink> Serializer<W> {
     ///
     /// A count above `i64::MAX` is refused with `SerCustom` `CountTooGreat`.
     pub fn put_tuple_variant(&mut self, name: &str, count: usize) -> Result<()>
-        ensures put { PutsOr (IsTooMany count) W.took W.answered W.failures self.old self.new
+        ensures put { PutsOr (IsTooMany count) W.Sink self.old self.new
             (tuple_variant_head name.now count) result }
         ensures fits { OnOk result (count < 2 ^ 63) }
     {
@@ -202,21 +194,20 @@ impl<W: Sink> Serializer<W> {
     }
 
     /// Puts the head of an enum's variant with `count` fields, which follow as the entries of an
-    /// object. The crate opens an array here, which no reader takes for the fields.
+    /// object.
     ///
     /// A count above `i64::MAX` is refused with `SerCustom` `CountTooGreat`.
     pub fn put_struct_variant(&mut self, name: &str, count: usize) -> Result<()>
-        ensures put { PutsOr (IsTooMany count) W.took W.answered W.failures self.old self.new
+        ensures put { PutsOr (IsTooMany count) W.Sink self.old self.new
             (struct_variant_head name.now count) result }
         ensures fits { OnOk result (count < 2 ^ 63) }
     {
         self.put_variant_of(name, BSER_OBJECT, count)
     }
 
-    // Puts the front of a message whose body has this many bytes.
+    /// Puts the front of a message whose body has this many bytes.
     pub(crate) fn put_front(&mut self, body: i64) -> Result<()>
-        ensures { Puts W.took W.answered W.failures self.old self.new
-            (0 ∷ 2 ∷ (to_le_bytes w32 0 ++ least_integer body)) result }
+        ensures { Puts W.Sink self.old self.new (front_of body) result }
     {
         match self.add_front(body) {
             Ok(()) => Ok(()),
@@ -224,10 +215,10 @@ impl<W: Sink> Serializer<W> {
         }
     }
 
-    // Puts a variant's head, and its payload's tag and count.
+    /// Puts a variant's head, and its payload's tag and count.
     fn put_variant_of(&mut self, name: &str, tag: u8, count: usize) -> Result<()>
-        ensures put { PutsOr (IsTooMany count) W.took W.answered W.failures self.old self.new
-            (newtype_variant_head name.now ++ tag ∷ least_count count) result }
+        ensures put { PutsOr (IsTooMany count) W.Sink self.old self.new
+            (payload_head name.now tag (pos count)) result }
         ensures fits { OnOk result (count < 2 ^ 63) }
     {
         let count = checked(count)? as i64;
@@ -238,7 +229,7 @@ impl<W: Sink> Serializer<W> {
     }
 }
 
-// The count, where the format has it.
+/// The count, where the format has it.
 fn checked(n: usize) -> Result<usize>
     ensures same { IfOk result (λ count. count ≡ n) }
     ensures fits { OnOk result (n < 2 ^ 63) }

@@ -1,7 +1,8 @@
 //! A serializer: pieces on their way to a writer.
 ghost use Rattle.std.specs.Prelude.{◌≡◌, ◌≤◌, [], ◌++◌, length, OnOk, OnErr, IfOk, IfErr, IsTrue, if◌then◌else◌};
 ghost use Rattle.bser_format.specs.declared.errors.Error.TheVariants.{OutOfMemory, Io};
-ghost use Rattle.bser_ser.specs.Sent.{Sent, Refused, Finishes, IsFlushed, IsNew, writer_of, pending_of, refusal_of};
+ghost use Rattle.bser_ser.specs.Sent.{Sent, Refused, NotPut, Finishes, IsFlushed, IsNew, KeepsReason, writer_of, pending_of, refusal_of};
+ghost use Rattle.bser_ser.specs.declared.serializer.TheConstants.{MOST_PENDING};
 
 use crate::pending::send;
 use bser_source::device::Sink;
@@ -9,25 +10,23 @@ use std::alloc::Global;
 use std::io;
 use std::result::Result;
 
-// More pending bytes than these are sent before a put.
-const LIMIT: usize = 4096;
+/// More pending bytes than these are sent before a put.
+pub const MOST_PENDING: usize = 4096;
 
 /// Collects the pieces that are put, and sends them to a writer.
 ///
 /// What the writer took, followed by what is pending, is at each time the pieces put so far. A put
 /// sends first where more than 4096 bytes are pending, so that at most 4096 bytes and its own piece
 /// are pending after it.
-///
-/// The crate sends for ever to a writer that takes nothing, and retries an interruption.
 #[derive(Drop)]
 pub struct Serializer<W> {
     pub(crate) writer: W,
     pub(crate) pending: Vec<u8>,
-    // the writer's fault, where the last refusal was for one
+    /// The writer's fault, where the last refusal was for one.
     pub(crate) fault: Option<io::Error>,
 }
 
-/// A put was refused, and its serializer keeps the reason: [`Serializer::refusal`].
+/// A put was refused, and its serializer keeps the reason: [`Parts::refusal`](crate::Parts::refusal).
 #[derive(Debug, Clone, Copy)]
 pub struct PutRefused;
 
@@ -43,7 +42,7 @@ impl<W> Serializer<W> {
         }
     }
 
-    /// Gives the writer back. What is pending is dropped, and isn't sent.
+    /// Gives the writer back. What is pending is dropped, and is not sent.
     pub fn into_writer(self) -> W
         ensures { result ≡ writer_of self }
     {
@@ -57,16 +56,16 @@ impl<W> Serializer<W> {
 }
 
 impl<W: Sink> Serializer<W> {
-    /// Sends all that is pending. The writer's own `flush` isn't called.
+    /// Sends all that is pending. The writer's own `flush` is not called.
     ///
     /// A fault of the writer is handed back, an interruption too, and a writer that takes nothing
     /// gives a fault of kind `WriteZero`. The next call goes on at the first byte that the writer
     /// has not taken.
     pub fn flush(&mut self) -> io::Result<()>
-        ensures ok { OnOk result (Sent W.took W.failures self.old self.new []) }
+        ensures ok { OnOk result (Sent W.Sink self.old self.new []) }
         ensures all { OnOk result (IsFlushed self.new) }
-        ensures err { IfErr result (λ e. Refused W.took W.answered W.failures
-            self.old self.new [] (Io e)) }
+        ensures err { IfErr result (λ e. Refused W.Sink self.old self.new [] (Io e)) }
+        ensures reason { KeepsReason self.old self.new }
     {
         send(&mut self.writer, &mut self.pending)
     }
@@ -77,9 +76,9 @@ impl<W: Sink> Serializer<W> {
     pub fn finish(self) -> io::Result<W>
     where
         W: Drop,
-        ensures ok { IfOk result (λ w. Finishes W.took W.failures self w) }
+        ensures ok { IfOk result (λ w. Finishes W.Sink self w) }
         ensures err { IfErr result (λ e. (dropped : Serializer W)
-            × Refused W.took W.answered W.failures self dropped [] (Io e)) }
+            × Refused W.Sink self dropped [] (Io e)) }
     {
         match self.try_finish() {
             Ok(writer) => Ok(writer),
@@ -92,9 +91,9 @@ impl<W: Sink> Serializer<W> {
     /// Faults are those of [`flush`](Serializer::flush); the serializer is then handed back, and
     /// can go on.
     pub fn try_finish(self) -> Result<W, (Self, io::Error)>
-        ensures ok { IfOk result (λ w. Finishes W.took W.failures self w) }
-        ensures err { IfErr result (λ e. Refused W.took W.answered W.failures
-            self e.0 [] (Io e.1)) }
+        ensures ok { IfOk result (λ w. Finishes W.Sink self w) }
+        ensures err { IfErr result (λ e. Refused W.Sink self e.0 [] (Io e.1)) }
+        ensures reason { IfErr result (λ e. KeepsReason self e.0) }
     {
         let mut whole = self;
         match whole.flush() {
@@ -103,27 +102,25 @@ impl<W: Sink> Serializer<W> {
         }
     }
 
-    /// Sends where more than [`LIMIT`] bytes are pending.
+    /// Sends where more than [`MOST_PENDING`] bytes are pending.
     #[inline(always)]
     pub(crate) fn make_room(&mut self) -> Result<(), PutRefused>
-        ensures ok { OnOk result (Sent W.took W.failures self.old self.new []) }
-        ensures room { OnOk result (length (pending_of self.new) ≤ 4096) }
-        ensures err { OnErr result (Refused W.took W.answered W.failures
-            self.old self.new [] (refusal_of self.new)) }
+        ensures ok { OnOk result (Sent W.Sink self.old self.new []) }
+        ensures room { OnOk result (length (pending_of self.new) ≤ MOST_PENDING) }
+        ensures err { OnErr result (NotPut W.Sink self.old self.new) }
     {
-        if self.pending.len() > LIMIT {
+        if self.pending.len() > MOST_PENDING {
             return self.send_now();
         }
         Ok(())
     }
 
-    // Sends all that is pending, and keeps the writer's fault.
+    /// Sends all that is pending, and keeps the writer's fault.
     #[cold]
     fn send_now(&mut self) -> Result<(), PutRefused>
-        ensures ok { OnOk result (Sent W.took W.failures self.old self.new []) }
+        ensures ok { OnOk result (Sent W.Sink self.old self.new []) }
         ensures all { OnOk result (IsFlushed self.new) }
-        ensures err { OnErr result (Refused W.took W.answered W.failures
-            self.old self.new [] (refusal_of self.new)) }
+        ensures err { OnErr result (NotPut W.Sink self.old self.new) }
     {
         match self.flush() {
             Ok(()) => Ok(()),
@@ -134,7 +131,7 @@ impl<W: Sink> Serializer<W> {
         }
     }
 
-    // Keeps want of memory as the reason of a refusal.
+    /// Keeps want of memory as the reason of a refusal.
     #[cold]
     pub(crate) fn out_of_memory(&mut self) -> PutRefused
         ensures writer { writer_of self.new ≡ writer_of self.old }
@@ -145,10 +142,10 @@ impl<W: Sink> Serializer<W> {
         PutRefused
     }
 
-    // Gives the writer both parts of a piece, if nothing is pending and it takes them at once.
+    /// Gives the writer both parts of a piece, if nothing is pending and it takes them at once.
     #[inline(always)]
     pub(crate) fn is_taken_at_once(&mut self, front: &[u8], back: &[u8]) -> bool
-        ensures sent { Sent W.took W.failures self.old self.new
+        ensures sent { Sent W.Sink self.old self.new
             (if result then front.now ++ back.now else []) }
         ensures all { IsTrue result → IsFlushed self.new }
     {

@@ -30,3 +30,10 @@ displayed = fold-Value (Option (List ℕ)) text_step
 -- an entry of an object, and of what is left of one
 abbrev pub member_text : String Global × Value → Option (List ℕ)
 member_text e = entry_text (e.0, displayed e.1)
+
+-- the items of an array in brackets, and the entries of an object in braces
+abbrev pub items_text : List Value → Option (List ℕ)
+items_text vs = Some (codes "[") ++? debug_items displayed [] vs ++? Some (codes "]")
+
+abbrev pub entries_text : List (String Global × Value) → Option (List ℕ)
+entries_text es = Some (codes "{") ++? debug_items member_text [] es ++? Some (codes "}")

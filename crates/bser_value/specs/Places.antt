@@ -1,11 +1,17 @@
 -- The last place of each key of a template, in a map, and the fields of a row that take their slots.
 use Rattle.std.specs.Prelude.{◌≡◌, ℕ, suc, ◌<◌, pos, List, [], ◌∷◌, length, map, get_or, set, String}
 use Rattle.std.specs.declared.alloc.Global.{Global}
+use Rattle.std.specs.BTreeMap.{BTreeMap}
 use Rattle.std.specs.List.{zip}
 use Rattle.bser_format.specs.Tree.{Tree, integer}
 use Rattle.bser_format.specs.Normal.{last_entries}
+use Rattle.bser_value.specs.Made.{with_entry}
 use Rattle.bser_value.specs.declared.value.Value.{Value, Null}
 use Rattle.bser_value.specs.ValueView.{tree_of, entry_trees}
+
+-- an entry was put in; the last of equal keys stays
+abbrev pub PutsEntry : List ℕ → Tree → BTreeMap (String Global) Value → BTreeMap (String Global) Value → Type 0
+PutsEntry key t old new = entry_trees new.entries ≡ with_entry (entry_trees old.entries) key t
 
 -- the places from n on, a number for each key
 abbrev pub places_from : ℕ → List (List ℕ) → List Tree

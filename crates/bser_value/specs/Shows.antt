@@ -4,7 +4,7 @@ use Rattle.std.specs.List.{AllZip, zip}
 use Rattle.bser_format.specs.Tree.{Tree, array, object, entries_of}
 use Rattle.bser_format.specs.Normal.{last_entries}
 use Rattle.bser_events.specs.Events.{Event}
-use Rattle.bser_value.specs.Made.{Open, whole, in_array, in_object, in_keys, in_rows, Stack, built, make}
+use Rattle.bser_value.specs.Made.{Open, whole, in_array, in_object, in_keys, in_rows, Stack, built, make, put, named, give, opened, closed, inside}
 use Rattle.bser_value.specs.Gathered.{all_items}
 use Rattle.bser_value.specs.Places.{ArePlaces}
 use Rattle.bser_value.specs.ValueView.{tree_of, items_view, entry_trees}
@@ -57,6 +57,33 @@ pub record Shows (b : ValueBuilder) (s : Stack) : Type 0 where
 -- what f makes of what was shown is shown
 abbrev pub Turns : {B O : Type 0} → (B → O → Type 0) → (O → Option O) → B → B → Type 0
 Turns shows f old new = (a b : _) → shows old a → f a ≡ Some b → shows new b
+
+-- the value that comes next was put in: into a template, into what is being read, into the innermost
+abbrev pub PutsInRow : Tree → Table → Table → Type 0
+PutsInRow t old new = Turns ShowsTable (put t) old new
+
+abbrev pub PutsNext : Tree → Building → Building → Type 0
+PutsNext t old new = Turns ShowsOpen (put t) old new
+
+abbrev pub Gives : Tree → ValueBuilder → ValueBuilder → Type 0
+Gives t old new = Turns Shows (give t) old new
+
+-- a key was taken: by a template, by what is being read, by the innermost
+abbrev pub NamesField : List ℕ → Table → Table → Type 0
+NamesField key old new = Turns ShowsTable (named key) old new
+
+abbrev pub NamesNext : List ℕ → Building → Building → Type 0
+NamesNext key old new = Turns ShowsOpen (named key) old new
+
+abbrev pub Names : List ℕ → ValueBuilder → ValueBuilder → Type 0
+Names key old new = Turns Shows (λ s. inside (named key s.inner) s.around) old new
+
+-- a container was opened inside the innermost, or the innermost was closed
+abbrev pub Opens : Open → ValueBuilder → ValueBuilder → Type 0
+Opens o old new = Turns Shows (opened o) old new
+
+abbrev pub Closes : ValueBuilder → ValueBuilder → Type 0
+Closes old new = Turns Shows (λ s. closed s.inner s.around) old new
 
 -- an event was taken
 abbrev pub Takes : ValueBuilder → Event → ValueBuilder → Type 0

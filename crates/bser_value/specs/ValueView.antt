@@ -1,8 +1,10 @@
 -- The tree of a `Value`.
-use Rattle.std.specs.Prelude.{◌≡◌, ℕ, List, [], ◌∷◌, map, String, string_bytes}
+use Rattle.std.specs.Prelude.{◌≡◌, ℕ, List, [], ◌∷◌, map, String, string_bytes, Result, Ok}
 use Rattle.std.specs.declared.alloc.Global.{Global}
 use Rattle.bser_format.specs.Tree.{Tree, null, boolean, integer, real, bytes, text, array, object, Items, Entries, no_entries, entry, items_of}
 use Rattle.bser_format.specs.Content.{Content, value}
+use Rattle.bser_format.specs.declared.errors.Error.{Error}
+use Rattle.bser_written.specs.Written.{array_tree, object_tree}
 use Rattle.bser_written.specs.ValueTree.{IsValueTree}
 use Rattle.bser_value.specs.declared.value.Value.{Value, fold-Value}
 use Rattle.bser_value.specs.declared.value.Value.TheOpen.{Value-F}
@@ -35,9 +37,23 @@ items_view vs = items_of (map tree_of vs)
 abbrev pub entries_view : List (String Global × Value) → Entries
 entries_view es = map_entries (map (λ e. (e.0, tree_of e.1)) es)
 
+-- the array of these items, and the object of these entries
+abbrev pub items_tree : List Value → Tree
+items_tree vs = array (items_view vs)
+
+abbrev pub entries_tree : List (String Global × Value) → Tree
+entries_tree es = object (entries_view es)
+
 -- the same as pairs of a key's bytes and a tree
 abbrev pub entry_trees : List (String Global × Value) → List (List ℕ × Tree)
 entry_trees es = map (λ e. (string_bytes e.0, tree_of e.1)) es
+
+-- how the items of an array are written, and the entries of an object
+abbrev pub items_meaning : List Value → Result Tree Error
+items_meaning vs = array_tree (λ v. Ok (tree_of v)) vs
+
+abbrev pub entries_meaning : List (String Global × Value) → Result Tree Error
+entries_meaning es = object_tree string_bytes (λ v. Ok (tree_of v)) es
 
 -- the content of a value is its tree
 abbrev pub HoldsTree : Value → Content → Type 0

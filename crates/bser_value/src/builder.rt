@@ -1,19 +1,8 @@
 //! What is made of the events of a value.
 ghost use Rattle.std.specs.Prelude.{◌≡◌, true, [], ◌∷◌, ◌++◌, Some, OnOk, option_map};
 ghost use Rattle.bser_format.specs.Tree.{Tree, bytes, text};
-ghost use Rattle.bser_value.specs.Made.{
-  unread,
-  read_as,
-  give,
-  named,
-  inside,
-  opened,
-  closed,
-  in_array,
-  in_object,
-  in_keys,
-};
-ghost use Rattle.bser_value.specs.Shows.{Shows, Takes, Turns};
+ghost use Rattle.bser_value.specs.Made.{unread, read_as, in_array, in_object, in_keys};
+ghost use Rattle.bser_value.specs.Shows.{Shows, Takes, Gives, Names, Opens, Closes};
 ghost use Rattle.bser_value.specs.ValueView.{tree_of};
 
 use crate::building::Building;
@@ -73,7 +62,7 @@ impl ValueBuilder {
     /// Opens an array.
     #[inline(never)]
     fn open_array(&mut self) -> Result<(), AllocError>
-        ensures { OnOk result (Turns Shows (opened (in_array [])) self.old self.new) }
+        ensures { OnOk result (Opens (in_array []) self.old self.new) }
     {
         self.begin(Building::array(self.alloc))
     }
@@ -81,7 +70,7 @@ impl ValueBuilder {
     /// Opens an object.
     #[inline(never)]
     fn open_object(&mut self) -> Result<(), AllocError>
-        ensures { OnOk result (Turns Shows (opened (in_object [] None)) self.old self.new) }
+        ensures { OnOk result (Opens (in_object [] None) self.old self.new) }
     {
         self.begin(Building::object(self.alloc))
     }
@@ -89,7 +78,7 @@ impl ValueBuilder {
     /// Opens a template.
     #[inline(never)]
     fn open_template(&mut self) -> Result<(), AllocError>
-        ensures { OnOk result (Turns Shows (opened (in_keys [])) self.old self.new) }
+        ensures { OnOk result (Opens (in_keys []) self.old self.new) }
     {
         self.begin(Building::template(self.alloc))
     }
@@ -97,8 +86,7 @@ impl ValueBuilder {
     /// Closes the innermost container, and puts its value into the one around it.
     #[inline(never)]
     fn close(&mut self) -> Result<(), AllocError>
-        ensures { OnOk result
-            (Turns Shows (λ s. closed s.inner s.around) self.old self.new) }
+        ensures { OnOk result (Closes self.old self.new) }
     {
         let Some(outer) = self.around.pop() else {
             return Ok(());
@@ -112,7 +100,7 @@ impl ValueBuilder {
     /// Puts in the value that comes next.
     #[inline(always)]
     fn put(&mut self, value: Value) -> Result<(), AllocError>
-        ensures { OnOk result (Turns Shows (give (tree_of value)) self.old self.new) }
+        ensures { OnOk result (Gives (tree_of value) self.old self.new) }
     {
         self.inner.put(value)
     }
@@ -120,8 +108,7 @@ impl ValueBuilder {
     /// Takes a key.
     #[inline(always)]
     fn put_key(&mut self, key: &str) -> Result<(), AllocError>
-        ensures { OnOk result
-            (Turns Shows (λ s. inside (named key.now s.inner) s.around) self.old self.new) }
+        ensures { OnOk result (Names key.now self.old self.new) }
     {
         self.inner.put_key(self.alloc, key)
     }
@@ -129,7 +116,7 @@ impl ValueBuilder {
     /// Puts in a copy of a byte string.
     #[inline(always)]
     fn put_bytes(&mut self, string: &[u8]) -> Result<(), AllocError>
-        ensures { OnOk result (Turns Shows (give (bytes string.now)) self.old self.new) }
+        ensures { OnOk result (Gives (bytes string.now) self.old self.new) }
     {
         let copy = Vec::from_slice(self.alloc, string)?;
         self.put(Value::ByteString(ByteString::from_vec(copy)))
@@ -138,7 +125,7 @@ impl ValueBuilder {
     /// Puts in a copy of a text.
     #[inline(always)]
     fn put_text(&mut self, string: &str) -> Result<(), AllocError>
-        ensures { OnOk result (Turns Shows (give (text string.now)) self.old self.new) }
+        ensures { OnOk result (Gives (text string.now) self.old self.new) }
     {
         let copy = String::from_str(self.alloc, string)?;
         self.put(Value::Utf8String(copy))

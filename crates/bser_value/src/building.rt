@@ -1,8 +1,9 @@
 //! Containers that are being read.
-ghost use Rattle.std.specs.Prelude.{◌≡◌, [], None, IfOk, OnOk, string_bytes};
-ghost use Rattle.bser_value.specs.Made.{in_array, in_object, in_keys, put, named, with_entry};
-ghost use Rattle.bser_value.specs.Shows.{ShowsOpen, Turns, Builds};
-ghost use Rattle.bser_value.specs.ValueView.{tree_of, entry_trees};
+ghost use Rattle.std.specs.Prelude.{[], None, IfOk, OnOk, string_bytes};
+ghost use Rattle.bser_value.specs.Made.{in_array, in_object, in_keys};
+ghost use Rattle.bser_value.specs.Places.{PutsEntry};
+ghost use Rattle.bser_value.specs.Shows.{ShowsOpen, PutsNext, NamesNext, Builds};
+ghost use Rattle.bser_value.specs.ValueView.{tree_of};
 
 use crate::gathered::Gathered;
 use crate::table::Table;
@@ -69,7 +70,7 @@ impl Building {
     /// Puts in the value that comes next.
     #[inline(always)]
     pub fn put(&mut self, value: Value) -> Result<(), AllocError>
-        ensures { OnOk result (Turns ShowsOpen (put (tree_of value)) self.old self.new) }
+        ensures { OnOk result (PutsNext (tree_of value) self.old self.new) }
     {
         if let Building::Template { table } = self {
             return table.put(value);
@@ -80,7 +81,7 @@ impl Building {
     /// Puts in the value that comes next, where it is no field of a row as a rule.
     #[inline(never)]
     fn put_other(&mut self, value: Value) -> Result<(), AllocError>
-        ensures { OnOk result (Turns ShowsOpen (put (tree_of value)) self.old self.new) }
+        ensures { OnOk result (PutsNext (tree_of value) self.old self.new) }
     {
         match self {
             Building::Whole { value: whole } => {
@@ -98,7 +99,7 @@ impl Building {
 
     /// Takes a key.
     pub fn put_key(&mut self, alloc: Global, text: &str) -> Result<(), AllocError>
-        ensures { OnOk result (Turns ShowsOpen (named text.now) self.old self.new) }
+        ensures { OnOk result (NamesNext text.now self.old self.new) }
     {
         match self {
             Building::Object { entries: _, key } => {
@@ -129,8 +130,7 @@ fn put_entry(
     key: String,
     value: Value,
 ) -> Result<(), AllocError>
-    ensures { OnOk result (entry_trees entries.new.entries
-        ≡ with_entry (entry_trees entries.old.entries) (string_bytes key) (tree_of value)) }
+    ensures { OnOk result (PutsEntry (string_bytes key) (tree_of value) entries.old entries.new) }
 {
     match entries.insert(key, value) {
         Ok(_) => Ok(()),

@@ -111,7 +111,7 @@ impl Gathered {
 
 /// Moves the values of the pieces into a list, with room for so many more.
 fn list_of(alloc: Global, pieces: Vec<Vec<Value>>, more: usize) -> Result<Vec<Value>, AllocError>
-    ensures { IfOk result (λ list. list.items ≡ joined pieces.items) }
+    ensures { IfOk result (λ v. v.items ≡ joined pieces.items) }
 {
     let len = pieces.len().saturating_mul(PIECE).saturating_add(more);
     let mut list = Vec::with_capacity(alloc, len)?;

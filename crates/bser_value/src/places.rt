@@ -1,11 +1,11 @@
 //! A map that holds places in the place of values, and values that take them.
+//!
+//! The map of a row is a copy of the map of places in which each place gives way to the field that
+//! stands there. So no key of a row is searched or compared, and a slot for either is a `Value`: a
+//! type of its own for places would have the copy built anew, entry by entry.
 ghost use Rattle.std.specs.Prelude.{◌≡◌, pos, OnOk};
-ghost use Rattle.std.specs.BTreeMap.{insert_entry};
-ghost use Rattle.std.specs.Cmp.Lexicographic.{slice_cmp};
-ghost use Rattle.std.specs.Ordering.{nat_cmp};
 ghost use Rattle.bser_format.specs.Tree.{integer};
-ghost use Rattle.bser_value.specs.Places.{TakesPlace, TakesFields};
-ghost use Rattle.bser_value.specs.ValueView.{entry_trees};
+ghost use Rattle.bser_value.specs.Places.{PutsEntry, TakesPlace, TakesFields};
 
 use crate::value::Value;
 use std::alloc::{AllocError, Global};
@@ -20,9 +20,7 @@ pub fn put_place(
     key: &str,
     place: usize,
 ) -> Result<(), AllocError>
-    ensures { OnOk result (entry_trees places.new.entries
-        ≡ insert_entry (slice_cmp nat_cmp) (entry_trees places.old.entries) key.now
-        (integer (pos place))) }
+    ensures { OnOk result (PutsEntry key.now (integer (pos place)) places.old places.new) }
 {
     let Ok(value) = Value::from_usize(place) else {
         return Err(AllocError);
@@ -50,7 +48,7 @@ fn take_field(slot: &mut Value, row: &mut Vec<Value>)
     };
     if place < row.len() {
         let field = mem::replace(&mut row[place], Value::Null);
-        // a place needs no drop
+        // A place needs no drop.
         mem::forget(mem::replace(slot, field));
     }
 }
@@ -71,7 +69,7 @@ pub fn put_field(field: &mut Value, value: Value)
     ensures { field.new ≡ value }
 {
     if matches!(field, Value::Null) {
-        // null needs no drop
+        // Null needs no drop.
         mem::forget(mem::replace(field, value));
     } else {
         put_other(field, value);

@@ -34,7 +34,7 @@ impl<L: LendsText> Deserialize<L> for Value {
         from: &mut Deserializer<R>,
     ) -> Answer<Value> {
         let mut builder = ValueBuilder::new(alloc);
-        from.read_any(alloc, &mut builder)?;
+        from.read_any(&mut builder)?;
         match builder.into_value() {
             Some(value) => Ok(value),
             None => unreachable!(),

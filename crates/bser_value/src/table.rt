@@ -1,14 +1,6 @@
 //! Templates that are being read.
 ghost use Rattle.std.specs.Prelude.{◌≤◌, [], length, IfOk, OnOk};
-ghost use Rattle.bser_value.specs.Made.{put, named};
-ghost use Rattle.bser_value.specs.Shows.{
-  ShowsKeys,
-  ShowsTable,
-  Turns,
-  PutsField,
-  PutsRow,
-  BuildsRows,
-};
+ghost use Rattle.bser_value.specs.Shows.{ShowsKeys, PutsField, PutsRow, PutsInRow, NamesField, BuildsRows};
 ghost use Rattle.bser_value.specs.ValueView.{tree_of};
 
 use crate::gathered::Gathered;
@@ -49,7 +41,7 @@ impl Table {
     /// Puts in the next field of a row.
     #[inline(always)]
     pub fn put(&mut self, value: Value) -> Result<(), AllocError>
-        ensures { OnOk result (Turns ShowsTable (put (tree_of value)) self.old self.new) }
+        ensures { OnOk result (PutsInRow (tree_of value) self.old self.new) }
     {
         self.put_next(value)?;
         if self.place < self.count {
@@ -98,7 +90,7 @@ impl Table {
 
     /// Takes a key.
     pub fn put_key(&mut self, alloc: Global, key: &str) -> Result<(), AllocError>
-        ensures { OnOk result (Turns ShowsTable (named key.now) self.old self.new) }
+        ensures { OnOk result (NamesField key.now self.old self.new) }
     {
         let place = self.count;
         let Some(count) = place.checked_add(1) else {

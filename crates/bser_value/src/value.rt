@@ -1,12 +1,12 @@
 //! Values of BSER of which the type is known only when they are read.
 ghost use Rattle.std.specs.Prelude.{◌≡◌, ◌↔◌, ◌<◌, ◌^◌, pos, codes, string_bytes, IsOk, IfOk, IfErr, IsTrue};
 ghost use Rattle.std.specs.Cmp.{on_per, on_equiv};
-ghost use Rattle.bser_format.specs.Tree.{boolean, integer, array, object, text};
+ghost use Rattle.bser_format.specs.Tree.{boolean, integer, text};
 ghost use Rattle.bser_format.specs.Canonical.{IsWritable};
 ghost use Rattle.bser_written.specs.SameTree.{same_tree, same_items, same_entries};
 ghost use Rattle.bser_written.specs.ValueTree.{IsValueTree};
 ghost use Rattle.bser_written.proofs.Same.{same_tree_equiv, same_tree_partial_equiv};
-ghost use Rattle.bser_value.specs.ValueView.{tree_of, items_view, entries_view};
+ghost use Rattle.bser_value.specs.ValueView.{tree_of, items_view, entries_view, items_tree, entries_tree};
 
 mod access;
 mod clone;
@@ -17,15 +17,16 @@ use bser_format::bytestring::ByteString;
 use std::alloc::{AllocError, Global};
 use std::collections::BTreeMap;
 
-/// Any BSER value. Reading gives a template as the array of its objects, and a missing field as null.
+/// Any BSER value. Reading gives a template as the array of its objects, and a missing field as
+/// null.
 #[derive(Debug, Drop)]
 pub enum Value {
     Array(Vec<Value>),
-    /// The entries in rising byte order of their keys. The Rust crate has a hash map here.
+    /// The entries in rising byte order of their keys.
     Object(BTreeMap<String, Value>),
     ByteString(ByteString),
     Integer(i64),
-    /// The 64 bits of the number. The Rust crate has the number itself.
+    /// The 64 bits of the number.
     Real(u64),
     Bool(bool),
     Null,
@@ -35,14 +36,15 @@ pub enum Value {
 impl Value {
     /// Copies the text. The error is that there is no memory for it.
     pub fn from_text(alloc: Global, string: &str) -> Result<Self, AllocError>
-        ensures { IfOk result (λ value. tree_of value ≡ text string.now) }
+        ensures { IfOk result (λ v. tree_of v ≡ text string.now) }
     {
         Ok(Self::Utf8String(String::from_str(alloc, string)?))
     }
 
-    /// The integer, or the error `value is too large to represent as i64` exactly where it is above `i64::MAX`.
+    /// The integer, or the error `value is too large to represent as i64` exactly where it is above
+    /// `i64::MAX`.
     pub fn from_usize(number: usize) -> Result<Self, &'static str>
-        ensures ok { IfOk result (λ value. tree_of value ≡ integer (pos number)) }
+        ensures ok { IfOk result (λ v. tree_of v ≡ integer (pos number)) }
         ensures err { IfErr result (λ message. message.now
             ≡ codes "value is too large to represent as i64") }
         ensures fits { IsOk result ↔ (number < 2 ^ 63) }
@@ -53,16 +55,17 @@ impl Value {
         }
     }
 
-    /// Copies the value with all that it holds, as `clone` does. It calls itself once for each level, so the stack has to
-    /// hold as many calls as the value is deep. The error is that there is no memory for the copy.
+    /// Copies the value with all that it holds, as `clone` does. It calls itself once for each
+    /// level, so the stack has to hold as many calls as the value is deep. The error is that there
+    /// is no memory for the copy.
     pub fn try_clone(&self, _alloc: Global) -> Result<Self, AllocError>
         ensures { IfOk result (λ copy. tree_of copy ≡ tree_of self.now) }
     {
         self.clone()
     }
 
-    /// Visits all that the value holds and answers nothing: its contract tells a proof what every value's tree is. It
-    /// calls itself once for each level, as `try_clone` does.
+    /// Visits all that the value holds and answers nothing: its contract tells a proof what every
+    /// value's tree is. It calls itself once for each level, as `try_clone` does.
     #[cycle(check)]
     pub fn check_tree(&self)
         ensures value { IsValueTree (tree_of self.now) }
@@ -89,7 +92,7 @@ impl Value {
 }
 
 impl From<Vec<Value>> for Value {
-    ghost from_gives = { λ items value. tree_of value ≡ array (items_view items.items) };
+    ghost from_gives = { λ items value. tree_of value ≡ items_tree items.items };
 
     fn from(items: Vec<Value>) -> Self {
         Self::Array(items)
@@ -97,7 +100,7 @@ impl From<Vec<Value>> for Value {
 }
 
 impl From<BTreeMap<String, Value>> for Value {
-    ghost from_gives = { λ entries value. tree_of value ≡ object (entries_view entries.entries) };
+    ghost from_gives = { λ entries value. tree_of value ≡ entries_tree entries.entries };
 
     fn from(entries: BTreeMap<String, Value>) -> Self {
         Self::Object(entries)
@@ -128,8 +131,8 @@ impl From<i64> for Value {
     }
 }
 
-/// Values are equal where they have one tree: the same variant, and the same parts in the same order. Comparing calls
-/// itself once for each level.
+/// Values are equal where they have one tree: the same variant, and the same parts in the same
+/// order. Comparing calls itself once for each level.
 impl PartialEq for Value {
     ghost eq = { λ value other. same_tree (tree_of value) (tree_of other) };
 
@@ -195,8 +198,8 @@ fn are_same_entries(entries: &BTreeMap<String, Value>, others: &BTreeMap<String,
 
 #[cycle(check)]
 fn check_items(items: &Vec<Value>)
-    ensures value { IsValueTree (array (items_view items.now.items)) }
-    ensures writable { IsWritable (array (items_view items.now.items)) }
+    ensures value { IsValueTree (items_tree items.now.items) }
+    ensures writable { IsWritable (items_tree items.now.items) }
 {
     for item in items {
         item.check_tree();
@@ -205,8 +208,8 @@ fn check_items(items: &Vec<Value>)
 
 #[cycle(check)]
 fn check_entries(entries: &BTreeMap<String, Value>)
-    ensures value { IsValueTree (object (entries_view entries.now.entries)) }
-    ensures writable { IsWritable (object (entries_view entries.now.entries)) }
+    ensures value { IsValueTree (entries_tree entries.now.entries) }
+    ensures writable { IsWritable (entries_tree entries.now.entries) }
 {
     for (key, member) in entries.iter() {
         let _key = key.as_str();

@@ -1,10 +1,5 @@
 //! Reading.
 
-pub mod field {
-    //! What a struct's reading tells of a field's name.
-    pub use bser_deserializer::field::Field;
-}
-
 pub mod read {
     //! Byte sources, and what they lend.
     pub use bser_source::io_read::IoRead;
@@ -24,13 +19,12 @@ pub use bser_deserializer::node::Node;
 pub use bser_fields::fields::ReadsFields;
 pub use bser_fields::slot::{Optional, Required, Slot};
 pub use bser_fields::slots::Slots;
+pub use bser_messages::limits::Limits;
 pub use bser_messages::message::{from_reader, from_reader_within, from_slice, from_slice_within};
 pub use bser_source::io_read::IoRead;
 pub use bser_source::read::DeRead;
-pub use bser_source::reference::{Reference, TextReference};
 pub use bser_source::slice_read::SliceRead;
 pub use bser_streams::limited::from_slice_limited;
-pub use bser_streams::limits::Limits;
 pub use bser_streams::next::from_reader_limited;
 pub use bser_structs::object_or::ObjectOr;
 pub use bser_types::container::ReadsContainers;
@@ -39,4 +33,4 @@ pub use bser_types::impls::{Ignored, MapKey, RealBits, SkipsValues};
 pub use bser_types::map::MapAccess;
 pub use bser_types::seq::SeqAccess;
 pub use bser_variants::enum_access::{EnumAccess, ReadsEnums};
-pub use bser_variants::variant_access::{UnitVariantAccess, VariantAccess};
+pub use bser_variants::variant_access::{EnumForm, UnitVariantAccess, VariantAccess};

@@ -2,7 +2,8 @@
 //!
 //! [`from_slice`] and [`from_reader`] read one message as a value of a type that is
 //! [`Deserialize`](de::Deserialize); [`ser::to_vec`], [`ser::serialize`] and [`ser::serialize_to`]
-//! write one. Those of [`describe`] read one too, and describe a refusal for people. The modules of the crates below stand here under the names that users know.
+//! write one. Those of [`describe`] read one too, and describe a refusal for people. The modules of
+//! the crates below stand here under the names that users know.
 #![tactic(auto)]
 
 pub mod de;
@@ -12,8 +13,13 @@ pub mod prelude;
 pub mod ser;
 pub mod stream;
 
+pub mod value {
+    //! Values of any kind, and their shortest messages.
+    pub use bser_compact::message::serialize_compact;
+    pub use bser_value::value::Value;
+}
+
 pub use bser_format::{bytestring, errors, header};
 pub use bser_messages::message::{from_reader, from_slice};
 pub use bser_source::device;
 pub use bser_text::escaped;
-pub use bser_value::value;

@@ -21,7 +21,7 @@ impl Clone for Value {
 #[cycle(copy)]
 #[inline(always)]
 fn copy(value: &Value) -> Result<Value, AllocError>
-    ensures { IfOk result (λ copy. tree_of copy ≡ tree_of value.now) }
+    ensures { IfOk result (λ v. tree_of v ≡ tree_of value.now) }
 {
     match value {
         Value::Array(items) => Ok(Value::Array(copy_items(items)?)),

@@ -1,7 +1,6 @@
 //! Printing a `Value`.
-ghost use Rattle.std.specs.Prelude.{[], Some, codes};
-ghost use Rattle.std.specs.Fmt.{DisplaysOnOk, ◌++?◌, debug_items};
-ghost use Rattle.bser_value.specs.Displayed.{displayed, member_text};
+ghost use Rattle.std.specs.Fmt.{DisplaysOnOk};
+ghost use Rattle.bser_value.specs.Displayed.{displayed, items_text, entries_text};
 
 use crate::value::Value;
 use bser_text::quoted::write_quoted;
@@ -40,9 +39,7 @@ fn show<W: fmt::Write>(value: &Value, f: &mut fmt::Formatter<W>) -> fmt::Result
 
 #[cycle(show)]
 fn show_items<W: fmt::Write>(items: &Vec<Value>, f: &mut fmt::Formatter<W>) -> fmt::Result
-    ensures { DisplaysOnOk W.write_str_gives f.old result
-        (Some (codes "[") ++? debug_items displayed [] items.now.items ++? Some (codes "]"))
-        f.new }
+    ensures { DisplaysOnOk W.write_str_gives f.old result (items_text items.now.items) f.new }
 {
     f.write_str("[")?;
     let mut before = "";
@@ -59,9 +56,7 @@ fn show_entries<W: fmt::Write>(
     entries: &BTreeMap<String, Value>,
     f: &mut fmt::Formatter<W>,
 ) -> fmt::Result
-    ensures { DisplaysOnOk W.write_str_gives f.old result
-        (Some (codes "{") ++? debug_items member_text [] entries.now.entries ++? Some (codes "}"))
-        f.new }
+    ensures { DisplaysOnOk W.write_str_gives f.old result (entries_text entries.now.entries) f.new }
 {
     f.write_str("{")?;
     let mut before = "";

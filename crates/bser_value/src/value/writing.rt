@@ -1,14 +1,11 @@
 //! Writing a `Value`.
-ghost use Rattle.std.specs.Prelude.{Ok, OnOk, OnErr, IfErr, string_bytes};
-ghost use Rattle.bser_format.specs.Tree.{array, object};
+ghost use Rattle.std.specs.Prelude.{Ok, OnOk};
 ghost use Rattle.bser_format.specs.Canonical.{IsWritable};
-ghost use Rattle.bser_written.specs.Written.{array_tree, object_tree};
-ghost use Rattle.bser_ser.specs.Ends.{Ends, Stops, text_of};
-ghost use Rattle.bser_ser.specs.Sent.{refusal_of};
-ghost use Rattle.bser_value.specs.ValueView.{tree_of, items_view, entries_view};
+ghost use Rattle.bser_ser.specs.Ends.{AddsTree};
+ghost use Rattle.bser_value.specs.ValueView.{tree_of, items_tree, entries_tree, items_meaning, entries_meaning};
 
 use crate::value::Value;
-use bser_ser::{PutRefused, Serialize, Serializer};
+use bser_ser::{Parts, PutRefused, Serialize, Serializer};
 use bser_source::device::Sink;
 use std::alloc::Global;
 use std::collections::BTreeMap;
@@ -30,15 +27,12 @@ impl Serialize for Value {
     }
 }
 
-// Puts a value. The serializer keeps the reason of a refusal.
+/// Puts a value. The serializer keeps the reason of a refusal.
 #[cycle(add)]
 #[inline(always)]
 fn add_value<W: Sink>(value: &Value, out: &mut Serializer<W>) -> Result<(), PutRefused>
-    ensures ok { OnOk result (Ends W.took W.failures
-        (text_of (Ok (tree_of value.now))) out.old out.new) }
+    ensures put { AddsTree W.Sink out.old out.new (Ok (tree_of value.now)) result }
     ensures writable { OnOk result (IsWritable (tree_of value.now)) }
-    ensures err { OnErr result (Stops W.took W.answered W.failures
-        (text_of (Ok (tree_of value.now))) out.old out.new (refusal_of out.new)) }
 {
     match value {
         Value::Array(items) => add_items(items, out),
@@ -55,14 +49,10 @@ fn add_value<W: Sink>(value: &Value, out: &mut Serializer<W>) -> Result<(), PutR
 #[cycle(add)]
 #[inline(never)]
 fn add_items<W: Sink>(items: &Vec<Value>, out: &mut Serializer<W>) -> Result<(), PutRefused>
-    ensures ok { OnOk result (Ends W.took W.failures
-        (text_of (array_tree (λ v. Ok (tree_of v)) items.now.items)) out.old out.new) }
-    ensures writable { OnOk result (IsWritable (array (items_view items.now.items))) }
-    ensures err { OnErr result (Stops W.took W.answered W.failures
-        (text_of (array_tree (λ v. Ok (tree_of v)) items.now.items)) out.old out.new
-        (refusal_of out.new)) }
+    ensures put { AddsTree W.Sink out.old out.new (items_meaning items.now.items) result }
+    ensures writable { OnOk result (IsWritable (items_tree items.now.items)) }
 {
-    out.add_array(items.len())?;
+    out.add_seq(items.len())?;
     for item in items {
         add_value(item, out)?;
     }
@@ -75,15 +65,10 @@ fn add_entries<W: Sink>(
     entries: &BTreeMap<String, Value>,
     out: &mut Serializer<W>,
 ) -> Result<(), PutRefused>
-    ensures ok { OnOk result (Ends W.took W.failures
-        (text_of (object_tree string_bytes (λ v. Ok (tree_of v)) entries.now.entries)) out.old
-        out.new) }
-    ensures writable { OnOk result (IsWritable (object (entries_view entries.now.entries))) }
-    ensures err { OnErr result (Stops W.took W.answered W.failures
-        (text_of (object_tree string_bytes (λ v. Ok (tree_of v)) entries.now.entries)) out.old
-        out.new (refusal_of out.new)) }
+    ensures put { AddsTree W.Sink out.old out.new (entries_meaning entries.now.entries) result }
+    ensures writable { OnOk result (IsWritable (entries_tree entries.now.entries)) }
 {
-    out.add_object(entries.len())?;
+    out.add_map(entries.len())?;
     for (key, value) in entries {
         out.add_text_key(key.as_str())?;
         add_value(value, out)?;

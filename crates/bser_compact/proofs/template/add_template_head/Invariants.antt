@@ -7,6 +7,6 @@ use Rattle.bser_compact.proofs.template.add_template_head.Given as goal
 
 abbrev pub invariant-loop-key : goal.invariant-loop-key
 invariant-loop-key g l = record {
-  put : AllBut g.W.Sink.took g.W.Sink.failures (head_text l.first.entries l.rows) (flat_map canonical_text (names_of l.key-iterator) ++ least_count l.rows) l.fn.out l.out;
+  put : AllBut g.W.Sink (head_text l.first.entries l.rows) (flat_map canonical_text (names_of l.key-iterator) ++ least_count l.rows) l.fn.out l.out;
   texts : AllByRecursion IsWritableText (names_of l.key-iterator) → AllByRecursion IsWritableText (names_of l.first.entries);
 }

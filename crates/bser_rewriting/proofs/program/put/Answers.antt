@@ -12,8 +12,8 @@ loop-done-preserved g c = record {
 
 pub returns-in_default : goal.returns-in_default
 returns-in_default g c =
-    part_of_line g.E.Sink.took g.E.Sink.failures g.met.E.Sink.took_both _ _ _ c.loop-done.done c.args.line.now c.loop-done.invariant.took c.loop-done.invariant.rose (search rules) (search rules)
+    part_of_line g.E.Sink g.met.E.Sink.took_both _ _ _ c.loop-done.done c.args.line.now c.loop-done.invariant.took c.loop-done.invariant.rose (search rules) (search rules)
 
 pub returns-in_default-2 : goal.returns-in_default-2
 returns-in_default-2 g c =
-    part_of_line g.E.Sink.took g.E.Sink.failures g.met.E.Sink.took_both _ _ _ c.loop-done.done c.args.line.now c.loop-done.invariant.took c.loop-done.invariant.rose c.in_default.ensures.taken c.in_default.ensures.failures
+    part_of_line g.E.Sink g.met.E.Sink.took_both _ _ _ c.loop-done.done c.args.line.now c.loop-done.invariant.took c.loop-done.invariant.rose c.in_default.ensures.taken c.in_default.ensures.failures

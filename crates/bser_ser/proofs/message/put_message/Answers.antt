@@ -1,19 +1,13 @@
-use Rattle.std.proofs.lemmas.Result.{MatchResult-weaker}
+use Rattle.std.proofs.lemmas.Result.{MatchResult-weaker, MatchResult-from_both}
 use Rattle.std.proofs.Common.{rules, FitsSigned, w64}
 use Rattle.std.proofs.lemmas.Int.{to_z-of_z}
 use Rattle.bser_ser.proofs.Messages.{Ends-message, Stops-message}
 use Rattle.bser_ser.proofs.message.put_message.Goals as goal
 
-pub returns-clause-ok : goal.returns-clause-ok
-returns-clause-ok g c =
+pub returns : goal.returns
+returns g c =
     let fits : FitsSigned w64 c.args.len = search rules in
     let s = simp to_z-of_z at c.in_ok-put_front.ensures.0 in
-    MatchResult-weaker c.serialize.result c.serialize.ensures.ok
-    (λ _ t. Ends-message g.W.Sink.took g.W.Sink.failures g.met.W.Sink.took_both (g.T.Serialize.meaning c.args.value.now) c.args.len c.args.out.now c.put_front.new.self c.serialize.new.out c.requires s t) (λ _ t. t)
-
-pub returns-clause-err : goal.returns-clause-err
-returns-clause-err g c =
-    let fits : FitsSigned w64 c.args.len = search rules in
-    let s = simp to_z-of_z at c.in_ok-put_front.ensures.0 in
-    MatchResult-weaker c.serialize.result c.serialize.ensures.err (λ _ t. t)
-    (λ e t. Stops-message g.W.Sink.took g.W.Sink.answered g.W.Sink.failures g.met.W.Sink.took_both (g.T.Serialize.meaning c.args.value.now) c.args.len c.args.out.now c.put_front.new.self c.serialize.new.out e c.requires s t)
+    MatchResult-weaker c.serialize.result (MatchResult-from_both c.serialize.result _ _ c.serialize.ensures.ok c.serialize.ensures.err)
+    (λ _ t. Ends-message g.W.Sink g.met.W.Sink.took_both (g.T.Serialize.meaning c.args.value.now) c.args.len c.args.out.now c.put_front.new.self c.serialize.new.out c.requires s t)
+    (λ e t. Stops-message g.W.Sink g.met.W.Sink.took_both (g.T.Serialize.meaning c.args.value.now) c.args.len c.args.out.now c.put_front.new.self c.serialize.new.out e c.requires s t)

@@ -14,8 +14,8 @@ pub returns-in_err-serialize-clause-err : goal.returns-in_err-serialize-clause-e
 returns-in_err-serialize-clause-err g c =
     let p = err_from_is_err_and c.from_residual-in_err-serialize.result c.from_residual-in_err-serialize.ensures.1 in
     let xs = c.args.self.now.now in
-    rw (p.1, p.2) (Stops-slice g.W.Sink.took g.W.Sink.answered g.W.Sink.failures g.T.Serialize.meaning xs c.args.out.now c.serialize.new.out c.in_err-serialize.field-0.0 c.in_ok-put_seq.ensures.counted
-    (Stops-array g.W.Sink.took g.W.Sink.answered g.W.Sink.failures g.T.Serialize.meaning xs g.met.W.Sink.took_both _ _ c.item-item.result
+    rw (p.1, p.2) (Stops-slice g.W.Sink g.T.Serialize.meaning xs c.args.out.now c.serialize.new.out c.in_err-serialize.field-0.0 c.in_ok-put_seq.ensures.counted
+    (Stops-array g.W.Sink g.T.Serialize.meaning xs g.met.W.Sink.took_both _ _ c.item-item.result
     c.args.out.now c.loop-item.out c.serialize.new.out c.in_err-serialize.field-0.0 c.loop-item.invariant.put
     (item_here xs c.loop-item.item-index c.item-item.result c.loop-item-test.true c.item-item.is) c.in_err-serialize.ensures.err))
 
@@ -23,7 +23,7 @@ pub loop-item-preserved : goal.loop-item-preserved
 loop-item-preserved g c =
     let xs = c.args.self.now.now in
     record {
-      put = UpTo-more g.W.Sink.took g.W.Sink.failures g.met.W.Sink.took_both (array_head (length xs)) (item_text g.T.Serialize.meaning) xs _ _ c.item-item.result
+      put = UpTo-more g.W.Sink g.met.W.Sink.took_both (array_head (length xs)) (item_text g.T.Serialize.meaning) xs _ _ c.item-item.result
           c.args.out.now c.loop-item.out c.serialize.new.out c.loop-item.invariant.put
           (item_here xs c.loop-item.item-index c.item-item.result c.loop-item-test.true c.item-item.is) c.in_ok-serialize.ensures.ok;
       writable = AllBefore-more (λ x. CanBeWritten (g.T.Serialize.meaning x)) c.args.self.now.now _ _ c.item-item.result c.loop-item.invariant.writable (item_here c.args.self.now.now c.loop-item.item-index c.item-item.result c.loop-item-test.true c.item-item.is) c.in_ok-serialize.ensures.writable;
@@ -32,8 +32,8 @@ loop-item-preserved g c =
 pub returns-clause-ok : goal.returns-clause-ok
 returns-clause-ok g c =
     let xs = c.args.self.now.now in
-    Ends-slice g.W.Sink.took g.W.Sink.failures g.T.Serialize.meaning xs c.args.out.now c.loop-item.out c.in_ok-put_seq.ensures.counted
-    (Ends-array g.W.Sink.took g.W.Sink.failures g.T.Serialize.meaning xs _ c.args.out.now c.loop-item.out c.loop-item.invariant.put
+    Ends-slice g.W.Sink g.T.Serialize.meaning xs c.args.out.now c.loop-item.out c.in_ok-put_seq.ensures.counted
+    (Ends-array g.W.Sink g.T.Serialize.meaning xs _ c.args.out.now c.loop-item.out c.loop-item.invariant.put
     (drop_all c.loop-item.item-index xs c.loop-item-test.false))
 
 pub returns-clause-writable : goal.returns-clause-writable

@@ -8,6 +8,6 @@ use Rattle.bser_ser.proofs.holders.RefSliceSerialize.serialize.Given as goal
 
 abbrev pub invariant-loop-item : goal.invariant-loop-item
 invariant-loop-item g l = record {
-  put : UpTo g.W.Sink.took g.W.Sink.failures (array_head (length l.item-items)) (item_text g.T.Serialize.meaning) l.item-items (drop l.item-index l.item-items) l.fn.out l.out;
+  put : UpTo g.W.Sink (array_head (length l.item-items)) (item_text g.T.Serialize.meaning) l.item-items (drop l.item-index l.item-items) l.fn.out l.out;
   writable : AllBefore (λ x. CanBeWritten (g.T.Serialize.meaning x)) l.item-items (drop l.item-index l.item-items);
 }

@@ -14,7 +14,7 @@ none_left (x ∷ xs) e = absurd cc
 pub loop-item-preserved : goal.loop-item-preserved
 loop-item-preserved g c =
     record {
-      put = UpTo-more g.W.Sink.took g.W.Sink.failures g.met.W.Sink.took_both (array_head (length c.args.self.now.items)) (item_text g.T.Serialize.meaning) c.args.self.now.items _ _ c.in-Some.item.now
+      put = UpTo-more g.W.Sink g.met.W.Sink.took_both (array_head (length c.args.self.now.items)) (item_text g.T.Serialize.meaning) c.args.self.now.items _ _ c.in-Some.item.now
           c.args.out.now c.loop-item.out c.serialize.new.out c.loop-item.invariant.put c.in-Some.ensures.steps c.in_ok-serialize.ensures.ok;
       writable = AllBefore-more (λ x. CanBeWritten (g.T.Serialize.meaning x)) c.args.self.now.items _ _ c.in-Some.item.now c.loop-item.invariant.writable c.in-Some.ensures.steps c.in_ok-serialize.ensures.writable;
     }
@@ -22,11 +22,11 @@ loop-item-preserved g c =
 pub returns-in_err-serialize-clause-err : goal.returns-in_err-serialize-clause-err
 returns-in_err-serialize-clause-err g c =
     let p = err_from_is_err_and c.from_residual-in_err-serialize.result c.from_residual-in_err-serialize.ensures.1 in
-    rw (p.1, p.2) (Stops-array g.W.Sink.took g.W.Sink.answered g.W.Sink.failures g.T.Serialize.meaning c.args.self.now.items g.met.W.Sink.took_both _ _ c.in-Some.item.now
+    rw (p.1, p.2) (Stops-array g.W.Sink g.T.Serialize.meaning c.args.self.now.items g.met.W.Sink.took_both _ _ c.in-Some.item.now
     c.args.out.now c.loop-item.out c.serialize.new.out c.in_err-serialize.field-0.0 c.loop-item.invariant.put c.in-Some.ensures.steps c.in_err-serialize.ensures.err)
 
 pub returns-clause-ok : goal.returns-clause-ok
-returns-clause-ok g c = Ends-array g.W.Sink.took g.W.Sink.failures g.T.Serialize.meaning c.args.self.now.items _ c.args.out.now c.loop-item.out c.loop-item.invariant.put (none_left _ c.in-None.ensures.steps.0)
+returns-clause-ok g c = Ends-array g.W.Sink g.T.Serialize.meaning c.args.self.now.items _ c.args.out.now c.loop-item.out c.loop-item.invariant.put (none_left _ c.in-None.ensures.steps.0)
 
 pub returns-clause-writable : goal.returns-clause-writable
 returns-clause-writable g c = array_writable g.T.Serialize.meaning c.args.self.now.items (omega (arith, c.in_ok-put_seq.ensures.counted)) (AllBefore-all (λ x. CanBeWritten (g.T.Serialize.meaning x)) c.args.self.now.items _ c.loop-item.invariant.writable (none_left _ c.in-None.ensures.steps.0))

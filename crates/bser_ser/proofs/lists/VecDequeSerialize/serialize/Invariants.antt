@@ -9,6 +9,6 @@ use Rattle.bser_ser.proofs.lists.VecDequeSerialize.serialize.Given as goal
 
 abbrev pub invariant-loop-item : goal.invariant-loop-item
 invariant-loop-item g l = record {
-  put : UpTo g.W.Sink.took g.W.Sink.failures (array_head (length l.self.items)) (item_text g.T.Serialize.meaning) l.self.items (deque_iter_rest l.item-iterator) l.fn.out l.out;
+  put : UpTo g.W.Sink (array_head (length l.self.items)) (item_text g.T.Serialize.meaning) l.self.items (deque_iter_rest l.item-iterator) l.fn.out l.out;
   writable : AllBefore (λ x. CanBeWritten (g.T.Serialize.meaning x)) l.self.items (deque_iter_rest l.item-iterator);
 }

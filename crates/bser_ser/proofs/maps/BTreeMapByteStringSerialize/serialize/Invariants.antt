@@ -8,6 +8,6 @@ use Rattle.bser_ser.proofs.maps.BTreeMapByteStringSerialize.serialize.Given as g
 
 abbrev pub invariant-loop-key : goal.invariant-loop-key
 invariant-loop-key g l = record {
-  put : UpTo g.W.Sink.took g.W.Sink.failures (object_head (length l.self.entries)) (entry_text plain_bytes g.V.Serialize.meaning) l.self.entries l.key-iterator l.fn.out l.out;
+  put : UpTo g.W.Sink (object_head (length l.self.entries)) (entry_text plain_bytes g.V.Serialize.meaning) l.self.entries l.key-iterator l.fn.out l.out;
   writable : AllBefore (EntryCanBeWritten plain_bytes g.V.Serialize.meaning) l.self.entries l.key-iterator;
 }

@@ -3,4 +3,4 @@ use Rattle.bser_ser.proofs.serializer.Serializer.append_parts.Goals as goal
 
 pub returns : goal.returns
 returns g c =
-    Adds-after g.W.Sink.took g.W.Sink.answered g.W.Sink.failures g.met.W.Sink.took_both c.args.self.now c.is_taken_at_once.new.self c.append_pending_parts.new.self _ c.append_pending_parts.result (rw c.if-is_taken_at_once.false at c.is_taken_at_once.ensures.sent) c.append_pending_parts.ensures
+    Adds-after g.W.Sink g.met.W.Sink.took_both c.args.self.now c.is_taken_at_once.new.self c.append_pending_parts.new.self _ c.append_pending_parts.result (rw c.if-is_taken_at_once.false at c.is_taken_at_once.ensures.sent) c.append_pending_parts.ensures

@@ -10,22 +10,22 @@ pub returns-in_err-serialize-clause-err : goal.returns-in_err-serialize-clause-e
 returns-in_err-serialize-clause-err g c =
     let same = err_from_is_err_and c.from_residual-in_err-serialize.result c.from_residual-in_err-serialize.ensures.1 in
     let parts : List (Result Tree Error) = g.A.Serialize.meaning c.args.self.now.0 ∷ g.B.Serialize.meaning c.args.self.now.1 ∷ [] in
-    let u0 = parts_start g.W.Sink.took g.W.Sink.failures g.met.W.Sink.took_both parts c.args.out.now c.put_seq.new.self c.in_ok-put_seq.ensures.put.0 in
-    rw (same.1, same.2) (parts_stop g.W.Sink.took g.W.Sink.answered g.W.Sink.failures g.met.W.Sink.took_both parts c.serialize.new.out c.in_err-serialize.field-0.0 u0 c.in_err-serialize.ensures.err)
+    let u0 = parts_start g.W.Sink g.met.W.Sink.took_both parts c.args.out.now c.put_seq.new.self c.in_ok-put_seq.ensures.put.0 in
+    rw (same.1, same.2) (parts_stop g.W.Sink g.met.W.Sink.took_both parts c.serialize.new.out c.in_err-serialize.field-0.0 u0 c.in_err-serialize.ensures.err)
 
 pub returns-clause-ok : goal.returns-clause-ok
 returns-clause-ok g c =
     let parts : List (Result Tree Error) = g.A.Serialize.meaning c.args.self.now.0 ∷ g.B.Serialize.meaning c.args.self.now.1 ∷ [] in
-    let u0 = parts_start g.W.Sink.took g.W.Sink.failures g.met.W.Sink.took_both parts c.args.out.now c.put_seq.new.self c.in_ok-put_seq.ensures.put.0 in
-    let u1 = parts_more g.W.Sink.took g.W.Sink.failures g.met.W.Sink.took_both parts c.serialize.new.out u0 c.in_ok-serialize.ensures.ok in
-    MatchResult-weaker c.serialize-2.result c.serialize-2.ensures.ok (λ _ t. parts_all g.W.Sink.took g.W.Sink.failures g.met.W.Sink.took_both parts c.args.out.now c.serialize-2.new.out (parts_more g.W.Sink.took g.W.Sink.failures g.met.W.Sink.took_both parts c.serialize-2.new.out u1 t)) (λ _ t. t)
+    let u0 = parts_start g.W.Sink g.met.W.Sink.took_both parts c.args.out.now c.put_seq.new.self c.in_ok-put_seq.ensures.put.0 in
+    let u1 = parts_more g.W.Sink g.met.W.Sink.took_both parts c.serialize.new.out u0 c.in_ok-serialize.ensures.ok in
+    MatchResult-weaker c.serialize-2.result c.serialize-2.ensures.ok (λ _ t. parts_all g.W.Sink g.met.W.Sink.took_both parts c.args.out.now c.serialize-2.new.out (parts_more g.W.Sink g.met.W.Sink.took_both parts c.serialize-2.new.out u1 t)) (λ _ t. t)
 
 pub returns-clause-err : goal.returns-clause-err
 returns-clause-err g c =
     let parts : List (Result Tree Error) = g.A.Serialize.meaning c.args.self.now.0 ∷ g.B.Serialize.meaning c.args.self.now.1 ∷ [] in
-    let u0 = parts_start g.W.Sink.took g.W.Sink.failures g.met.W.Sink.took_both parts c.args.out.now c.put_seq.new.self c.in_ok-put_seq.ensures.put.0 in
-    let u1 = parts_more g.W.Sink.took g.W.Sink.failures g.met.W.Sink.took_both parts c.serialize.new.out u0 c.in_ok-serialize.ensures.ok in
-    MatchResult-weaker c.serialize-2.result c.serialize-2.ensures.err (λ _ t. t) (λ e t. parts_stop g.W.Sink.took g.W.Sink.answered g.W.Sink.failures g.met.W.Sink.took_both parts c.serialize-2.new.out e u1 t)
+    let u0 = parts_start g.W.Sink g.met.W.Sink.took_both parts c.args.out.now c.put_seq.new.self c.in_ok-put_seq.ensures.put.0 in
+    let u1 = parts_more g.W.Sink g.met.W.Sink.took_both parts c.serialize.new.out u0 c.in_ok-serialize.ensures.ok in
+    MatchResult-weaker c.serialize-2.result c.serialize-2.ensures.err (λ _ t. t) (λ e t. parts_stop g.W.Sink g.met.W.Sink.took_both parts c.serialize-2.new.out e u1 t)
 
 pub returns-clause-writable : goal.returns-clause-writable
 returns-clause-writable g c =

@@ -9,12 +9,12 @@ use Rattle.bser_value.proofs.value.writing.+add.Given as goal
 
 abbrev pub invariant-add_items-loop-item : goal.invariant-add_items-loop-item
 invariant-add_items-loop-item g l = record {
-  put : UpTo g.W.Sink.took g.W.Sink.failures (array_head (length l.items.items)) (item_text (λ v. Ok (tree_of v))) l.items.items (drop l.item-index l.item-items) l.fn.out l.out;
+  put : UpTo g.W.Sink (array_head (length l.items.items)) (item_text (λ v. Ok (tree_of v))) l.items.items (drop l.item-index l.item-items) l.fn.out l.out;
   writable : ItemsAreWritable (items_view (drop l.item-index l.item-items)) → IsWritable (array (items_view l.items.items));
 }
 
 abbrev pub invariant-add_entries-loop-key : goal.invariant-add_entries-loop-key
 invariant-add_entries-loop-key g l = record {
-  put : UpTo g.W.Sink.took g.W.Sink.failures (object_head (length l.entries.entries)) (entry_text string_bytes (λ v. Ok (tree_of v))) l.entries.entries l.key-iterator l.fn.out l.out;
+  put : UpTo g.W.Sink (object_head (length l.entries.entries)) (entry_text string_bytes (λ v. Ok (tree_of v))) l.entries.entries l.key-iterator l.fn.out l.out;
   writable : EntriesAreWritable (entries_view l.key-iterator) → IsWritable (object (entries_view l.entries.entries));
 }

@@ -1,6 +1,0 @@
-use Rattle.bser_ser.proofs.Ends.{Adds-after}
-use Rattle.bser_ser.proofs.serializer.Serializer.add_short.Goals as goal
-
-pub returns : goal.returns
-returns g c =
-    Adds-after g.W.Sink.took g.W.Sink.answered g.W.Sink.failures g.met.W.Sink.took_both c.args.self.now c.is_taken_at_once.new.self c.append_pending_short.new.self _ c.append_pending_short.result (rw c.if-is_taken_at_once.false at c.is_taken_at_once.ensures.sent) c.append_pending_short.ensures
