@@ -92,7 +92,7 @@ where
         Ask::Unit => from.read_unit().is_err(),
         Ask::Bytes => are_bytes_refused(alloc, from),
         Ask::Text => is_text_refused(alloc, from),
-        Ask::Items => from.open_items(alloc).is_err(),
+        Ask::Items => from.open_items().is_err(),
         Ask::Pairs => from.open_pairs().is_err(),
     }
 }

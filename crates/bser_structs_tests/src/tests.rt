@@ -1,6 +1,7 @@
 //! Structs and enums from objects, rows and names, from a slice and from a reader, and the messages
 //! written for them.
 mod choices;
+mod fields;
 mod readers;
 
 use self::readers::read_one_by_one;

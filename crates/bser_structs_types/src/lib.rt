@@ -1,9 +1,11 @@
-//! Structs and enums that are read and written by one list, as a program writes them.
+//! Structs and enums that are read and written by one list, as a program writes them, and values that
+//! are read back from what was written for them.
 #![tactic(auto)]
 
 pub mod choices;
 pub mod files;
 pub mod named;
 pub mod queries;
+pub mod returned;
 pub mod rows;
 pub mod signed;

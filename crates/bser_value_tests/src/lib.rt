@@ -1,5 +1,5 @@
-//! Tests of `Value` by the calls that a user has: its memory, its lengths, its messages read and written,
-//! and its notation.
+//! Tests of `Value` by the calls that a user has: its lengths, its messages read and written, and its
+//! notation.
 #![tactic(auto)]
 
 #[cfg(test)]

@@ -3,7 +3,6 @@ mod access;
 mod checks;
 mod files;
 mod lengths;
-mod memory;
 mod messages;
 mod notation;
 mod printing;
@@ -17,9 +16,6 @@ use serde_bser::from_slice;
 use serde_bser::value::Value;
 use std::alloc::{AllocError, Global};
 use std::process::Abort;
-use std::test::Fail;
-
-type Tested = std::result::Result<(), Fail>;
 
 /// `front`, then `part` so many times, then `end`.
 fn repeated(

@@ -4,8 +4,8 @@ use Rattle.std.specs.Prelude.{IfOk, IfErr}
 use Rattle.std.specs.Io.KnownBytes.{Consumes}
 use Rattle.bser_format.specs.Content.{Content, Meaning}
 use Rattle.bser_format.specs.declared.errors.Error.{Error}
-use Rattle.serde_bser.specs.Messages.{TookMessage, RefusesReader}
-use Rattle.serde_bser.specs.Reading.{Asking}
+use Rattle.bser_messages.specs.Messages.{TookMessage, RefusesReader}
+use Rattle.bser_deserializer.specs.Reading.{Asking}
 use Rattle.bser_vectors.specs.Planned.{known}
 use Rattle.bser_vectors.specs.Ways.{GivenOfReader}
 

@@ -1,2 +1,1 @@
 pub mod KnownLeft
-pub mod ReadBack

@@ -3,13 +3,13 @@ use Rattle.std.specs.Prelude.{◌≡◌, ℕ, List, [], ◌∷◌, codes, Option
 use Rattle.bser_format.specs.Content.{Content, one, variant, Meaning}
 use Rattle.bser_format.specs.Enums.{Payload, unit, holds, reads_enum}
 use Rattle.bser_format.specs.ReadsHolders.{reads_tuple}
-use Rattle.serde_bser.specs.HoldsLists.{HoldsTuple}
-use Rattle.serde_bser.specs.Reading.{Asking}
-use Rattle.serde_bser.specs.Slots.{required, reads_struct}
+use Rattle.bser_deserializer.specs.HoldsLists.{HoldsTuple}
+use Rattle.bser_deserializer.specs.Reading.{Asking}
+use Rattle.bser_types.specs.Slots.{required, reads_struct}
 use Rattle.bser_fields.specs.Askings.{asking_struct}
 use Rattle.bser_types.specs.Askings.{asking_tuple}
 use Rattle.bser_variants.specs.Askings.{VariantAskings, asking_enum}
-use Rattle.serde_bser.specs.Variants.{HoldsVariant}
+use Rattle.bser_variants.specs.Variants.{HoldsVariant}
 use Rattle.bser_vectors.specs.declared.enums.EnumRow.{EnumRow}
 use Rattle.bser_vectors.specs.declared.enums.TestEnum.{TestEnum}
 use Rattle.bser_vectors.specs.declared.enums.TestEnum.TheVariants.{TestUnit, TestNewtype, TestTuple, TestStruct}

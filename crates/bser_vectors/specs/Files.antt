@@ -2,9 +2,9 @@
 use Rattle.std.specs.Prelude.{◌≡◌, ℕ, zero, suc, List, [], ◌∷◌, Option, Some, None, option_map, codes}
 use Rattle.bser_format.specs.Tree.{Tree}
 use Rattle.bser_format.specs.Content.{Content, list, content, no_contents, Meaning}
-use Rattle.serde_bser.specs.Fold.{struct_of, read_once}
-use Rattle.serde_bser.specs.declared.de.field.Field.{Field}
-use Rattle.serde_bser.specs.declared.de.field.Field.TheVariants.{Known, Unknown}
+use Rattle.bser_types.specs.Fold.{struct_of, read_once}
+use Rattle.bser_deserializer.specs.declared.field.Field.{Field}
+use Rattle.bser_deserializer.specs.declared.field.Field.TheVariants.{Known, Unknown}
 
 -- what was read of the name and of the size
 pub record Found : Type 0 where

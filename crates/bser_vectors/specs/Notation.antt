@@ -14,7 +14,7 @@ use Rattle.bser_format.specs.declared.errors.ReadCause.TheVariants.{Eof, Utf8, R
 use Rattle.bser_format.specs.declared.errors.Message.TheVariants.{Fixed}
 use Rattle.bser_format.specs.declared.errors.Error.{Error}
 use Rattle.bser_format.specs.declared.errors.Error.TheVariants.{DeInvalidStartByte, DeCustom, DeRecursionLimitExceeded, DeEof, DeInvalidMagic, DeReaderError, OutOfMemory}
-use Rattle.serde_bser.specs.ValueView.{tree_of}
+use Rattle.bser_value.specs.ValueView.{tree_of}
 use Rattle.bser_value.specs.declared.value.Value.{Value}
 
 -- a tree without templates in the notation; its items and entries, each after a separator, the first after another

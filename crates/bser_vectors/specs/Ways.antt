@@ -3,9 +3,9 @@ use Rattle.std.specs.Prelude.{◌≡◌, ℕ, ◌+◌, List, length, Option, Som
 use Rattle.bser_format.specs.Content.{Content, Meaning}
 use Rattle.bser_deserializer.specs.Reading.{Needs}
 use Rattle.bser_format.specs.declared.errors.Error.{Error}
-use Rattle.serde_bser.specs.Messages.{BeginsWith, TookMessage, RefusesSlice, RefusesReader}
-use Rattle.serde_bser.specs.Reading.{Asking}
-use Rattle.serde_bser.specs.ValueView.{HoldsValue}
+use Rattle.bser_messages.specs.Messages.{BeginsWith, TookMessage, RefusesSlice, RefusesReader}
+use Rattle.bser_deserializer.specs.Reading.{Asking}
+use Rattle.bser_value.specs.ValueView.{HoldsValue}
 use Rattle.bser_value.specs.declared.value.Value.{Value}
 use Rattle.bser_vectors.specs.Notation.{answer_notation}
 

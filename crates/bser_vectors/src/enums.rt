@@ -2,12 +2,18 @@
 //! place of its name, and its payload as one value.
 ghost use Rattle.std.specs.Prelude.{false, ◌||◌, [], ◌∷◌, None};
 ghost use Rattle.std.proofs.Common.{ap};
-ghost use Rattle.serde_bser.specs.HoldsLists.{HoldsTuple};
-ghost use Rattle.serde_bser.specs.Slots.{struct_needs};
+ghost use Rattle.bser_deserializer.specs.HoldsLists.{HoldsTuple};
+ghost use Rattle.bser_types.specs.Slots.{struct_needs};
 ghost use Rattle.bser_vectors.specs.Enums.{reads_parts, asking_parts, reads_test_enum, HoldsTestEnum, asking_test_enum, reads_enum_row, HoldsEnumRow, asking_enum_row};
 
-use serde_bser::de::{Answer, Deserializer, Required};
-use serde_bser::prelude::*;
+use bser_bunser::refusal::Answer;
+use bser_deserializer::deserializer::Deserializer;
+use bser_fields::fields::ReadsFields;
+use bser_fields::slot::Required;
+use bser_source::read::DeRead;
+use bser_source::reference::LendsText;
+use bser_types::deserialize::{Deserialize, OwnedShape, Shape};
+use bser_variants::enum_access::ReadsEnums;
 use std::alloc::Global;
 
 /// A variant of each form.
@@ -37,7 +43,6 @@ impl<L: LendsText, S: Deserialize<L>> Deserialize<L> for TestEnum<S> {
         from: &mut Deserializer<R>,
     ) -> Answer<TestEnum<S>> {
         let variant = from.read_enum(
-            alloc,
             "TestEnum",
             &["TestUnit", "TestNewtype", "TestTuple", "TestStruct"],
         )?;

@@ -1,11 +1,16 @@
 //! A struct that is read field by field, and has no other fields.
 ghost use Rattle.std.specs.Prelude.{None};
 ghost use Rattle.bser_vectors.specs.Files.{exact_file_of, HoldsExactFile};
-ghost use Rattle.serde_bser.specs.Fold.{either};
+ghost use Rattle.bser_types.specs.Fold.{either};
 
-use serde_bser::de::{Answer, Deserializer, Field};
-use serde_bser::errors::{Complaint, Error};
-use serde_bser::prelude::*;
+use bser_bunser::refusal::Answer;
+use bser_deserializer::deserializer::Deserializer;
+use bser_deserializer::field::Field;
+use bser_format::errors::{Complaint, Error};
+use bser_source::read::DeRead;
+use bser_source::reference::LendsText;
+use bser_types::container::ReadsContainers;
+use bser_types::deserialize::{Deserialize, Shape};
 use std::alloc::Global;
 
 /// A file's name and size. Another field, and one that comes twice, is refused.
@@ -35,7 +40,7 @@ impl<L: LendsText, S: Deserialize<L>, N: Deserialize<L>> Deserialize<L> for Exac
         let mut name = None;
         let mut size = None;
         let mut map = from.read_map()?;
-        while let Some(field) = map.next_field(alloc, &["name", "size"])? {
+        while let Some(field) = map.next_field(&["name", "size"])? {
             match field {
                 Field::Known(0) => {
                     if name.is_some() {

@@ -6,6 +6,5 @@ pub mod devices;
 pub mod enums;
 pub mod files;
 pub mod notation;
-pub mod returned;
 pub mod structs;
 pub mod ways;

@@ -9,7 +9,7 @@
 //! `E3` and a kind; `E4` and the counts expected and read; `E5` and the two bytes of another magic;
 //! `E6` and the source's cause; or `E11` for want of memory. Any other is `another refusal`.
 ghost use Rattle.std.specs.Prelude.{◌≡◌, ◌↔◌, IsTrue, IfOk, string_bytes};
-ghost use Rattle.serde_bser.specs.ValueView.{tree_of};
+ghost use Rattle.bser_value.specs.ValueView.{tree_of};
 ghost use Rattle.bser_vectors.specs.Notation.{notation, answer_notation};
 
 mod builder;
@@ -19,9 +19,9 @@ mod values;
 use crate::notation::builder::build_value;
 pub use crate::notation::refusals::code;
 pub use crate::notation::values::shown;
+use bser_format::errors::Error;
+use bser_value::value::Value;
 use hex::FromHexError;
-use serde_bser::errors::Error;
-use serde_bser::value::Value;
 use std::alloc::{AllocError, AllocFailed, Global};
 
 /// Why a text is no value in the notation.

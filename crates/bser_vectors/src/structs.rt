@@ -2,12 +2,17 @@
 //! field has is passed over.
 ghost use Rattle.std.specs.Prelude.{false, ◌||◌, [], ◌∷◌, None};
 ghost use Rattle.std.proofs.Common.{ap};
-ghost use Rattle.serde_bser.specs.Reading.{bare};
-ghost use Rattle.serde_bser.specs.Slots.{struct_needs};
+ghost use Rattle.bser_deserializer.specs.Reading.{bare};
+ghost use Rattle.bser_types.specs.Slots.{struct_needs};
 ghost use Rattle.bser_vectors.specs.Structs.{reads_file, HoldsFile, asking_file, reads_files, HoldsFiles, asking_files, reads_row, HoldsRow, asking_row};
 
-use serde_bser::de::{Answer, Deserializer, Optional, Required};
-use serde_bser::prelude::*;
+use bser_bunser::refusal::Answer;
+use bser_deserializer::deserializer::Deserializer;
+use bser_fields::fields::ReadsFields;
+use bser_fields::slot::{Optional, Required};
+use bser_source::read::DeRead;
+use bser_source::reference::LendsText;
+use bser_types::deserialize::{Deserialize, OwnedShape, Shape};
 use std::alloc::Global;
 
 /// A file's name and size.

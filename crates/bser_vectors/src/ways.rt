@@ -5,11 +5,11 @@ ghost use Rattle.bser_vectors.specs.Ways.{Agrees, AnswersReader, AnswersSlice, G
 
 use crate::devices::{Plan, PlannedReader};
 use crate::notation::is_answer;
-use serde_bser::de::{DeserializeOwned, Shape, from_reader_within};
-use serde_bser::device::Watched;
-use serde_bser::errors::Result;
-use serde_bser::value::Value;
-use serde_bser::{from_reader, from_slice};
+use bser_format::errors::Result;
+use bser_messages::message::{from_reader, from_reader_within, from_slice};
+use bser_source::device::Watched;
+use bser_types::deserialize::{DeserializeOwned, Shape};
+use bser_value::value::Value;
 use std::alloc::{AllocError, Global};
 
 /// Reads from a reader that gives `bytes` by the plan, and tells how many bytes it took.

@@ -3,3 +3,4 @@ pub mod Samples
 pub mod Templates
 pub mod Recorded
 pub mod Spelled
+pub mod Faults

@@ -1,7 +1,7 @@
 -- Templates of known meaning.
 use Rattle.std.specs.Prelude.{ℕ, zero, suc, pos, List, [], ◌∷◌, ◌++◌, codes, replicate, Some}
 use Rattle.bser_format.specs.Tree.{Tree, null, integer, bytes, array, object, template, no_items, item, no_entries, entry, Rows, no_rows, row, no_fields, skip, field, rows_of, items_of}
-use Rattle.bser_worked.specs.Samples.{header, key_a, one, two, single}
+use Rattle.bser_worked.specs.Samples.{header, key_a, one, two, single, empty_array}
 
 -- a template without keys and rows
 abbrev pub no_keys : List ℕ
@@ -52,10 +52,14 @@ person t u v = object (entry (codes "abc") t (entry (codes "def") u (entry (code
 abbrev pub people_value : Tree
 people_value = array (item (person (integer (pos 123)) (bytes (codes "bar")) null) (item (person (integer (pos 456)) null (integer (pos 789))) no_items))
 
--- n templates of one row and one field, one inside the other, around an empty array
+-- a template of the key `a`, of one row with this field
+abbrev pub one_row : List ℕ → List ℕ
+one_row b = 0x0b ∷ 0x00 ∷ 0x03 ∷ 0x01 ∷ 0x0d ∷ 0x03 ∷ 0x01 ∷ 0x61 ∷ 0x03 ∷ 0x01 ∷ b
+
+-- n such templates, one inside the other, around an empty array
 abbrev pub templates : ℕ → List ℕ
-templates zero = 0x00 ∷ 0x03 ∷ 0x00 ∷ []
-templates (suc n) = 0x0b ∷ 0x00 ∷ 0x03 ∷ 0x01 ∷ 0x0d ∷ 0x03 ∷ 0x01 ∷ 0x61 ∷ 0x03 ∷ 0x01 ∷ templates n
+templates zero = empty_array
+templates (suc n) = one_row (templates n)
 
 -- their tree
 abbrev pub nested_templates : ℕ → Tree

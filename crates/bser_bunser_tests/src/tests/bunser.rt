@@ -5,7 +5,9 @@ use super::{
 };
 use bser_bunser::bunser::{Bunser, PduInfo};
 use bser_format::errors::Result;
-use bser_format::header::EMPTY_HEADER;
+use bser_format::header::{
+    BSER_CAP_DISABLE_UNICODE, BSER_CAP_DISABLE_UNICODE_FOR_ERRORS, EMPTY_HEADER,
+};
 use bser_source::read::DeRead;
 use bser_source::slice_read::SliceRead;
 use std::alloc::Global;
@@ -114,6 +116,12 @@ fn check_empty<R: DeRead + Drop>(rt: &impl Abort, alloc: Global, read: R) {
 #[test]
 fn reads_the_empty_header(rt: HostRuntime) {
     check_empty(&rt, rt.alloc(), SliceRead::new(EMPTY_HEADER));
+}
+
+#[test]
+fn capabilities_are_bits(rt: HostRuntime) {
+    check_equal(&rt, BSER_CAP_DISABLE_UNICODE, 1);
+    check_equal(&rt, BSER_CAP_DISABLE_UNICODE_FOR_ERRORS, 2);
 }
 
 /// What `end` answers after the head and a body of one null.

@@ -77,7 +77,7 @@ fn are_items<R: DeRead>(
     from: &mut Deserializer<R>,
 ) -> bool {
     opened.outer = opened.inner;
-    opened.inner = from.open_items(alloc).ok();
+    opened.inner = from.open_items().ok();
     match opened.inner {
         Some(head) => head.remaining == remaining && head.rows == rows,
         None => false,

@@ -72,6 +72,26 @@ fn a_body_of_another_length_is_named_by_both_counts(rt: HostRuntime) -> Result<(
     check_parts(&rt, rt.alloc(), shorter, &[Part::Unit, Part::Counts(8, 9)])
 }
 
+/// The body has this length and this start.
+fn check_body<R: DeRead>(rt: &impl Abort, from: &Deserializer<R>, len: i64, start: i64) {
+    assert_eq!(rt; (from.body_length(), from.start()), (len, start));
+}
+
+/// Before the head the body has no length and no start, and then those of a null.
+fn check_head_read<R: DeRead + Drop>(rt: &impl Abort, alloc: Global, read: R) {
+    let mut from = Deserializer::unread(alloc, read);
+    check_body(rt, &from, 0, 0);
+    from.read_head(128).expect(rt, "the head is whole");
+    check_body(rt, &from, 1, 8);
+}
+
+#[test]
+fn a_body_has_no_length_and_no_start_before_the_head(rt: HostRuntime) {
+    let null = b"\x00\x02\x00\x00\x00\x00\x03\x01\x0a";
+    check_head_read(&rt, rt.alloc(), SliceRead::new(null));
+    check_head_read(&rt, rt.alloc(), reader_of(null));
+}
+
 fn refusal_of_head<R: DeRead + Drop>(alloc: Global, read: R) -> Option<Error> {
     Deserializer::new(alloc, read).err()
 }

@@ -27,9 +27,7 @@ fn is_answered(
     Ok(match call {
         Call::Key(name) => entries.next_key::<&str>(alloc)? == Some(name),
         Call::Value(number) => entries.next_value::<i64>(alloc)? == number,
-        Call::Field(place) => {
-            entries.next_field(alloc, &["a", "b"])? == Some(Field::Known(place))
-        }
+        Call::Field(place) => { entries.next_field(&["a", "b"])? == Some(Field::Known(place)) }
         Call::Entry(name, number) => {
             entries.next_entry::<&str, i64>(alloc)? == Some((name, number))
         }

@@ -1,7 +1,7 @@
 //! Tests of the calls that read an enum.
 use super::checks::{begun, check_count, check_equal, check_item, check_key, check_refused};
 use bser_vectors::enums::TestEnum;
-use serde_bser::de::{Deserializer, MapAccess, ReadsContainers, ReadsEnums, SliceRead};
+use serde_bser::de::{Deserializer, EnumForm, MapAccess, ReadsContainers, ReadsEnums, SliceRead};
 use std::alloc::Global;
 use std::process::Abort;
 
@@ -23,7 +23,7 @@ fn the_first_place_of_a_repeated_name_counts(rt: HostRuntime) {
     let message = b"\x00\x02\x00\x00\x00\x00\x03\x04\x0d\x03\x01a";
     let mut from = begun(&rt, alloc, message);
     let variant = from
-        .read_enum(alloc, "Letter", &["b", "a", "a"])
+        .read_enum("Letter", &["b", "a", "a"])
         .expect(&rt, "a variant is read");
     check_count(&rt, variant.place(), 1);
     variant.unit_variant().expect(&rt, "it holds nothing");
@@ -33,11 +33,9 @@ fn the_first_place_of_a_repeated_name_counts(rt: HostRuntime) {
 /// Checks that the payload is an array of "foo" and "bar".
 fn check_payload_items(rt: &impl Abort, alloc: Global, from: &mut Deserializer<SliceRead<'_>>) {
     let variant = from
-        .read_enum(alloc, "TestEnum", &["TestTuple"])
+        .read_enum("TestEnum", &["TestTuple"])
         .expect(rt, "a variant is read");
-    let mut items = variant
-        .tuple_variant(alloc)
-        .expect(rt, "its items are opened");
+    let mut items = variant.tuple_variant().expect(rt, "its items are opened");
     check_item(rt, alloc, &mut items, 2, Some("foo"));
     check_item(rt, alloc, &mut items, 1, Some("bar"));
     items.end().expect(rt, "it is at its end");
@@ -67,7 +65,7 @@ fn check_texts(
 /// Checks that the payload is an object of "abc" and "def", of "foo" and "bar".
 fn check_payload_entries(rt: &impl Abort, alloc: Global, from: &mut Deserializer<SliceRead<'_>>) {
     let variant = from
-        .read_enum(alloc, "TestEnum", &["TestStruct"])
+        .read_enum("TestEnum", &["TestStruct"])
         .expect(rt, "a variant is read");
     let mut entries = variant
         .struct_variant()
@@ -88,11 +86,39 @@ fn the_entries_of_a_struct_are_read(rt: HostRuntime) {
 }
 
 #[test]
+fn a_variant_is_read_by_its_form(rt: HostRuntime) {
+    let mut from = begun(&rt, rt.alloc(), UNIT);
+    let form = from
+        .read_enum_form("TestEnum", &["Other", "TestUnit"])
+        .expect(&rt, "a variant is read");
+    check_count(&rt, form.place(), 1);
+    if let EnumForm::Object(entry) = form {
+        entry.unit_variant().expect(&rt, "it holds null");
+    }
+    from.end().expect(&rt, "it is at its end");
+}
+
+#[test]
+fn a_name_alone_has_no_items(rt: HostRuntime) {
+    let alloc = rt.alloc();
+    let message = b"\x00\x02\x00\x00\x00\x00\x03\x04\x0d\x03\x01a";
+    let mut from = begun(&rt, alloc, message);
+    let form = from
+        .read_enum_form("Letter", &["a"])
+        .expect(&rt, "a variant is read");
+    if let EnumForm::Unit(alone) = form {
+        drop(alone.tuple_variant());
+    }
+    let refused = from.read_unit();
+    check_refused(&rt, alloc, &refused, &mut from, "E6 Failed");
+}
+
+#[test]
 fn a_dropped_variant_leaves_its_object_open(rt: HostRuntime) {
     let alloc = rt.alloc();
     let mut from = begun(&rt, alloc, UNIT);
     drop(
-        from.read_enum(alloc, "TestEnum", &["TestUnit"])
+        from.read_enum("TestEnum", &["TestUnit"])
             .expect(&rt, "a variant is read"),
     );
     let refused = from.read_unit();

@@ -29,16 +29,16 @@ fn fault<T>(answer: &Result<T>) -> Option<ErrorKind> {
 }
 
 /// Checks that a fault after each byte of the message is handed on, and that the bytes before it were
-/// taken.
+/// taken, and no more.
 fn check_faults_by<T: DeserializeOwned>(
     rt: &impl Abort,
     alloc: Global,
     message: &[u8],
     most: usize,
-    kind: ErrorKind,
+    (then, kind): (Then, ErrorKind),
 ) {
     for whole in 0..message.len() {
-        let plan = Plan::pieces(most).up_to(whole, Then::Faults(kind));
+        let plan = Plan::pieces(most).up_to(whole, then);
         let (answer, left) = read_by::<T>(alloc, message, plan);
         assert_eq!(rt; (fault(&answer), left), (Some(kind), message.len() - whole));
     }
@@ -48,7 +48,7 @@ fn check_faults_by<T: DeserializeOwned>(
 fn check_faults<T: DeserializeOwned>(rt: &impl Abort, alloc: Global, message: &[u8]) {
     for kind in [ErrorKind::Interrupted, ErrorKind::BrokenPipe] {
         for most in [1, 3, usize::MAX] {
-            check_faults_by::<T>(rt, alloc, message, most, kind);
+            check_faults_by::<T>(rt, alloc, message, most, (Then::Faults(kind), kind));
         }
     }
 }
@@ -61,4 +61,21 @@ fn a_fault_at_each_byte_is_handed_on(rt: HostRuntime) {
     check_faults::<Vec<TemplateRow<String>>>(&rt, alloc, ROWS);
     check_faults::<Vec<BTreeMap<String, Ignored>>>(&rt, alloc, ROWS);
     check_faults::<Ignored>(&rt, alloc, ROWS);
+}
+
+/// Checks that a reader that is interrupted once, after each byte of the message, is not asked again:
+/// its interruption is the answer, though its next call would give the byte.
+fn check_interruptions<T: DeserializeOwned>(rt: &impl Abort, alloc: Global, message: &[u8]) {
+    let kind = ErrorKind::Interrupted;
+    for most in [1, 3, usize::MAX] {
+        check_faults_by::<T>(rt, alloc, message, most, (Then::FaultsOnce(kind), kind));
+    }
+}
+
+#[test]
+fn a_reader_that_is_interrupted_once_is_not_read_again(rt: HostRuntime) {
+    let alloc = rt.alloc();
+    check_interruptions::<Value>(&rt, alloc, REAL);
+    check_interruptions::<Vec<TemplateRow<String>>>(&rt, alloc, ROWS);
+    check_interruptions::<Ignored>(&rt, alloc, ROWS);
 }

@@ -12,7 +12,7 @@ const TRUE: &[u8] = b"\x00\x02\x00\x00\x00\x00\x03\x01\x08";
 
 /// Checks what the array's items are, and how many are left before each.
 fn check_items(rt: &impl Abort, alloc: Global, from: &mut Deserializer<SliceRead<'_>>) {
-    let mut items = from.read_seq(alloc).expect(rt, "an array is opened");
+    let mut items = from.read_seq().expect(rt, "an array is opened");
     check_item(rt, alloc, &mut items, 2, Some(true));
     check_item(rt, alloc, &mut items, 1, Some(Ignored));
     check_item::<_, bool>(rt, alloc, &mut items, 0, None);
@@ -33,7 +33,7 @@ fn a_template_tells_how_many_rows_are_left(rt: HostRuntime) {
     let message =
         b"\x00\x02\x00\x00\x00\x00\x03\x0e\x0b\x00\x03\x02\x0d\x03\x01a\x02\x03\x01b\x03\x07";
     let mut from = begun(&rt, alloc, message);
-    let items = from.read_seq(alloc).expect(&rt, "an array is opened");
+    let items = from.read_seq().expect(&rt, "an array is opened");
     check_count(&rt, items.remaining(), 7);
 }
 
@@ -87,7 +87,7 @@ fn check_past_the_value(rt: &impl Abort, alloc: Global, call: Call) {
 /// Checks that the call is refused while an array is open.
 fn check_inside(rt: &impl Abort, alloc: Global, call: Call) {
     let mut from = begun(rt, alloc, ARRAY);
-    drop(from.read_seq(alloc).expect(rt, "an array is opened"));
+    drop(from.read_seq().expect(rt, "an array is opened"));
     check_refused_twice(rt, alloc, &mut from, call, "C11");
 }
 
@@ -95,7 +95,7 @@ fn check_inside(rt: &impl Abort, alloc: Global, call: Call) {
 fn a_read_while_an_array_is_open_is_refused(rt: HostRuntime) {
     let alloc = rt.alloc();
     let mut from = begun(&rt, alloc, ARRAY);
-    from.read_seq(alloc)
+    from.read_seq()
         .expect(&rt, "an array is opened")
         .next_element::<bool>(alloc)
         .expect(&rt, "an item is read");

@@ -22,7 +22,7 @@ const SHORT: &[u8] = b"\x00\x02\0\0\0\0\x03\x09\x00\x03\x01\x08";
 fn check_open(rt: &impl Abort, alloc: Global) {
     let mut from = begun(rt, alloc, SHORT);
     check_end_refused(rt, alloc, &from, "C11");
-    drop(from.read_seq(alloc).expect(rt, "an array is opened"));
+    drop(from.read_seq().expect(rt, "an array is opened"));
     check_end_refused(rt, alloc, &from, "C11");
 }
 
@@ -30,10 +30,9 @@ fn check_open(rt: &impl Abort, alloc: Global) {
 /// a second value after that.
 fn check_passed_over(rt: &impl Abort, alloc: Global) {
     let mut from = begun(rt, alloc, SHORT);
-    from.skip_value(alloc)
-        .expect(rt, "the value is passed over");
+    from.skip_value().expect(rt, "the value is passed over");
     check_end_refused(rt, alloc, &from, "E4 17 12");
-    let second = from.skip_value(alloc);
+    let second = from.skip_value();
     check_refused(rt, alloc, &second, &mut from, "C4");
     check_end_refused(rt, alloc, &from, "E6 Failed");
 }

@@ -41,7 +41,7 @@ fn read_first<R: DeRead>(rt: &impl Abort, alloc: Global, from: &mut Deserializer
 where
     R::Lent: LendsText,
 {
-    let mut items = from.read_seq(alloc).expect(rt, "an array is opened");
+    let mut items = from.read_seq().expect(rt, "an array is opened");
     check_item(rt, alloc, &mut items, 3, Some(1i64));
     check_count(rt, items.remaining(), 2);
 }
@@ -69,7 +69,7 @@ fn end_early<R: DeRead>(rt: &impl Abort, alloc: Global, from: &mut Deserializer<
 where
     R::Lent: LendsText,
 {
-    let mut items = from.read_seq(alloc).expect(rt, "an array is opened");
+    let mut items = from.read_seq().expect(rt, "an array is opened");
     check_item(rt, alloc, &mut items, 3, Some(1i64));
     assert!(rt; items.end().is_err());
 }

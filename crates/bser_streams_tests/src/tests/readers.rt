@@ -1,8 +1,8 @@
 //! The messages of a reader that gives one byte a call.
 use super::{HUGE, MIXED, NUMBERS, OneByOne, Tested, check_answer, check_equal};
 use bser_format::errors::Error;
+use bser_messages::limits::Limits;
 use bser_source::device::Watched;
-use bser_streams::limits::Limits;
 use bser_streams::next::{from_reader_limited, next_message, next_message_limited};
 use bser_streams::reader_messages::ReaderMessages;
 use std::alloc::Global;

@@ -1,6 +1,6 @@
 //! What is written for values, and what is left where a writer faults.
 use super::checks::{check_bytes, check_written};
-use super::{Tested, spelled};
+use super::spelled;
 use bser_vectors::devices::{Plan, PlannedWriter, Then};
 use serde_bser::device::Watched;
 use serde_bser::errors::Error;
@@ -91,28 +91,6 @@ fn a_message_is_written_a_byte_a_call(rt: HostRuntime) {
     let mut writer = Watched::new(PlannedWriter::new(rt.alloc(), Plan::pieces(1)));
     serialize_to(rt.alloc(), &mut writer, &value).expect(&rt, "the value is written");
     check_bytes(&rt, writer.get_ref().taken(), ROWS_MESSAGE);
-}
-
-/// Whether memory was refused, to the writer or to what calls it.
-fn is_want_of_memory(error: &Error) -> bool {
-    match error {
-        Error::OutOfMemory => true,
-        _ => is_fault(error, ErrorKind::OutOfMemory),
-    }
-}
-
-/// Each growth is granted where the tests run. Where one is refused, a beginning was written.
-#[test]
-fn a_message_that_is_refused_for_memory_leaves_a_beginning(rt: HostRuntime) -> Tested {
-    let value = spelled(&rt, rt.alloc(), ROWS);
-    let mut writer = Watched::new(PlannedWriter::new(rt.alloc(), Plan::pieces(5)));
-    let answer = serialize_to(rt.alloc(), &mut writer, &value);
-    let taken = writer.get_ref().taken();
-    match &answer {
-        Ok(()) => check_bytes(&rt, taken, ROWS_MESSAGE),
-        Err(error) => assert!(rt; is_want_of_memory(error) && ROWS_MESSAGE.starts_with(taken)),
-    }
-    Ok(())
 }
 
 #[test]

@@ -1,7 +1,7 @@
 //! Values from their notation.
 use crate::notation::NotationError;
-use serde_bser::bytestring::ByteString;
-use serde_bser::value::Value;
+use bser_format::bytestring::ByteString;
+use bser_value::value::Value;
 use std::alloc::Global;
 use std::collections::BTreeMap;
 

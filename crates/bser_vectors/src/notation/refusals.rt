@@ -2,7 +2,7 @@
 ghost use Rattle.std.specs.Prelude.{◌≡◌, string_bytes, IfOk};
 ghost use Rattle.bser_vectors.specs.Notation as text;
 
-use serde_bser::errors::{Complaint, Error, Kind, Message, ReadCause};
+use bser_format::errors::{Complaint, Error, Kind, Message, ReadCause};
 use std::alloc::{AllocError, Global};
 
 /// The code of a refusal.

@@ -2,10 +2,10 @@
 ghost use Rattle.std.specs.Prelude.{◌≡◌, ◌++◌, [], codes, string_bytes, IfOk, OnOk};
 ghost use Rattle.std.specs.Fmt.{signed_decimal};
 ghost use Rattle.hex.specs.Hex.{encode_lower};
-ghost use Rattle.serde_bser.specs.ValueView.{tree_of, items_view, entries_view};
+ghost use Rattle.bser_value.specs.ValueView.{tree_of, items_view, entries_view};
 ghost use Rattle.bser_vectors.specs.Notation.{notation, items_notation, entries_notation};
 
-use serde_bser::value::Value;
+use bser_value::value::Value;
 use std::alloc::{AllocError, Global};
 use std::collections::BTreeMap;
 

@@ -123,10 +123,10 @@ fn put_field<W: Sink, T: Serialize>(
     key: &[u8],
     value: &T,
 ) -> Result<()>
-    ensures ok { OnOk result (Ends W.took W.failures
+    ensures ok { OnOk result (Ends W.Sink
         (field_text key.now (T.meaning value.now)) out.old out.new) }
     ensures writable { OnOk result (CanBeWritten (T.meaning value.now)) }
-    ensures err { IfErr result (Stops W.took W.answered W.failures
+    ensures err { IfErr result (Stops W.Sink
         (field_text key.now (T.meaning value.now)) out.old out.new) }
 {
     out.put_key(key)?;

@@ -6,15 +6,14 @@ use Rattle.bser_format.specs.Content.{Meaning, one, variant}
 use Rattle.bser_deserializer.specs.Reading.{Needs}
 use Rattle.bser_format.specs.Enums.{Payload}
 use Rattle.bser_format.specs.ReadsHolders.{reads_tuple}
-use Rattle.serde_bser.specs.EnumAccess.{open_enum}
-use Rattle.serde_bser.specs.HoldsLists.{HoldsTuple}
-use Rattle.serde_bser.specs.Slots.{struct_needs}
-use Rattle.serde_bser.specs.Tuples.{tuple_needs}
-use Rattle.serde_bser.specs.State.{State}
-use Rattle.serde_bser.specs.Variants.{OpenEnum}
-use Rattle.serde_bser.specs.View.{state}
-use Rattle.serde_bser.proofs.VariantNames.{payload_at}
-use Rattle.serde_bser.proofs.Variants.{place_there, enum_refused, unit_found, unit_refused, payload_found, payload_refused}
+use Rattle.bser_variants.specs.EnumAccess.{open_enum}
+use Rattle.bser_deserializer.specs.HoldsLists.{HoldsTuple}
+use Rattle.bser_types.specs.Slots.{struct_needs}
+use Rattle.bser_types.specs.Tuples.{tuple_needs}
+use Rattle.bser_deserializer.specs.State.{State}
+use Rattle.bser_variants.specs.Variants.{OpenEnum}
+use Rattle.bser_variants.proofs.VariantNames.{payload_at}
+use Rattle.bser_variants.proofs.Variants.{place_there, enum_refused, unit_found, unit_refused, payload_found, payload_refused}
 use Rattle.bser_variants.specs.Askings.{VariantAskings}
 use Rattle.bser_variants.proofs.Askings.{asked_at}
 use Rattle.bser_vectors.specs.Enums.{reads_parts, test_variants, test_askings}
@@ -41,17 +40,17 @@ pub returns-in_err-variant-clause-refused : goal.returns-in_err-variant-clause-r
 returns-in_err-variant-clause-refused g c =
     let p = err_from_is_err_and c.from_residual.result c.from_residual.ensures.1 in
     let needs : Needs = struct_needs (g.S.Shape.needs ∷ []) in
-    rw p.1 (enum_refused (codes "TestEnum") (test_variants g.S.Shape.reads) (test_askings g.S.Shape.asks) needs _ (state g.R.DeRead.window g.L.Lending.kept c.args.from.now)
-    (state g.R.DeRead.window g.L.Lending.kept c.read_enum.follows.lender-at-none) (rw c.in_err-variant.was at c.read_enum.follows.holds-at-none))
+    rw p.1 (enum_refused (codes "TestEnum") (test_variants g.S.Shape.reads) (test_askings g.S.Shape.asks) needs _ (c.args.from.now.state)
+    (c.read_enum.follows.lender-at-none.state) (rw c.in_err-variant.was at c.read_enum.follows.holds-at-none))
 
 pub returns-in_err-unit_variant-in-0-clause-refused : goal.returns-in_err-unit_variant-in-0-clause-refused
 returns-in_err-unit_variant-in-0-clause-refused g c =
     let vs : List (List ℕ × Payload) = test_variants g.S.Shape.reads in
     let qs : VariantAskings vs = test_askings g.S.Shape.asks in
     let needs : Needs = struct_needs (g.S.Shape.needs ∷ []) in
-    let o : State = state g.R.DeRead.window g.L.Lending.kept c.args.from.now in
-    let v : OpenEnum = open_enum g.R.DeRead.window g.L.Lending.kept c.in_ok-variant.variant in
-    let z : State = state g.R.DeRead.window g.L.Lending.kept c.unit_variant.new.self.0 in
+    let o : State = c.args.from.now.state in
+    let v : OpenEnum = open_enum c.in_ok-variant.variant in
+    let z : State = c.unit_variant.new.self.0.state in
     let p = err_from_is_err_and c.from_residual-in_err-unit_variant-in-0.result c.from_residual-in_err-unit_variant-in-0.ensures.1 in
     rw (p.1, c.from-in-0-1.given.1 (sym c.in_ok-variant.ensures.same_reference))
     (unit_refused (codes "TestEnum") vs qs needs _ o z v c.in_ok-variant.variant.place (ap (λ n. asked_at n vs qs) (sym c.place.ensures ∙ c.in-0.is)) c.in_ok-variant.ensures.found c.in_err-unit_variant-in-0.ensures.refused)
@@ -59,9 +58,9 @@ returns-in_err-unit_variant-in-0-clause-refused g c =
 pub returns-in_ok-unit_variant-in-0-clause-found : goal.returns-in_ok-unit_variant-in-0-clause-found
 returns-in_ok-unit_variant-in-0-clause-found g c =
     let vs : List (List ℕ × Payload) = test_variants g.S.Shape.reads in
-    let o : State = state g.R.DeRead.window g.L.Lending.kept c.args.from.now in
-    let v : OpenEnum = open_enum g.R.DeRead.window g.L.Lending.kept c.in_ok-variant.variant in
-    let z : State = state g.R.DeRead.window g.L.Lending.kept c.unit_variant.new.self.0 in
+    let o : State = c.args.from.now.state in
+    let v : OpenEnum = open_enum c.in_ok-variant.variant in
+    let z : State = c.unit_variant.new.self.0.state in
     rw (c.from-in-0-1.given.1 (sym c.in_ok-variant.ensures.same_reference))
     (unit_found vs _ o z v c.in_ok-variant.variant.place _ (ap (λ n. payload_at n vs) (sym c.place.ensures ∙ c.in-0.is)) c.in_ok-variant.ensures.found c.in_ok-unit_variant-in-0.ensures.found (ap (λ n. variant n one) (sym c.place.ensures ∙ c.in-0.is)))
 
@@ -70,9 +69,9 @@ returns-in_err-value-in-1-clause-refused g c =
     let vs : List (List ℕ × Payload) = test_variants g.S.Shape.reads in
     let qs : VariantAskings vs = test_askings g.S.Shape.asks in
     let needs : Needs = struct_needs (g.S.Shape.needs ∷ []) in
-    let o : State = state g.R.DeRead.window g.L.Lending.kept c.args.from.now in
-    let v : OpenEnum = open_enum g.R.DeRead.window g.L.Lending.kept c.in_ok-variant.variant in
-    let z : State = state g.R.DeRead.window g.L.Lending.kept c.newtype_variant.new.self.0 in
+    let o : State = c.args.from.now.state in
+    let v : OpenEnum = open_enum c.in_ok-variant.variant in
+    let z : State = c.newtype_variant.new.self.0.state in
     let p = err_from_is_err_and c.from_residual-in_err-value-in-1.result c.from_residual-in_err-value-in-1.ensures.1 in
     rw (p.1, c.from-in-1-1.given.1 (sym c.in_ok-variant.ensures.same_reference))
     (payload_refused (codes "TestEnum") vs qs g.S.Shape.reads g.S.Shape.asks g.S.Shape.needs needs _ o z v c.in_ok-variant.variant.place (lends_one g.S.Shape.needs.lent) (λ b. refl) (λ b. refl) (ap (λ n. asked_at n vs qs) (sym c.place.ensures ∙ c.in-1.is)) c.in_ok-variant.ensures.found c.in_err-value-in-1.ensures.refused)
@@ -80,9 +79,9 @@ returns-in_err-value-in-1-clause-refused g c =
 pub returns-in_ok-value-in-1-clause-found : goal.returns-in_ok-value-in-1-clause-found
 returns-in_ok-value-in-1-clause-found g c =
     let vs : List (List ℕ × Payload) = test_variants g.S.Shape.reads in
-    let o : State = state g.R.DeRead.window g.L.Lending.kept c.args.from.now in
-    let v : OpenEnum = open_enum g.R.DeRead.window g.L.Lending.kept c.in_ok-variant.variant in
-    let z : State = state g.R.DeRead.window g.L.Lending.kept c.newtype_variant.new.self.0 in
+    let o : State = c.args.from.now.state in
+    let v : OpenEnum = open_enum c.in_ok-variant.variant in
+    let z : State = c.newtype_variant.new.self.0.state in
     rw (c.from-in-1-1.given.1 (sym c.in_ok-variant.ensures.same_reference))
     (payload_found vs g.S.Shape.reads g.S.Shape.holds _ o z v c.in_ok-variant.variant.place c.in_ok-value-in-1.value _ (ap (λ n. payload_at n vs) (sym c.place.ensures ∙ c.in-1.is)) c.in_ok-variant.ensures.found c.in_ok-value-in-1.ensures.found
     (λ d h. record { payload = d; whole = ap (λ n. variant n d) (sym c.place.ensures ∙ c.in-1.is); held = h }))
@@ -92,9 +91,9 @@ returns-in_err-first-in-2-clause-refused g c =
     let vs : List (List ℕ × Payload) = test_variants g.S.Shape.reads in
     let qs : VariantAskings vs = test_askings g.S.Shape.asks in
     let needs : Needs = struct_needs (g.S.Shape.needs ∷ []) in
-    let o : State = state g.R.DeRead.window g.L.Lending.kept c.args.from.now in
-    let v : OpenEnum = open_enum g.R.DeRead.window g.L.Lending.kept c.in_ok-variant.variant in
-    let z : State = state g.R.DeRead.window g.L.Lending.kept c.newtype_variant-in-2.new.self.0 in
+    let o : State = c.args.from.now.state in
+    let v : OpenEnum = open_enum c.in_ok-variant.variant in
+    let z : State = c.newtype_variant-in-2.new.self.0.state in
     let p = err_from_is_err_and c.from_residual-in_err-first-in-2.result c.from_residual-in_err-first-in-2.ensures.1 in
     rw (p.1, c.from-in-2-1.given.1 (sym c.in_ok-variant.ensures.same_reference))
     (payload_refused (codes "TestEnum") vs qs (reads_tuple (g.S.Shape.reads ∷ g.S.Shape.reads ∷ [])) _ (tuple_needs (g.S.Shape.needs ∷ g.S.Shape.needs ∷ []) (g.S.Shape.reads ∷ g.S.Shape.reads ∷ []) (g.S.Shape.plain, (g.S.Shape.plain, tt))) needs _ o z v c.in_ok-variant.variant.place (lends_two g.S.Shape.needs.lent) (λ b. refl) (λ b. refl) (ap (λ n. asked_at n vs qs) (sym c.place.ensures ∙ c.in-2.is)) c.in_ok-variant.ensures.found
@@ -103,9 +102,9 @@ returns-in_err-first-in-2-clause-refused g c =
 pub returns-in_ok-first-in-2-clause-found : goal.returns-in_ok-first-in-2-clause-found
 returns-in_ok-first-in-2-clause-found g c =
     let vs : List (List ℕ × Payload) = test_variants g.S.Shape.reads in
-    let o : State = state g.R.DeRead.window g.L.Lending.kept c.args.from.now in
-    let v : OpenEnum = open_enum g.R.DeRead.window g.L.Lending.kept c.in_ok-variant.variant in
-    let z : State = state g.R.DeRead.window g.L.Lending.kept c.newtype_variant-in-2.new.self.0 in
+    let o : State = c.args.from.now.state in
+    let v : OpenEnum = open_enum c.in_ok-variant.variant in
+    let z : State = c.newtype_variant-in-2.new.self.0.state in
     rw (c.from-in-2-1.given.1 (sym c.in_ok-variant.ensures.same_reference))
     (payload_found vs (reads_tuple (g.S.Shape.reads ∷ g.S.Shape.reads ∷ [])) (λ t d. HoldsTuple (g.S.Shape.holds t.0 ∷ g.S.Shape.holds t.1 ∷ []) d) _ o z v c.in_ok-variant.variant.place (c.in_ok-first-in-2.first, c.in_ok-first-in-2.second) _
     (ap (λ n. payload_at n vs) (sym c.place.ensures ∙ c.in-2.is)) c.in_ok-variant.ensures.found c.in_ok-first-in-2.ensures.found (λ d h. record { payload = d; whole = ap (λ n. variant n d) (sym c.place.ensures ∙ c.in-2.is); held = h }))
@@ -115,9 +114,9 @@ returns-in_err-abc-in_default-clause-refused g c =
     let vs : List (List ℕ × Payload) = test_variants g.S.Shape.reads in
     let qs : VariantAskings vs = test_askings g.S.Shape.asks in
     let needs : Needs = struct_needs (g.S.Shape.needs ∷ []) in
-    let o : State = state g.R.DeRead.window g.L.Lending.kept c.args.from.now in
-    let v : OpenEnum = open_enum g.R.DeRead.window g.L.Lending.kept c.in_ok-variant.variant in
-    let z : State = state g.R.DeRead.window g.L.Lending.kept c.newtype_variant-in_default.new.self.0 in
+    let o : State = c.args.from.now.state in
+    let v : OpenEnum = open_enum c.in_ok-variant.variant in
+    let z : State = c.newtype_variant-in_default.new.self.0.state in
     let p = err_from_is_err_and c.from_residual-in_err-abc-in_default.result c.from_residual-in_err-abc-in_default.ensures.1 in
     let there = place_there vs o v c.in_ok-variant.variant.place c.in_ok-variant.ensures.found in
     let other = c.in_default.in_default-own.rest in
@@ -129,9 +128,9 @@ returns-in_err-abc-in_default-clause-refused g c =
 pub returns-in_ok-abc-in_default-clause-found : goal.returns-in_ok-abc-in_default-clause-found
 returns-in_ok-abc-in_default-clause-found g c =
     let vs : List (List ℕ × Payload) = test_variants g.S.Shape.reads in
-    let o : State = state g.R.DeRead.window g.L.Lending.kept c.args.from.now in
-    let v : OpenEnum = open_enum g.R.DeRead.window g.L.Lending.kept c.in_ok-variant.variant in
-    let z : State = state g.R.DeRead.window g.L.Lending.kept c.newtype_variant-in_default.new.self.0 in
+    let o : State = c.args.from.now.state in
+    let v : OpenEnum = open_enum c.in_ok-variant.variant in
+    let z : State = c.newtype_variant-in_default.new.self.0.state in
     let there = place_there vs o v c.in_ok-variant.variant.place c.in_ok-variant.ensures.found in
     let other = c.in_default.in_default-own.rest in
     let fourth : c.in_ok-variant.variant.place ≡ 3 = last_place g.S.Shape.reads c.in_ok-variant.variant.place there.0 (λ e. other.0.0.1 (c.place.ensures ∙ e)) (λ e. other.0.1 (c.place.ensures ∙ e)) (λ e. other.1 (c.place.ensures ∙ e)) there.1 in

@@ -4,15 +4,14 @@ use Rattle.std.proofs.lemmas.Result.{err_from_is_err_and}
 use Rattle.bser_format.specs.Content.{Content, list, content, no_contents}
 use Rattle.bser_deserializer.specs.Reading.{Needs}
 use Rattle.bser_named.specs.DueReaders.{wrong_type}
-use Rattle.serde_bser.specs.State.{State}
-use Rattle.serde_bser.specs.View.{state}
-use Rattle.serde_bser.specs.Access.{OpenPairs}
-use Rattle.serde_bser.specs.Accesses.{open_pairs}
-use Rattle.serde_bser.specs.Reading.{IsRefusal}
-use Rattle.serde_bser.specs.Fold.{either}
+use Rattle.bser_deserializer.specs.State.{State}
+use Rattle.bser_deserializer.specs.Access.{OpenPairs}
+use Rattle.bser_types.specs.Accesses.{open_pairs}
+use Rattle.bser_deserializer.specs.Reading.{IsRefusal}
+use Rattle.bser_types.specs.Fold.{either}
 use Rattle.bser_vectors.specs.Files.{Found, file_names, file_field, nothing_found, file_found, both, HoldsExactFile}
-use Rattle.serde_bser.specs.declared.de.field.Field.TheVariants.{Known}
-use Rattle.serde_bser.proofs.Folds.{struct_start, struct_field, struct_value, struct_end, opening, name_refused, field_refused, field_unread, fields_missing, keeps_not, keeps_is, first_read, read_again, was_read, later_place, either_left, either_right, takes_left, takes_right}
+use Rattle.bser_deserializer.specs.declared.field.Field.TheVariants.{Known}
+use Rattle.bser_fields.proofs.Folds.{struct_start, struct_field, struct_value, struct_end, opening, name_refused, field_refused, field_unread, fields_missing, keeps_not, keeps_is, first_read, read_again, was_read, later_place, either_left, either_right, takes_left, takes_right}
 use Rattle.bser_vectors.proofs.files.ExactFileDeserialize.deserialize.Goals as goal
 use Rattle.bser_vectors.proofs.files.ExactFileDeserialize.deserialize.Goals.{in_default-2-via-in-Some+in_default, in_default-2-via-in_default}
 
@@ -25,8 +24,8 @@ pub returns-in_err-map-clause-refused : goal.returns-in_err-map-clause-refused
 returns-in_err-map-clause-refused g c =
     let step = file_field g.S.Shape.reads g.N.Shape.reads in
     let p = err_from_is_err_and c.from_residual.result c.from_residual.ensures.1 in
-    rw p.1 (opening file_names step nothing_found file_found (either g.S.Shape.needs g.N.Shape.needs) _ (state g.R.DeRead.window g.L.Lending.kept c.args.from.now)
-    (state g.R.DeRead.window g.L.Lending.kept c.read_map.follows.lender-at-none) (rw c.in_err-map.was at c.read_map.follows.holds-at-none))
+    rw p.1 (opening file_names step nothing_found file_found (either g.S.Shape.needs g.N.Shape.needs) _ (c.args.from.now.state)
+    (c.read_map.follows.lender-at-none.state) (rw c.in_err-map.was at c.read_map.follows.holds-at-none))
 
 pub loop-size-init : goal.loop-size-init
 loop-size-init g c = record {
@@ -34,28 +33,28 @@ loop-size-init g c = record {
   found = nothing_found;
   name = refl;
   size = refl;
-  at = struct_start file_names (file_field g.S.Shape.reads g.N.Shape.reads) nothing_found file_found (state g.R.DeRead.window g.L.Lending.kept c.args.from.now) (open_pairs g.R.DeRead.window g.L.Lending.kept c.in_ok-map.map) c.in_ok-map.ensures.found;
+  at = struct_start file_names (file_field g.S.Shape.reads g.N.Shape.reads) nothing_found file_found (c.args.from.now.state) (open_pairs c.in_ok-map.map) c.in_ok-map.ensures.found;
 }
 
 pub returns-in_err-field-clause-refused : goal.returns-in_err-field-clause-refused
 returns-in_err-field-clause-refused g c =
     let step = file_field g.S.Shape.reads g.N.Shape.reads in
-    let o : State = state g.R.DeRead.window g.L.Lending.kept c.args.from.now in
+    let o : State = c.args.from.now.state in
     let i = c.loop-size.invariant in
     let p = err_from_is_err_and c.from_residual-in_err-field.result c.from_residual-in_err-field.ensures.1 in
     rw (p.1, c.in_err-field.from-in-Break-branch-2-1-own.given.1 (sym (c.in_err-field.ensures.same_reference ∙ i.same_reference ∙ c.in_ok-map.ensures.same_reference)))
-    (name_refused file_names step nothing_found file_found (either g.S.Shape.needs g.N.Shape.needs) _ o (state g.R.DeRead.window g.L.Lending.kept c.next_field.new.self.from.now) i.found
-    (open_pairs g.R.DeRead.window g.L.Lending.kept c.loop-size.map) i.at c.in_err-field.ensures.refused)
+    (name_refused file_names step nothing_found file_found (either g.S.Shape.needs g.N.Shape.needs) _ o (c.next_field.new.self.from.now.state) i.found
+    (open_pairs c.loop-size.map) i.at c.in_err-field.ensures.refused)
 
 pub returns-then-is_some-clause-refused : goal.returns-then-is_some-clause-refused
 returns-then-is_some-clause-refused g c =
     let step = file_field g.S.Shape.reads g.N.Shape.reads in
     let needs : Needs = either g.S.Shape.needs g.N.Shape.needs in
-    let o : State = state g.R.DeRead.window g.L.Lending.kept c.args.from.now in
+    let o : State = c.args.from.now.state in
     let i = c.loop-size.invariant in
-    let u : OpenPairs = open_pairs g.R.DeRead.window g.L.Lending.kept c.loop-size.map in
-    let m : OpenPairs = open_pairs g.R.DeRead.window g.L.Lending.kept c.next_field.new.self in
-    let z : OpenPairs = open_pairs g.R.DeRead.window g.L.Lending.kept c.refuse.new.self in
+    let u : OpenPairs = open_pairs c.loop-size.map in
+    let m : OpenPairs = open_pairs c.next_field.new.self in
+    let z : OpenPairs = open_pairs c.refuse.new.self in
     let f = struct_field file_names step nothing_found file_found o i.found c.in-Some.field u m i.at (rw c.in-Some.is at c.in_ok-field.ensures.found) in
     let known : c.in-Some.field ≡ Known 0 = c.in-Known-eq0.is ∙ ap Known (sym c.in-Known-eq0.field-0-is ∙ c.in-Known-eq0.field-0-test) in
     let again = keeps_is g.S.Shape.holds c.loop-size.name i.found.name c.is_some.result c.is_some.ensures c.if-is_some.true i.name in
@@ -67,27 +66,27 @@ pub returns-in_err-next_value-in-Known-eq0-clause-refused :
     goal.returns-in_err-next_value-in-Known-eq0-clause-refused
 returns-in_err-next_value-in-Known-eq0-clause-refused g c =
     let step = file_field g.S.Shape.reads g.N.Shape.reads in
-    let o : State = state g.R.DeRead.window g.L.Lending.kept c.args.from.now in
+    let o : State = c.args.from.now.state in
     let i = c.loop-size.invariant in
-    let u : OpenPairs = open_pairs g.R.DeRead.window g.L.Lending.kept c.loop-size.map in
-    let m : OpenPairs = open_pairs g.R.DeRead.window g.L.Lending.kept c.next_field.new.self in
+    let u : OpenPairs = open_pairs c.loop-size.map in
+    let m : OpenPairs = open_pairs c.next_field.new.self in
     let f = struct_field file_names step nothing_found file_found o i.found c.in-Some.field u m i.at (rw c.in-Some.is at c.in_ok-field.ensures.found) in
     let known : c.in-Some.field ≡ Known 0 = c.in-Known-eq0.is ∙ ap Known (sym c.in-Known-eq0.field-0-is ∙ c.in-Known-eq0.field-0-test) in
     let p = err_from_is_err_and c.from_residual-in_err-next_value-in-Known-eq0.result c.from_residual-in_err-next_value-in-Known-eq0.ensures.1 in
     let e = c.in_err-next_value-in-Known-eq0 in
     rw (p.1, e.from-in-Break-branch-4-1-own.given.1 (sym (e.ensures.same_reference ∙ c.in_ok-field.ensures.same_reference ∙ i.same_reference ∙ c.in_ok-map.ensures.same_reference)))
-    (field_refused file_names step nothing_found file_found g.S.Shape.reads g.S.Shape.asks g.S.Shape.needs (either g.S.Shape.needs g.N.Shape.needs) _ o (state g.R.DeRead.window g.L.Lending.kept c.next_value.new.self.from.now) i.found c.in-Some.field m
+    (field_refused file_names step nothing_found file_found g.S.Shape.reads g.S.Shape.asks g.S.Shape.needs (either g.S.Shape.needs g.N.Shape.needs) _ o (c.next_value.new.self.from.now.state) i.found c.in-Some.field m
     (either_left g.S.Shape.needs.lent g.N.Shape.needs.lent) (either_left g.S.Shape.needs.memory g.N.Shape.needs.memory) (takes_left g.S.Shape.needs g.N.Shape.needs)
     (λ t b made. was_read (λ z. record i.found { name = z }) g.S.Shape.reads i.found.name t b (ap (λ z. step i.found z t) (sym known) ∙ made)) f e.ensures.refused)
 
 pub loop-size-preserved-in-Known-eq0 : goal.loop-size-preserved-in-Known-eq0
 loop-size-preserved-in-Known-eq0 g c =
     let step = file_field g.S.Shape.reads g.N.Shape.reads in
-    let o : State = state g.R.DeRead.window g.L.Lending.kept c.args.from.now in
+    let o : State = c.args.from.now.state in
     let i = c.loop-size.invariant in
-    let u : OpenPairs = open_pairs g.R.DeRead.window g.L.Lending.kept c.loop-size.map in
-    let m : OpenPairs = open_pairs g.R.DeRead.window g.L.Lending.kept c.next_field.new.self in
-    let t : OpenPairs = open_pairs g.R.DeRead.window g.L.Lending.kept c.next_value.new.self in
+    let u : OpenPairs = open_pairs c.loop-size.map in
+    let m : OpenPairs = open_pairs c.next_field.new.self in
+    let t : OpenPairs = open_pairs c.next_value.new.self in
     let f = struct_field file_names step nothing_found file_found o i.found c.in-Some.field u m i.at (rw c.in-Some.is at c.in_ok-field.ensures.found) in
     let known : c.in-Some.field ≡ Known 0 = c.in-Known-eq0.is ∙ ap Known (sym c.in-Known-eq0.field-0-is ∙ c.in-Known-eq0.field-0-test) in
     let v = c.in_ok-next_value-in-Known-eq0 in
@@ -107,11 +106,11 @@ pub returns-then-is_some-2-clause-refused : goal.returns-then-is_some-2-clause-r
 returns-then-is_some-2-clause-refused g c =
     let step = file_field g.S.Shape.reads g.N.Shape.reads in
     let needs : Needs = either g.S.Shape.needs g.N.Shape.needs in
-    let o : State = state g.R.DeRead.window g.L.Lending.kept c.args.from.now in
+    let o : State = c.args.from.now.state in
     let i = c.loop-size.invariant in
-    let u : OpenPairs = open_pairs g.R.DeRead.window g.L.Lending.kept c.loop-size.map in
-    let m : OpenPairs = open_pairs g.R.DeRead.window g.L.Lending.kept c.next_field.new.self in
-    let z : OpenPairs = open_pairs g.R.DeRead.window g.L.Lending.kept c.refuse-then-is_some-2.new.self in
+    let u : OpenPairs = open_pairs c.loop-size.map in
+    let m : OpenPairs = open_pairs c.next_field.new.self in
+    let z : OpenPairs = open_pairs c.refuse-then-is_some-2.new.self in
     let f = struct_field file_names step nothing_found file_found o i.found c.in-Some.field u m i.at (rw c.in-Some.is at c.in_ok-field.ensures.found) in
     let place = later_place c.in-Known.field-0 (λ z. c.in-Known.field-0-test.1 (c.in-Known.field-0-is ∙ z)) in
     let known : c.in-Some.field ≡ Known _ = c.in-Known.is ∙ ap Known place.1 in
@@ -124,28 +123,28 @@ pub returns-in_err-next_value-in-Known-clause-refused :
     goal.returns-in_err-next_value-in-Known-clause-refused
 returns-in_err-next_value-in-Known-clause-refused g c =
     let step = file_field g.S.Shape.reads g.N.Shape.reads in
-    let o : State = state g.R.DeRead.window g.L.Lending.kept c.args.from.now in
+    let o : State = c.args.from.now.state in
     let i = c.loop-size.invariant in
-    let u : OpenPairs = open_pairs g.R.DeRead.window g.L.Lending.kept c.loop-size.map in
-    let m : OpenPairs = open_pairs g.R.DeRead.window g.L.Lending.kept c.next_field.new.self in
+    let u : OpenPairs = open_pairs c.loop-size.map in
+    let m : OpenPairs = open_pairs c.next_field.new.self in
     let f = struct_field file_names step nothing_found file_found o i.found c.in-Some.field u m i.at (rw c.in-Some.is at c.in_ok-field.ensures.found) in
     let place = later_place c.in-Known.field-0 (λ z. c.in-Known.field-0-test.1 (c.in-Known.field-0-is ∙ z)) in
     let known : c.in-Some.field ≡ Known _ = c.in-Known.is ∙ ap Known place.1 in
     let p = err_from_is_err_and c.from_residual-in_err-next_value-in-Known.result c.from_residual-in_err-next_value-in-Known.ensures.1 in
     let e = c.in_err-next_value-in-Known in
     rw (p.1, e.from-in-Break-branch-5-1-own.given.1 (sym (e.ensures.same_reference ∙ c.in_ok-field.ensures.same_reference ∙ i.same_reference ∙ c.in_ok-map.ensures.same_reference)))
-    (field_refused file_names step nothing_found file_found g.N.Shape.reads g.N.Shape.asks g.N.Shape.needs (either g.S.Shape.needs g.N.Shape.needs) _ o (state g.R.DeRead.window g.L.Lending.kept c.next_value-in-Known.new.self.from.now) i.found c.in-Some.field m
+    (field_refused file_names step nothing_found file_found g.N.Shape.reads g.N.Shape.asks g.N.Shape.needs (either g.S.Shape.needs g.N.Shape.needs) _ o (c.next_value-in-Known.new.self.from.now.state) i.found c.in-Some.field m
     (either_right g.S.Shape.needs.lent g.N.Shape.needs.lent) (either_right g.S.Shape.needs.memory g.N.Shape.needs.memory) (takes_right g.S.Shape.needs g.N.Shape.needs)
     (λ t b made. was_read (λ z. record i.found { size = z }) g.N.Shape.reads i.found.size t b (ap (λ z. step i.found z t) (sym known) ∙ made)) f e.ensures.refused)
 
 pub loop-size-preserved : goal.loop-size-preserved
 loop-size-preserved g c =
     let step = file_field g.S.Shape.reads g.N.Shape.reads in
-    let o : State = state g.R.DeRead.window g.L.Lending.kept c.args.from.now in
+    let o : State = c.args.from.now.state in
     let i = c.loop-size.invariant in
-    let u : OpenPairs = open_pairs g.R.DeRead.window g.L.Lending.kept c.loop-size.map in
-    let m : OpenPairs = open_pairs g.R.DeRead.window g.L.Lending.kept c.next_field.new.self in
-    let t : OpenPairs = open_pairs g.R.DeRead.window g.L.Lending.kept c.next_value-in-Known.new.self in
+    let u : OpenPairs = open_pairs c.loop-size.map in
+    let m : OpenPairs = open_pairs c.next_field.new.self in
+    let t : OpenPairs = open_pairs c.next_value-in-Known.new.self in
     let f = struct_field file_names step nothing_found file_found o i.found c.in-Some.field u m i.at (rw c.in-Some.is at c.in_ok-field.ensures.found) in
     let place = later_place c.in-Known.field-0 (λ z. c.in-Known.field-0-test.1 (c.in-Known.field-0-is ∙ z)) in
     let known : c.in-Some.field ≡ Known _ = c.in-Known.is ∙ ap Known place.1 in
@@ -166,11 +165,11 @@ pub returns-in-Unknown-clause-refused : goal.returns-in-Unknown-clause-refused
 returns-in-Unknown-clause-refused g c =
     let step = file_field g.S.Shape.reads g.N.Shape.reads in
     let needs : Needs = either g.S.Shape.needs g.N.Shape.needs in
-    let o : State = state g.R.DeRead.window g.L.Lending.kept c.args.from.now in
+    let o : State = c.args.from.now.state in
     let i = c.loop-size.invariant in
-    let u : OpenPairs = open_pairs g.R.DeRead.window g.L.Lending.kept c.loop-size.map in
-    let m : OpenPairs = open_pairs g.R.DeRead.window g.L.Lending.kept c.next_field.new.self in
-    let z : OpenPairs = open_pairs g.R.DeRead.window g.L.Lending.kept c.refuse-in-Unknown.new.self in
+    let u : OpenPairs = open_pairs c.loop-size.map in
+    let m : OpenPairs = open_pairs c.next_field.new.self in
+    let z : OpenPairs = open_pairs c.refuse-in-Unknown.new.self in
     let f = struct_field file_names step nothing_found file_found o i.found c.in-Some.field u m i.at (rw c.in-Some.is at c.in_ok-field.ensures.found) in
     rw (c.from-in-Unknown-1.given.1 (sym (c.refuse-in-Unknown.ensures.same_reference ∙ c.in_ok-field.ensures.same_reference ∙ i.same_reference ∙ c.in_ok-map.ensures.same_reference)))
     (field_unread file_names step nothing_found file_found needs _ o z.state i.found c.in-Some.field m f
@@ -180,11 +179,11 @@ pub returns-in-Some-Some-clause-found : goal.returns-in-Some-Some-clause-found
 returns-in-Some-Some-clause-found g c =
     let step = file_field g.S.Shape.reads g.N.Shape.reads in
     let needs : Needs = either g.S.Shape.needs g.N.Shape.needs in
-    let o : State = state g.R.DeRead.window g.L.Lending.kept c.args.from.now in
+    let o : State = c.args.from.now.state in
     let i = c.loop-size.invariant in
-    let u : OpenPairs = open_pairs g.R.DeRead.window g.L.Lending.kept c.loop-size.map in
-    let m : OpenPairs = open_pairs g.R.DeRead.window g.L.Lending.kept c.next_field.new.self in
-    let z : State = state g.R.DeRead.window g.L.Lending.kept c.end.new.self.0 in
+    let u : OpenPairs = open_pairs c.loop-size.map in
+    let m : OpenPairs = open_pairs c.next_field.new.self in
+    let z : State = c.end.new.self.0.state in
     let a = rw c.in-Some-Some.is-0 at i.name in
     let b = rw c.in-Some-Some.is-1 at i.size in
     rw (c.from-2-1.given.1 (sym (c.in_ok-field.ensures.same_reference ∙ i.same_reference ∙ c.in_ok-map.ensures.same_reference)))
@@ -195,17 +194,17 @@ pub returns-in_default-2-clause-refused : goal.returns-in_default-2-clause-refus
 returns-in_default-2-clause-refused g c =
     let step = file_field g.S.Shape.reads g.N.Shape.reads in
     let needs : Needs = either g.S.Shape.needs g.N.Shape.needs in
-    let o : State = state g.R.DeRead.window g.L.Lending.kept c.args.from.now in
+    let o : State = c.args.from.now.state in
     let i = c.loop-size.invariant in
-    let u : OpenPairs = open_pairs g.R.DeRead.window g.L.Lending.kept c.loop-size.map in
-    let m : OpenPairs = open_pairs g.R.DeRead.window g.L.Lending.kept c.next_field.new.self in
+    let u : OpenPairs = open_pairs c.loop-size.map in
+    let m : OpenPairs = open_pairs c.next_field.new.self in
     let over = rw c.in_default.is at c.in_ok-field.ensures.found in
     let short : both i.found.name i.found.size ≡ None = elim c.in_default-2.branch [
       | in_default-2-via-in-Some+in_default y ↦ no_second i.found.name i.found.size (rw y.in_default-2.is-1 at i.size)
       | in_default-2-via-in_default y ↦ ap (λ x. both x i.found.size) (rw y.in_default-2.is-0 at i.name)
     ] in
-    let y : State = state g.R.DeRead.window g.L.Lending.kept c.end.new.self.0 in
-    let z : State = state g.R.DeRead.window g.L.Lending.kept c.complain.new.self in
+    let y : State = c.end.new.self.0.state in
+    let z : State = c.complain.new.self.state in
     let back = c.from-2-1.given.1 (sym (c.in_ok-field.ensures.same_reference ∙ i.same_reference ∙ c.in_ok-map.ensures.same_reference)) in
     fields_missing file_names step nothing_found file_found needs _ wrong_type o y z i.found u m i.at over c.in_ok-end.ensures.ok short tt (rw back at c.complain.ensures.reason) (rw back at c.complain.ensures.state)
 

@@ -2,7 +2,7 @@
 use Rattle.std.proofs.Common.{◌≡◌, [], ◌++◌, codes, drop, string_bytes}
 use denote.Text.{Utf8}
 use denote.Shadow.{shadow}
-use Rattle.serde_bser.specs.ValueView.{items_view, entries_view}
+use Rattle.bser_value.specs.ValueView.{items_view, entries_view}
 use Rattle.bser_vectors.specs.Notation.{items_notation, entries_notation}
 use Rattle.bser_vectors.proofs.notation.values.+put.Given as goal
 

@@ -13,43 +13,43 @@ pub returns-in_err-put_field-clause-err : goal.returns-in_err-put_field-clause-e
 returns-in_err-put_field-clause-err g c =
     let same = err_from_is_err_and c.from_residual-in_err-put_field.result c.from_residual-in_err-put_field.ensures.1 in
     let fields : List (List ℕ × Result Tree Error) = (codes "test_list", array_tree (λ n. Ok (integer n)) c.args.self.now.test_list.items) ∷ (codes "test_tuple", tuple_tree (Ok (text c.args.self.now.test_tuple.0.now) ∷ option_tree (λ r. Ok (real r.0)) c.args.self.now.test_tuple.1 ∷ [])) ∷ (codes "test_enum", g.E.Serialize.meaning c.args.self.now.test_enum) ∷ (codes "test_enum_list", array_tree g.E.Serialize.meaning c.args.self.now.test_enum_list.items) ∷ [] in
-    let u = walk_start g.W.Sink.took g.W.Sink.failures g.met.W.Sink.took_both (object_head 4) (entry_text plain_bytes part_tree) fields (struct_tree fields) (struct_text fields) c.args.out.now c.put_map.new.self c.in_ok-put_map.ensures.put.0 in
-    rw (same.1, same.2) (walk_stop g.W.Sink.took g.W.Sink.answered g.W.Sink.failures g.met.W.Sink.took_both (object_head 4) (entry_text plain_bytes part_tree) fields (struct_tree fields) (struct_text fields) c.put_field.new.out c.in_err-put_field.field-0.0 u c.in_err-put_field.ensures.err)
+    let u = walk_start g.W.Sink g.met.W.Sink.took_both (object_head 4) (entry_text plain_bytes part_tree) fields (struct_tree fields) (struct_text fields) c.args.out.now c.put_map.new.self c.in_ok-put_map.ensures.put.0 in
+    rw (same.1, same.2) (walk_stop g.W.Sink g.met.W.Sink.took_both (object_head 4) (entry_text plain_bytes part_tree) fields (struct_tree fields) (struct_text fields) c.put_field.new.out c.in_err-put_field.field-0.0 u c.in_err-put_field.ensures.err)
 
 pub returns-in_err-put_field-2-clause-err : goal.returns-in_err-put_field-2-clause-err
 returns-in_err-put_field-2-clause-err g c =
     let same = err_from_is_err_and c.from_residual-in_err-put_field-2.result c.from_residual-in_err-put_field-2.ensures.1 in
     let fields : List (List ℕ × Result Tree Error) = (codes "test_list", array_tree (λ n. Ok (integer n)) c.args.self.now.test_list.items) ∷ (codes "test_tuple", tuple_tree (Ok (text c.args.self.now.test_tuple.0.now) ∷ option_tree (λ r. Ok (real r.0)) c.args.self.now.test_tuple.1 ∷ [])) ∷ (codes "test_enum", g.E.Serialize.meaning c.args.self.now.test_enum) ∷ (codes "test_enum_list", array_tree g.E.Serialize.meaning c.args.self.now.test_enum_list.items) ∷ [] in
-    let u = walk_start g.W.Sink.took g.W.Sink.failures g.met.W.Sink.took_both (object_head 4) (entry_text plain_bytes part_tree) fields (struct_tree fields) (struct_text fields) c.args.out.now c.put_map.new.self c.in_ok-put_map.ensures.put.0 in
-    let v = walk_more g.W.Sink.took g.W.Sink.failures g.met.W.Sink.took_both (object_head 4) (entry_text plain_bytes part_tree) fields (struct_tree fields) (struct_text fields) c.put_field.new.out u c.in_ok-put_field.ensures.ok in
-    rw (same.1, same.2) (walk_stop g.W.Sink.took g.W.Sink.answered g.W.Sink.failures g.met.W.Sink.took_both (object_head 4) (entry_text plain_bytes part_tree) fields (struct_tree fields) (struct_text fields) c.put_field-2.new.out c.in_err-put_field-2.field-0.0 v c.in_err-put_field-2.ensures.err)
+    let u = walk_start g.W.Sink g.met.W.Sink.took_both (object_head 4) (entry_text plain_bytes part_tree) fields (struct_tree fields) (struct_text fields) c.args.out.now c.put_map.new.self c.in_ok-put_map.ensures.put.0 in
+    let v = walk_more g.W.Sink g.met.W.Sink.took_both (object_head 4) (entry_text plain_bytes part_tree) fields (struct_tree fields) (struct_text fields) c.put_field.new.out u c.in_ok-put_field.ensures.ok in
+    rw (same.1, same.2) (walk_stop g.W.Sink g.met.W.Sink.took_both (object_head 4) (entry_text plain_bytes part_tree) fields (struct_tree fields) (struct_text fields) c.put_field-2.new.out c.in_err-put_field-2.field-0.0 v c.in_err-put_field-2.ensures.err)
 
 pub returns-in_err-put_field-3-clause-err : goal.returns-in_err-put_field-3-clause-err
 returns-in_err-put_field-3-clause-err g c =
     let same = err_from_is_err_and c.from_residual-in_err-put_field-3.result c.from_residual-in_err-put_field-3.ensures.1 in
     let fields : List (List ℕ × Result Tree Error) = (codes "test_list", array_tree (λ n. Ok (integer n)) c.args.self.now.test_list.items) ∷ (codes "test_tuple", tuple_tree (Ok (text c.args.self.now.test_tuple.0.now) ∷ option_tree (λ r. Ok (real r.0)) c.args.self.now.test_tuple.1 ∷ [])) ∷ (codes "test_enum", g.E.Serialize.meaning c.args.self.now.test_enum) ∷ (codes "test_enum_list", array_tree g.E.Serialize.meaning c.args.self.now.test_enum_list.items) ∷ [] in
-    let u = walk_start g.W.Sink.took g.W.Sink.failures g.met.W.Sink.took_both (object_head 4) (entry_text plain_bytes part_tree) fields (struct_tree fields) (struct_text fields) c.args.out.now c.put_map.new.self c.in_ok-put_map.ensures.put.0 in
-    let v = walk_more g.W.Sink.took g.W.Sink.failures g.met.W.Sink.took_both (object_head 4) (entry_text plain_bytes part_tree) fields (struct_tree fields) (struct_text fields) c.put_field.new.out u c.in_ok-put_field.ensures.ok in
-    let w = walk_more g.W.Sink.took g.W.Sink.failures g.met.W.Sink.took_both (object_head 4) (entry_text plain_bytes part_tree) fields (struct_tree fields) (struct_text fields) c.put_field-2.new.out v c.in_ok-put_field-2.ensures.ok in
-    rw (same.1, same.2) (walk_stop g.W.Sink.took g.W.Sink.answered g.W.Sink.failures g.met.W.Sink.took_both (object_head 4) (entry_text plain_bytes part_tree) fields (struct_tree fields) (struct_text fields) c.put_field-3.new.out c.in_err-put_field-3.field-0.0 w c.in_err-put_field-3.ensures.err)
+    let u = walk_start g.W.Sink g.met.W.Sink.took_both (object_head 4) (entry_text plain_bytes part_tree) fields (struct_tree fields) (struct_text fields) c.args.out.now c.put_map.new.self c.in_ok-put_map.ensures.put.0 in
+    let v = walk_more g.W.Sink g.met.W.Sink.took_both (object_head 4) (entry_text plain_bytes part_tree) fields (struct_tree fields) (struct_text fields) c.put_field.new.out u c.in_ok-put_field.ensures.ok in
+    let w = walk_more g.W.Sink g.met.W.Sink.took_both (object_head 4) (entry_text plain_bytes part_tree) fields (struct_tree fields) (struct_text fields) c.put_field-2.new.out v c.in_ok-put_field-2.ensures.ok in
+    rw (same.1, same.2) (walk_stop g.W.Sink g.met.W.Sink.took_both (object_head 4) (entry_text plain_bytes part_tree) fields (struct_tree fields) (struct_text fields) c.put_field-3.new.out c.in_err-put_field-3.field-0.0 w c.in_err-put_field-3.ensures.err)
 
 pub returns-clause-ok : goal.returns-clause-ok
 returns-clause-ok g c =
     let fields : List (List ℕ × Result Tree Error) = (codes "test_list", array_tree (λ n. Ok (integer n)) c.args.self.now.test_list.items) ∷ (codes "test_tuple", tuple_tree (Ok (text c.args.self.now.test_tuple.0.now) ∷ option_tree (λ r. Ok (real r.0)) c.args.self.now.test_tuple.1 ∷ [])) ∷ (codes "test_enum", g.E.Serialize.meaning c.args.self.now.test_enum) ∷ (codes "test_enum_list", array_tree g.E.Serialize.meaning c.args.self.now.test_enum_list.items) ∷ [] in
-    let u = walk_start g.W.Sink.took g.W.Sink.failures g.met.W.Sink.took_both (object_head 4) (entry_text plain_bytes part_tree) fields (struct_tree fields) (struct_text fields) c.args.out.now c.put_map.new.self c.in_ok-put_map.ensures.put.0 in
-    let v = walk_more g.W.Sink.took g.W.Sink.failures g.met.W.Sink.took_both (object_head 4) (entry_text plain_bytes part_tree) fields (struct_tree fields) (struct_text fields) c.put_field.new.out u c.in_ok-put_field.ensures.ok in
-    let w = walk_more g.W.Sink.took g.W.Sink.failures g.met.W.Sink.took_both (object_head 4) (entry_text plain_bytes part_tree) fields (struct_tree fields) (struct_text fields) c.put_field-2.new.out v c.in_ok-put_field-2.ensures.ok in
-    let x = walk_more g.W.Sink.took g.W.Sink.failures g.met.W.Sink.took_both (object_head 4) (entry_text plain_bytes part_tree) fields (struct_tree fields) (struct_text fields) c.put_field-3.new.out w c.in_ok-put_field-3.ensures.ok in
-    MatchResult-weaker c.put_field-4.result c.put_field-4.ensures.ok (λ _ t. walk_all g.W.Sink.took g.W.Sink.failures g.met.W.Sink.took_both (object_head 4) (entry_text plain_bytes part_tree) fields (struct_tree fields) (struct_text fields) (walk_more g.W.Sink.took g.W.Sink.failures g.met.W.Sink.took_both (object_head 4) (entry_text plain_bytes part_tree) fields (struct_tree fields) (struct_text fields) c.put_field-4.new.out x t)) (λ _ t. t)
+    let u = walk_start g.W.Sink g.met.W.Sink.took_both (object_head 4) (entry_text plain_bytes part_tree) fields (struct_tree fields) (struct_text fields) c.args.out.now c.put_map.new.self c.in_ok-put_map.ensures.put.0 in
+    let v = walk_more g.W.Sink g.met.W.Sink.took_both (object_head 4) (entry_text plain_bytes part_tree) fields (struct_tree fields) (struct_text fields) c.put_field.new.out u c.in_ok-put_field.ensures.ok in
+    let w = walk_more g.W.Sink g.met.W.Sink.took_both (object_head 4) (entry_text plain_bytes part_tree) fields (struct_tree fields) (struct_text fields) c.put_field-2.new.out v c.in_ok-put_field-2.ensures.ok in
+    let x = walk_more g.W.Sink g.met.W.Sink.took_both (object_head 4) (entry_text plain_bytes part_tree) fields (struct_tree fields) (struct_text fields) c.put_field-3.new.out w c.in_ok-put_field-3.ensures.ok in
+    MatchResult-weaker c.put_field-4.result c.put_field-4.ensures.ok (λ _ t. walk_all g.W.Sink g.met.W.Sink.took_both (object_head 4) (entry_text plain_bytes part_tree) fields (struct_tree fields) (struct_text fields) (walk_more g.W.Sink g.met.W.Sink.took_both (object_head 4) (entry_text plain_bytes part_tree) fields (struct_tree fields) (struct_text fields) c.put_field-4.new.out x t)) (λ _ t. t)
 
 pub returns-clause-err : goal.returns-clause-err
 returns-clause-err g c =
     let fields : List (List ℕ × Result Tree Error) = (codes "test_list", array_tree (λ n. Ok (integer n)) c.args.self.now.test_list.items) ∷ (codes "test_tuple", tuple_tree (Ok (text c.args.self.now.test_tuple.0.now) ∷ option_tree (λ r. Ok (real r.0)) c.args.self.now.test_tuple.1 ∷ [])) ∷ (codes "test_enum", g.E.Serialize.meaning c.args.self.now.test_enum) ∷ (codes "test_enum_list", array_tree g.E.Serialize.meaning c.args.self.now.test_enum_list.items) ∷ [] in
-    let u = walk_start g.W.Sink.took g.W.Sink.failures g.met.W.Sink.took_both (object_head 4) (entry_text plain_bytes part_tree) fields (struct_tree fields) (struct_text fields) c.args.out.now c.put_map.new.self c.in_ok-put_map.ensures.put.0 in
-    let v = walk_more g.W.Sink.took g.W.Sink.failures g.met.W.Sink.took_both (object_head 4) (entry_text plain_bytes part_tree) fields (struct_tree fields) (struct_text fields) c.put_field.new.out u c.in_ok-put_field.ensures.ok in
-    let w = walk_more g.W.Sink.took g.W.Sink.failures g.met.W.Sink.took_both (object_head 4) (entry_text plain_bytes part_tree) fields (struct_tree fields) (struct_text fields) c.put_field-2.new.out v c.in_ok-put_field-2.ensures.ok in
-    let x = walk_more g.W.Sink.took g.W.Sink.failures g.met.W.Sink.took_both (object_head 4) (entry_text plain_bytes part_tree) fields (struct_tree fields) (struct_text fields) c.put_field-3.new.out w c.in_ok-put_field-3.ensures.ok in
-    MatchResult-weaker c.put_field-4.result c.put_field-4.ensures.err (λ _ t. t) (λ e t. walk_stop g.W.Sink.took g.W.Sink.answered g.W.Sink.failures g.met.W.Sink.took_both (object_head 4) (entry_text plain_bytes part_tree) fields (struct_tree fields) (struct_text fields) c.put_field-4.new.out e x t)
+    let u = walk_start g.W.Sink g.met.W.Sink.took_both (object_head 4) (entry_text plain_bytes part_tree) fields (struct_tree fields) (struct_text fields) c.args.out.now c.put_map.new.self c.in_ok-put_map.ensures.put.0 in
+    let v = walk_more g.W.Sink g.met.W.Sink.took_both (object_head 4) (entry_text plain_bytes part_tree) fields (struct_tree fields) (struct_text fields) c.put_field.new.out u c.in_ok-put_field.ensures.ok in
+    let w = walk_more g.W.Sink g.met.W.Sink.took_both (object_head 4) (entry_text plain_bytes part_tree) fields (struct_tree fields) (struct_text fields) c.put_field-2.new.out v c.in_ok-put_field-2.ensures.ok in
+    let x = walk_more g.W.Sink g.met.W.Sink.took_both (object_head 4) (entry_text plain_bytes part_tree) fields (struct_tree fields) (struct_text fields) c.put_field-3.new.out w c.in_ok-put_field-3.ensures.ok in
+    MatchResult-weaker c.put_field-4.result c.put_field-4.ensures.err (λ _ t. t) (λ e t. walk_stop g.W.Sink g.met.W.Sink.took_both (object_head 4) (entry_text plain_bytes part_tree) fields (struct_tree fields) (struct_text fields) c.put_field-4.new.out e x t)
 
 pub returns-clause-writable : goal.returns-clause-writable
 returns-clause-writable g c =

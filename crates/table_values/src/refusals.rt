@@ -1,0 +1,112 @@
+//! Refusals as a list of messages says, with what has to be told of each, and their descriptions.
+//!
+//! The file `errors.tsv` has a line for each message: what it shows, the type that it is read as, the
+//! message in hexadecimal digits, the words that have to be told, the field that has to be named, or
+//! `-`, and the first and the last place that may be told. The first line is the columns' names. The
+//! file `wrong-errors.tsv` has such lines of which each is wrong.
+use crate::answer::Answer;
+use crate::case::Case;
+use anyhow::{Context, Result};
+use bser_vectors::devices::{Plan, PlannedReader};
+use serde_bser::de::{Deserialize, DeserializeOwned};
+use serde_bser::describe;
+use serde_bser::describe::Description;
+use serde_bser::device::Watched;
+use serde_bser::value::Value;
+use std::alloc::Global;
+use std::fs;
+
+/// How many bytes a reader gives at a call; 0 is a slice.
+const PIECES: [usize; 4] = [0, 1, 7, 4096];
+
+/// Compares the messages of each list, and then reads a number by each call.
+pub fn compare_all(rt: &HostRuntime) -> Result<()> {
+    compare(rt, "errors.tsv")?;
+    compare(rt, "wrong-errors.tsv")?;
+    read_number(rt)
+}
+
+/// Reads a message whose number is 300 by each call, and as a type that does not hold it.
+fn read_number(rt: &HostRuntime) -> Result<()> {
+    let message = b"\x00\x02\x00\x00\x00\x00\x03\x03\x04\x2c\x01".as_slice();
+    let alloc = rt.alloc();
+    let mut reader = Watched::new(PlannedReader::new(message, Plan::pieces(1)));
+    let mut again = Watched::new(PlannedReader::new(message, Plan::pieces(1)));
+    let numbers = [
+        describe::from_slice::<i64>(alloc, message).ok(),
+        describe::from_slice_within::<i64>(alloc, 0, message).ok(),
+        describe::from_reader::<_, i64>(alloc, &mut reader).ok(),
+        describe::from_reader_within::<_, i64>(alloc, 0, &mut again).ok(),
+    ];
+    println!(rt; "{numbers:?}")?;
+    let refusal = describe::from_slice::<i8>(alloc, message)
+        .err()
+        .context("300 is no i8")?;
+    println!(rt; "{:?}, {}", refusal.finding(), refusal.cause())?;
+    println!(rt; "{}", refusal.into_cause())?;
+    Ok(())
+}
+
+/// Reads each message of the list, and prints how it is refused.
+fn compare(rt: &HostRuntime, file: &str) -> Result<()> {
+    let text = fs::read_to_string(rt, file)?;
+    let mut cases = 0u64;
+    let mut wrong = 0u64;
+    for line in text.as_str().lines().skip(1) {
+        cases = cases.saturating_add(1);
+        wrong = wrong.saturating_add(compare_case(rt, line)?);
+    }
+    println!(rt; "{cases} messages, {wrong} wrong descriptions")?;
+    Ok(())
+}
+
+/// Prints how the message of a line is refused, and counts in how many ways of reading it is
+/// described otherwise, or not as it has to be.
+fn compare_case(rt: &HostRuntime, line: &str) -> Result<u64> {
+    let case = Case::parse(rt.alloc(), line)?;
+    let told = refusal(rt.alloc(), &case, 0)?.to_string(rt.alloc())?;
+    println!(rt; "{}: {told}", case.name)?;
+    let mut wrong = 0u64;
+    for pieces in PIECES {
+        if !is_right(rt, &case, pieces, told.as_str())? {
+            wrong = wrong.saturating_add(1);
+        }
+    }
+    Ok(wrong)
+}
+
+/// Whether the refusal is described by this text, which says what it has to. Else prints by what it is
+/// described.
+fn is_right(rt: &HostRuntime, case: &Case<'_>, pieces: usize, told: &str) -> Result<bool> {
+    let refusal = refusal(rt.alloc(), case, pieces)?;
+    let text = refusal.to_string(rt.alloc())?;
+    let is_right = text.as_str() == told && case.is_told(told, &refusal);
+    if !is_right {
+        println!(rt; "  wrong in pieces of {pieces}: {text}")?;
+    }
+    Ok(is_right)
+}
+
+/// How the case's message is refused as its type.
+fn refusal(alloc: Global, case: &Case<'_>, pieces: usize) -> Result<Description> {
+    match case.kind {
+        "Value" => refusal_of::<Value>(alloc, &case.message, pieces),
+        "Answer" => refusal_of::<Answer>(alloc, &case.message, pieces),
+        _ => None,
+    }
+    .context("a message that is accepted, or no such type")
+}
+
+/// How the message is refused as this type, read from a slice or from a reader of so many bytes a
+/// call.
+fn refusal_of<'a, T: Deserialize<&'a [u8]> + DeserializeOwned>(
+    alloc: Global,
+    message: &'a [u8],
+    pieces: usize,
+) -> Option<Description> {
+    if pieces == 0 {
+        return describe::from_slice::<T>(alloc, message).err();
+    }
+    let mut reader = Watched::new(PlannedReader::new(message, Plan::pieces(pieces)));
+    describe::from_reader::<_, T>(alloc, &mut reader).err()
+}

@@ -1,0 +1,141 @@
+//! Messages that are written, and the bytes that a writer has of them.
+use super::{CANONICAL_ROWS, ROWS, Tested, check_bytes, wanted, wanted_after};
+use bser_vectors::devices::{Plan, PlannedWriter};
+use serde_bser::device::Watched;
+use serde_bser::errors::{Error, Result};
+use serde_bser::from_slice;
+use serde_bser::ser::{Serialize, Serializer, serialize, serialize_compact, serialize_to, to_vec};
+use serde_bser::value::Value;
+use std::alloc::Global;
+use std::process::Abort;
+
+/// A writer that takes at most five bytes a call.
+fn of_five(alloc: Global) -> Watched<PlannedWriter> {
+    Watched::new(PlannedWriter::new(alloc, Plan::pieces(5)))
+}
+
+/// Checks that the value is serialized so, or answers the refusal, after which the writer that is
+/// handed back has a beginning of the message.
+fn check_serialized<T: Serialize>(
+    rt: &impl Abort,
+    alloc: Global,
+    value: &T,
+    message: &[u8],
+) -> Tested {
+    match serialize(alloc, of_five(alloc), value) {
+        Ok(writer) => check_bytes(rt, writer.get_ref().taken(), message),
+        Err((writer, error)) => wanted_after(rt, error, writer.get_ref().taken(), message),
+    }
+}
+
+#[test]
+fn a_text_is_serialized(rt: HostRuntime) -> Tested {
+    let tom = b"\x00\x02\0\0\0\0\x03\x06\x0d\x03\x03Tom";
+    check_serialized(&rt, rt.alloc(), &"Tom", tom)
+}
+
+/// An array of so many empty texts after this head.
+fn empty_texts(alloc: Global, head: &[u8], count: usize) -> Result<Vec<u8>> {
+    let mut message = Vec::from_slice(alloc, head)?;
+    for _ in 0..count {
+        message.extend_from_slice(b"\x0d\x03\x00")?;
+    }
+    Ok(message)
+}
+
+#[test]
+fn more_than_is_kept_pending_is_serialized(rt: HostRuntime) -> Tested {
+    let head = b"\x00\x02\0\0\0\0\x04\xdc\x1b\x00\x04\x48\x09";
+    let message = empty_texts(rt.alloc(), head, 2376)?;
+    check_serialized(&rt, rt.alloc(), &[""; 2376], &message)
+}
+
+#[test]
+fn a_number_that_is_too_great_is_named(rt: HostRuntime) -> Tested {
+    match serialize(rt.alloc(), of_five(rt.alloc()), &[1, u64::MAX]) {
+        Err((writer, Error::SerU64TooBig { v: u64::MAX })) => {
+            check_bytes(&rt, writer.get_ref().taken(), b"")
+        }
+        Err((_, error)) => wanted(&rt, error),
+        Ok(_) => panic!(rt; "a number that is too great was written"),
+    }
+}
+
+/// Checks that the value's message was made, or answers the refusal.
+fn check_vector(rt: &impl Abort, made: Result<Vec<u8>>, message: &[u8]) -> Tested {
+    match made {
+        Ok(made) => check_bytes(rt, &made, message),
+        Err(error) => wanted(rt, error),
+    }
+}
+
+#[test]
+fn a_vector_is_written(rt: HostRuntime) -> Tested {
+    let pair = b"\x00\x02\0\0\0\0\x03\x0b\x00\x03\x02\x0d\x03\x03Tom\x03\x07";
+    check_vector(&rt, to_vec(rt.alloc(), &("Tom", 7)), pair)
+}
+
+#[test]
+fn a_vector_is_refused_by_the_number_that_is_too_great(rt: HostRuntime) -> Tested {
+    match to_vec(rt.alloc(), &[1, u64::MAX]) {
+        Err(Error::SerU64TooBig { v: u64::MAX }) => Ok(()),
+        Err(error) => wanted(&rt, error),
+        Ok(_) => panic!(rt; "a number that is too great was written"),
+    }
+}
+
+/// Two rows of one field each, which are templates of two rows.
+const NESTED: &[u8] =
+    b"\x00\x02\0\0\0\0\x03\x26\x0b\x00\x03\x01\x0d\x03\x01a\x03\x02\x0b\x00\x03\x01\x0d\x03\x01b\x03\x02\x03\x01\x03\x02\x0b\x00\x03\x01\x0d\x03\x01b\x03\x02\x03\x03\x03\x04";
+
+/// Checks the answer to writing the message, and what the writer has of it.
+fn check_written(
+    rt: &impl Abort,
+    answer: Result<()>,
+    writer: &Watched<PlannedWriter>,
+    message: &[u8],
+) -> Tested {
+    let taken = writer.get_ref().taken();
+    match answer {
+        Ok(()) => check_bytes(rt, taken, message),
+        Err(error) => wanted_after(rt, error, taken, message),
+    }
+}
+
+#[test]
+fn a_message_that_is_refused_for_memory_leaves_a_beginning(rt: HostRuntime) -> Tested {
+    let value: Value = from_slice(rt.alloc(), ROWS)?;
+    let mut writer = of_five(rt.alloc());
+    let answer = serialize_to(rt.alloc(), &mut writer, &value);
+    check_written(&rt, answer, &writer, CANONICAL_ROWS)
+}
+
+#[test]
+fn a_compact_message_that_is_refused_for_memory_leaves_a_beginning(rt: HostRuntime) -> Tested {
+    let value: Value = from_slice(rt.alloc(), NESTED)?;
+    let mut writer = of_five(rt.alloc());
+    let answer = serialize_compact(rt.alloc(), &mut writer, &value);
+    check_written(&rt, answer, &writer, NESTED)
+}
+
+/// A serializer into memory.
+fn in_memory(alloc: Global) -> Serializer<Watched<Vec<u8>>> {
+    Serializer::new(alloc, Watched::new(Vec::new(alloc)))
+}
+
+/// Checks that what was put is these bytes.
+fn check_put(rt: &impl Abort, out: Serializer<Watched<Vec<u8>>>, expected: &[u8]) -> Tested {
+    check_bytes(rt, out.finish()?.get_ref(), expected)
+}
+
+#[test]
+fn a_truth_value_is_put(rt: HostRuntime) -> Tested {
+    let mut out = in_memory(rt.alloc());
+    match out.put_bool(true) {
+        Ok(()) => check_put(&rt, out, b"\x08"),
+        Err(error) => {
+            check_put(&rt, out, b"")?;
+            wanted(&rt, error)
+        }
+    }
+}
