@@ -31,6 +31,9 @@ impl Arguments for Given<'_> {
     }
 }
 
+/// An argument of 65 bytes.
+const LONG: &[u8] = b"-----------------------------------------------------------------";
+
 /// A writer that takes all, and fails where it is flushed.
 #[derive(Drop)]
 struct Unflushed;
@@ -96,13 +99,12 @@ fn a_refusal_ends_with_status_1(rt: HostRuntime) {
 
 #[test]
 fn other_arguments_end_with_status_2(rt: HostRuntime) {
-    let long = [b'-'; 65];
     let cases: [&[&[u8]]; 7] = [
         &[b""],
         &[b"-"],
         &[b"\xff"],
         &[b"--compact\xff"],
-        &[&long],
+        &[LONG],
         &[b"--compact", b"x"],
         &[b"--compact", b"--compact", b"--compact"],
     ];
