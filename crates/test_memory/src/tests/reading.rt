@@ -115,11 +115,14 @@ const ROWS_SHOWN: &str =
 /// Checks that the answer is the two rows, or answers that memory was refused in reading or in
 /// comparing.
 fn check_value(rt: &impl Abort, alloc: Global, answer: Result<Value>) -> Tested {
-    if let Err(error) = answer {
-        return wanted(rt, error);
+    match answer {
+        Ok(value) => {
+            let read = Ok(value);
+            assert!(rt; is_answer(alloc, &read, ROWS_SHOWN)?);
+            Ok(())
+        }
+        Err(error) => wanted(rt, error),
     }
-    assert!(rt; is_answer(alloc, &answer, ROWS_SHOWN)?);
-    Ok(())
 }
 
 #[test]

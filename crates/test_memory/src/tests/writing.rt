@@ -34,20 +34,20 @@ fn a_text_is_serialized(rt: HostRuntime) -> Tested {
     check_serialized(&rt, rt.alloc(), &"Tom", tom)
 }
 
-/// An array of so many empty texts after this head.
-fn empty_texts(alloc: Global, head: &[u8], count: usize) -> Result<Vec<u8>> {
+/// An array of so many trues after this head.
+fn trues(alloc: Global, head: &[u8], count: usize) -> Result<Vec<u8>> {
     let mut message = Vec::from_slice(alloc, head)?;
     for _ in 0..count {
-        message.extend_from_slice(b"\x0d\x03\x00")?;
+        message.push(0x08)?;
     }
     Ok(message)
 }
 
 #[test]
 fn more_than_is_kept_pending_is_serialized(rt: HostRuntime) -> Tested {
-    let head = b"\x00\x02\0\0\0\0\x04\xdc\x1b\x00\x04\x48\x09";
-    let message = empty_texts(rt.alloc(), head, 2376)?;
-    check_serialized(&rt, rt.alloc(), &[""; 2376], &message)
+    let head = b"\x00\x02\0\0\0\0\x04\x8c\x13\x00\x04\x88\x13";
+    let message = trues(rt.alloc(), head, 5000)?;
+    check_serialized(&rt, rt.alloc(), &[true; 5000], &message)
 }
 
 #[test]
