@@ -1,2 +1,3 @@
+pub mod MarkedText
 pub mod QuotedText
 pub mod RealText

@@ -1,6 +1,7 @@
 -- A text in double quotes, as JSON writes it.
-use Rattle.std.specs.Prelude.{ℕ, ◌/◌, ◌%◌, List, [], ◌∷◌, ◌++◌, flat_map, codes, chars, encode_utf8_all, ◌==◌, nat_lt, if◌then◌else◌}
+use Rattle.std.specs.Prelude.{ℕ, ◌/◌, ◌%◌, List, [], ◌∷◌, Option, Some, None, ◌++◌, flat_map, codes, chars, encode_utf8_all, ◌==◌, nat_lt, if◌then◌else◌}
 use Rattle.std.specs.Char.{digit_char}
+use Rattle.std.specs.List.{slice_get}
 
 -- the letter after the backslash, as in `\n`, or 0 where a character has none
 abbrev pub escape_letter : ℕ → ℕ
@@ -25,3 +26,16 @@ between_quotes bs = encode_utf8_all (flat_map json_escape (chars bs))
 -- the text in quotes, as bytes
 abbrev pub quoted_text : List ℕ → List ℕ
 quoted_text bs = codes "\"" ++ between_quotes bs ++ codes "\""
+
+-- one more dollar sign, where this byte is one
+abbrev pub mark_before : Option ℕ → List ℕ
+mark_before (Some c) = if c == 0x24 then codes "$" else []
+mark_before None = []
+
+-- what stands before a key: a dollar sign where the key begins with one
+abbrev pub key_mark : List ℕ → List ℕ
+key_mark bs = mark_before (slice_get bs 0)
+
+-- a key in quotes, as bytes
+abbrev pub quoted_key : List ℕ → List ℕ
+quoted_key bs = codes "\"" ++ key_mark bs ++ between_quotes bs ++ codes "\""

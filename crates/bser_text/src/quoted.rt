@@ -1,9 +1,10 @@
 //! Texts in double quotes, as JSON writes them.
-ghost use Rattle.std.specs.Prelude.{◌≡◌, ◌<◌, encode_utf8_all};
-ghost use Rattle.std.specs.Char.{digit_char};
+ghost use Rattle.std.specs.Prelude.{◌<◌, encode_utf8_all};
 ghost use Rattle.std.specs.Fmt.{WritesOnOk};
-ghost use Rattle.bser_text.specs.QuotedText.{control_code, json_escape, between_quotes, quoted_text};
+ghost use Rattle.bser_text.specs.QuotedText.{control_code, json_escape, between_quotes};
+ghost use Rattle.bser_text.specs.QuotedText.{quoted_text, mark_before, quoted_key};
 
+use crate::marked::hex_digit;
 use std::fmt;
 
 /// Writes the text in double quotes. A quote, a backslash, a backspace, a tab, a newline, a form
@@ -15,6 +16,27 @@ pub fn write_quoted<W: fmt::Write>(text: &str, f: &mut fmt::Formatter<W>) -> fmt
     f.write_str("\"")?;
     write_characters(text, f)?;
     f.write_str("\"")
+}
+
+/// Writes the key of an object as `write_quoted` does, and before a key that begins with a dollar
+/// sign one more: so `$bytes` and `$real` are the keys of what JSON cannot say, and of nothing else.
+pub fn write_key<W: fmt::Write>(key: &str, f: &mut fmt::Formatter<W>) -> fmt::Result
+    ensures { WritesOnOk W.write_str_gives f.old result (quoted_key key.now) f.new }
+{
+    f.write_str("\"")?;
+    write_mark(key.as_bytes().first().copied(), f)?;
+    write_characters(key, f)?;
+    f.write_str("\"")
+}
+
+/// Writes a dollar sign where the next byte is one.
+fn write_mark<W: fmt::Write>(next: Option<u8>, f: &mut fmt::Formatter<W>) -> fmt::Result
+    ensures { WritesOnOk W.write_str_gives f.old result (mark_before next) f.new }
+{
+    match next {
+        Some(b'$') => f.write_str("$"),
+        _ => Ok(()),
+    }
 }
 
 fn write_characters<W: fmt::Write>(text: &str, f: &mut fmt::Formatter<W>) -> fmt::Result
@@ -50,16 +72,4 @@ fn write_control<W: fmt::Write>(code: u8, f: &mut fmt::Formatter<W>) -> fmt::Res
     f.write_str("\\u00")?;
     f.write_char(hex_digit(code / 16))?;
     f.write_char(hex_digit(code % 16))
-}
-
-/// The lowercase hexadecimal digit of this value.
-fn hex_digit(value: u8) -> char
-    requires { value < 16 }
-    ensures { result ≡ digit_char value }
-{
-    if value < 10 {
-        char::from(b'0' + value)
-    } else {
-        char::from(b'a' - 10 + value)
-    }
 }

@@ -1,22 +1,22 @@
--- What `{}` writes of a `Value`. Nothing is said of one that holds a real other than a NaN, since `std` says nothing of how a float is printed.
+-- What `{}` writes of a `Value`. Nothing is said of one that holds a finite real, since `std` says nothing of how a float is printed.
 use Rattle.std.specs.Prelude.{ℕ, List, [], Option, Some, String, codes, string_bytes, if◌then◌else◌}
 use Rattle.std.specs.Fmt.{◌++?◌, debug_items, signed_decimal}
 use Rattle.std.specs.declared.alloc.Global.{Global}
-use Rattle.bser_format.specs.Escaped.{display_text}
-use Rattle.bser_text.specs.QuotedText.{quoted_text}
+use Rattle.bser_text.specs.MarkedText.{bytes_text}
+use Rattle.bser_text.specs.QuotedText.{quoted_text, quoted_key}
 use Rattle.bser_text.specs.RealText.{real_text}
 use Rattle.bser_value.specs.declared.value.Value.{Value, fold-Value}
 use Rattle.bser_value.specs.declared.value.Value.TheOpen.{Value-F}
 
 -- an entry: its key in quotes, a colon, and its value's text
 abbrev pub entry_text : String Global × Option (List ℕ) → Option (List ℕ)
-entry_text e = Some (quoted_text (string_bytes e.0)) ++? Some (codes ": ") ++? e.1
+entry_text e = Some (quoted_key (string_bytes e.0)) ++? Some (codes ": ") ++? e.1
 
 -- one level, with each value inside already seen as its text; `debug_items` puts a comma and a space between parts
 abbrev pub text_step : Value-F (Option (List ℕ)) → Option (List ℕ)
 text_step (Value-F.Array v) = Some (codes "[") ++? debug_items (λ text. text) [] v.items ++? Some (codes "]")
 text_step (Value-F.Object m) = Some (codes "{") ++? debug_items entry_text [] m.entries ++? Some (codes "}")
-text_step (Value-F.ByteString s) = Some (display_text s)
+text_step (Value-F.ByteString s) = Some (bytes_text s)
 text_step (Value-F.Integer n) = Some (signed_decimal n)
 text_step (Value-F.Real bits) = real_text bits
 text_step (Value-F.Bool b) = Some (if b then codes "true" else codes "false")

@@ -3,14 +3,16 @@ ghost use Rattle.std.specs.Fmt.{DisplaysOnOk};
 ghost use Rattle.bser_value.specs.Displayed.{displayed, items_text, entries_text};
 
 use crate::value::Value;
-use bser_text::quoted::write_quoted;
+use bser_text::bytes::write_bytes;
+use bser_text::quoted::{write_key, write_quoted};
 use bser_text::real::write_real;
 use std::collections::BTreeMap;
 use std::fmt;
 
-/// The value on one line, as JSON where JSON can say it: `[1, 2]`, `{"name": true}`, `null`, texts
-/// and keys in quotes with JSON's escapes. A byte string is as `{}` of a `ByteString`, a real as
-/// `{}` of an `f64`, and a NaN is `NaN(0x7ff8000000000000)`, by its bits.
+/// The value on one line, as JSON: `[1, 2.0]`, `{"name": true}`, `null`, texts in quotes with
+/// JSON's escapes. A byte string that is UTF-8 is printed as a text. What JSON cannot say has a form
+/// of its own: bytes that are no UTF-8 are `{"$bytes": "61ff"}`, an infinity and a NaN are
+/// `{"$real": "7ff8000000000000"}` by their bits, and a key that begins with `$` gets one `$` more.
 ///
 /// Width and the like have no effect. Printing calls itself once for each level.
 impl fmt::Display for Value {
@@ -28,7 +30,7 @@ fn show<W: fmt::Write>(value: &Value, f: &mut fmt::Formatter<W>) -> fmt::Result
     match value {
         Value::Array(items) => show_items(items, f),
         Value::Object(entries) => show_entries(entries, f),
-        Value::ByteString(bytes) => write!(f, "{bytes}"),
+        Value::ByteString(bytes) => write_bytes(bytes.as_bytes(), f),
         Value::Integer(number) => write!(f, "{number}"),
         Value::Real(bits) => write_real(*bits, f),
         Value::Bool(truth) => write!(f, "{truth}"),
@@ -62,7 +64,7 @@ fn show_entries<W: fmt::Write>(
     let mut before = "";
     for (key, member) in entries {
         f.write_str(before)?;
-        write_quoted(key.as_str(), f)?;
+        write_key(key.as_str(), f)?;
         f.write_str(": ")?;
         show(member, f)?;
         before = ", ";

@@ -2,7 +2,7 @@
 use Rattle.std.proofs.Common.{◌≡◌, [], Some, Ok, codes, string_bytes, refl, sym, ap, ◌∙◌, rules}
 use Rattle.std.proofs.Output.{displays_on_ok_of_eq, has_written_of_eq}
 use Rattle.std.specs.Fmt.{◌++?◌, debug_items}
-use Rattle.bser_text.specs.QuotedText.{quoted_text}
+use Rattle.bser_text.specs.QuotedText.{quoted_key}
 use Rattle.bser_value.specs.Displayed.{displayed, member_text}
 use Rattle.bser_value.proofs.Views.{Entry, drop-item}
 use Rattle.bser_value.proofs.Displays.{shows_then, shows_from, part_more, displayed-Array, displayed-Object}
@@ -58,9 +58,9 @@ show_entries-loop-key-preserved g t c =
     let before = l.before.now in
     let e : Entry = (c.in-Some.key.now, c.in-Some.member.now) in
     let lead = c.write_str-in-loop-key.new.self in
-    let name = c.write_quoted.new.f in
+    let name = c.write_key.new.f in
     let colon = c.write_str-in-loop-key-2.new.self in
-    let key = Some (quoted_text (string_bytes e.0)) in
+    let key = Some (quoted_key (string_bytes e.0)) in
     let value = Some (codes ": ") ++? displayed e.1 in (
       search rules,
       done ++? (Some before ++? member_text e),
@@ -68,7 +68,7 @@ show_entries-loop-key-preserved g t c =
       λ plain.
           shows_then took c.args.f.now l.f c.show.new.f done (Some before ++? member_text e) (l.invariant.3 plain) (λ p.
           shows_then took l.f lead c.show.new.f (Some before) (member_text e) (c.in_ok-write_str-2.ensures.writes p refl) (λ q.
-          shows_then took lead name c.show.new.f key value (has_written_of_eq took _ _ _ _ (ap quoted_text c.as_str.ensures.value) (c.in_ok-write_quoted.ensures q refl)) (λ r.
+          shows_then took lead name c.show.new.f key value (has_written_of_eq took _ _ _ _ (ap quoted_key c.as_str.ensures.value) (c.in_ok-write_key.ensures q refl)) (λ r.
           shows_then took name colon c.show.new.f (Some (codes ": ")) (displayed e.1) (c.in_ok-write_str-3.ensures.writes r refl) (λ s.
           shows_from took colon c.show.new.f (Ok c.in_ok-show.field-0) (displayed e.1) c.in_ok-show.ensures s refl)))),
     )
