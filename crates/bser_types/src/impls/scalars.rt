@@ -1,10 +1,11 @@
 //! Reading truth values, reals and `()`; writing reals.
-ghost use Rattle.std.specs.Prelude.{refl, Some, Ok};
+ghost use Rattle.std.specs.Prelude.{◌≡◌, refl, Some, Ok, option_map};
 ghost use Rattle.bser_format.specs.ReadsScalars.{reads_bool, reads_unit, reads_real};
 ghost use Rattle.bser_deserializer.specs.Askings.{asking_bool, asking_real, asking_unit};
 ghost use Rattle.bser_deserializer.specs.Reading.{bare};
 ghost use Rattle.bser_deserializer.specs.Holds.{HoldsTruth, HoldsOne};
 ghost use Rattle.bser_format.specs.Tree.{real};
+ghost use Rattle.bser_text.specs.RealText.{float_of, bits_of};
 ghost use Rattle.bser_types.specs.HoldsReals.{HoldsReal};
 
 use crate::deserialize::{Deserialize, OwnedShape, Shape};
@@ -15,11 +16,28 @@ use bser_ser::{Serialize, Serializer};
 use bser_source::device::Sink;
 use bser_source::read::DeRead;
 use bser_source::reference::LendsText;
+use bser_text::real::{bits_of, float_of};
 use std::alloc::Global;
 
 /// The 64 bits of a real.
 #[derive(Debug, Clone, Copy, PartialEq, Eq)]
 pub struct RealBits(pub u64);
+
+impl RealBits {
+    /// The number, or `None` for a NaN, of which `f64::from_bits` makes no float.
+    pub fn as_f64(self) -> Option<f64>
+        ensures { result ≡ float_of self.0 }
+    {
+        float_of(self.0)
+    }
+
+    /// The number as bits, or `None` for a NaN, whose bits are not known.
+    pub fn from_f64(number: f64) -> Option<Self>
+        ensures { option_map (λ real. real.0) result ≡ bits_of number }
+    {
+        Some(Self(bits_of(number)?))
+    }
+}
 
 impl Shape for bool {
     ghost reads = { reads_bool };

@@ -1,14 +1,17 @@
 //! Printing.
 use super::checks::{check_printed, check_text};
 use super::kinds;
+use serde_bser::bytestring::ByteString;
+use serde_bser::de::RealBits;
 use serde_bser::escaped::escaped_bytes;
 use serde_bser::value::Value;
 use std::alloc::{AllocError, Global};
+use std::collections::BTreeMap;
 
 #[test]
 fn a_value_is_one_line(rt: HostRuntime) {
     let expected =
-        "{\"a\": [], \"b\": \"/\\\\xff\\'\", \"f\": false, \"i\": 300, \"n\": NaN(0x7ff8000000000001), \"r\": -1.5, \"t\": \"a\\\"\\n\", \"y\": true, \"z\": null}";
+        "{\"a\": [], \"b\": {\"$bytes\": \"2fff27\"}, \"f\": false, \"i\": 300, \"n\": {\"$real\": \"7ff8000000000001\"}, \"r\": -1.5, \"t\": \"a\\\"\\n\", \"y\": true, \"z\": null}";
     check_printed(&rt, rt.alloc(), &kinds(&rt, rt.alloc()), expected);
 }
 
@@ -49,23 +52,80 @@ fn a_text_is_escaped_as_in_json(rt: HostRuntime) {
 }
 
 /// The bits of reals, and how they are printed.
-static REALS: [(u64, &str); 8] = [
-    (0x3ff0_0000_0000_0000, "1"),
-    (0x8000_0000_0000_0000, "-0"),
+static REALS: [(u64, &str); 9] = [
+    (0x3ff0_0000_0000_0000, "1.0"),
+    (0x8000_0000_0000_0000, "-0.0"),
     (0x3fb9_9999_9999_999a, "0.1"),
-    (0x4415_af1d_78b5_8c40, "100000000000000000000"),
-    (0x7ff0_0000_0000_0000, "inf"),
-    (0xfff0_0000_0000_0000, "-inf"),
-    (0x7ff0_0000_0000_0001, "NaN(0x7ff0000000000001)"),
-    (0xffff_ffff_ffff_ffff, "NaN(0xffffffffffffffff)"),
+    (0x4415_af1d_78b5_8c40, "1e20"),
+    (0x3e7a_d7f2_9abc_af48, "1e-7"),
+    (0x7ff0_0000_0000_0000, "{\"$real\": \"7ff0000000000000\"}"),
+    (0xfff0_0000_0000_0000, "{\"$real\": \"fff0000000000000\"}"),
+    (0x7ff0_0000_0000_0001, "{\"$real\": \"7ff0000000000001\"}"),
+    (0xffff_ffff_ffff_ffff, "{\"$real\": \"ffffffffffffffff\"}"),
 ];
 
-/// As `{}` of an `f64`, for the bits of IEEE 754.
+/// As `{:?}` of an `f64`, for the bits of IEEE 754, and what is no number by its bits.
 #[test]
-fn a_real_is_printed_as_a_float(rt: HostRuntime) {
+fn a_real_has_a_point_or_an_exponent(rt: HostRuntime) {
     for (bits, printed) in &REALS {
         check_printed(&rt, rt.alloc(), &Value::Real(*bits), printed);
     }
+}
+
+/// Byte strings, and how they are printed.
+static BYTE_STRINGS: [(&[u8], &str); 5] = [
+    (b"plain", "\"plain\""),
+    (b"caf\xc3\xa9\n", "\"caf\u{e9}\\n\""),
+    (b"", "\"\""),
+    (b"a\xff", "{\"$bytes\": \"61ff\"}"),
+    (b"cut-\xc3", "{\"$bytes\": \"6375742dc3\"}"),
+];
+
+#[test]
+fn a_byte_string_is_a_text_where_it_is_one(rt: HostRuntime) {
+    let alloc = rt.alloc();
+    for (bytes, printed) in &BYTE_STRINGS {
+        let bytes = Vec::from_slice(alloc, bytes).expect(&rt, "memory is left");
+        check_printed(
+            &rt,
+            alloc,
+            &Value::ByteString(ByteString::from_vec(bytes)),
+            printed,
+        );
+    }
+}
+
+/// An object of one entry, whose value is null.
+fn null_under(alloc: Global, key: &str) -> Result<Value, AllocError> {
+    let mut entries = BTreeMap::new(alloc);
+    entries.insert(String::from_str(alloc, key)?, Value::Null)?;
+    Ok(Value::Object(entries))
+}
+
+/// Keys, and how they are printed.
+static KEYS: [(&str, &str); 4] = [
+    ("$bytes", "{\"$$bytes\": null}"),
+    ("$$", "{\"$$$\": null}"),
+    ("a$", "{\"a$\": null}"),
+    ("", "{\"\": null}"),
+];
+
+#[test]
+fn a_key_that_begins_with_a_dollar_sign_gets_one_more(rt: HostRuntime) {
+    let alloc = rt.alloc();
+    for (key, printed) in &KEYS {
+        let value = null_under(alloc, key).expect(&rt, "memory is left");
+        check_printed(&rt, alloc, &value, printed);
+    }
+}
+
+/// Reals as numbers, and numbers as reals.
+#[test]
+fn a_real_is_a_number_unless_it_is_a_nan(rt: HostRuntime) {
+    assert!(rt; RealBits(0xbff8_0000_0000_0000).as_f64() == Some(-1.5));
+    assert!(rt; RealBits(0x7ff8_0000_0000_0000).as_f64().is_none());
+    assert!(rt; RealBits::from_f64(-1.5) == Some(RealBits(0xbff8_0000_0000_0000)));
+    assert!(rt; RealBits::from_f64(f64::NAN).is_none());
 }
 
 /// Bytes, and how they are escaped.
