@@ -1,4 +1,7 @@
-//! Types of std.
+//! Types that need no line of the program.
+use crate::file::File;
+use serde_bser::bytestring::ByteString;
+use serde_bser::de::ObjectOr;
 use serde_bser::errors::Result;
 use serde_bser::from_slice;
 use std::alloc::Global;
@@ -12,4 +15,16 @@ pub fn longest_list(alloc: Global, bytes: &[u8]) -> Result<usize> {
         longest = numbers.len().max(longest);
     }
     Ok(longest)
+}
+
+/// How many items of the list are names alone, and no objects.
+pub fn bare_names(alloc: Global, bytes: &[u8]) -> Result<usize> {
+    let files: Vec<ObjectOr<File, ByteString>> = from_slice(alloc, bytes)?;
+    let mut count: usize = 0;
+    for file in &files {
+        if let ObjectOr::Other(_name) = file {
+            count = count.saturating_add(1);
+        }
+    }
+    Ok(count)
 }

@@ -74,6 +74,8 @@ fn print_written(rt: &HostRuntime) -> Result<()> {
     )?;
     let longest = lists::longest_list(alloc, &to_vec(alloc, &lists)?)?;
     println!(rt; "numbers in the longest list: {longest}")?;
+    let names = to_vec(alloc, &("a.c", "b.c"))?;
+    println!(rt; "bare names: {}", lists::bare_names(alloc, &names)?)?;
     print_files(rt)?;
     let real = reals::real_message(alloc, 2.5)?;
     println!(rt; "{}", from_slice::<Value>(alloc, &real)?)?;
