@@ -1,0 +1,36 @@
+//! Any message, as a `Value`.
+use serde_bser::describe;
+use serde_bser::device::Watched;
+use serde_bser::value::Value;
+use std::process::ExitCode;
+
+/// Prints the next message on standard input on one line, or why it cannot be read.
+pub fn print_message(rt: &HostRuntime) -> ExitCode {
+    match describe::from_reader::<_, Value>(rt.alloc(), &mut Watched::new(rt.stdin())) {
+        Ok(value) => {
+            let _ = println!(rt; "{value}");
+            ExitCode::SUCCESS
+        }
+        Err(error) => {
+            let _ = eprintln!(rt; "{error}");
+            ExitCode::FAILURE
+        }
+    }
+}
+
+/// The version of the server that sent the message.
+pub fn version_of(message: &Value) -> Option<&str> {
+    message.get("version").and_then(Value::as_str)
+}
+
+/// The bytes in all files of an answer. A sum above the greatest `i64` stays there.
+pub fn total_size(answer: &Value) -> i64 {
+    let mut total: i64 = 0;
+    if let Some(files) = answer.get("files").and_then(Value::as_array) {
+        for file in files {
+            let size = file.get("size").and_then(Value::as_i64);
+            total = total.saturating_add(size.unwrap_or(0));
+        }
+    }
+    total
+}

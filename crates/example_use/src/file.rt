@@ -1,0 +1,62 @@
+//! A struct that is read and written.
+ghost use Rattle.std.specs.Prelude.{codes, [], ◌∷◌, None, refl};
+ghost use Rattle.serde_bser.specs.StructFields.{required, reads_fields, HoldsFields, fields_needs, asking_fields, fields_tree};
+
+use serde_bser::bytestring::ByteString;
+use serde_bser::de::{Answer, Deserializer};
+use serde_bser::device::Sink;
+use serde_bser::errors::Result;
+use serde_bser::from_slice;
+use serde_bser::prelude::*;
+use serde_bser::ser::{Serialize, Serializer, to_vec};
+use std::alloc::Global;
+
+/// A file. Its name need not be UTF-8.
+#[derive(Drop)]
+pub struct File {
+    pub name: ByteString,
+    pub size: u64,
+}
+
+impl Fields for File {
+    ghost fields = { required (codes "name") (λ v. v.name) ⟦<ByteString as Codec>⟧.coding
+        ∷ required (codes "size") (λ v. v.size) ⟦<u64 as Codec>⟧.coding
+        ∷ [] };
+}
+
+impl Shape for File {
+    ghost reads = { reads_fields ⟦<File as Fields>⟧.fields };
+
+    ghost holds = { HoldsFields ⟦<File as Fields>⟧.fields };
+
+    ghost needs = { fields_needs ⟦<File as Fields>⟧.fields };
+
+    ghost asks = { asking_fields ⟦<File as Fields>⟧.fields };
+
+    ghost plain = { None };
+}
+
+impl<L: LendsText> Deserialize<L> for File {
+    fn deserialize<R: DeRead<Lent = L>>(alloc: Global, from: &mut Deserializer<R>) -> Answer<File> {
+        read_struct! { alloc, from, File { name: Required("name"), size: Required("size") } }
+    }
+}
+
+impl OwnedShape for File {
+    ghost owned = { refl };
+}
+
+impl Serialize for File {
+    ghost meaning = { fields_tree ⟦<File as Fields>⟧.fields };
+
+    fn serialize<W: Sink>(&self, alloc: Global, out: &mut Serializer<W>) -> Result<()> {
+        put_struct!(alloc, out, self, { name: Required("name"), size: Required("size") })
+    }
+}
+
+/// Reads a file's message, and writes that of the same file when it is empty.
+pub fn truncated(alloc: Global, message: &[u8]) -> Result<Vec<u8>> {
+    let mut file: File = from_slice(alloc, message)?;
+    file.size = 0;
+    to_vec(alloc, &file)
+}

@@ -1,0 +1,113 @@
+//! A client's work with Watchman's messages, a file for each part of docs/USE.md, over the messages
+//! on standard input and over values that it writes and reads back.
+#![tactic(auto)]
+
+mod any;
+mod change;
+mod events;
+mod file;
+mod lists;
+mod reals;
+mod replies;
+mod request;
+mod size;
+
+use crate::change::Change;
+use crate::file::File;
+use serde_bser::bytestring::ByteString;
+use serde_bser::device::Watched;
+use serde_bser::errors::Result;
+use serde_bser::from_slice;
+use serde_bser::ser::to_vec;
+use serde_bser::value::Value;
+use std::alloc::Global;
+use std::collections::BTreeMap;
+use std::io::Read;
+use std::process::ExitCode;
+
+fn main(rt: HostRuntime) -> ExitCode {
+    let first = any::print_message(&rt);
+    if let Err(error) = print_others(&rt) {
+        let _ = eprintln!(rt; "example_use: {error}");
+        return ExitCode::FAILURE;
+    }
+    first
+}
+
+/// What follows the first message, and the values that are written here.
+fn print_others(rt: &HostRuntime) -> Result<()> {
+    let mut bytes = Vec::new(rt.alloc());
+    rt.reader().read_to_end(&mut bytes)?;
+    println!(rt; "-- replies")?;
+    replies::print_replies(rt, &bytes)?;
+    println!(rt; "-- events")?;
+    events::print_events(rt, &mut Watched::new(bytes.as_slice()))?;
+    println!(rt; "-- values")?;
+    print_values(rt, &bytes)?;
+    print_written(rt)
+}
+
+/// What the first message of the bytes says, as any value.
+fn print_values(rt: &HostRuntime, bytes: &[u8]) -> Result<()> {
+    let alloc = rt.alloc();
+    let answer: Value = from_slice(alloc, bytes)?;
+    let version = any::version_of(&answer).unwrap_or("none");
+    println!(rt;
+        "version {version}, bytes in files: {}",
+        any::total_size(&answer)
+    )?;
+    let short = events::is_short(alloc, bytes);
+    println!(rt; "at most 100 bytes: {short}")?;
+    Ok(())
+}
+
+/// What is written here is read back.
+fn print_written(rt: &HostRuntime) -> Result<()> {
+    let alloc = rt.alloc();
+    println!(rt; "-- written")?;
+    let query = request::query_message(alloc, "/data/my/project", Some("c:0:0"))?;
+    println!(rt; "{}", from_slice::<Value>(alloc, &query)?)?;
+    let mut lists = BTreeMap::new(alloc);
+    lists.insert(
+        String::from_str(alloc, "sizes")?,
+        vec![in alloc; 1, 2, 300]?,
+    )?;
+    let longest = lists::longest_list(alloc, &to_vec(alloc, &lists)?)?;
+    println!(rt; "numbers in the longest list: {longest}")?;
+    let names = to_vec(alloc, &("a.c", "b.c"))?;
+    println!(rt; "bare names: {}", lists::bare_names(alloc, &names)?)?;
+    print_files(rt)?;
+    let real = reals::real_message(alloc, 2.5)?;
+    println!(rt; "{}", from_slice::<Value>(alloc, &real)?)?;
+    Ok(())
+}
+
+/// A file and what became of it, written and read back.
+fn print_files(rt: &HostRuntime) -> Result<()> {
+    let alloc = rt.alloc();
+    let file = File {
+        name: ByteString::from_text(alloc, "src/lib.rs")?,
+        size: 1024,
+    };
+    let shorter = file::truncated(alloc, &to_vec(alloc, &file)?)?;
+    println!(rt; "{}", from_slice::<Value>(alloc, &shorter)?)?;
+    match size::size_in(alloc, &shorter)? {
+        Some(size) => println!(rt; "size {size}")?,
+        None => println!(rt; "no size")?,
+    }
+    let renamed = Change::Renamed(file.name);
+    print_change(rt, &renamed)?;
+    print_change(rt, &Change::Gone)?;
+    let size = 7;
+    print_change(rt, &Change::Written { size, mode: None })
+}
+
+/// The message of the change, and what it is read back as.
+fn print_change(rt: &HostRuntime, change: &Change) -> Result<()> {
+    let alloc = rt.alloc();
+    let message = to_vec(alloc, change)?;
+    let back: Change = from_slice(alloc, &message)?;
+    let value: Value = from_slice(alloc, &message)?;
+    println!(rt; "{value}, the same when it is read: {}", back == *change)?;
+    Ok(())
+}

@@ -1,0 +1,10 @@
+//! Reals, by their bits.
+use serde_bser::de::RealBits;
+use serde_bser::errors::Result;
+use serde_bser::ser::to_vec;
+use std::alloc::Global;
+
+/// The message of a float.
+pub fn real_message(alloc: Global, x: f64) -> Result<Vec<u8>> {
+    to_vec(alloc, &RealBits(x.to_bits()))
+}

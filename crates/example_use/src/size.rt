@@ -1,0 +1,19 @@
+//! A contract about what was read.
+ghost use Rattle.std.specs.Prelude.{IfOk, IfErr};
+ghost use Rattle.serde_bser.specs.Messages.{RefusesSlice};
+ghost use Rattle.example_use.specs.Sizes.{HasSize};
+
+use serde_bser::de::{Shape, from_slice};
+use serde_bser::errors::Result;
+use serde_bser::value::Value;
+use std::alloc::Global;
+
+/// The integer under the key "size" of the object that the message is, if there is one.
+pub fn size_in(alloc: Global, bytes: &[u8]) -> Result<Option<i64>>
+    ensures found { IfOk result (HasSize bytes.now) }
+    ensures refused { IfErr result (λ e. RefusesSlice 128 ⟦<Value as Shape>⟧.reads
+        ⟦<Value as Shape>⟧.asks ⟦<Value as Shape>⟧.needs e bytes.now) }
+{
+    let value: Value = from_slice(alloc, bytes)?;
+    Ok(value.get("size").and_then(Value::as_i64))
+}
