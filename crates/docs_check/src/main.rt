@@ -8,6 +8,7 @@
 //! Each block that differs is told, and the status is 1 then. Those above a line `====` differ on
 //! purpose: they are told, and are no failure.
 #![tactic(auto)]
+
 ghost use Rattle.std.specs.Prelude.{◌≡◌, ◌↔◌, IsNone};
 
 use anyhow::{Context, Result};
