@@ -1,36 +1,34 @@
-//! Holds README and the pages of docs/ against the files that they quote, and docs/API.md against
-//! the public names of the library.
+//! Compares what the pages say with the sources: the blocks of code that README and the pages of docs/
+//! quote, and the heads of public items that docs/API.md lists.
 //!
-//! It reads these pages and files from standard input, each below a line `==> PATH`. The script
-//! `pages` prints them so, and the crate's `stdin` is what it prints.
+//! It reads a copy of both, which `scripts/pages` writes as the crate's `stdin`. A line `@ page PATH`
+//! begins a page. A line `@ quote PLACE` or `@ names PLACE` begins a block: the page's lines, a line
+//! `=`, and the source's lines.
 //!
-//! In a page a line `<!-- from PATH -->` above a fenced block says that its lines stand in that file,
-//! one after another. A block of Rust without such a line is a fault. A line `<!-- names of PATH -->`
-//! begins a list of the public names of that file, up to the next title.
-//!
-//! Each fault is told by its page and line, and the status is 1 then. The pages above a line `====`
-//! are wrong on purpose: their faults are told, and are no failure.
+//! Each block that differs is told, and the status is 1 then. Those above a line `====` differ on
+//! purpose: they are told, and are no failure.
 #![tactic(auto)]
 
-mod files;
-mod names;
-mod quotes;
+ghost use Rattle.std.specs.Prelude.{◌≡◌, ◌↔◌, IsNone};
 
-use crate::files::{File, files, find};
-use crate::names::{Index, indexes, missing, public_names};
-use crate::quotes::quotes;
 use anyhow::{Context, Result};
-use std::alloc::{AllocError, Global};
 use std::io;
 use std::process::ExitCode;
 
-/// How much was compared, and what differs.
+/// How much was compared, and how much differs.
 #[derive(Drop)]
 struct Report {
     pages: usize,
     quotes: usize,
     names: usize,
-    faults: Vec<String>,
+    differences: usize,
+}
+
+/// What a page has, and what the source has in that place.
+#[derive(Drop)]
+struct Block<'a> {
+    page: &'a str,
+    source: &'a str,
 }
 
 fn main(rt: HostRuntime) -> Result<ExitCode> {
@@ -41,146 +39,67 @@ fn main(rt: HostRuntime) -> Result<ExitCode> {
         .context("there is no line ====")?;
     compare(&rt, wrong)?;
     let report = compare(&rt, right)?;
-    if !report.faults.is_empty() {
+    if report.differences > 0 {
         return Ok(ExitCode::FAILURE);
     }
-    report.print_counts(&rt)?;
+    let Report {
+        pages,
+        quotes,
+        names,
+        ..
+    } = report;
+    println!(rt; "{pages} pages, {quotes} quotes, {names} names: no difference")?;
     Ok(ExitCode::SUCCESS)
 }
 
-/// Compares each page of the input with the files that it names, and prints each fault.
+/// Compares the blocks of a text, and tells those that differ.
 fn compare(rt: &HostRuntime, text: &str) -> Result<Report> {
-    let mut report = Report::new(rt.alloc());
-    report.add_pages(rt.alloc(), &files(rt.alloc(), text)?)?;
-    report.print_faults(rt)?;
+    let mut report = Report {
+        pages: 0,
+        quotes: 0,
+        names: 0,
+        differences: 0,
+    };
+    for part in text.split("\n@ ").skip(1) {
+        report.add(rt, part)?;
+    }
     Ok(report)
 }
 
 impl Report {
-    /// The report of no page.
-    fn new(alloc: Global) -> Self {
-        Report {
-            pages: 0,
-            quotes: 0,
-            names: 0,
-            faults: Vec::new(alloc),
+    /// Counts a page, or compares a block.
+    fn add(&mut self, rt: &HostRuntime, part: &str) -> Result<()> {
+        if part.starts_with("page ") {
+            self.pages = self.pages.saturating_add(1);
+            return Ok(());
         }
-    }
-
-    /// Adds what is found in the pages among these files.
-    fn add_pages<'a>(&mut self, alloc: Global, files: &[File<'a>]) -> Result<()> {
-        for page in files {
-            if page.path.ends_with(".md") {
-                self.pages = self.pages.saturating_add(1);
-                self.add_quotes(alloc, files, page)?;
-                self.add_names(alloc, files, page)?;
-            }
+        let (place, lines) = part.split_once("\n").context("a block has no lines")?;
+        let (page, source) = lines.split_once("\n=\n").context("a block has no line =")?;
+        let block = Block { page, source };
+        if place.starts_with("names ") {
+            self.names = self.names.saturating_add(page.lines().count());
+        } else {
+            self.quotes = self.quotes.saturating_add(1);
         }
-        Ok(())
-    }
-
-    /// Compares the blocks of a page.
-    fn add_quotes<'a>(&mut self, alloc: Global, files: &[File<'a>], page: &File<'a>) -> Result<()> {
-        for quote in &quotes(alloc, page)? {
-            if let Some(fault) = quote.fault(alloc, files)? {
-                self.tell(alloc, page, fault.line, Ok(fault.text))?;
-            }
-            self.quotes = self
-                .quotes
-                .saturating_add(usize::from(quote.path.is_some()));
+        if let Some(number) = block.first_other() {
+            self.differences = self.differences.saturating_add(1);
+            println!(rt; "{place}: line {number} differs")?;
         }
         Ok(())
     }
+}
 
-    /// Compares the lists of names of a page.
-    fn add_names<'a>(&mut self, alloc: Global, files: &[File<'a>], page: &File<'a>) -> Result<()> {
-        for index in &indexes(alloc, page)? {
-            let public = match find(files, index.path) {
-                Some(file) => public_names(alloc, file)?,
-                None => Vec::new(alloc),
-            };
-            self.add_index(alloc, page, index, &public)?;
+impl<'a> Block<'a> {
+    /// The number of the first line that differs, from 1. There is none exactly where the page has
+    /// what the source has.
+    fn first_other(&self) -> Option<usize>
+        ensures { IsNone result ↔ (self.now.page.now ≡ self.now.source.now) }
+    {
+        if self.page == self.source {
+            return None;
         }
-        Ok(())
-    }
-
-    /// Compares a list of names with the public names of its file.
-    fn add_index<'a>(
-        &mut self,
-        alloc: Global,
-        page: &File<'a>,
-        index: &Index<'a>,
-        public: &[&'a str],
-    ) -> Result<()> {
-        self.tell_missing(alloc, page, index, public)?;
-        self.tell_unknown(alloc, page, index, public)?;
-        self.names = self.names.saturating_add(index.names.len());
-        Ok(())
-    }
-
-    /// Tells which of the public names a list lacks.
-    fn tell_missing<'a>(
-        &mut self,
-        alloc: Global,
-        page: &File<'a>,
-        index: &Index<'a>,
-        public: &[&'a str],
-    ) -> Result<()> {
-        for name in &missing(alloc, public, &index.names)? {
-            let text = format!(in alloc; "the list lacks {name}, which {} has", index.path);
-            self.tell(alloc, page, index.line, text)?;
-        }
-        Ok(())
-    }
-
-    /// Tells which names of a list are none of the public names.
-    fn tell_unknown<'a>(
-        &mut self,
-        alloc: Global,
-        page: &File<'a>,
-        index: &Index<'a>,
-        public: &[&'a str],
-    ) -> Result<()> {
-        for (name, line) in index.names.iter().zip(index.lines.iter()) {
-            if !public.contains(name) {
-                let text = format!(in alloc; "{} has no public name {name}", index.path);
-                self.tell(alloc, page, *line, text)?;
-            }
-        }
-        Ok(())
-    }
-
-    /// Adds a fault.
-    fn tell(
-        &mut self,
-        alloc: Global,
-        page: &File<'_>,
-        line: usize,
-        text: Result<String, AllocError>,
-    ) -> Result<()> {
-        let text = text?;
-        let fault = format!(in alloc; "{}, line {line}: {text}", page.path)?;
-        self.faults.push(fault)?;
-        Ok(())
-    }
-
-    /// Prints the faults, one a line.
-    fn print_faults(&self, rt: &HostRuntime) -> Result<()> {
-        for fault in &self.faults {
-            println!(rt; "{fault}")?;
-        }
-        Ok(())
-    }
-
-    /// Prints how much was compared.
-    fn print_counts(&self, rt: &HostRuntime) -> Result<()> {
-        let Report {
-            pages,
-            quotes,
-            names,
-            ..
-        } = self;
-        println!(rt; "{pages} pages, {quotes} quotes, {names} names: no difference")?;
-        Ok(())
+        let both = self.page.lines().zip(self.source.lines());
+        let same = both.take_while(|(page, source)| page == source).count();
+        Some(same.saturating_add(1))
     }
 }
