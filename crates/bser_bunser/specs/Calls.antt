@@ -64,7 +64,7 @@ HasLength bytes n r = length (bytes_of bytes r) ≡ n
 abbrev pub TakesCounted : List ℕ → Seen → Seen → Type 0
 TakesCounted s old new = TookCounted old.window new.window s
 
--- this head of a message was taken, and its body's length was announced
+-- this header of a message was taken, and its body's length was announced
 abbrev pub TakesHead : PduInfo → Seen → Seen → Type 0
 TakesHead info old new = TookHead old.window new.window info.bser_capabilities info.len
 
@@ -72,13 +72,13 @@ TakesHead info old new = TookHead old.window new.window info.bser_capabilities i
 abbrev pub Keeps : Seen → Seen → Type 0
 Keeps old new = new.refusal ≡ old.refusal
 
--- ---- what was refused, for the reason that is kept
+-- ---- what failed, with the error that is kept
 
--- nothing is buffered, and all that comes is refused
+-- nothing is buffered, and all that comes fails
 abbrev pub Closes : Seen → Seen → Type 0
 Closes old new = new.window ≡ closed old.window
 
--- all that comes is refused
+-- all that comes fails
 abbrev pub HasFailed : Seen → Seen → Type 0
 HasFailed old new = Fails new.refusal old.window new.window
 
@@ -94,11 +94,11 @@ LacksCopy n old new = CopyRefused n new.refusal old.window new.window
 abbrev pub NamedBy : {X : Type 0} → Reader X → Seen → Seen → Type 0
 NamedBy r old new = Names r new.refusal old.window
 
--- the name of what n bytes lack, or want of memory
+-- the error of what n bytes lack, or out of memory
 abbrev pub NamesCopy : ℕ → Seen → Seen → Type 0
 NamesCopy n old new = NamesOrMemory (front n) new.refusal old.window
 
--- the name that r gives, or want of memory
+-- the error that r gives, or out of memory
 abbrev pub NamedOrMemory : {X : Type 0} → Reader X → Seen → Seen → Type 0
 NamedOrMemory r old new = NamesOrMemory r new.refusal old.window
 
@@ -106,20 +106,20 @@ NamedOrMemory r old new = NamesOrMemory r new.refusal old.window
 abbrev pub IsCutShort : Seen → Seen → Type 0
 IsCutShort old new = CutsInteger new.refusal old.window
 
--- n bytes are not there, which is never for want of memory
+-- n bytes are not there, and it is never out of memory
 abbrev pub FailsShort : ℕ → Seen → Seen → Type 0
 FailsShort n old new = RefusesShort n new.refusal old.window new.window
 
--- by the name that r gives, and never for want of memory
+-- with the error that r gives, and never out of memory
 abbrev pub FailsBy : {X : Type 0} → Reader X → Seen → Seen → Type 0
 FailsBy r old new = RefusesBy r new.refusal old.window new.window
 
--- ---- what was refused by an error that is answered
+-- ---- what failed, with the error that is answered
 
--- n bytes are not there, which is never for want of memory
+-- n bytes are not there, and it is never out of memory
 abbrev pub AnswersShort : ℕ → Seen → Seen → Error → Type 0
 AnswersShort n old new e = RefusesShort n e old.window new.window
 
--- by the name that r gives, and never for want of memory
+-- with the error that r gives, and never out of memory
 abbrev pub AnswersBy : {X : Type 0} → Reader X → Seen → Seen → Error → Type 0
 AnswersBy r old new e = RefusesBy r e old.window new.window

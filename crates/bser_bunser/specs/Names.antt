@@ -1,4 +1,4 @@
--- Which refusal is named, and when another may stand in its place.
+-- Which error is answered, and when another may take its place.
 use Rattle.std.specs.Prelude.{◌≡◌, ◌≢◌, ◌⊎◌, ◌≤◌, ◌<◌, ◌+◌, ◌^◌, ℕ, ℤ, suc, true, false, List, [], ◌∷◌, ◌++◌, length, Some}
 use Rattle.std.specs.Int.{byte_len}
 use Rattle.bser_format.specs.Grammar.{Format, IntSize, tag_of, width_of}
@@ -39,14 +39,14 @@ pub record Overflows (P : Blame) (s : Window) : Type 0 where
   pub few : P named.eof text
   pub long : 2 ^ 64 ≤ suc (s.count + length text)
 
--- a refusal that the bytes left are not to blame for, where there is a reason for it
+-- an error that the bytes left are not to blame for, where there is a reason for it
 abbrev pub Outside : Blame → Error → Window → Type 0
 Outside P OutOfMemory s = s.lends ≡ false
 Outside P (DeReaderError (Reader fault)) s = s.lends ≡ false
 Outside P (DeReaderError Failed) s = (s.failed ≡ true) ⊎ ((s.lends ≡ false) × Overflows P s)
 Outside P _ s = ⊥
 
--- the same, where the bytes wanted are in front, n of them
+-- the same, where the bytes wanted are at the start, n of them
 abbrev pub Excused : ℕ → Error → Window → Type 0
 Excused n OutOfMemory s = s.lends ≡ false
 Excused n (DeReaderError (Reader fault)) s = s.lends ≡ false
@@ -57,19 +57,19 @@ Excused n _ s = ⊥
 abbrev pub Blames : Blame → Error → Window → Type 0
 Blames P e s = ((b : List ℕ) × MayBeLeft s b × P e b) ⊎ Outside P e s
 
--- the plain reader refuses such bytes by this name
+-- the plain reader gives this error on such bytes
 abbrev pub RefusedAs : {X : Type 0} → named.Reader X → Blame
 RefusedAs r e b = r b ≡ named.refuses e
 
--- the plain reader refuses what is left by this name, or there is a reason outside the bytes
+-- the plain reader gives this error on what is left, or there is a reason outside the bytes
 abbrev pub Names : {X : Type 0} → named.Reader X → Error → Window → Type 0
 Names r e s = Blames (RefusedAs r) e s
 
--- the same, or memory was refused
+-- the same, or memory ran out
 abbrev pub NamesOrMemory : {X : Type 0} → named.Reader X → Error → Window → Type 0
 NamesOrMemory r e s = Names r e s ⊎ (e ≡ OutOfMemory)
 
--- where the bytes left begin as F says, r names no refusal but for a reason outside them
+-- where the bytes left begin as F says, r gives no error but for a reason outside them
 abbrev pub Excuses : {X : Type 0} → Format → named.Reader X → Type 0
 Excuses F r =
     (text rest : List ℕ) (e : Error) (s : Window)
@@ -98,13 +98,14 @@ natural_of c = named.int >>= named.natural c
 abbrev pub bytes_after : ℤ → named.Reader (List ℕ)
 bytes_after len = named.natural NegativeLength len >>= named.front
 
--- a call that only wants n bytes is refused: as its byte source refuses, by the name of the first fault, and never for want of memory
+-- a call that only wants n bytes fails: as its byte source does, with the first error, and never
+-- out of memory
 pub record RefusesShort (n : ℕ) (e : Error) (old new : Window) : Type 0 where
   pub err : ShortOf n e old new
   pub names : Names (named.front n) e old
   pub memory : e ≢ OutOfMemory
 
--- a call is refused by the name that r gives, and never for want of memory
+-- a call fails with the error that r gives, and never out of memory
 pub record RefusesBy {X : Type 0} (r : named.Reader X) (e : Error) (old new : Window) : Type 0 where
   pub err : Fails e old new
   pub names : Names r e old

@@ -1,4 +1,4 @@
--- How the reader of tagged values refuses a call, and what state it is in then.
+-- How a call of the reader of tagged values fails, and what state it is in then.
 use Rattle.std.specs.Prelude.{◌≡◌, ◌⊎◌, ◌+◌, ◌^◌, ℕ, ℤ, pos, negsuc, true, Option, Some, None, IsSomeAnd, nat_lt, if◌then◌else◌}
 use Rattle.bser_format.specs.declared.errors.ReadCause.{ReadCause}
 use Rattle.bser_format.specs.declared.errors.ReadCause.TheVariants.{Eof, Utf8, Reader, Memory, Failed}
@@ -15,7 +15,7 @@ use Rattle.bser_source.specs.Refusal.{Excuse}
 use Rattle.bser_bunser.specs.declared.prefix.Unexpected.{Unexpected}
 use Rattle.bser_bunser.specs.declared.prefix.Unexpected.TheVariants.{Tag, Length, NegativeLength, NegativeCount}
 
--- the byte source's cause in a refusal; want of memory has an error of its own
+-- the byte source's cause in an error; out of memory has an error of its own
 abbrev pub cause_of : Error → Option ReadCause
 cause_of (DeReaderError Eof) = Some Eof
 cause_of (DeReaderError Utf8) = Some Utf8
@@ -25,21 +25,21 @@ cause_of (DeReaderError Failed) = Some Failed
 cause_of OutOfMemory = Some Memory
 cause_of _ = None
 
--- the failures after a refusal
+-- the failures after an error
 abbrev pub failures_by : Error → ℕ → ℕ
 failures_by (DeReaderError cause) n = failures_after cause n
 failures_by _ n = n
 
--- what holds after any refusal
+-- what holds after any error
 pub record Fails (e : Error) (old new : Window) : Type 0 where
-  -- what has failed refuses by this alone
+  -- what has failed gives this error alone
   pub before : old.failed ≡ true → e ≡ DeReaderError Failed
   pub failed : new.failed ≡ true
   pub lends : new.lends ≡ old.lends
   pub through : new.through ≡ old.through
   pub failures : new.failures ≡ failures_by e old.failures
 
--- a call that only wants n bytes refuses as its byte source does
+-- a call that only wants n bytes fails as its byte source does
 pub record ShortOf (n : ℕ) (e : Error) (old new : Window) : Type 0 where
   pub excuse : IsSomeAnd (cause_of e) (λ c. Excuse c old n)
   pub fails : Fails e old new
@@ -54,7 +54,7 @@ BytesRefused (negsuc n) e old new =
 abbrev pub CopyRefused : ℕ → Error → Window → Window → Type 0
 CopyRefused n e old new = ShortOf n e old new ⊎ ((e ≡ OutOfMemory) × Fails e old new)
 
--- the refusal of what stands where something of this kind is wanted
+-- the error of what is where something of this kind is wanted
 abbrev pub unexpected_refusal : Kind → Unexpected → Error
 unexpected_refusal kind (Tag b) = DeInvalidStartByte kind b
 unexpected_refusal kind (Length b) = DeInvalidStartByte Integer b

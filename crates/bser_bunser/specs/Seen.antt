@@ -5,7 +5,7 @@ use Rattle.bser_format.specs.declared.errors.Error.TheVariants.{DeReaderError}
 use Rattle.bser_format.specs.declared.errors.ReadCause.TheVariants.{Failed}
 use Rattle.bser_source.specs.Window.{Window}
 
--- the window of its byte source, and the reason of a refusal
+-- the window of its byte source, and the error that is kept
 pub record Seen : Type 0 where
   pub window : Window
   pub refusal : Error

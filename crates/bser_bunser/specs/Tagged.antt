@@ -36,7 +36,7 @@ pub record SpellsCounted (s b : List ℕ) : Type 0 where
 abbrev pub IsString : Format
 IsString b = (s : List ℕ) × SpellsCounted s b
 
--- the head of a message
+-- the header of a message
 abbrev pub IsHead : Format
 IsHead b = (c : ℕ) × (k : ℕ) × Head c k b
 
@@ -58,7 +58,7 @@ pub record TookInt (old new : Window) (v : ℤ) : Type 0 where
   pub spelled : SpellsInteger v text
   pub took : Took old new text
 
--- a byte that is no integer's tag stands where an integer is wanted, and nothing was taken
+-- a byte that is no integer's tag is where an integer is wanted, and nothing was taken
 pub record NoInt (old new : Window) (why : unexpected.Unexpected) : Type 0 where
   pub need : ℕ
   pub grown : Grown need old new
@@ -92,7 +92,7 @@ pub record TookCounted (old new : Window) (s : List ℕ) : Type 0 where
 
 -- ---- the frame of a message
 
--- a message's head was taken, and its body's length was announced
+-- a message's header was taken, and its body's length was announced
 pub record TookHead (old new : Window) (capabilities : ℕ) (len : ℤ) : Type 0 where
   pub text : List ℕ
   pub size : ℕ

@@ -90,7 +90,7 @@ TokensBeginValues =
     (key : Reader (List ℕ)) (n : ℕ) (b : List ℕ)
     → value key (suc n) b ≡ (token >>= after_token key n) b
 
--- ---- a token at the front of bytes
+-- ---- a token at the start of bytes
 
 -- too few bytes to tell: r finds an early end in them, and in fewer than n that begin so
 pub record TooShort {X : Type 0} (r : Reader X) (held : List ℕ) (n : ℕ) : Type 0 where
@@ -98,12 +98,12 @@ pub record TooShort {X : Type 0} (r : Reader X) (held : List ℕ) (n : ℕ) : Ty
   pub most : n ≤ 10
   pub cut : (more : List ℕ) → length (held ++ more) < n → r (held ++ more) ≡ refuses eof
 
--- r refuses so what begins with these bytes, whatever follows
+-- r gives this error on what begins with these bytes, whatever follows
 pub record Rejects {X : Type 0} (r : Reader X) (held : List ℕ) (e : Error) : Type 0 where
   pub some : 0 < length held
   pub name : (more : List ℕ) → r (held ++ more) ≡ refuses e
 
--- a token is in front, or one is cut short, or none begins so
+-- a token is at the start, or one is cut short, or none begins so
 abbrev pub IsTokenPrefix : List ℕ → Prefix Token → Type 0
 IsTokenPrefix held (Found t len) = (len ≤ length held) × SpellsToken t (take len held)
 IsTokenPrefix held (Short need) = TooShort token held need

@@ -23,22 +23,22 @@ use bser_source::reference::Lending;
 use std::alloc::Global;
 use std::marker::{Model, PhantomData};
 
-/// Reads the head of a message, integers, tokens and counted bytes from a byte source.
+/// Reads the header of a message, integers, tokens and counted bytes from a byte source.
 ///
-/// A call that refuses leaves it failed: each later call that can refuse answers
-/// [`Error::DeReaderError`] with [`ReadCause::Failed`], [`Bunser::end`] too, of which alone a
-/// refusal changes nothing. An early end, a reader's fault, or a use after the source itself
-/// refused is [`Error::DeReaderError`] with the source's cause, and a refused growth of a caller's
-/// scratch [`Error::OutOfMemory`]. It takes no memory itself.
+/// After an error each later call that can fail answers [`Error::DeReaderError`] with
+/// [`ReadCause::Failed`], [`Bunser::end`] too, of which alone an error changes nothing. An early
+/// end, a reader's error, or a use after the source itself failed is [`Error::DeReaderError`] with
+/// the source's cause, and a caller's scratch that cannot grow [`Error::OutOfMemory`]. It takes no
+/// memory itself.
 ///
 /// Some calls answer the error itself. The others answer [`Refused`], which has no content: the
-/// error is the reason that is kept, and [`Bunser::take_refusal`] gives it. A call that succeeds
-/// keeps the reason that is there.
+/// error is kept, and [`Bunser::take_refusal`] gives it. A call that succeeds keeps the error that
+/// is there.
 #[derive(Drop)]
 pub struct Bunser<R: DeRead> {
     read: R,
     refusal: Option<Error>,
-    // they name what is lent and kept, so that a reader over a slice can be made
+    // they name what is borrowed and kept, so that a reader over a slice can be made
     lent: PhantomData<R::Lent>,
     kept: PhantomData<<R::Lent as Lending>::Kept>,
 }
@@ -75,7 +75,7 @@ impl<R: DeRead> Bunser<R> {
         read
     }
 
-    /// Whether a call was refused before, so that each later one is.
+    /// Whether a call failed before, so that each later one does.
     pub fn is_failed(&self) -> bool
         ensures value { result ≡ self.now.window.failed }
         ensures lends { self.now.window.lends ≡ R.Lent.lends }
@@ -90,7 +90,7 @@ impl<R: DeRead> Bunser<R> {
         i64::try_from(self.read.read_count()).unwrap_or(i64::MAX)
     }
 
-    /// Takes the reason of the last refusal, or [`ReadCause::Failed`] where none is kept.
+    /// Takes the last error, or [`ReadCause::Failed`] where none is kept.
     ///
     /// It belongs after an answer of [`Refused`].
     #[cold]
@@ -106,9 +106,9 @@ impl<R: DeRead> Bunser<R> {
         }
     }
 
-    /// Refuses all calls from now on, and keeps the reason.
+    /// Makes all calls from now on fail, and keeps the error.
     ///
-    /// A layer above calls it where it refuses what was read, and answers [`Refused`] itself.
+    /// A layer above calls it where it does not read what it found, and answers [`Refused`] itself.
     #[cold]
     #[inline(never)]
     pub fn refuse(&mut self, reason: Error) -> Refused
@@ -130,7 +130,7 @@ impl<R: DeRead> Bunser<R> {
         self.refuse(Error::de_reader_error(cause))
     }
 
-    /// Fails, for what stands where something of this kind is wanted.
+    /// Fails, for what was found where something of this kind is wanted.
     #[cold]
     #[inline(never)]
     fn refuse_unexpected(&mut self, kind: Kind, why: Unexpected) -> Refused
@@ -151,7 +151,7 @@ impl<R: DeRead> Bunser<R> {
 
     /// Buffers `n` bytes, from 1 to 4096, and takes none.
     ///
-    /// Where fewer are left it is [`ReadCause::Eof`]. Over a reader it may be its fault,
+    /// Where fewer are left it is [`ReadCause::Eof`]. Over a reader it may be its I/O error,
     /// [`ReadCause::Reader`], or [`ReadCause::Failed`] where the count of bytes would pass the
     /// greatest `usize`.
     #[inline(always)]
@@ -186,7 +186,7 @@ impl<R: DeRead> Bunser<R> {
 
     /// Buffers the next byte, and takes none.
     ///
-    /// Refusals are those of [`Self::fill`] for one byte.
+    /// The errors are those of [`Self::fill`] for one byte.
     #[inline(always)]
     pub fn peek(&mut self) -> Result<u8>
         ensures ok { IfOk result (λ b. Peeks self.old.window self.new.window b) }
@@ -211,8 +211,8 @@ impl<R: DeRead> Bunser<R> {
         self.read.consume(1);
     }
 
-    /// The buffered bytes: the first of those left, which are taken without a refusal. None after a
-    /// refusal.
+    /// The buffered bytes: the first of those left, which are taken without an error. None after an
+    /// error.
     #[inline(always)]
     pub fn buffered<'s>(&'s self) -> &'s [u8]
         ensures { result.now ≡ self.now.window.buffered }
@@ -236,8 +236,8 @@ impl<R: DeRead> Bunser<R> {
     /// [`Kind::NextItem`]. After the tag of a string, an array or an object, another byte than an
     /// integer's tag is [`Error::DeInvalidStartByte`] of kind [`Kind::Integer`], a length below 0
     /// the message [`Complaint::NegativeLength`], and a count below 0 the message
-    /// [`Complaint::NegativeCount`]. A token that is cut short, or none at all, is refused as by
-    /// [`Self::fill`].
+    /// [`Complaint::NegativeCount`]. A token that is cut short, or none at all, fails as
+    /// [`Self::fill`] does.
     ///
     /// A count is read with its tag. Where containers nest no deeper, the tag is to be looked at
     /// first, by [`Self::fill`] and [`Self::buffered`].

@@ -8,14 +8,13 @@ ghost use Rattle.bser_bunser.specs.Tagged.{IsInteger, IsLength, IsToken, IsStrin
 ghost use Rattle.bser_bunser.specs.Tokens.{token, TokensBeginValues};
 
 /// Where a level is left, a value is read by reading its first token and then what follows that. So
-/// what a token is refused by, a value is refused by too.
+/// an error of a token is one of the value too.
 pub fn tokens_begin_values()
     ensures { TokensBeginValues }
 {}
 
-/// Where the bytes left begin as is wanted, a refusal that is named by the plain reader has a
-/// reason outside them: want of memory, a reader's fault, an earlier refusal, or a count that
-/// overflows.
+/// Where the bytes left begin as is wanted, an error has a reason outside them: memory, an I/O
+/// error of the reader, an earlier error, or a count that overflows.
 pub fn spelled_is_read()
     ensures integer { Excuses IsInteger int }
     ensures length { Excuses IsLength size }

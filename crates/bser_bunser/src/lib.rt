@@ -1,4 +1,4 @@
-//! The reader of tagged values: a message's head, integers, tokens and counted bytes.
+//! The reader of tagged values: a message's header, integers, tokens and counted bytes.
 #![tactic(auto)]
 
 pub mod bunser;

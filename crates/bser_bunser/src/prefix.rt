@@ -11,12 +11,12 @@ use bser_format::header::{
 };
 use byteorder::{ByteOrder, LittleEndian};
 
-/// Why nothing that is wanted stands at the front.
+/// Why nothing that is wanted is at the start.
 #[derive(Clone, Copy)]
 pub enum Unexpected {
-    /// This tag may not stand there.
+    /// This tag may not be there.
     Tag(u8),
-    /// This byte stands where a length or a count is due, and is no integer's tag.
+    /// This byte is where a length or a count is expected, and is no integer's tag.
     Length(u8),
     /// A string's length below 0.
     NegativeLength,
@@ -48,7 +48,7 @@ pub enum Prefix<T: Copy> {
 pub enum Look<T: Copy> {
     /// This was taken.
     Taken(T),
-    /// Nothing that is wanted stands there, and nothing was taken.
+    /// Nothing that is wanted is there, and nothing was taken.
     Unexpected(Unexpected),
 }
 
@@ -107,9 +107,9 @@ fn u64_prefix(rest: &[u8]) -> Option<u64>
     Some(LittleEndian::read_u64(&rest[..8]))
 }
 
-/// The integer in front of these bytes: its tag, and 1, 2, 4 or 8 bytes, the lowest first.
+/// The integer at the start of these bytes: its tag, and 1, 2, 4 or 8 bytes, the lowest first.
 ///
-/// Another byte in front is [`Unexpected::Tag`].
+/// Another first byte is [`Unexpected::Tag`].
 #[inline(always)]
 pub fn int_prefix(bytes: &[u8]) -> Prefix<i64>
     ensures { IsIntPrefix bytes.now result }
@@ -148,9 +148,9 @@ pub fn int_prefix(bytes: &[u8]) -> Prefix<i64>
     }
 }
 
-/// The length in front of these bytes: an integer of 0 or more.
+/// The length at the start of these bytes: an integer of 0 or more.
 ///
-/// Another byte in front than an integer's tag is [`Unexpected::Length`], and an integer below 0
+/// Another first byte than an integer's tag is [`Unexpected::Length`], and an integer below 0
 /// [`Unexpected::NegativeLength`].
 #[inline(always)]
 pub fn length_prefix(bytes: &[u8]) -> Prefix<usize>
@@ -174,7 +174,7 @@ pub fn length_prefix(bytes: &[u8]) -> Prefix<usize>
     }
 }
 
-/// The length in front of these bytes, where it is an integer of one byte. None of another.
+/// The length at the start of these bytes, where it is an integer of one byte. None of another.
 #[inline(always)]
 pub(crate) fn short_length(bytes: &[u8]) -> Option<usize>
     ensures length { IfSome result (λ n. IsLengthPrefix bytes.now (Prefix.Found n 2)) }
@@ -231,9 +231,9 @@ pub enum Token {
     Template,
 }
 
-/// The token in front of these bytes.
+/// The token at the start of these bytes.
 ///
-/// A byte in front that no token begins with is [`Unexpected::Tag`]. After the tag of a string, an
+/// A first byte that no token begins with is [`Unexpected::Tag`]. After the tag of a string, an
 /// array or an object it is as for a length, but that a count below 0 is
 /// [`Unexpected::NegativeCount`].
 #[inline(always)]
@@ -250,7 +250,7 @@ pub fn token_prefix(bytes: &[u8]) -> Prefix<Token>
     }
 }
 
-/// The token in front of these bytes, which is no integer.
+/// The token at the start of these bytes, which is no integer.
 #[inline(always)]
 fn other_prefix(bytes: &[u8]) -> Prefix<Token>
     requires some { 0 < length bytes.now }
@@ -317,7 +317,7 @@ fn fault(tag: u8, why: Unexpected) -> Unexpected
     }
 }
 
-/// The token in front of these bytes, which has a length or a count.
+/// The token at the start of these bytes, which has a length or a count.
 #[inline(always)]
 fn counted_prefix(bytes: &[u8]) -> Prefix<Token>
     requires some { 0 < length bytes.now }

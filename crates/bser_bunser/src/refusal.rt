@@ -1,11 +1,11 @@
-//! What a call answers that is refused where it is on a hot path.
+//! What a call on a hot path answers where it fails.
 
-/// A refusal. The reader keeps its reason.
+/// A failure. The reader keeps its error.
 #[derive(Debug, Clone, Copy)]
 pub struct Refused;
 
-/// What was asked for, or a refusal.
+/// What was asked for, or a failure.
 ///
 /// A `Result` with an error in it is as great as the error, and is copied at each call, also where
-/// all goes well. A refusal has no content.
+/// all goes well. A [`Refused`] has no content.
 pub type Answer<T> = std::result::Result<T, Refused>;

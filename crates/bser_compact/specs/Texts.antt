@@ -58,7 +58,7 @@ template_names vs = template_keys (as_template (fold_items (items_view vs)))
 abbrev pub template_head : List (List ℕ) → ℕ → List ℕ
 template_head ks n = template_tag ++ (array_head (length ks) ++ (flat_map canonical_text ks ++ least_count n))
 
--- the head of a template of so many objects, of which this is one
+-- the beginning of a template of so many objects, of which this is one
 abbrev pub head_text : List (String Global × Value) → ℕ → List ℕ
 head_text es n = template_head (names_of es) n
 

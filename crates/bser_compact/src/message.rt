@@ -14,16 +14,16 @@ use bser_value::value::Value;
 use std::alloc::Global;
 use std::collections::BTreeMap;
 
-/// Writes one message with the value as its body, in the compact form, to a writer that is lent.
+/// Writes one message with the value as its body, in the compact form, to a borrowed writer.
 ///
 /// It is written as [`serialize_to`] writes it, but for arrays of at least two objects that all
 /// have the same keys, and at least one: each such array is a template, its keys as texts in rising
 /// byte order, and no field is skipped. No message that reads as the value is shorter.
 ///
 /// The value is gone through twice, once to measure and once to write, and each time it is found
-/// again which arrays are templates: nothing is copied or kept. Refusals, and what the writer has
+/// again which arrays are templates: nothing is copied or kept. The errors, and what the writer has
 /// taken after them, are those of `serialize_to`: `OutOfMemory`, `SerCustom` `CountTooGreat` for a
-/// body longer than `i64::MAX` bytes, and the writer's fault (`Io`).
+/// body longer than `i64::MAX` bytes, and the writer's I/O error (`Io`).
 pub fn serialize_compact<W: Sink>(
     alloc: Global,
     writer: &mut W,
@@ -56,7 +56,7 @@ impl Serialize for Compact<'_> {
     }
 }
 
-/// Puts a value. The serializer keeps the reason of a refusal.
+/// Puts a value. The serializer keeps the error.
 #[cycle(add)]
 #[inline(always)]
 fn add_compact<W: Sink>(value: &Value, out: &mut Serializer<W>) -> Result<(), PutRefused>

@@ -1,4 +1,4 @@
-//! Which arrays are templates, and the heads of templates.
+//! Which arrays are templates, and how a template begins.
 ghost use Rattle.std.specs.Prelude.{◌≡◌, ◌<◌, ◌^◌, length, OnOk, option_map};
 ghost use Rattle.std.specs.List.{AllByRecursion};
 ghost use Rattle.bser_format.specs.Canonical.{IsWritableText};

@@ -12,7 +12,7 @@ use Rattle.bser_describe.specs.declared.description.Description.{Description}
 abbrev pub inner_of : {S : Type 0} → Counted S → S
 inner_of c = c.inner
 
--- why reading was refused
+-- the error of reading
 abbrev pub cause_of : Description → Error
 cause_of d = d.cause
 
@@ -24,7 +24,7 @@ place_of d = d.place
 abbrev pub note_of : Description → Note
 note_of d = d.note
 
--- whether a field may be to blame: what stands there is of another type, no text, or too deep
+-- whether a field may be to blame: its value is of another type, no text, or too deep
 abbrev pub blames_a_field : Error → Bool
 blames_a_field (DeReaderError Utf8) = true
 blames_a_field (DeCustom _) = true
@@ -51,7 +51,8 @@ abbrev pub at_most : ℤ → ℕ → ℕ
 at_most (pos n) len = min n len
 at_most (negsuc n) len = len
 
--- where a refusal by this cause lies, after count bytes of an input of len bytes: an early end at the end of the input, and nothing behind it
+-- the place of an error with this cause, after count bytes of an input of len bytes: that of an
+-- early end is the end of the input, and nothing is behind it
 abbrev pub place_in : Error → ℤ → ℕ → ℕ
 place_in cause count len = if is_early_end cause then len else at_most count len
 

@@ -1,4 +1,4 @@
-//! The description of a refusal.
+//! The description of an error.
 ghost use Rattle.std.specs.Prelude.{◌≡◌, option_map};
 ghost use Rattle.bser_describe.specs.Descriptions.{at_most, cause_of, field_of, is_early_end, note_of, place_in, place_of};
 
@@ -10,7 +10,7 @@ use bser_format::header::{
 };
 use std::fmt;
 
-/// Why a message was refused, for people: the cause, the field, what was found, and the place.
+/// An error of reading a message, for people: the cause, the field, what was found, and the place.
 ///
 /// It prints as one line without an end. It takes no memory.
 #[derive(Debug, Drop)]
@@ -22,8 +22,8 @@ pub struct Description {
     note: Note,
 }
 
-/// Describes a refusal by this cause, after `count` bytes of an input of `len` bytes of which the body
-/// began at `start`. An early end lies at the end of the input, and nothing behind it.
+/// Describes an error with this cause, after `count` bytes of an input of `len` bytes of which the
+/// body began at `start`. An early end is at the end of the input, and nothing is behind it.
 pub fn description_of(cause: Error, count: i64, start: i64, len: usize, note: Note) -> Description
     ensures cause { cause_of result ≡ cause }
     ensures place { place_of result ≡ place_in cause count len }
@@ -62,7 +62,7 @@ fn place_within(count: i64, len: usize) -> usize
 }
 
 impl Description {
-    /// Why the message was refused: what a call without a description answers.
+    /// The error itself: what a call without a description answers.
     pub fn cause(&self) -> &Error
         ensures { result.now ≡ cause_of self.now }
     {
@@ -77,8 +77,8 @@ impl Description {
         cause
     }
 
-    /// The place, as the number of bytes before it, counted from the front of the message. It lies
-    /// in what was refused or right behind it; that of an early end is the end of the input.
+    /// The place, as the number of bytes before it, counted from the start of the message. It is in
+    /// what is wrong or right behind it; that of an early end is the end of the input.
     pub fn place(&self) -> usize
         ensures { result ≡ place_of self.now }
     {
@@ -92,7 +92,7 @@ impl Description {
         self.note.finding
     }
 
-    /// The innermost field of a struct whose value is refused, or that is missing or repeated. None
+    /// The innermost field of a struct whose value is wrong, or that is missing or repeated. None
     /// where no field is to blame, as for an early end.
     pub fn field(&self) -> Option<&str>
         ensures { option_map (λ name. name.now) result ≡ field_of self.now }
@@ -155,7 +155,7 @@ fn write_cause<W: fmt::Write>(refusal: &Description, f: &mut fmt::Formatter<W>) 
     }
 }
 
-/// Writes why the source refused.
+/// Writes why the source failed.
 fn write_read_cause<W: fmt::Write>(f: &mut fmt::Formatter<W>, cause: &ReadCause) -> fmt::Result {
     match cause {
         ReadCause::Reader(fault) => write!(f, "reader fault: {fault}"),
@@ -211,7 +211,7 @@ fn write_magic<W: fmt::Write>(f: &mut fmt::Formatter<W>, magic: &[u8; 2]) -> fmt
     )
 }
 
-/// What stands in a place of this kind.
+/// What belongs in a place of this kind.
 fn place_name(kind: &Kind) -> &'static str {
     match kind {
         Kind::NextItem => "a value",

@@ -1,4 +1,4 @@
-//! Whole messages, whose refusals are described for people.
+//! Whole messages, whose errors are described for people.
 #![tactic(auto)]
 
 mod counted;

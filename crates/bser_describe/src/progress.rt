@@ -8,8 +8,7 @@ use bser_deserializer::note::Note;
 use bser_format::errors::Error;
 use bser_source::read::DeRead;
 
-/// How many bytes a deserializer took, where the body began, and what its refusal tells beside the
-/// error.
+/// How many bytes a deserializer took, where the body began, and what it notes beside the error.
 #[derive(Clone, Copy)]
 pub(crate) struct Progress {
     count: i64,
@@ -33,7 +32,7 @@ impl Progress {
         }
     }
 
-    /// Describes a refusal by this cause, of an input of `len` bytes.
+    /// Describes an error with this cause, of an input of `len` bytes.
     #[cold]
     #[inline(never)]
     pub(crate) fn describe(self, cause: Error, len: usize) -> Description

@@ -1,4 +1,4 @@
-//! Reading whole messages, with refusals that are described.
+//! Reading whole messages, with errors that are described.
 ghost use Rattle.std.specs.Prelude.{◌≡◌, ◌≤◌, length, Some, IfOk, IfErr, OnOk};
 ghost use Rattle.bser_deserializer.specs.declared.deserializer.TheConstants.{MOST_LEVELS};
 ghost use Rattle.bser_messages.specs.Messages.{
@@ -24,9 +24,9 @@ use bser_source::slice_read::SliceRead;
 use bser_types::deserialize::{Deserialize, DeserializeOwned};
 use std::alloc::Global;
 
-/// Reads a value from the message at the front of `bytes`, of at most 128 levels.
+/// Reads a value from the message at the start of `bytes`, of at most 128 levels.
 ///
-/// As [`from_slice`](bser_messages::message::from_slice), with a description of the refusal.
+/// As [`from_slice`](bser_messages::message::from_slice), with a description of the error.
 pub fn from_slice<'de, T: Deserialize<&'de [u8]>>(
     alloc: Global,
     bytes: &'de [u8],
@@ -40,7 +40,7 @@ pub fn from_slice<'de, T: Deserialize<&'de [u8]>>(
     from_slice_within(alloc, LEVELS, bytes)
 }
 
-/// Reads a value from the message at the front of `bytes`, of at most `limit` levels.
+/// Reads a value from the message at the start of `bytes`, of at most `limit` levels.
 ///
 /// As [`from_slice`], with `limit` for 128.
 pub fn from_slice_within<'de, T: Deserialize<&'de [u8]>>(
@@ -64,7 +64,7 @@ pub fn from_slice_within<'de, T: Deserialize<&'de [u8]>>(
 
 /// Reads a value from the reader's next message, of at most 128 levels, and leaves what follows it.
 ///
-/// As [`from_reader`](bser_messages::message::from_reader), with a description of the refusal. Its
+/// As [`from_reader`](bser_messages::message::from_reader), with a description of the error. Its
 /// place counts the bytes from where the message began.
 pub fn from_reader<S: Source, T: DeserializeOwned>(
     alloc: Global,

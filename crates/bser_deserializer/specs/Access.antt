@@ -19,7 +19,7 @@ pub record OpenItems : Type 0 where
   pub levels : ℕ
   pub opened : ℕ
 
--- an open object, of which a value is due after its key where `pending`
+-- an open object, of which a value is expected after its key where `pending`
 pub record OpenPairs : Type 0 where
   pub state : State
   pub wanted : WantedPairs
@@ -70,7 +70,7 @@ IsArrayHead s text = (k : ℕ) × BeginsItems s.levels s.due (nodes k) text
 abbrev pub IsPairsHead : State → Format
 IsPairsHead s text = (w : WantedPairs) × BeginsPairs s.levels s.due w text
 
--- neither an array nor a template is opened; where an array stands, want of memory is not the reason
+-- neither an array nor a template is opened; where an array is, it is not out of memory
 pub record RefusesItems (e : Error) (old new : State) : Type 0 where
   pub refuses : RefusesFront owned (IsItemsHead old) (NamesDue owned (items_at old.levels) e old) e old.source new.source
   pub array : RefusesFront only_keys (IsArrayHead old) (NamesDue only_keys (items_at old.levels) e old) e old.source new.source
@@ -103,14 +103,14 @@ abbrev pub NextItem : {A : Type 0} → Meaning → (A → Content → Type 0) �
 NextItem reads holds old new None = IsOver old new
 NextItem reads holds old new (Some v) = IsNextItem reads holds old new v
 
--- an item is left, and is refused
+-- an item is left, and gives an error
 pub record RefusesItem (reads : Meaning) (asks : Option (Asking reads)) (needs : Needs) (e : Error) (old : OpenItems) (new : State) : Type 0 where
   pub counted : old.state.source.failed ≡ false → 0 < items_left old.wanted
   pub refuses : Refuses reads asks needs e (awaiting (item_due old.wanted) old.state) new
 
 -- ---- keys and values
 
--- a key where a value is due, or a value where a key is, or a call after a refusal
+-- a key where a value is expected, or a value where a key is, or a call after an error
 pub record OutOfTurn (e : Error) (old new : State) : Type 0 where
   pub name : e ≡ out_of_turn old.source.failed
   pub state : new ≡ refused old
@@ -125,7 +125,7 @@ pub record NoEntry (old new : OpenPairs) : Type 0 where
   pub counted : pairs_left old.wanted ≡ 0
   pub same : new ≡ old
 
--- k is the next key, whose value is due then
+-- k is the next key, whose value is expected then
 pub record IsKey {A : Type 0} (reads : Meaning) (holds : A → Content → Type 0) (old new : OpenPairs) (k : A) : Type 0 where
   pub read : old.pending ≡ false
   pub counted : 0 < pairs_left old.wanted
@@ -137,7 +137,7 @@ abbrev pub NextKey : {A : Type 0} → Meaning → (A → Content → Type 0) →
 NextKey reads holds old new None = NoEntry old new
 NextKey reads holds old new (Some k) = IsKey reads holds old new k
 
--- a key is left, and is refused, or it is not its turn
+-- a key is left, and gives an error, or it is not its turn
 pub record RefusesKey (reads : Meaning) (asks : Option (Asking reads)) (needs : Needs) (e : Error) (old : OpenPairs) (new : State) : Type 0 where
   pub counted : old.state.source.failed ≡ false → old.pending ≡ false → 0 < pairs_left old.wanted
   pub refuses : old.pending ≡ false → Refuses reads asks needs e (awaiting (pair_key old.wanted) old.state) new
@@ -149,19 +149,19 @@ pub record IsValue {A : Type 0} (reads : Meaning) (holds : A → Content → Typ
   pub answers : Answers reads holds (awaiting (pair_value old.wanted) old.state) new.state v
   pub after : new ≡ pairs_in old new.state old.wanted false
 
--- the value is refused, or it is not its turn
+-- the value gives an error, or it is not its turn
 pub record RefusesValue (reads : Meaning) (asks : Option (Asking reads)) (needs : Needs) (e : Error) (old : OpenPairs) (new : State) : Type 0 where
   pub refuses : old.pending ≡ true → Refuses reads asks needs e (awaiting (pair_value old.wanted) old.state) new
   pub turn : old.pending ≡ false → OutOfTurn e old.state new
 
--- the next key is due, and nothing is taken
+-- the next key is expected, and nothing is taken
 pub record AwaitsKey (old new : OpenPairs) : Type 0 where
   pub working : old.state.source.failed ≡ false
   pub read : old.pending ≡ false
   pub counted : 0 < pairs_left old.wanted
   pub same : new ≡ pairs_in old (awaiting (pair_key old.wanted) old.state) old.wanted old.pending
 
--- the value of the key that was read is due, and nothing is taken
+-- the value of the key that was read is expected, and nothing is taken
 pub record AwaitsValue (old new : OpenPairs) : Type 0 where
   pub key : old.pending ≡ true
   pub same : new ≡ pairs_in old (awaiting (pair_value old.wanted) old.state) old.wanted old.pending
@@ -177,7 +177,7 @@ abbrev pub NextEntry : {A B : Type 0} → Meaning → Meaning → (A → Content
 NextEntry K V holds_key holds_value old new None = NoEntry old new
 NextEntry K V holds_key holds_value old new (Some e) = IsEntry K V holds_key holds_value old new e
 
--- the value of the next key is refused
+-- the value of the next key gives an error
 pub record RefusesLater {A : Type 0} (K V : Meaning) (holds_key : A → Content → Type 0) (asks : Option (Asking V)) (needs : Needs) (e : Error) (old : OpenPairs) (new : State) : Type 0 where
   pub name : A
   pub between : OpenPairs
@@ -215,7 +215,7 @@ pub record ClosesPairs (old : OpenPairs) (new : State) : Type 0 where
   pub counted : pairs_left old.wanted ≡ 0
   pub state : new ≡ after_closing old.levels old.opened old.state
 
--- entries are left at the end, or a value is due
+-- entries are left at the end, or a value is expected
 pub record LeavesPairs (e : Error) (old : OpenPairs) (new : State) : Type 0 where
   pub name : e ≡ left_over old.state.source.failed
   pub counted : old.state.source.failed ≡ false → old.pending ≡ false → 0 < pairs_left old.wanted

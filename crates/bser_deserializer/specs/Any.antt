@@ -1,4 +1,4 @@
--- What was due, whatever it was, and is told to a builder.
+-- What was expected, whatever it was, and is reported to a builder.
 use Rattle.std.specs.Prelude.{◌≡◌, ℕ, List, [], Option, Some, None, get_or, IsUtf8}
 use Rattle.bser_format.specs.Tree.{Tree, null}
 use Rattle.bser_format.specs.Expand.{expand}
@@ -10,7 +10,8 @@ use Rattle.bser_events.specs.Events.{Event, key, TakesAll, events}
 use Rattle.bser_deserializer.specs.State.{State, past}
 use Rattle.bser_deserializer.specs.WholeRows.{HasWholeRows}
 
--- what was due was taken: the bytes fill it with what a tree stands for, and the events of that tree were told
+-- what was expected was taken: the bytes fill it with what a tree means, and the events of that
+-- tree were reported
 pub record TookAny {B : Type 0} (takes : B → Event → B → Type 0) (before after : B) (old new : State) : Type 0 where
   pub tree : Tree
   pub text : List ℕ
@@ -23,7 +24,7 @@ pub record TookAny {B : Type 0} (takes : B → Event → B → Type 0) (before a
 
 -- ---- parts
 
--- a value was taken, with n levels left, and told
+-- a value was taken, with n levels left, and reported
 pub record TookValue {B : Type 0} (takes : B → Event → B → Type 0) (n : ℕ) (before after : B) (old new : Window) : Type 0 where
   pub tree : Tree
   pub text : List ℕ
@@ -32,12 +33,12 @@ pub record TookValue {B : Type 0} (takes : B → Event → B → Type 0) (n : �
   pub took : Took old new text
   pub told : TakesAll takes before (events tree) after
 
--- a field as it is told: null where it is skipped
+-- a field as it is reported: null where it is skipped
 abbrev pub told_field : Option Tree → Tree
 told_field None = null
 told_field (Some t) = t
 
--- a row's field was taken, with n levels left, and told
+-- a row's field was taken, with n levels left, and reported
 pub record TookField {B : Type 0} (takes : B → Event → B → Type 0) (n : ℕ) (before after : B) (old new : Window) : Type 0 where
   pub field : Option Tree
   pub text : List ℕ
@@ -46,12 +47,12 @@ pub record TookField {B : Type 0} (takes : B → Event → B → Type 0) (n : �
   pub took : Took old new text
   pub told : TakesAll takes before (events (told_field field)) after
 
--- the key at this place was told, which is UTF-8
+-- the key at this place was reported, which is UTF-8
 pub record TellsName {B : Type 0} (takes : B → Event → B → Type 0) (place : ℕ) (ks : List (List ℕ)) (before after : B) : Type 0 where
   pub utf8 : IsUtf8 (get_or ks place [])
   pub told : takes before (key (get_or ks place [])) after
 
--- a key is due, or nothing
+-- a key is expected, or nothing
 abbrev pub IsKeyDue : Due → Type 0
 IsKeyDue nothing_due = Unit {0}
 IsKeyDue key_due = Unit {0}

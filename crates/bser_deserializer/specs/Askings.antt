@@ -37,10 +37,10 @@ asking_string = record { asks = asks_string; passes = string_passes }
 abbrev pub asking_char : Asking reads_char
 asking_char = record { asks = asks_char; passes = char_passes }
 
--- whatever stands there, of which nothing is kept
+-- whatever is there, of which nothing is kept
 abbrev pub asking_ignored : Asking reads_ignored
 asking_ignored = record { asks = asks_any; passes = ignored_passes }
 
--- whatever stands there, as a `Value`
+-- whatever is there, as a `Value`
 abbrev pub asking_value : Asking reads_value
 asking_value = record { asks = asks_any; passes = value_passes }

@@ -33,34 +33,34 @@ use Rattle.bser_deserializer.specs.declared.frames.MapHead.{MapHead}
 
 -- ---- any call
 
--- the reason that is kept stays, and what the first refusal tells
+-- the error that is kept stays, and what is noted beside the first
 pub record Keeps (old new : Seen) : Type 0 where
   pub refusal : new.refusal ≡ old.refusal
   pub note : new.note ≡ old.note
 
--- what holds after any refusal
+-- what holds after any error
 abbrev pub HasFailed : Seen → Seen → Type 0
 HasFailed old new = Fails new.refusal old.state.source new.state.source
 
--- whether bytes are lent, and not copied
+-- whether bytes are borrowed, and not copied
 abbrev pub source_lends : Seen → Bool
 source_lends s = s.state.source.lends
 
--- this complaint, or the refusal of a call after an earlier one
+-- this complaint, or the error of a call after an earlier one
 abbrev pub complained : Complaint → Seen → Error
 complained complaint s = after_a_refusal s.state.source.failed (complain complaint)
 
--- the complaint of a call where nothing is due
+-- the complaint of a call where nothing is expected
 abbrev pub nothing_due_in : Seen → Error
 nothing_due_in s = after_a_refusal s.state.source.failed (nothing_here s.state.opened)
 
--- what was due was taken, and nothing is due
+-- what was expected was taken, and nothing is expected
 abbrev pub TookDue : Seen → Seen → Type 0
 TookDue old new = new.state ≡ past old.state new.state.source
 
--- ---- heads of messages
+-- ---- headers of messages
 
--- no head of a message is taken: the first fault is named, or the earlier refusal
+-- no header of a message is taken: it is the first error, or there was an earlier one
 pub record RefusesBegin (e : Error) (old : Window) : Type 0 where
   pub names : Names named.head e old
   pub before : old.failed ≡ true → e ≡ error_of Failed
@@ -68,11 +68,11 @@ pub record RefusesBegin (e : Error) (old : Window) : Type 0 where
 
 -- ---- scalars and strings
 
--- what was due is read, and v holds it
+-- what was expected is read, and v holds it
 abbrev pub Reads : {A : Type 0} → Meaning → (A → Content → Type 0) → Seen → Seen → A → Type 0
 Reads reads holds old new v = Answers reads holds old.state new.state v
 
--- what is due is refused by the name that it is asked for, with these needs
+-- what is expected gives the error of what it is asked for, with these needs
 abbrev pub RefusesAs : {reads : Meaning} → Asking reads → Needs → Seen → Seen → Type 0
 RefusesAs asking needs old new = Refuses _ (Some asking) needs new.refusal old.state new.state
 
@@ -80,7 +80,7 @@ RefusesAs asking needs old new = Refuses _ (Some asking) needs new.refusal old.s
 abbrev pub ReadsInteger : Seen → Seen → ℤ → Type 0
 ReadsInteger = Reads (reads_signed 64) HoldsNumber
 
--- what is due is refused as integers of any range are
+-- what is expected gives the errors of integers of any range
 abbrev pub RefusesInteger : Seen → Seen → Type 0
 RefusesInteger old new = (fits : ℤ → Bool) → RefusesAs (asking_integer fits) bare old new
 
@@ -92,15 +92,16 @@ ReadsBytes bytes = Reads reads_slice (λ v. HoldsBytes (bytes v))
 abbrev pub ReadsText : {A : Type 0} → (A → List ℕ) → Seen → Seen → A → Type 0
 ReadsText bytes = Reads reads_string (λ v. HoldsBytes (bytes v))
 
--- what is due is refused as bytes are
+-- what is expected gives the errors of bytes
 abbrev pub RefusesBytes : Seen → Seen → Type 0
 RefusesBytes = RefusesAs asking_bytes bare
 
--- what is due is refused as bytes are of which a copy is wanted
+-- what is expected gives the errors of bytes of which a copy is wanted
 abbrev pub RefusesCopy : Seen → Seen → Type 0
 RefusesCopy = RefusesAs asking_bytes owned
 
--- the bytes of the string or key that was due were taken, and whether they stood under the text's tag
+-- the bytes of the string or key that was expected were taken, and whether they were under the
+-- text's tag
 abbrev pub TakesBytes : {A : Type 0} → (A → List ℕ) → Seen → Seen → A × Bool → Type 0
 TakesBytes bytes old new p = TookBytes old.state new.state p.1 (bytes p.0)
 
@@ -110,16 +111,16 @@ TakesName bytes old new v = TookBytes old.state new.state false (bytes v)
 
 -- ---- tags
 
--- what is due is of no kind that may stand there, and is refused by the name of that
+-- what is expected is of no kind that may be there, and gives the error of that
 abbrev pub RefusesNode : Seen → Seen → Type 0
 RefusesNode old new =
     RefusesFront bare (BeginsNode old.state.due) (NamesBy bare (seen old.state.opened old.state.due) new.refusal old.state.source) new.refusal old.state.source new.state.source
 
--- true where a null was taken, and else another kind of value is due
+-- true where a null was taken, and else another kind of value is expected
 abbrev pub TakesNull : Seen → Seen → Bool → Type 0
 TakesNull old new b = MatchBool b (TookNull old.state new.state) (IsOther old.state new.state)
 
--- no value's tag stands there, and the first fault is named
+-- no value's tag is there, and it is the first error
 abbrev pub NamesTag : Seen → Seen → Type 0
 NamesTag old new = NamesBy bare (value_here old.state.opened old.state.due) new.refusal old.state.source
 
@@ -155,46 +156,46 @@ ItemsClosed h old new =
 abbrev pub KeysGivenBack : SeqHead → Seen → Seen → Type 0
 KeysGivenBack h old new = (k : ℕ) → KeysOutside (wanted_items old.state.keys h.rows k) old.state new.state
 
--- ---- whatever is due
+-- ---- whatever is expected
 
--- what was due was taken and told
+-- what was expected was taken and reported
 abbrev pub AnyTold : {B : Type 0} → (B → Event → B → Type 0) → B → B → Seen → Seen → Type 0
 AnyTold takes before after old new = TookAny takes before after old.state new.state
 
--- the key that was due was taken and told
+-- the key that was expected was taken and reported
 abbrev pub KeyTold : {B : Type 0} → (B → Event → B → Type 0) → B → B → Seen → Seen → Type 0
 KeyTold = AnyTold
 
--- a row was taken as if it was due, and told
+-- a row was taken as if it was expected, and reported
 abbrev pub RowTold : {B : Type 0} → (B → Event → B → Type 0) → B → B → Seen → Seen → Type 0
 RowTold takes before after old new =
     TookAny takes before after (awaiting (row_due old.state.keys) old.state) new.state
 
--- a value was taken and told
+-- a value was taken and reported
 abbrev pub ValueTold : {B : Type 0} → (B → Event → B → Type 0) → B → B → Seen → Seen → Type 0
 ValueTold takes before after old new =
     TookValue takes old.state.levels before after old.state.source new.state.source
 
--- a row's field was taken and told
+-- a row's field was taken and reported
 abbrev pub FieldTold : {B : Type 0} → (B → Event → B → Type 0) → B → B → Seen → Seen → Type 0
 FieldTold takes before after old new =
     TookField takes old.state.levels before after old.state.source new.state.source
 
--- what is due, whatever it is, is refused by the first fault
+-- what is expected, whatever it is, gives the first error
 abbrev pub RefusesAny : Seen → Seen → Type 0
 RefusesAny = RefusesAs asking_ignored owned
 
--- a row is refused as if it was due
+-- a row gives an error as if it was expected
 abbrev pub RefusesRow : Seen → Seen → Type 0
 RefusesRow old new =
     RefusesAny (record old { state = awaiting (row_due old.state.keys) old.state }) new
 
--- the first fault of a value is named
+-- it is the first error of a value
 abbrev pub NamesValue : Seen → Seen → Type 0
 NamesValue old new =
     NamesBy owned (with_text_keys old.state.levels) new.refusal old.state.source
 
--- the first fault of a row's field is named
+-- it is the first error of a row's field
 abbrev pub NamesField : Seen → Seen → Type 0
 NamesField old new =
     NamesBy owned (field_of (with_text_keys old.state.levels)) new.refusal old.state.source

@@ -5,12 +5,12 @@ use Rattle.bser_format.specs.Content.{Content, byte_list}
 use Rattle.bser_deserializer.specs.declared.field.Field.{Field}
 use Rattle.bser_deserializer.specs.declared.field.Field.TheVariants.{Known, Unknown}
 
--- the first place at or after this one where the name stands
+-- the first place of the name at or after this one
 abbrev pub field_from : ℕ → List (List ℕ) → List ℕ → Field
 field_from place [] name = Unknown
 field_from place (known ∷ names) name = if bytes_eq known name then Known place else field_from (suc place) names name
 
--- the first place at which the name stands
+-- the first place of the name
 abbrev pub field_of : List (List ℕ) → List ℕ → Field
 field_of = field_from 0
 

@@ -1,4 +1,4 @@
--- The kinds of values, by what stands where they are due.
+-- The kinds of values, by what is where they are expected.
 use Rattle.std.specs.Prelude.{◌≡◌, ◌≢◌, ℕ, zero, suc, false, List, [], ◌∷◌, Option, Some, None, ◌==◌, ◌||◌, if◌then◌else◌}
 use Rattle.bser_format.specs.Grammar.{Format}
 use Rattle.bser_format.specs.Tree.{null}
@@ -33,7 +33,7 @@ key_node t = if (t == 0x02) || (t == 0x0d) then Some kinds.Key else None
 abbrev pub field_node : ℕ → Option Node
 field_node t = if t == 0x0c then Some kinds.Null else tag_node t
 
--- the kind of what stands where this is due, or none where such a tag may not stand there
+-- the kind of what is where this is expected, or none where such a tag may not be there
 abbrev pub node_at : Due → Seen → Option Node
 node_at node_due (tag t) = tag_node t
 node_at key_due (tag t) = key_node t
@@ -42,20 +42,21 @@ node_at _ (tag t) = None
 node_at _ (name k) = Some kinds.Key
 node_at _ (row ks) = Some kinds.Object
 
--- what stands where something is due; a row and its keys have no tag, and of them nothing is buffered
+-- what is where something is expected; a row and its keys have no tag, and of them nothing is
+-- buffered
 abbrev pub Stands : State → Window → Seen → Type 0
 Stands s now (tag t) = IsTagged s.due × Peeks s.source now t
 Stands s now (name k) = (s.due ≡ name_due k) × (s.source.failed ≡ false) × (now ≡ s.source)
 Stands s now (row ks) = (s.due ≡ row_due ks) × (s.source.failed ≡ false) × (now ≡ s.source)
 
--- something is due and is of this kind, and nothing is taken
+-- something is expected and is of this kind, and nothing is taken
 pub record SeesNode (old new : State) (k : Node) : Type 0 where
   pub seen : Seen
   pub stands : Stands old new.source seen
   pub kind : node_at old.due seen ≡ Some k
   pub state : new ≡ with_source old new.source
 
--- a tag that may stand where this is due; a row and its keys have none
+-- a tag that may be where this is expected; a row and its keys have none
 abbrev pub BeginsNode : Due → Format
 BeginsNode nothing_due b = ⊥
 BeginsNode node_due b = (t : ℕ) × (k : Node) × (b ≡ t ∷ []) × (tag_node t ≡ Some k)
@@ -64,14 +65,14 @@ BeginsNode field_due b = (t : ℕ) × (k : Node) × (b ≡ t ∷ []) × (field_n
 BeginsNode (name_due k) b = b ≡ []
 BeginsNode (row_due ks) b = b ≡ []
 
--- the null that was due was taken
+-- the null that was expected was taken
 pub record TookNull (old new : State) : Type 0 where
   pub text : List ℕ
   pub filled : Fills old.levels old.due null text
   pub took : Took old.source new.source text
   pub state : new ≡ past old new.source
 
--- another kind of value is due, and nothing is taken
+-- another kind of value is expected, and nothing is taken
 pub record IsOther (old new : State) : Type 0 where
   pub kind : Node
   pub sees : SeesNode old new kind

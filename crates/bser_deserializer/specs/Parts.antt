@@ -28,7 +28,7 @@ abbrev pub ItemsHead : ℕ → WantedItems → Format
 ItemsHead n (nodes k) = ArrayHead n k
 ItemsHead n (rows_over ks k) = TemplateHead n ks k
 
--- the head where this is due
+-- the head where this is expected
 abbrev pub BeginsItems : ℕ → Due → WantedItems → Format
 BeginsItems n node_due w = ItemsHead n w
 BeginsItems n field_due w = ItemsHead n w
@@ -47,7 +47,7 @@ abbrev pub items_left : WantedItems → ℕ
 items_left (nodes k) = k
 items_left (rows_over ks k) = k
 
--- what is due as the next item
+-- what is expected as the next item
 abbrev pub item_due : WantedItems → Due
 item_due (nodes k) = node_due
 item_due (rows_over ks k) = row_due ks
@@ -60,13 +60,13 @@ abbrev pub pairs_left : WantedPairs → ℕ
 pairs_left (entries_of_object k) = k
 pairs_left (fields_of_row ks) = length ks
 
--- what is due as the next key
+-- what is expected as the next key
 abbrev pub pair_key : WantedPairs → Due
 pair_key (entries_of_object k) = key_due
 pair_key (fields_of_row []) = nothing_due
 pair_key (fields_of_row (k ∷ ks)) = name_due k
 
--- what is due as the value of a key that was read
+-- what is expected as the value of a key that was read
 abbrev pub pair_value : WantedPairs → Due
 pair_value (entries_of_object k) = node_due
 pair_value (fields_of_row ks) = field_due

@@ -26,15 +26,15 @@ pub record State : Type 0 where
 abbrev pub with_source : State → Window → State
 with_source s r = record s { source = r }
 
--- the same, with something else due
+-- the same, with something else expected
 abbrev pub awaiting : Due → State → State
 awaiting d s = record s { due = d }
 
--- what was due is taken
+-- what was expected is taken
 abbrev pub past : State → Window → State
 past s r = record s { source = r; due = nothing_due }
 
--- the same, after a refusal
+-- the same, after an error
 abbrev pub refused : State → State
 refused s = with_source s (closed s.source)
 
@@ -46,7 +46,7 @@ inside n s = record s { due = nothing_due; levels = n; opened = one_more s.opene
 abbrev pub inside_template : List (List ℕ) → ℕ → State → State
 inside_template ks n s = record s { due = nothing_due; levels = n; opened = one_more s.opened; keys = ks; outer = s.outer ++ s.keys ∷ [] }
 
--- the head of a message is taken, and its value is due with n levels left
+-- the header of a message is taken, and its value is expected with n levels left
 pub record Begins (n : ℕ) (old : Window) (new : State) : Type 0 where
   pub took : TookHead old new.source new.capabilities new.len
   pub start : new.start ≡ pos (min new.source.count (2 ^ 63 - 1))
@@ -56,7 +56,7 @@ pub record Begins (n : ℕ) (old : Window) (new : State) : Type 0 where
   pub outer : new.outer ≡ []
   pub opened : new.opened ≡ 0
 
--- nothing is due, no container is open, and the body ended where it was to
+-- nothing is expected, no container is open, and the body ended where it was to
 pub record IsAtEnd (s : State) : Type 0 where
   pub due : s.due ≡ nothing_due
   pub opened : s.opened ≡ 0

@@ -10,7 +10,7 @@ use Rattle.bser_deserializer.specs.State.{State, past}
 abbrev pub SpellsUnder : Bool → List ℕ → Format
 SpellsUnder is_text s = Bytes (tag_of_string is_text ∷ []) then SpellsCount (length s) then Bytes s
 
--- these bytes, where a string or key is due; the key of a row's field has no tag
+-- these bytes, where a string or key is expected; the key of a row's field has no tag
 abbrev pub StringDue : Due → Bool → List ℕ → Format
 StringDue nothing_due is_text s = Never
 StringDue node_due is_text s = SpellsUnder is_text s
@@ -19,7 +19,7 @@ StringDue field_due is_text s = SpellsUnder is_text s
 StringDue (name_due k) is_text s = Given ((s ≡ k) × (is_text ≡ false)) (Bytes [])
 StringDue (row_due ks) is_text s = Never
 
--- the string or key that was due was taken: these bytes, under the text's tag or not
+-- the string or key that was expected was taken: these bytes, under the text's tag or not
 pub record TookBytes (old new : State) (is_text : Bool) (s : List ℕ) : Type 0 where
   pub text : List ℕ
   pub filled : StringDue old.due is_text s text

@@ -29,7 +29,7 @@ SpellsKeys ks = SpellsCount (length ks) then Each SpellsKey ks
 abbrev pub SpellsKeysAndRows : List (List ℕ) → ℕ → Format
 SpellsKeysAndRows ks k = Given (ks ≡ [] → k ≡ 0) (SpellsCount (length ks) then Each SpellsKey ks then SpellsCount k)
 
--- ---- what refusals are named by
+-- ---- which readers give the errors
 
 -- a template's keys, after their number
 abbrev pub keys_after_number : Reader (List (List ℕ))
@@ -39,6 +39,6 @@ keys_after_number = count >>= λ n. many (text_of TemplateKey) n
 abbrev pub keys_and_rows : Reader WantedItems
 keys_and_rows = keys_after_number >>= λ ks. count >>= λ m. rows_wanted ks m
 
--- the first fault is named, or want of memory
+-- it is the first error, or out of memory
 abbrev pub NamesPart : {X : Type 0} → Reader X → Seen → Seen → Type 0
 NamesPart r old new = NamesBy owned r new.refusal old.window

@@ -46,18 +46,18 @@ abbrev pub not_at_end : State → Error
 not_at_end s =
     after_a_refusal s.source.failed (still_open s.due s.opened (end_refusal s.start s.len s.source.count))
 
--- this is due, as the code tells it
+-- this is expected, as the code has it
 pub record IsDue (d : Due) (s : State) : Type 0 where
   pub place : ℕ
   pub due : s.due ≡ due_of s.keys place d
 
--- the tag of the value that is due; where none is, nothing is of the kind that is asked for
+-- the tag of the value that is expected; where none is, nothing is of the kind that is asked for
 abbrev pub value_here : ℕ → expected.Due → Reader Unit
 value_here opened node_due = next >>= done
 value_here opened field_due = next >>= done
 value_here opened d = asked nothing_at opened d
 
--- the tag of null, or the skip of the field that is due
+-- the tag of null, or the skip of the field that is expected
 abbrev pub is_null_at : expected.Due → ℕ → Bool
 is_null_at field_due t = (t == 0x0a) || (t == 0x0c)
 is_null_at _ t = t == 0x0a
@@ -68,24 +68,24 @@ is_other_kind None = false
 is_other_kind (Some kinds.Null) = false
 is_other_kind (Some _) = true
 
--- a value is due whose tag is this one, and nothing is taken
+-- a value is expected whose tag is this one, and nothing is taken
 pub record SeesTag (old new : State) (t : ℕ) : Type 0 where
   pub due : IsValueDue old.due
   pub peeks : Peeks old.source new.source t
   pub state : new ≡ with_source old new.source
 
--- a value is due whose tag is this one, and it is buffered
+-- a value is expected whose tag is this one, and it is buffered
 pub record IsBefore (t : ℕ) (s : State) : Type 0 where
   pub due : IsValueDue s.due
   pub next : s.source.buffered ≡ t ∷ drop 1 s.source.buffered
   pub working : s.source.failed ≡ false
 
--- the key of a row's field is due, and no call was refused
+-- the key of a row's field is expected, and no call failed
 pub record IsNameDue (k : List ℕ) (s : State) : Type 0 where
   pub due : s.due ≡ name_due k
   pub working : s.source.failed ≡ false
 
--- the key of no row's field is due, where no call was refused
+-- the key of no row's field is expected, where no call failed
 abbrev pub NoNameDue : State → Type 0
 NoNameDue s = s.source.failed ≡ false → (k : List ℕ) → s.due ≡ name_due k → ⊥
 

@@ -1,4 +1,4 @@
-//! Reading what is due, whatever it is, told to a builder.
+//! Reading what is expected, whatever it is, reported to a builder.
 ghost use Rattle.std.specs.Prelude.{◌≡◌, ◌<◌, length, OnOk, OnErr};
 ghost use Rattle.bser_events.specs.Told.{told};
 ghost use Rattle.bser_deserializer.specs.Any.{TellsName, IsKeyDue};
@@ -19,15 +19,14 @@ use bser_source::reference::Lending;
 use bser_source::text::as_text;
 
 impl<R: DeRead> Deserializer<R> {
-    /// Reads what is due, whatever it is, and tells the builder what it finds: a value as it is
-    /// spelled, a skipped field as null, a key as a text where it is UTF-8 and else as bytes, and a
-    /// row as the object of its keys and fields.
+    /// Reads what is expected, whatever it is, and reports to the builder what it finds: a value as
+    /// it is spelled, a skipped field as null, a key as a text where it is UTF-8 and else as bytes,
+    /// and a row as the object of its keys and fields.
     ///
-    /// The keys of objects have to be UTF-8; a key that is due by itself need not be. It is refused
-    /// by the first fault in the order of reading, as the plain reader names it. A builder that
-    /// wants memory and gets none, and a want of room for the containers that are open or for a
-    /// string over a reader, are [`Error::OutOfMemory`]. After a refusal no clause says what the
-    /// builder is.
+    /// The keys of objects have to be UTF-8; a key that is expected by itself need not be. The
+    /// error is the first one in the order of reading, as the plain reader answers it. A builder
+    /// that gets no memory, and no room for the containers that are open or for a string over a
+    /// reader, are [`Error::OutOfMemory`]. After an error no clause says what the builder is.
     pub fn read_any<B: Builder>(&mut self, builder: &mut B) -> Answer<()>
         ensures found { OnOk result (AnyTold B.takes builder.old builder.new self.old self.new) }
         ensures kept { OnOk result (Keeps self.old self.new) }
@@ -55,7 +54,7 @@ impl<R: DeRead> Deserializer<R> {
         tell(&mut self.bunser, builder, event)
     }
 
-    /// Reads a value, and tells it. Nothing is due then.
+    /// Reads a value, and reports it. Nothing is expected then.
     #[inline(always)]
     fn tell_value<B: Builder>(
         &mut self,
@@ -74,7 +73,7 @@ impl<R: DeRead> Deserializer<R> {
         Ok(())
     }
 
-    /// Reads a field of a row, and tells it, a skip as null. Nothing is due then.
+    /// Reads a field of a row, and reports it, a skip as null. Nothing is expected then.
     #[inline(always)]
     fn tell_field<B: Builder>(
         &mut self,
@@ -97,7 +96,7 @@ impl<R: DeRead> Deserializer<R> {
         self.tell(builder, Event::Null)
     }
 
-    /// Reads a row, as if one was due, and tells it as the object of its keys and fields.
+    /// Reads a row, as if one was expected, and reports it as the object of its keys and fields.
     fn tell_row<B: Builder>(
         &mut self,
         frames: &mut Vec<Frame>,
@@ -136,7 +135,7 @@ impl<R: DeRead> Deserializer<R> {
         tell(&mut self.bunser, builder, Event::Key(key))
     }
 
-    /// Reads the key that is due, and tells it: a text where it is UTF-8, and else bytes.
+    /// Reads the key that is expected, and reports it: a text where it is UTF-8, and else bytes.
     fn tell_key<B: Builder>(&mut self, scratch: &mut Vec<u8>, builder: &mut B) -> Answer<()>
         requires { IsKeyDue self.old.state.due }
         ensures found { OnOk result (KeyTold B.takes builder.old builder.new self.old self.new) }

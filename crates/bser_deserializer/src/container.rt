@@ -22,10 +22,10 @@ use std::mem;
 /// What the crates above call, and users do not: a [`Deserializer`] opens and closes containers by
 /// their heads.
 pub trait Containers {
-    /// Opens the array or template that is due.
+    /// Opens the array or template that is expected.
     fn open_items(&mut self) -> Answer<SeqHead>;
 
-    /// Opens the object or the row that is due.
+    /// Opens the object or the row that is expected.
     fn open_pairs(&mut self) -> Answer<MapHead>;
 
     /// Closes an array, and gives the keys outside a template back.
@@ -135,7 +135,7 @@ impl<R: DeRead> Deserializer<R> {
         Ok(())
     }
 
-    /// Opens the row that is due.
+    /// Opens the row that is expected.
     #[inline(always)]
     fn open_row(&mut self) -> MapHead
         requires due { self.old.state.due ≡ row_due self.old.state.keys }

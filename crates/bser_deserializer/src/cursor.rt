@@ -1,4 +1,4 @@
-//! What is due.
+//! What is expected.
 ghost use Rattle.std.specs.Prelude.{◌≡◌, ◌≢◌, ◌<◌, ◌^◌, true, false, map, length, Some, IfOk, OnErr, IfSome, IfNone, if◌then◌else◌, OnOk};
 ghost use Rattle.bser_format.specs.Expected.{nothing_due, node_due, key_due, field_due, row_due};
 ghost use Rattle.bser_named.specs.DueReaders as due_readers;
@@ -18,36 +18,36 @@ use bser_format::header::{BSER_SKIP, BSER_UTF8STRING};
 use bser_source::read::DeRead;
 use bser_source::reference::Lending;
 
-/// What the crates above call, and users do not: what is due of a [`Deserializer`].
+/// What the crates above call, and users do not: what is expected of a [`Deserializer`].
 pub trait Cursor {
-    /// Whether a call was refused before, so that each later one is.
+    /// Whether a call failed before, so that each later one does.
     fn is_failed(&self) -> bool;
 
-    /// What is due.
+    /// What is expected.
     fn due(&self) -> Due;
 
     /// How many levels are left.
     fn levels(&self) -> usize;
 
-    /// The tag of the value that is due. It is not taken.
+    /// The tag of the value that is expected. It is not taken.
     fn value_tag(&mut self) -> Answer<u8>;
 
-    /// Makes a value due.
+    /// Makes a value expected.
     fn await_node(&mut self);
 
-    /// Makes an object's key due.
+    /// Makes an object's key expected.
     fn await_key(&mut self);
 
-    /// Makes a field of a template's row due.
+    /// Makes a field of a template's row expected.
     fn await_field(&mut self);
 
-    /// Makes the key of a row's field due, by its place among the template's keys.
+    /// Makes the key of a row's field expected, by its place among the template's keys.
     fn await_name(&mut self, place: usize);
 
-    /// Makes a template's row due.
+    /// Makes a template's row expected.
     fn await_row(&mut self);
 
-    /// Makes nothing due: the value was read.
+    /// Makes nothing expected: the value was read.
     fn await_nothing(&mut self);
 }
 
@@ -141,7 +141,7 @@ fn is_tag(skips: bool, tag: u8) -> bool
     tag < BSER_SKIP || tag == BSER_UTF8STRING || (skips && tag == BSER_SKIP)
 }
 
-/// The refusal of a byte, by whether it may stand where it does.
+/// The error for a byte, by whether it may be where it is.
 fn wrong_type_or(known: bool, kind: Kind, byte: u8) -> Error
     ensures { result ≡ (if known then wrong_type else Error.DeInvalidStartByte kind byte) }
 {
@@ -153,7 +153,7 @@ fn wrong_type_or(known: bool, kind: Kind, byte: u8) -> Error
 }
 
 impl<R: DeRead> Deserializer<R> {
-    /// Whether a value is due.
+    /// Whether a value is expected.
     #[inline(always)]
     pub(crate) fn is_value_due(&self) -> bool
         ensures yes { result ≡ true → IsValueDue self.now.state.due }
@@ -162,7 +162,7 @@ impl<R: DeRead> Deserializer<R> {
         self.due == Due::Node || self.due == Due::Field
     }
 
-    /// The refusal of a tag of another kind than is asked for.
+    /// The error for a tag of another kind than is asked for.
     fn stray(&self, tag: u8) -> Error
         ensures { result ≡ stray_at self.now.state.due tag }
     {
@@ -174,7 +174,7 @@ impl<R: DeRead> Deserializer<R> {
         }
     }
 
-    /// Refuses a tag of another kind than is asked for, and notes what is wanted.
+    /// Fails for a tag of another kind than is asked for, and notes what is wanted.
     #[cold]
     #[inline(never)]
     pub(crate) fn refuse_tag(&mut self, wanted: Wanted, tag: u8) -> Refused
@@ -188,7 +188,7 @@ impl<R: DeRead> Deserializer<R> {
         self.bunser.refuse(reason)
     }
 
-    /// Refuses, since no value is due.
+    /// Fails, since no value is expected.
     #[cold]
     #[inline(never)]
     pub(crate) fn refuse_no_value(&mut self) -> Refused
@@ -210,7 +210,7 @@ impl<R: DeRead> Deserializer<R> {
         }
     }
 
-    /// Refuses, since nothing is due: too few items, or a container is still open.
+    /// Fails, since nothing is expected: too few items, or a container is still open.
     pub(crate) fn refuse_nothing_due(&mut self) -> Refused
         ensures reason { self.new.refusal ≡ nothing_due_in self.old }
         ensures state { self.new.state ≡ refused self.old.state }
@@ -232,7 +232,7 @@ pub fn keys_of<R: DeRead>(from: &Deserializer<R>) -> &Vec<<R::Lent as Lending>::
     &from.keys
 }
 
-/// The key of a row's field, where it is due and no call was refused.
+/// The key of a row's field, where it is expected and no call failed.
 #[inline(always)]
 pub fn name_of<R: DeRead>(from: &Deserializer<R>) -> Option<&<R::Lent as Lending>::Kept>
     ensures some { IfSome result (λ k. IsNameDue (R.Lent.kept k.now) from.now.state) }

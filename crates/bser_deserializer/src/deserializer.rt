@@ -1,4 +1,4 @@
-//! The deserializer: what is left of a message, and what is due.
+//! The deserializer: what is left of a message, and what is expected.
 ghost use Rattle.std.specs.Prelude.{IsTrue, ◌≡◌, ◌≢◌, ◌≤◌, ◌-◌, ◌^◌, min, pos, true, false, IfOk, IfErr, OnOk, OnErr};
 ghost use Rattle.bser_format.specs.Errors.{error_of};
 ghost use Rattle.bser_format.specs.Expected.{nothing_due};
@@ -26,23 +26,23 @@ pub const MOST_LEVELS: usize = 1024;
 
 /// Reads one message.
 ///
-/// The calls of a message's parts answer [`Refused`], which has no content: the error is the reason
-/// that is kept, and [`Deserializer::take_refusal`] gives it. After a refusal each later call that
-/// can be refused is, by [`ReadCause::Failed`].
+/// The calls of a message's parts answer [`Refused`], which has no content: the error is kept, and
+/// [`Deserializer::take_refusal`] gives it. After an error each later call that can fail answers
+/// [`ReadCause::Failed`].
 #[derive(Drop)]
 pub struct Deserializer<R: DeRead> {
     pub(crate) alloc: Global,
     pub(crate) bunser: Bunser<R>,
     pub(crate) info: PduInfo,
     pub(crate) due: Due,
-    // the place of the key that is due, where that is a row's
+    // the place of the key that is expected, where that is a row's
     pub(crate) place: usize,
     pub(crate) levels: usize,
     pub(crate) opened: usize,
     // the keys of the innermost open template, and those of the templates around it
     pub(crate) keys: Vec<<R::Lent as Lending>::Kept>,
     pub(crate) outer: Vec<Vec<<R::Lent as Lending>::Kept>>,
-    // what the first refusal tells beside its error
+    // what is noted beside the first error
     pub(crate) note: Note,
 }
 
@@ -57,9 +57,9 @@ impl<R: DeRead> Model for Deserializer<R> {
 }
 
 impl<R: DeRead + Drop> Deserializer<R> {
-    /// Takes the head of a message, whose value is due then, with 128 levels.
+    /// Takes the header of a message, whose value is expected then, with 128 levels.
     ///
-    /// Refused as [`Bunser::read_pdu`] is.
+    /// Fails as [`Bunser::read_pdu`] does.
     pub fn new(alloc: Global, read: R) -> Result<Self>
         ensures ok { IfOk result (λ d. Begins LEVELS (R.window read) d.state) }
         ensures refused { IfErr result (λ e. RefusesBegin e (R.window read)) }
@@ -67,9 +67,9 @@ impl<R: DeRead + Drop> Deserializer<R> {
         Self::with_limit(alloc, LEVELS, read)
     }
 
-    /// Takes the head of a message, whose value is due then, with `limit` levels.
+    /// Takes the header of a message, whose value is expected then, with `limit` levels.
     ///
-    /// Refused as [`Bunser::read_pdu`] is.
+    /// Fails as [`Bunser::read_pdu`] does.
     pub fn with_limit(alloc: Global, limit: usize, read: R) -> Result<Self>
         requires { limit ≤ MOST_LEVELS }
         ensures ok { IfOk result (λ d. Begins limit (R.window read) d.state) }
@@ -86,8 +86,8 @@ impl<R: DeRead + Drop> Deserializer<R> {
 impl<R: DeRead> Deserializer<R> {
     ghost use Rattle.bser_deserializer.specs.View.{not_at_end};
 
-    /// Reads from the source's next byte on. Before the head is read nothing is due, and the length
-    /// and the start of the body are 0.
+    /// Reads from the source's next byte on. Before the header is read nothing is expected, and the
+    /// length and the start of the body are 0.
     #[inline(always)]
     pub fn unread(alloc: Global, read: R) -> Self
         ensures source { result.state.source ≡ R.window read }
@@ -115,9 +115,9 @@ impl<R: DeRead> Deserializer<R> {
         }
     }
 
-    /// Takes the head of a message, whose value is due then, with `limit` levels.
+    /// Takes the header of a message, whose value is expected then, with `limit` levels.
     ///
-    /// Refused as [`Bunser::read_pdu`] is.
+    /// Fails as [`Bunser::read_pdu`] does.
     pub fn read_head(&mut self, limit: usize) -> Answer<()>
         requires { IsUnread self.old.state }
         ensures ok { OnOk result (Begins limit self.old.state.source self.new.state) }
@@ -132,10 +132,10 @@ impl<R: DeRead> Deserializer<R> {
         Ok(())
     }
 
-    /// Refuses all calls from now on, and keeps the reason, which [`Deserializer::take_refusal`]
+    /// Makes all calls from now on fail, and keeps the error, which [`Deserializer::take_refusal`]
     /// gives.
     ///
-    /// A type that is read refuses so what it does not read.
+    /// A type fails so for what it does not read.
     #[cold]
     #[inline(never)]
     pub fn refuse(&mut self, reason: Error) -> Refused
@@ -145,7 +145,7 @@ impl<R: DeRead> Deserializer<R> {
         self.bunser.refuse(reason)
     }
 
-    /// Refuses by this complaint, or by [`ReadCause::Failed`] after an earlier refusal.
+    /// Fails with this complaint, or with [`ReadCause::Failed`] after an earlier error.
     #[cold]
     #[inline(never)]
     pub fn complain(&mut self, complaint: Complaint) -> Refused
@@ -161,7 +161,7 @@ impl<R: DeRead> Deserializer<R> {
         self.bunser.refuse(Error::de_custom(complaint))
     }
 
-    /// Takes the reason of the last refusal, or [`ReadCause::Failed`] where none is kept.
+    /// Takes the last error, or [`ReadCause::Failed`] where none is kept.
     ///
     /// It belongs after an answer of [`Refused`].
     #[cold]
@@ -176,8 +176,8 @@ impl<R: DeRead> Deserializer<R> {
 
     /// Checks that the value was read to its end, and that the body ended where it was to.
     ///
-    /// Refused by [`Complaint::ValueOpen`] where a value is due or a container is open, by
-    /// [`ReadCause::Failed`] after an earlier refusal, and else as [`Bunser::end`] is. A refusal
+    /// The error is [`Complaint::ValueOpen`] where a value is expected or a container is open,
+    /// [`ReadCause::Failed`] after an earlier error, and else that of [`Bunser::end`]. An error
     /// changes nothing.
     pub fn end(&self) -> Result<()>
         ensures ok { OnOk result (IsAtEnd self.now.state) }
@@ -201,7 +201,7 @@ impl<R: DeRead> Deserializer<R> {
         self.alloc
     }
 
-    /// Whether anything is due.
+    /// Whether anything is expected.
     pub(crate) fn is_due(&self) -> bool
         ensures none { result ≡ false → self.now.state.due ≡ nothing_due }
         ensures some { result ≡ true → self.now.state.due ≢ nothing_due }
@@ -213,15 +213,15 @@ impl<R: DeRead> Deserializer<R> {
         }
     }
 
-    /// The capabilities that the message's head gives.
+    /// The capabilities that the message's header gives.
     pub fn capabilities(&self) -> u32
         ensures { result ≡ self.now.state.capabilities }
     {
         self.info.bser_capabilities
     }
 
-    /// The length of the message's body in bytes, as its head announces it, or 0 before the head is
-    /// read.
+    /// The length of the message's body in bytes, as its header announces it, or 0 before the
+    /// header is read.
     pub fn body_length(&self) -> i64
         ensures { result ≡ self.now.state.len }
     {
@@ -229,14 +229,15 @@ impl<R: DeRead> Deserializer<R> {
     }
 
     /// How many bytes were taken, at most `i64::MAX`. Bytes that are only buffered are not counted.
-    /// After a refusal it stays as it was then.
+    /// After an error it stays as it was then.
     pub fn read_count(&self) -> i64
         ensures { result ≡ pos (min self.now.state.source.count (2 ^ 63 - 1)) }
     {
         self.bunser.read_count()
     }
 
-    /// Where the body of the message began, by the count of bytes taken; 0 before the head is read.
+    /// Where the body of the message began, by the count of bytes taken; 0 before the header is
+    /// read.
     pub fn start(&self) -> i64
         ensures { result ≡ self.now.state.start }
     {

@@ -1,4 +1,4 @@
-//! What is due.
+//! What is expected.
 
 /// What the next call reads.
 #[derive(Debug, Clone, Copy, PartialEq, Eq)]

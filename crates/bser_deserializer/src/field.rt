@@ -12,7 +12,7 @@ pub enum Field {
     Unknown,
 }
 
-/// The first place at which the name stands.
+/// The first place of the name.
 #[inline(always)]
 pub fn find_field(names: &[&str], name: &[u8]) -> Field
     ensures { result ≡ field_of (map (λ r. r.now) names.now) name.now }

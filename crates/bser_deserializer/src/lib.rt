@@ -1,5 +1,5 @@
-//! The deserializer: what is left of a message and what is due, as a state; scalars, strings and
-//! opened containers.
+//! The deserializer: what is left of a message and what is expected, as a state; scalars, strings
+//! and opened containers.
 #![tactic(auto)]
 
 pub mod any;

@@ -10,7 +10,7 @@ use bser_format::header::{
     BSER_REAL, BSER_SKIP, BSER_TEMPLATE, BSER_TRUE, BSER_UTF8STRING,
 };
 
-/// The kind of a value that is due.
+/// The kind of a value that is expected.
 #[derive(Debug, Clone, Copy, PartialEq, Eq)]
 pub enum Node {
     /// A null, or a skipped field of a template's row.
@@ -34,7 +34,8 @@ pub enum Node {
 }
 
 impl Node {
-    /// The kind of what has this tag where this is due. None where such a tag may not stand there.
+    /// The kind of what has this tag where this is expected. None where such a tag may not be
+    /// there.
     #[inline(always)]
     pub fn at(due: Due, byte: u8) -> Option<Node>
         ensures { (ks : List (List ℕ)) (place : ℕ) → result ≡ node_at (due_of ks place due)

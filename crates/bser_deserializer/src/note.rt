@@ -1,4 +1,4 @@
-//! What a refusal tells people beside its error.
+//! What people are told beside an error.
 ghost use Rattle.std.specs.Prelude.{◌≡◌, ◌≢◌, false, Some};
 ghost use Rattle.bser_deserializer.specs.Calls.{complained};
 ghost use Rattle.bser_deserializer.specs.State.{refused};
@@ -35,7 +35,7 @@ pub enum Wanted {
 /// What is wrong with a value or a field.
 #[derive(Debug, Clone, Copy, PartialEq, Eq)]
 pub enum Finding {
-    /// A value with this tag stands where one of another kind is wanted.
+    /// A value with this tag is where one of another kind is wanted.
     Stray { wanted: Wanted, tag: u8 },
     /// An integer that the type does not hold.
     OutOfRange(i64),
@@ -45,13 +45,13 @@ pub enum Finding {
     Repeated,
 }
 
-/// What a refusal tells beside its error: what was found, and the field that it concerns. It has no
-/// content where the error says all.
+/// What is noted beside an error: what was found, and the field that it concerns. It has no content
+/// where the error says all.
 #[derive(Debug, Clone, Copy, PartialEq, Eq)]
 pub struct Note {
     /// What is wrong.
     pub finding: Option<Finding>,
-    /// The innermost field whose value is refused, or that is missing or comes twice.
+    /// The innermost field whose value is wrong, or that is missing or comes twice.
     pub field: Option<FieldName>,
 }
 
@@ -64,7 +64,7 @@ impl Note {
 }
 
 impl<R: DeRead> Deserializer<R> {
-    /// What the first refusal tells beside its error.
+    /// What is noted beside the first error.
     #[cold]
     #[inline(never)]
     pub fn note(&self) -> Note
@@ -73,7 +73,7 @@ impl<R: DeRead> Deserializer<R> {
         self.note
     }
 
-    /// Refuses by this complaint as [`Deserializer::complain`] does, and notes what was found.
+    /// Fails with this complaint as [`Deserializer::complain`] does, and notes what was found.
     #[cold]
     #[inline(never)]
     pub fn complain_of(&mut self, complaint: Complaint, finding: Finding) -> Refused
@@ -90,7 +90,7 @@ impl<R: DeRead> Deserializer<R> {
         refused
     }
 
-    /// Hands an answer on, and notes the name at this place where it is a refusal and no field
+    /// Passes an answer on, and notes the name at this place where it is an error and no field
     /// inside that one is noted yet. A place behind the last notes none.
     #[inline(always)]
     pub fn in_field<T: Drop>(
@@ -109,8 +109,8 @@ impl<R: DeRead> Deserializer<R> {
         answer
     }
 
-    /// Notes the name at this place after a refusal, where no field is noted yet. A place behind
-    /// the last notes none.
+    /// Notes the name at this place after an error, where no field is noted yet. A place behind the
+    /// last notes none.
     #[cold]
     #[inline(never)]
     pub fn note_field(&mut self, names: &[&str], place: usize)

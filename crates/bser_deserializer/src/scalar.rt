@@ -30,14 +30,14 @@ fn is_something(tag: u8) -> bool
 }
 
 impl<R: DeRead> Deserializer<R> {
-    /// What kind of value is due. It is not taken: what is read next begins with the tag that was
-    /// seen.
+    /// What kind of value is expected. It is not taken: what is read next begins with the tag that
+    /// was seen.
     ///
     /// A template is an array, its row an object, and a skipped field null. The key of an object or
-    /// of a row's field is [`Node::Key`]. Refused by [`Complaint::TooFewItems`] or
-    /// [`Complaint::ValueOpen`] where nothing is due, and by
+    /// of a row's field is [`Node::Key`]. The error is [`Complaint::TooFewItems`] or
+    /// [`Complaint::ValueOpen`] where nothing is expected, and
     /// [`DeInvalidStartByte`](bser_format::errors::Error::DeInvalidStartByte) where a byte is next
-    /// that may not stand there. Never refused for want of memory.
+    /// that may not be there. Out of memory never comes.
     #[inline(always)]
     pub fn node(&mut self) -> Answer<Node>
         ensures found { IfOk result (SeesNode self.old.state self.new.state) }
@@ -58,7 +58,7 @@ impl<R: DeRead> Deserializer<R> {
         }
     }
 
-    /// The kind of what is due and has no tag.
+    /// The kind of what is expected and has no tag.
     #[inline(never)]
     fn node_without_tag(&mut self) -> Answer<Node>
         requires { IsTagged self.old.state.due → ⊥ }
@@ -79,10 +79,10 @@ impl<R: DeRead> Deserializer<R> {
         }
     }
 
-    /// Whether a null or a skipped field is due, which is taken then. Another kind of value is not:
-    /// what is read next is no null.
+    /// Whether a null or a skipped field is next, which is taken then. Another kind of value is
+    /// not: what is read next is no null.
     ///
-    /// Refused as [`Deserializer::node`] is.
+    /// Fails as [`Deserializer::node`] does.
     #[inline(always)]
     pub fn read_none(&mut self) -> Answer<bool>
         ensures found { IfOk result (TakesNull self.old self.new) }
@@ -106,7 +106,7 @@ impl<R: DeRead> Deserializer<R> {
         Ok(true)
     }
 
-    /// Reads no value: a key or a row is due, or nothing is.
+    /// Reads no value: a key or a row is expected, or nothing is.
     #[inline(never)]
     fn read_no_value(&mut self) -> Answer<bool>
         ensures found { IfOk result (TakesNull self.old self.new) }
@@ -124,8 +124,8 @@ impl<R: DeRead> Deserializer<R> {
         }
     }
 
-    /// Reads a truth value. Another kind of value is [`Complaint::WrongType`]. Never refused for
-    /// want of memory.
+    /// Reads a truth value. Another kind of value is [`Complaint::WrongType`]. Out of memory
+    /// never comes.
     #[inline(always)]
     pub fn read_bool(&mut self) -> Answer<bool>
         ensures found { IfOk result (Reads reads_bool HoldsTruth self.old self.new) }
@@ -144,7 +144,7 @@ impl<R: DeRead> Deserializer<R> {
 
     /// Reads an integer of any width. Another kind of value is [`Complaint::WrongType`].
     ///
-    /// It is refused as integers of any range are, and never for want of memory.
+    /// The errors are those of integers of any range, and never out of memory.
     #[inline(always)]
     pub fn read_i64(&mut self) -> Answer<i64>
         ensures found { IfOk result (ReadsInteger self.old self.new) }
@@ -184,8 +184,8 @@ impl<R: DeRead> Deserializer<R> {
         }
     }
 
-    /// Reads the 64 bits of a real. Another kind of value is [`Complaint::WrongType`]. Never
-    /// refused for want of memory.
+    /// Reads the 64 bits of a real. Another kind of value is [`Complaint::WrongType`]. Out of
+    /// memory never comes.
     #[inline(always)]
     pub fn read_real_bits(&mut self) -> Answer<u64>
         ensures found { IfOk result (Reads reads_real HoldsSize self.old self.new) }
@@ -202,8 +202,8 @@ impl<R: DeRead> Deserializer<R> {
         Ok(bits)
     }
 
-    /// Reads a null, or a skipped field. Another kind of value is [`Complaint::WrongType`]. Never
-    /// refused for want of memory.
+    /// Reads a null, or a skipped field. Another kind of value is [`Complaint::WrongType`]. Out of
+    /// memory never comes.
     #[inline(always)]
     pub fn read_unit(&mut self) -> Answer<()>
         ensures found { IfOk result (Reads reads_unit HoldsOne self.old self.new) }
@@ -220,7 +220,7 @@ impl<R: DeRead> Deserializer<R> {
         Ok(())
     }
 
-    /// Whether this is the tag of null, or the skip of the field that is due.
+    /// Whether this is the tag of null, or the skip of the field that is expected.
     #[inline(always)]
     fn is_null_tag(&self, tag: u8) -> bool
         ensures { result ≡ is_null_at self.now.state.due tag }

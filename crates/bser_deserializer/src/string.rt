@@ -22,8 +22,8 @@ use bser_source::text::as_text;
 use std::alloc::Global;
 
 impl<R: DeRead> Deserializer<R> {
-    /// Reads the bytes of a string under either tag, or of a key. They are lent where the source
-    /// lends, and else copied to `scratch` in place of what it held.
+    /// Reads the bytes of a string under either tag, or of a key. They are borrowed where the
+    /// source lends, and else copied to `scratch` in place of what it held.
     ///
     /// Another kind of value is [`Complaint::WrongType`]. Bytes under a text's tag that are not
     /// UTF-8 are [`ReadCause::Utf8`].
@@ -42,7 +42,7 @@ impl<R: DeRead> Deserializer<R> {
         Ok(bytes)
     }
 
-    /// Refuses bytes that are not UTF-8.
+    /// Fails for bytes that are not UTF-8.
     #[cold]
     #[inline(never)]
     fn refuse_utf8(&mut self) -> Refused
@@ -52,8 +52,8 @@ impl<R: DeRead> Deserializer<R> {
         self.refuse(Error::de_reader_error(ReadCause::Utf8))
     }
 
-    /// Takes the bytes of the string or key that is due, UTF-8 or not, and tells whether they stood
-    /// under the text's tag.
+    /// Takes the bytes of the string or key that is expected, UTF-8 or not, and tells whether they
+    /// were under the text's tag.
     #[inline(always)]
     fn take_bytes<'s>(&mut self, scratch: &'s mut Vec<u8>) -> Answer<(Reference<'s, R::Lent>, bool)>
         ensures found { IfOk result (TakesBytes (bytes_of R.Lent.bytes) self.old self.new) }
@@ -78,8 +78,8 @@ impl<R: DeRead> Deserializer<R> {
         }
     }
 
-    /// Takes the bytes of the string or key that is due as a copy, UTF-8 or not, and tells whether
-    /// they stood under the text's tag.
+    /// Takes the bytes of the string or key that is expected as a copy, UTF-8 or not, and tells
+    /// whether they were under the text's tag.
     #[inline(always)]
     fn take_copy(&mut self, alloc: Global) -> Answer<(Vec<u8>, bool)>
         ensures found { IfOk result (TakesBytes (λ v. v.items) self.old self.new) }
@@ -142,7 +142,7 @@ impl<R: DeRead> Deserializer<R> {
 
     /// Reads the bytes of a string as [`Deserializer::read_bytes`] does, and copies them.
     ///
-    /// A refused growth is [`Error::OutOfMemory`].
+    /// A failed allocation is [`Error::OutOfMemory`].
     #[inline(always)]
     pub fn read_byte_string(&mut self, alloc: Global) -> Answer<ByteString>
         ensures found { IfOk result (ReadsBytes (λ s. s) self.old self.new) }
@@ -161,8 +161,8 @@ impl<R: DeRead> Deserializer<R>
 where
     R::Lent: LendsText,
 {
-    /// Reads a text, or a byte string or key that is UTF-8. It is lent where the source lends, and
-    /// else copied to `scratch` in place of what it held.
+    /// Reads a text, or a byte string or key that is UTF-8. It is borrowed where the source lends,
+    /// and else copied to `scratch` in place of what it held.
     ///
     /// Another kind of value is [`Complaint::WrongType`]. Bytes that are not UTF-8 are
     /// [`ReadCause::Utf8`].
@@ -186,7 +186,7 @@ where
 
     /// Reads a text as [`Deserializer::read_text`] does, and copies it.
     ///
-    /// A refused growth is [`Error::OutOfMemory`].
+    /// A failed allocation is [`Error::OutOfMemory`].
     #[inline(always)]
     pub fn read_string(&mut self, alloc: Global) -> Answer<String>
         ensures found { IfOk result (ReadsText string_bytes self.old self.new) }

@@ -1,4 +1,4 @@
--- What is told of a tree, in the order of reading.
+-- What is reported of a tree, in the order of reading.
 use Rattle.std.specs.Prelude.{ℕ, ℤ, Bool, List, [], ◌∷◌, ◌++◌, length, Option, Some, None}
 use Rattle.bser_format.specs.Tree as trees
 use Rattle.bser_format.specs.Tree.{Tree, Items, Entries, Rows, Fields}

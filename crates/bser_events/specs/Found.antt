@@ -1,4 +1,4 @@
--- What a call that reads and tells came to.
+-- What a call that reads and reports came to.
 use Rattle.std.specs.Prelude.{◌≡◌, ◌⊎◌, ◌<◌, ℕ, zero, suc, Bool, true, List, [], ◌∷◌, ◌++◌, Option, Some, None, ◌==◌, if◌then◌else◌, ⊤, drop}
 use Rattle.bser_format.specs.Tree.{Tree}
 use Rattle.bser_format.specs.declared.errors.Error.{Error}
@@ -59,7 +59,7 @@ IsContainer (tokens.Object n) = Unit {0}
 IsContainer tokens.Template = Unit {0}
 IsContainer _ = ⊥
 
--- no container's tag stands at the front
+-- no container's tag is at the start
 pub record LeafAhead (old new : Window) : Type 0 where
   pub tag : ℕ
   pub filled : Filled 1 old new
@@ -68,14 +68,14 @@ pub record LeafAhead (old new : Window) : Type 0 where
   pub no_object : tag ≡ 0x01 → ⊥
   pub no_template : tag ≡ 0x0b → ⊥
 
--- with n levels left: none, and no container's tag stands at the front, or some, and nothing changed
+-- with n levels left: none, and no container's tag is at the start, or some, and nothing changed
 abbrev pub LevelsFor : ℕ → Window → Window → Type 0
 LevelsFor zero old new = LeafAhead old new
 LevelsFor (suc n) old new = new ≡ old
 
 -- ---- what was found
 
--- what the plain reader reads was taken, and its events were told
+-- what the plain reader reads was taken, and its events were reported
 pub record Found {X B : Type 0} (takes : B → Event → B → Type 0) (r : Reader X) (told_of : X → List Event) (old new : Window) (before after : B) : Type 0 where
   pub text : List ℕ
   pub value : X
@@ -103,41 +103,41 @@ abbrev pub IsInside : ℕ → Option Frame → Type 0
 IsInside levels None = ⊤
 IsInside levels (Some f) = (levels ≡ suc f.levels) × IsSmall f.parts
 
--- a key was found, where an entry is due, and else nothing changed
+-- a key was found, where an entry is expected, and else nothing changed
 abbrev pub KeyFound : {B : Type 0} → (B → Event → B → Type 0) → Part → Window → Window → B → B → Type 0
 KeyFound takes Entry old new before after = Found takes (text_of kinds.MapKey) (λ s. key s ∷ []) old new before after
 KeyFound takes _ old new before after = (new ≡ old) × (after ≡ before)
 
--- ---- what was refused
+-- ---- what failed
 
--- the plain reader's name of the refusal, or want of memory on this condition
+-- the plain reader's error, or out of memory on this condition
 pub record Refuses {X : Type 0} (wants : Type 0) (r : Reader X) (e : Error) (old new : Window) : Type 0 where
   pub fails : Fails e old new
   pub name : Names r e old ⊎ ((e ≡ OutOfMemory) × wants)
 
 -- ---- what callers see: bunser before and after, and the builder before and after
 
--- a value with so many levels was read and told
+-- a value with so many levels was read and reported
 abbrev pub TellsValue : {B : Type 0} → (B → Event → B → Type 0) → ℕ → Seen → Seen → B → B → Type 0
 TellsValue takes levels old new before after = Found takes (with_text_keys levels) events old.window new.window before after
 
--- so many keys of a template were read and told
+-- so many keys of a template were read and reported
 abbrev pub TellsKeys : {B : Type 0} → (B → Event → B → Type 0) → ℕ → Seen → Seen → B → B → Type 0
 TellsKeys takes count old new before after = Found takes (keys_at count) key_events old.window new.window before after
 
--- a key was read and told
+-- a key was read and reported
 abbrev pub TellsKey : {B : Type 0} → (B → Event → B → Type 0) → Kind → Seen → Seen → B → B → Type 0
 TellsKey takes kind old new before after = Found takes (text_of kind) (λ s. key s ∷ []) old.window new.window before after
 
--- a key was read and told where an entry is due, and else nothing changed
+-- a key was read and reported where an entry is expected, and else nothing changed
 abbrev pub TellsDueKey : {B : Type 0} → (B → Event → B → Type 0) → Part → Seen → Seen → B → B → Type 0
 TellsDueKey takes due old new before after = KeyFound takes due old.window new.window before after
 
--- so many bytes were read and told as a text
+-- so many bytes were read and reported as a text
 abbrev pub TellsText : {B : Type 0} → (B → Event → B → Type 0) → ℕ → Seen → Seen → B → B → Type 0
 TellsText takes len old new before after = Found takes (text_bytes len) (λ s. told.text s ∷ []) old.window new.window before after
 
--- so many bytes were read, or passed over, and told as a byte string
+-- so many bytes were read, or passed over, and reported as a byte string
 abbrev pub TellsBytes : {B : Type 0} → (B → Event → B → Type 0) → ℕ → Seen → Seen → B → B → Type 0
 TellsBytes takes len old new before after = Found takes (front len) (λ s. told.bytes s ∷ []) old.window new.window before after
 
@@ -145,20 +145,21 @@ TellsBytes takes len old new before after = Found takes (front len) (λ s. told.
 abbrev pub OpensTemplate : {B : Type 0} → (B → Event → B → Type 0) → ℕ → Frame → Seen → Seen → B → B → Type 0
 OpensTemplate takes levels f old new before after = Opened takes (table_at levels) f old.window new.window before after
 
--- what follows this token was read and told, or it opened a container, of which this frame is left
+-- what follows this token was read and reported, or it opened a container, of which this frame is
+-- left
 abbrev pub TellsRest : {B : Type 0} → (B → Event → B → Type 0) → ℕ → Token → Option Frame → Seen → Seen → B → B → Type 0
 TellsRest takes levels t f old new before after =
     FoundOrOpened takes (value_rest levels t) old.window new.window before after f
 
--- no token was taken: refused as one is where so many levels are left
+-- no token was taken: the error is that of one where so many levels are left
 abbrev pub NoToken : ℕ → Seen → Seen → Type 0
 NoToken levels old new = RefusesBy (token_at levels) new.refusal old.window new.window
 
--- refused by the name that r gives, or for want of memory where a builder may want some
+-- it fails with the error that r gives, or out of memory where a builder may take some
 abbrev pub RefusesTelling : {X : Type 0} → Bool → Reader X → Seen → Seen → Type 0
 RefusesTelling memory r old new = Refuses (memory ≡ true) r new.refusal old.window new.window
 
--- a value with so many levels is refused, for want of memory also where there is room for fewer frames
+-- a value with so many levels fails, out of memory also where there is room for fewer frames
 abbrev pub RefusesValue : Bool → ℕ → ℕ → Seen → Seen → Type 0
 RefusesValue memory room levels old new =
     Refuses ((memory ≡ true) ⊎ (room < levels)) (with_text_keys levels) new.refusal old.window new.window

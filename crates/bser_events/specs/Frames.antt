@@ -40,7 +40,7 @@ IsSmall (Items k) = k < 2 ^ 64
 IsSmall (Entries k) = k < 2 ^ 64
 IsSmall (Rows f r w) = (f < 2 ^ 64) × (r < 2 ^ 64) × (w < 2 ^ 64)
 
--- where this is due, the parts from the old on are it and then the new
+-- where this is expected, the parts from the old on are it and then the new
 abbrev pub Takes : Part → Parts → Parts → Type 0
 Takes Item old new = (k : ℕ) × (old ≡ Items (suc k)) × (new ≡ Items k)
 Takes Entry old new = (k : ℕ) × (old ≡ Entries (suc k)) × (new ≡ Entries k)
@@ -54,12 +54,12 @@ IsDone (Items k) = k ≡ 0
 IsDone (Entries k) = k ≡ 0
 IsDone (Rows f r w) = (f ≡ 0) × ((r ≡ 0) ⊎ (w ≡ 0))
 
--- the next part is due, or none is left
+-- the next part is expected, or none is left
 abbrev pub CountsDown : Parts → Parts → Option Part → Type 0
 CountsDown old new None = IsDone old × (new ≡ old)
 CountsDown old new (Some due) = Takes due old new
 
--- after a key of an entry its value is due, and else the next part
+-- after a key of an entry its value is expected, and else the next part
 abbrev pub CountsOn : Part → Parts → Parts → Option Part → Type 0
 CountsOn Entry old new due = (due ≡ Some Item) × (new ≡ old)
 CountsOn _ old new due = CountsDown old new due

@@ -1,4 +1,4 @@
--- Pieces of a value that are in front of some bytes: keys, scalars, strings and skips.
+-- Pieces of a value that are at the start of some bytes: keys, scalars, strings and skips.
 use Rattle.std.specs.Prelude.{◌≡◌, ◌⊎◌, ℕ, ◌≤◌, Bool, true, false, List, [], ◌∷◌, ◌++◌, length, take, IsUtf8}
 use Rattle.bser_format.specs.declared.errors.Kind.TheVariants.{MapKey}
 use Rattle.bser_named.specs.Named.{Reader, reads, text_of, field_of, with_text_keys}
@@ -9,14 +9,14 @@ use Rattle.bser_events.specs.Events.{Event, key, events, part_events}
 use Rattle.bser_events.specs.declared.frame.Part.{Part}
 use Rattle.bser_events.specs.declared.frame.Part.TheVariants.{Item, Entry, Field}
 
--- the first n bytes are what r reads, and of that this event is told
+-- the first n bytes are what r reads, and of that this event is reported
 pub record InFront {X : Type 0} (r : Reader X) (told_of : X → List Event) (bytes : List ℕ) (n : ℕ) (e : Event) : Type 0 where
   pub value : X
   pub within : n ≤ length bytes
   pub passes : (x : List ℕ) → r (take n bytes ++ x) ≡ reads value x
   pub one : told_of value ≡ e ∷ []
 
--- the first n bytes are what is due, but for an entry its key alone, whatever levels are left
+-- the first n bytes are what is expected, but for an entry its key alone, whatever levels are left
 abbrev pub DueInFront : Part → List ℕ → ℕ → Event → Type 0
 DueInFront Entry bytes n e = InFront (text_of MapKey) (λ s. key s ∷ []) bytes n e
 DueInFront Item bytes n e = (levels : ℕ) → InFront (with_text_keys levels) events bytes n e
@@ -39,13 +39,13 @@ IsScalar _ e = ⊥
 abbrev pub IsNoScalar : Token → Type 0
 IsNoScalar t = (e : Event) → IsScalar t e → ⊥
 
--- the event of a scalar, or in a row of a skip, where this is due
+-- the event of a scalar, or in a row of a skip, where this is expected
 abbrev pub IsDueScalar : Part → Token → Event → Type 0
 IsDueScalar Entry t e = ⊥
 IsDueScalar Item t e = IsScalar t e
 IsDueScalar Field t e = IsScalar t e ⊎ ((t ≡ tokens.Skip) × (e ≡ told.skip))
 
--- the event of a string, a text or not, where this is due: a key is a text in any case
+-- the event of a string, a text or not, where this is expected: a key is a text in any case
 abbrev pub IsDueString : Part → Bool → List ℕ → Event → Type 0
 IsDueString Entry b s e = IsUtf8 s × (e ≡ key s)
 IsDueString _ true s e = IsUtf8 s × (e ≡ told.text s)

@@ -1,4 +1,4 @@
--- What a value is refused for by no call of the reader below.
+-- Errors of a value that no call of the reader below answers.
 use Rattle.bser_format.specs.declared.errors.Error.{Error}
 use Rattle.bser_format.specs.declared.errors.Error.TheVariants.{OutOfMemory, DeRecursionLimitExceeded, DeInvalidStartByte}
 use Rattle.bser_format.specs.declared.errors.Complaint.TheVariants.{RowsWithoutKeys}
@@ -6,7 +6,7 @@ use Rattle.bser_named.specs.Named.{complain, utf8_wanted}
 use Rattle.bser_events.specs.declared.refusal.Fault.{Fault}
 use Rattle.bser_events.specs.declared.refusal.Fault.TheVariants.{Level, Tag, Text, Rows, Memory}
 
--- the name of the refusal
+-- the error
 abbrev pub refusal_of : Fault → Error
 refusal_of (Level kind) = DeRecursionLimitExceeded kind
 refusal_of (Tag kind byte) = DeInvalidStartByte kind byte

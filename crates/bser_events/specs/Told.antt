@@ -1,4 +1,4 @@
--- What an event tells.
+-- What an event reports.
 use Rattle.bser_events.specs.Events as events
 use Rattle.bser_events.specs.declared.event.Event.{Event}
 use Rattle.bser_events.specs.declared.event.Event.TheVariants.{Null, Bool, Int, Real, Bytes, Text, Array, Object, Key, Template, Rows, Skip, Close}

@@ -1,4 +1,4 @@
-//! What makes something of a value, and is told each event of it.
+//! What makes something of a value, each event of which is reported to it.
 ghost use Rattle.std.specs.Prelude.{◌≡◌, ℕ, Bool, true, false, List, length, OnOk, OnErr};
 ghost use Rattle.bser_format.specs.declared.errors.Error.TheVariants.{OutOfMemory};
 ghost use Rattle.bser_bunser.specs.Calls.{Closes};
@@ -17,30 +17,31 @@ pub trait Builder {
     // it took this event
     ghost takes: { Self → events.Event → Self → Type 0 };
 
-    // whether an event may be refused for want of memory
+    // whether an event may run out of memory
     ghost memory: { Bool };
 
     // whether the bytes of byte strings are wanted
     ghost BYTES: { Bool };
 
     /// Whether the bytes of byte strings are wanted. Where they are not, [`Builder::bytes_passed`]
-    /// stands for those that are not buffered whole.
+    /// takes the place of those that are not buffered whole.
     const BYTES: bool;
 
-    /// Takes an event. A refusal is for want of memory alone.
+    /// Takes an event. The only error is that there is no memory.
     fn take(&mut self, event: Event<'_>) -> Result<(), AllocError>
         ensures ok { OnOk result (Self.takes self.old (told event.entry) self.new) }
         ensures err { OnErr result (Self.memory ≡ true) };
 
-    /// Takes a byte string of `len` bytes, which were passed over: the bytes of byte strings are not
-    /// wanted. A refusal is for want of memory alone.
+    /// Takes a byte string of `len` bytes, which were passed over: the bytes of byte strings are
+    /// not wanted. The only error is that there is no memory.
     fn bytes_passed(&mut self, len: usize) -> Result<(), AllocError>
         ensures ok { OnOk result (BYTES ≡ false
             → (s : List ℕ) → length s ≡ len → takes self.old (events.bytes s) self.new) }
         ensures err { OnErr result (memory ≡ true) };
 }
 
-/// Tells the builder an event. Where it has no memory for it, the reader refuses for want of memory.
+/// Reports an event to the builder. Where it has no memory for it, the reader fails with out of
+/// memory.
 #[inline(always)]
 pub fn tell<R: DeRead, B: Builder>(
     bunser: &mut Bunser<R>,
@@ -61,7 +62,7 @@ pub fn tell<R: DeRead, B: Builder>(
 
 /// Any value, of which nothing is kept: an unknown field of an object, as a rule.
 ///
-/// The value has to be well-formed, and its objects' keys UTF-8. It stands for serde's
+/// The value has to be well-formed, and its objects' keys UTF-8. It takes the place of serde's
 /// `IgnoredAny`.
 #[derive(Debug, Clone, Copy, PartialEq, Eq)]
 pub struct Ignored;

@@ -28,7 +28,7 @@ pub struct Frame {
     pub parts: Parts,
 }
 
-/// The part of a container that is due.
+/// The part of a container that is expected.
 #[derive(Clone, Copy)]
 pub enum Part {
     /// A value.
@@ -79,8 +79,8 @@ impl Parts {
             }
         }
     }
-    /// What is due after this piece: the value of an entry after its key, or the next part. None
-    /// where none is left.
+    /// What is expected after this piece: the value of an entry after its key, or the next part.
+    /// None where none is left.
     #[inline(always)]
     pub fn next_after(&mut self, due: Part) -> Option<Part>
         ensures counted { CountsOn due self.old self.new result }

@@ -13,7 +13,7 @@ use bser_format::errors::{Error, Kind, ReadCause};
 use bser_format::header::{BSER_ARRAY, BSER_OBJECT, BSER_TEMPLATE};
 use bser_source::read::DeRead;
 
-/// Takes a token. A container where no level is left is refused before its count is looked at.
+/// Takes a token. A container where no level is left is an error before its count is looked at.
 #[inline(always)]
 pub fn token_within<R: DeRead>(bunser: &mut Bunser<R>, levels: usize) -> Answer<Token>
     ensures ok { IfOk result (λ t. TakesToken t bunser.old bunser.new) }
@@ -26,7 +26,7 @@ pub fn token_within<R: DeRead>(bunser: &mut Bunser<R>, levels: usize) -> Answer<
     bunser.token()
 }
 
-/// Refuses the tag of a container where no level is left.
+/// Fails at the tag of a container where no level is left.
 #[inline(always)]
 fn check_level<R: DeRead>(bunser: &mut Bunser<R>, levels: usize) -> Answer<()>
     ensures ok { OnOk result (LevelsFor levels bunser.old.window bunser.new.window) }
@@ -45,7 +45,7 @@ fn check_level<R: DeRead>(bunser: &mut Bunser<R>, levels: usize) -> Answer<()>
     }
 }
 
-/// Refuses what comes after a refusal.
+/// Fails what comes after an error.
 pub fn check_working<R: DeRead>(bunser: &mut Bunser<R>) -> Answer<()>
     ensures ok { OnOk result (bunser.old.window.failed ≡ false) }
     ensures same { OnOk result (bunser.new ≡ bunser.old) }

@@ -1,4 +1,4 @@
-//! Reading one value by one loop, told to a builder event by event.
+//! Reading one value by one loop, reported to a builder event by event.
 #![tactic(auto)]
 
 pub mod builder;

@@ -18,15 +18,15 @@ use bser_source::text::as_text;
 /// A key, a scalar, a string or a skip.
 #[derive(Clone, Copy)]
 pub struct Piece<'s> {
-    /// What is told of it.
+    /// What is reported of it.
     pub event: Event<'s>,
     /// How many bytes it has.
     pub len: usize,
 }
 
-/// The piece that is due, in front of these bytes.
+/// The piece that is expected, at the start of these bytes.
 ///
-/// None where it is not there whole, or another thing is: a container, or a fault.
+/// None where it is not there whole, or another thing is: a container, or an error.
 #[inline(always)]
 pub fn due_piece(due: Part, bytes: &[u8]) -> Option<Piece<'_>>
     ensures { MatchOption result ⊤ (λ p. DueInFront due bytes.now p.len (told p.event)) }
@@ -45,7 +45,8 @@ pub fn due_piece(due: Part, bytes: &[u8]) -> Option<Piece<'_>>
     })
 }
 
-/// What is told of a string where this is due. None where it is no text, and has to be one.
+/// What is reported of a string where this is expected. None where it is no text, and has to be
+/// one.
 #[inline(always)]
 fn due_string(due: Part, is_text: bool, string: &[u8]) -> Option<Event<'_>>
     ensures { MatchOption result ⊤ (λ e. IsDueString due is_text string.now (told e)) }
@@ -62,7 +63,7 @@ fn due_string(due: Part, is_text: bool, string: &[u8]) -> Option<Event<'_>>
     }
 }
 
-/// What is told of a scalar or of a skip where this is due. None for another token.
+/// What is reported of a scalar or of a skip where this is expected. None for another token.
 #[inline(always)]
 fn due_scalar(due: Part, token: Token) -> Option<Event<'static>>
     ensures { MatchOption result ⊤ (λ e. IsDueScalar due token (told e)) }
@@ -77,7 +78,7 @@ fn due_scalar(due: Part, token: Token) -> Option<Event<'static>>
     }
 }
 
-/// Whether a field is due, and is missing.
+/// Whether a field is expected, and is missing.
 #[inline(always)]
 pub fn is_skipped(due: Part, token: Token) -> bool
     ensures { MatchBool result ((due ≡ Part.Field) × (token ≡ Token.Skip))
@@ -103,7 +104,7 @@ fn first(bytes: &[u8], n: usize) -> Option<&[u8]>
     Some(&bytes[..n])
 }
 
-/// What is told of a scalar. None for another token.
+/// What is reported of a scalar. None for another token.
 #[inline(always)]
 pub fn scalar(token: Token) -> Option<Event<'static>>
     ensures { MatchOption result (IsNoScalar token) (λ e. IsScalar token (told e)) }

@@ -1,5 +1,5 @@
-//! Reading what is due, whatever it is: pieces that are buffered by one loop, and one token where
-//! that ends.
+//! Reading what is expected, whatever it is: pieces that are buffered by one loop, and one token
+//! where that ends.
 ghost use Rattle.std.specs.Prelude.{◌≡◌, ◌≤◌, ◌++◌, ◌∷◌, [], length, vec_capacity, OnOk, OnErr};
 ghost use Rattle.bser_format.specs.declared.errors.Kind.TheVariants as kinds;
 ghost use Rattle.bser_named.specs.Named.{text_of};
@@ -20,20 +20,19 @@ use bser_bunser::refusal::Answer;
 use bser_format::errors::Kind;
 use bser_source::read::DeRead;
 
-/// Reads a value where `levels` levels are left, and tells the builder what it finds.
+/// Reads a value where `levels` levels are left, and reports to the builder what it finds.
 ///
-/// The keys of its objects have to be UTF-8. It is refused by the first fault in the order of
-/// reading, as the plain reader names it. A container where no level is left is
-/// `Error::DeRecursionLimitExceeded`, before its count is looked at. A builder that wants memory
-/// and gets none, a scratch over a reader and `frames` that do not grow are
-/// `Error::OutOfMemory`; `frames` with room for as many containers as there are levels need not
-/// grow. After a refusal each later call of `bunser` is refused, and no clause says what the
-/// builder is.
+/// The keys of its objects have to be UTF-8. The error is the first one in the order of reading, as
+/// the plain reader answers it. A container where no level is left is
+/// `Error::DeRecursionLimitExceeded`, before its count is looked at. A builder that gets no memory,
+/// a scratch over a reader and `frames` that do not grow are `Error::OutOfMemory`; `frames` with
+/// room for as many containers as there are levels need not grow. After an error each later call of
+/// `bunser` fails, and no clause says what the builder is.
 ///
 /// `frames` and `scratch` are room for the reading, and what they held is dropped.
 ///
-/// Pieces that are buffered whole are told one after the other, and then taken at once. What stands
-/// after them is read by calls of `bunser`, which may buffer more.
+/// Pieces that are buffered whole are reported one after the other, and then taken at once. What
+/// comes after them is read by calls of `bunser`, which may buffer more.
 pub fn read_value<R: DeRead, B: Builder>(
     bunser: &mut Bunser<R>,
     frames: &mut Vec<Frame>,
@@ -110,7 +109,7 @@ fn push_frame<R: DeRead>(
     Ok(())
 }
 
-/// Reads the key of an entry, where one is due, and tells it.
+/// Reads the key of an entry, where one is expected, and reports it.
 #[inline(never)]
 fn read_due_key<R: DeRead, B: Builder>(
     bunser: &mut Bunser<R>,

@@ -1,4 +1,4 @@
-//! What a value is refused for by no call of the reader below.
+//! Errors of a value that no call of the reader below answers.
 ghost use Rattle.std.specs.Prelude.{◌≡◌};
 ghost use Rattle.bser_bunser.specs.Calls.{Closes};
 ghost use Rattle.bser_events.specs.Refusal.{refusal_of};
@@ -19,11 +19,11 @@ pub enum Fault {
     Text,
     /// Rows of a template that has no keys.
     Rows,
-    /// No memory for what is told.
+    /// No memory for what is reported.
     Memory,
 }
 
-/// Refuses a value for this.
+/// Fails a value for this.
 ///
 /// The error has some hundred bytes: it is made here, so that no function has room for it where
 /// all goes well.

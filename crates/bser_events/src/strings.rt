@@ -1,4 +1,4 @@
-//! Strings and keys, read and told.
+//! Strings and keys, read and reported.
 ghost use Rattle.std.specs.Prelude.{◌≡◌, ◌<◌, ◌^◌, OnOk, OnErr};
 ghost use Rattle.bser_named.specs.Named.{front, text_of};
 ghost use Rattle.bser_bunser.specs.Calls.{Keeps};

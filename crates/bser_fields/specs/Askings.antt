@@ -1,4 +1,4 @@
--- What names the refusals of a struct, by what its fields ask for.
+-- Which reader gives the errors of a struct, by what its fields ask for.
 use Rattle.std.specs.Prelude.{ℕ, List, [], ◌∷◌, map, Option, Some, None, option_map}
 use Rattle.bser_named.specs.Asks.{Asks, asks_struct}
 use Rattle.bser_named.specs.TypeLaws.{PassEach}

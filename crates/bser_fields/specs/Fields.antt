@@ -1,4 +1,4 @@
--- The value of a field that is due, by which the fields that were read change.
+-- The value of a field that is expected, by which the fields that were read change.
 use Rattle.std.specs.Prelude.{◌≡◌, ℕ, true, List, [], ◌∷◌, Option, Some, None}
 use Rattle.std.specs.Str.{is_utf8}
 use Rattle.bser_format.specs.Tree.{Tree}
@@ -23,26 +23,26 @@ use Rattle.bser_fields.specs.Askings.{AllAsked}
 
 -- ---- one value
 
--- what is due is refused by this complaint, unless a call was refused before
+-- what is expected gives this complaint, unless a call failed before
 pub record Complains (complaint : Complaint) (old new : Seen) : Type 0 where
   pub reason : new.refusal ≡ after_a_refusal old.state.source.failed (complain complaint)
   pub state : new.state ≡ refused old.state
 
--- what is due was read into a variable that had no value
+-- what is expected was read into a variable that had no value
 pub record ReadsOnce {A : Type 0} (reads : Meaning) (holds : A → Content → Type 0) (before after : Option A) (old new : Seen) : Type 0 where
   pub none : before ≡ None
   pub value : A
   pub some : after ≡ Some value
   pub read : Answers reads holds old.state new.state value
 
--- what is due is refused, or there is a value already
+-- what is expected gives an error, or there is a value already
 abbrev pub RefusesOnce : {A : Type 0} → {reads : Meaning} → Option (Asking reads) → Needs → Option A → Seen → Seen → Type 0
 RefusesOnce {reads = reads} asks needs None old new = Refuses reads asks needs new.refusal old.state new.state
 RefusesOnce asks needs (Some v) old new = Complains ItemsLeft old new
 
 -- ---- a step
 
--- by what was due, which was taken, a step leads from a to what is kept
+-- by what was expected, which was taken, a step leads from a to what is kept
 pub record MakesStep {A : Type 0} (step : A → Tree → Option A) (keeps : A → Type 0) (a : A) (old new : State) : Type 0 where
   pub tree : Tree
   pub next : A
@@ -53,14 +53,15 @@ pub record MakesStep {A : Type 0} (step : A → Tree → Option A) (keeps : A �
   pub took : Took old.source new.source text
   pub state : new ≡ past old new.source
 
--- what is due is refused: by no front of the bytes left the step leads on from a, or they are not to blame; of the name N tells
+-- what is expected gives an error: by no prefix of the bytes left the step leads on from a, or they
+-- are not to blame; N says which error
 abbrev pub RefusesStep : {A : Type 0} → (A → Tree → Option A) → Needs → Type 0 → Error → A → State → State → Type 0
 RefusesStep step needs N e a old new =
     RefusesFront needs (FillsStep step a old) N e old.source new.source
 
 -- ---- names
 
--- the name by which a field refuses what is due, where its type tells of names
+-- the error that a field gives of what is expected, where its type says one
 abbrev pub NamesField : {R : Meaning} → Needs → Option (Asking R) → Error → StructField → State → Type 0
 NamesField needs None e s p = Unit {0}
 NamesField needs (Some a) e s p =

@@ -48,7 +48,7 @@ Turns Q names (suc n) keeps ss at old new =
     (f : Field) × (mid : State) × Q f × NamesKey names at old f
     × MakesStep (λ b. fill_field b f) (λ next. Turns Q names n keeps next (at + 1) mid new) ss (awaiting field_due old) mid
 
--- so many were read, and the next is refused
+-- so many were read, and the next gives an error
 abbrev pub RefusesTurn : {all : List StructField} → (Field → Type 0) → List (List ℕ) → Needs → Option (AllAsked all) → Error → ℕ → List StructField → ℕ → State → State → Type 0
 RefusesTurn Q names needs r e zero ss at old new =
     (f : Field) × Q f × NamesKey names at old f
@@ -63,7 +63,7 @@ pub record ReadsTurns (Q : Field → Type 0) (names : List (List ℕ)) (keeps : 
   pub ends : end ≡ at + count
   pub turns : Turns Q names count keeps ss at old new
 
--- a field at this place or later is refused
+-- a field at this place or later gives an error
 pub record RefusesTurns {all : List StructField} (Q : Field → Type 0) (names : List (List ℕ)) (needs : Needs) (r : Option (AllAsked all)) (e : Error) (ss : List StructField) (at : ℕ) (old new : State) : Type 0 where
   pub count : ℕ
   pub turns : RefusesTurn Q names needs r e count ss at old new

@@ -29,23 +29,23 @@ Names = List (Bor (List ℕ))
 
 -- ---- a struct
 
--- the object or row that is due was read as fields of these names, and v holds what they do
+-- the object or row that is expected was read as fields of these names, and v holds what they do
 abbrev pub ReadsFields : {A : Type 0} → Names → List StructField → (A → List (Content → Type 0)) → Seen → Seen → A → Type 0
 ReadsFields names fields holds old new =
     Answers (reads_struct (texts names) fields) (λ v. HoldsTuple (holds v)) old.state new.state
 
--- what is due is refused, as the fields of these names tell
+-- what is expected gives an error, as the fields of these names say
 abbrev pub RefusesFields : Names → (fields : List StructField) → FieldAskings fields → List Needs → Seen → Seen → Type 0
 RefusesFields names fields asks needs old new =
     RefusesDue (reads_struct (texts names) fields) (asking_struct (texts names) fields asks) (struct_needs needs) old new
 
--- the object or row that this head opened was read so, from where it was opened
+-- the object or row of this head was read so, from where it was opened
 abbrev pub ReadsOpen : {A : Type 0} → Names → List StructField → (A → List (Content → Type 0)) → MapHead → Seen → Seen → A → Type 0
 ReadsOpen names fields holds head old new v =
     (o : State) → OpensPairs o (pairs_head head old.state)
     → Answers (reads_struct (texts names) fields) (λ v. HoldsTuple (holds v)) o new.state v
 
--- it is refused so, from where it was opened
+-- it gives such an error, from where it was opened
 abbrev pub RefusesOpen : Names → (fields : List StructField) → FieldAskings fields → List Needs → MapHead → Seen → Seen → Type 0
 RefusesOpen names fields asks needs head old new =
     (o : State) → OpensPairs o (pairs_head head old.state)
@@ -57,11 +57,11 @@ Closes head old new = new.state ≡ after_closing head.levels head.opened old.st
 
 -- ---- a name
 
--- the key that is due was read, as the place at which it first stands among these names
+-- the key that is expected was read, as its first place among these names
 abbrev pub ReadsName : Names → Seen → Seen → Field → Type 0
 ReadsName names old new = Answers reads_string (HoldsField (texts names)) old.state new.state
 
--- the key that is due is refused
+-- the key that is expected gives an error
 abbrev pub RefusesName : Seen → Seen → Type 0
 RefusesName = RefusesDue reads_string (Some asking_string) bare
 
@@ -71,7 +71,8 @@ IsUnknown names name = field_of (texts names) name ≡ Unknown
 
 -- ---- a value
 
--- what is due was read, and leads on from whatever the one variable keeps to what the other does
+-- what is expected was read, and leads on from whatever the one variable keeps to what the other
+-- does
 abbrev pub Steps : {A B : Type 0} → (A → Tree → Option A) → (B → A → Type 0) → B → B → Seen → Seen → Type 0
 Steps {A = A} step keeps before after old new = (a : A) → keeps before a → MakesStep step (keeps after) a old.state new.state
 
@@ -79,26 +80,26 @@ Steps {A = A} step keeps before after old new = (a : A) → keeps before a → M
 abbrev pub fill_by : Field → List StructField → Tree → Option (List StructField)
 fill_by field fields t = fill_field fields field t
 
--- what is due was read as this field, and v holds it
+-- what is expected was read as this field, and v holds it
 abbrev pub ReadsNew : {A : Type 0} → (A → Content → Type 0) → StructField → Seen → Seen → A → Type 0
 ReadsNew holds s old new v = MakesStep fill (λ t. FinishesField holds t (Some v)) s old.state new.state
 
--- what is due is refused as this field
+-- what is expected gives an error as this field
 abbrev pub RefusesFill : {R : Meaning} → Option (Asking R) → Needs → StructField → Seen → Seen → Type 0
 RefusesFill asks needs s old new =
     RefusesStep fill needs (NamesField needs asks new.refusal s old.state) new.refusal s old.state new.state
 
--- what is due is refused as whatever field is kept
+-- what is expected gives an error as whatever field is kept
 abbrev pub RefusesKept : {R : Meaning} → Option (Asking R) → Needs → (StructField → Type 0) → Seen → Seen → Type 0
 RefusesKept asks needs keeps old new = (s : StructField) → keeps s → RefusesFill asks needs s old new
 
--- what is due is refused as the field at this place, of whatever fields are kept
+-- what is expected gives an error as the field at this place, of whatever fields are kept
 abbrev pub RefusesAt : ℕ → (fields : List StructField) → FieldAskings fields → List Needs → (List StructField → Type 0) → Seen → Seen → Type 0
 RefusesAt place fields asks needs keeps old new =
     (ss : List StructField) → keeps ss
     → RefusesStep (fill_at place) (struct_needs needs) (NamesFields (struct_needs needs) (all_asked fields asks) (Some place) new.refusal ss old.state) new.refusal ss old.state new.state
 
--- what is due is refused as this field, or as none, of whatever fields are kept
+-- what is expected gives an error as this field, or as none, of whatever fields are kept
 abbrev pub RefusesBy : Field → (fields : List StructField) → FieldAskings fields → List Needs → (List StructField → Type 0) → Seen → Seen → Type 0
 RefusesBy field fields asks needs keeps old new =
     (ss : List StructField) → keeps ss
@@ -111,7 +112,7 @@ abbrev pub ReadsRow : {A : Type 0} → Names → (A → List StructField → Typ
 ReadsRow names keeps before at old new after =
     (ss : List StructField) → keeps before ss → ReadsRest (texts names) (keeps after) ss at old.state new.state
 
--- one of them is refused
+-- one of them gives an error
 abbrev pub RefusesRow : Names → (fields : List StructField) → FieldAskings fields → List Needs → (List StructField → Type 0) → ℕ → Seen → Seen → Type 0
 RefusesRow names fields asks needs keeps at old new =
     (ss : List StructField) → keeps ss
@@ -131,7 +132,7 @@ ReadsInTurn fields holds old new v =
     (names : List (List ℕ)) → (place : ℕ) → KeysInTurn names (length fields) place old.state
     → Turns IsKnown names (length fields) (λ ss. FinishesEach holds ss (Some v)) fields place old.state new.state
 
--- where the row's keys are in turn, one of its fields is refused
+-- where the row's keys are in turn, one of its fields gives an error
 abbrev pub RefusesInTurn : (fields : List StructField) → FieldAskings fields → List Needs → Seen → Seen → Type 0
 RefusesInTurn fields asks needs old new =
     (names : List (List ℕ)) → (place : ℕ) → KeysInTurn names (length fields) place old.state

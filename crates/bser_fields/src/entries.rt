@@ -74,7 +74,7 @@ where
     finish(from, head, names, fields)
 }
 
-/// The place in `names` at which the row's key at this place first stands.
+/// The first place in `names` of the row's key at this place.
 #[inline(always)]
 fn row_field<R: DeRead>(from: &Deserializer<R>, at: usize, names: &[&str]) -> Field
 where
@@ -86,7 +86,7 @@ where
     find_field(names, name.as_bytes())
 }
 
-/// Reads the key that is due, as the place in `names` at which it first stands.
+/// Reads the key that is expected, as its first place in `names`.
 #[inline(always)]
 fn read_name<R: DeRead>(
     from: &mut Deserializer<R>,
@@ -102,8 +102,8 @@ where
     Ok(find_field(names, name.get_ref().as_bytes()))
 }
 
-/// Reads the value that is due as that of this field, of which a refusal notes the name. The value
-/// of no field is passed over.
+/// Reads the value that is expected as that of this field, whose name an error notes. The value of
+/// no field is passed over.
 #[inline(always)]
 fn read_value<R: DeRead, F: Slots<R::Lent>>(
     alloc: Global,
@@ -155,7 +155,7 @@ where
     }
 }
 
-/// Refuses for want of the field of this place, and notes its name.
+/// Fails because the field of this place is missing, and notes its name.
 #[cold]
 #[inline(never)]
 fn refuse_missing<R: DeRead>(from: &mut Deserializer<R>, names: &[&str], place: usize) -> Refused

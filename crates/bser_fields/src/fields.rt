@@ -21,14 +21,14 @@ impl<R: DeRead> ReadsFields<R::Lent> for Deserializer<R>
 where
     R::Lent: LendsText,
 {
-    /// Reads the object or the row that is due as the fields of a struct, in any order. The value
-    /// of a name that no field has is read as [`Ignored`](bser_types::impls::ignored::Ignored), and
-    /// of fields with the same name the first alone is read.
+    /// Reads the object or the row that is expected as the fields of a struct, in any order. The
+    /// value of a name that no field has is read as
+    /// [`Ignored`](bser_types::impls::ignored::Ignored), and of fields with the same name the first
+    /// alone is read.
     ///
-    /// A required field that is absent is refused by [`Complaint::TooFewItems`], a field that
-    /// comes twice by [`Complaint::ItemsLeft`], another kind of value by
-    /// [`Complaint::WrongType`], and a field's value as its type refuses it. After a refusal each
-    /// later call is refused.
+    /// A required field that is absent is [`Complaint::TooFewItems`], a field that comes twice
+    /// [`Complaint::ItemsLeft`], and another kind of value [`Complaint::WrongType`]. A field's
+    /// value gives the errors of its type. After an error each later call fails.
     ///
     /// [`Complaint::TooFewItems`]: bser_format::errors::Complaint::TooFewItems
     /// [`Complaint::ItemsLeft`]: bser_format::errors::Complaint::ItemsLeft

@@ -34,26 +34,27 @@ pub trait Slot<L: LendsText>: Drop {
     // what reading it needs
     ghost needs: { Needs };
 
-    // what names its refusals, where its type tells of names
+    // which reader gives its errors, where its type says one
     ghost asks: { Option (Asking Self.field.reads) };
 
     /// A field that was not read yet.
     fn empty() -> Self
         ensures { Self.keeps result Self.field };
 
-    /// Reads the value that is due as the field's.
+    /// Reads the value that is expected as the field's.
     ///
-    /// A field that was read before is refused by [`Complaint::ItemsLeft`], and a value as its type
-    /// refuses it; the field is then as it was, and the deserializer refuses each later call.
+    /// A field that was read before is [`Complaint::ItemsLeft`], and a value gives the errors of
+    /// its type. After an error the field is as it was, and each later call of the deserializer
+    /// fails.
     fn fill<R: DeRead<Lent = L>>(&mut self, alloc: Global, from: &mut Deserializer<R>) -> Answer<()>
         ensures found { OnOk result (Steps fill Self.keeps self.old self.new from.old from.new) }
         ensures unchanged { OnErr result (self.new ≡ self.old) }
         ensures refused { OnErr result (RefusesKept Self.asks Self.needs (Self.keeps self.old)
             from.old from.new) };
 
-    /// Reads the value that is due as that of a field that was not read yet.
+    /// Reads the value that is expected as that of a field that was not read yet.
     ///
-    /// A value is refused as its type refuses it; the deserializer then refuses each later call.
+    /// The errors are those of its type. After one each later call of the deserializer fails.
     fn read<R: DeRead<Lent = L>>(alloc: Global, from: &mut Deserializer<R>) -> Answer<Self::Value>
         ensures found { IfOk result (ReadsNew Self.holds Self.field from.old from.new) }
         ensures refused { OnErr result (RefusesFill Self.asks Self.needs Self.field
@@ -159,7 +160,7 @@ impl<L: LendsText, T: Deserialize<L>> Slot<L> for Optional<T> {
     }
 }
 
-/// Reads the value that is due into a variable that has none.
+/// Reads the value that is expected into a variable that has none.
 #[inline(always)]
 fn read_once<R: DeRead, T: Deserialize<R::Lent>>(
     alloc: Global,
@@ -180,7 +181,7 @@ where
     Ok(())
 }
 
-/// Refuses a field that was read before, and notes it.
+/// Fails for a field that was read before, and notes it.
 #[cold]
 #[inline(never)]
 fn refuse_repeated<R: DeRead>(from: &mut Deserializer<R>) -> Refused

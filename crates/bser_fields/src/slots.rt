@@ -35,17 +35,17 @@ pub trait Slots<L: LendsText>: Drop {
     // what reading them needs
     ghost needs: { List Needs };
 
-    // what names their refusals, where their types tell of names
+    // which readers give their errors, where their types say one
     ghost asks: { FieldAskings Self.fields };
 
     /// Fields that were not read yet.
     fn empty() -> Self
         ensures { Self.keeps result Self.fields };
 
-    /// Reads the value that is due as that of the field at this place. Where no field has the
+    /// Reads the value that is expected as that of the field at this place. Where no field has the
     /// place, the value is read as [`Ignored`].
     ///
-    /// Refused as [`Slot::fill`] is, and the fields are then as they were.
+    /// Fails as [`Slot::fill`] does, and the fields are then as they were.
     fn fill_at<R: DeRead<Lent = L>>(
         &mut self,
         alloc: Global,
@@ -69,8 +69,8 @@ pub trait Slots<L: LendsText>: Drop {
 
     /// Reads the row's values as those of the fields one after another.
     ///
-    /// A value is refused as its type refuses it, and the refusal notes the field's name, of which
-    /// `at` is the place. The deserializer then refuses each later call.
+    /// The errors are those of the values' types. An error notes the field's name, of which `at` is
+    /// the place, and each later call of the deserializer fails then.
     fn read_in_turn<R: DeRead<Lent = L>>(
         alloc: Global,
         from: &mut Deserializer<R>,

@@ -1,4 +1,4 @@
--- What a write through the lent bytes of a byte string leaves, and how NUL is quoted.
+-- What a write through the borrowed bytes of a byte string leaves, and how NUL is quoted.
 use Rattle.std.specs.Prelude.{ℕ, ◌/◌, ◌%◌, List, [], ◌∷◌, ◌++◌, length, take, drop}
 use Rattle.std.specs.Char.{digit_char}
 use Rattle.std.specs.Char.Escape.{backslash, escape_default}
@@ -6,7 +6,8 @@ use Rattle.bser_format.specs.Escaped.{escape_debug}
 use Rattle.bser_format.specs.declared.bytestring.NulForm.{NulForm}
 use Rattle.bser_format.specs.declared.bytestring.NulForm.TheVariants.{Code, Short}
 
--- the bytes w in place of as many at the front of bs, whose length stays: w itself where it is as long
+-- the bytes w in place of as many at the start of bs, whose length stays: w itself where it is as
+-- long
 abbrev pub overwritten : List ℕ → List ℕ → List ℕ
 overwritten bs w = take (length bs) (w ++ drop (length w) bs)
 

@@ -1,4 +1,4 @@
--- The refusals of the layers above a byte source.
+-- The errors of the layers above a byte source.
 use Rattle.bser_format.specs.declared.errors.ReadCause.{ReadCause}
 use Rattle.bser_format.specs.declared.errors.ReadCause.TheVariants.{Eof, Utf8, Reader, Memory, Failed}
 use Rattle.bser_format.specs.declared.errors.Error.{Error}

@@ -1,4 +1,5 @@
--- What a tree stands for: each template is the array of its rows, and a row is the object of its keys and fields.
+-- What a tree means: each template is the array of its rows, and a row is the object of its keys
+-- and fields.
 use Rattle.std.specs.Prelude.{ℕ, List, [], ◌∷◌, if◌then◌else◌}
 use Rattle.std.specs.Str.{is_utf8}
 use Rattle.bser_format.specs.Tree.{Tree, null, boolean, integer, real, bytes, text, array, object, template, Items, no_items, item, Entries, no_entries, entry, Rows, no_rows, row, Fields, no_fields, skip, field}
@@ -55,6 +56,6 @@ abbrev mutual
   EntriesAreTemplateFree no_entries = Unit {0}
   EntriesAreTemplateFree (entry k t es) = IsTemplateFree t × EntriesAreTemplateFree es
 
--- the tree that stands for a key
+-- the tree of a key
 abbrev pub key_tree : List ℕ → Tree
 key_tree s = if is_utf8 s then text s else bytes s

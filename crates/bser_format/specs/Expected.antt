@@ -4,13 +4,14 @@ use Rattle.bser_format.specs.Tree.{Tree, null, object, Items, items, Entries, en
 use Rattle.bser_format.specs.Expand.{expand, expand_fields, key_tree}
 use Rattle.bser_format.specs.Grammar.{Format, Bytes, Never, Given, ◌then◌, Each, Spells, SpellsString, SpellsField}
 
--- what is due: nothing, a value, an object's key, a template's field, the key of a row's field, which has no bytes, or a row over these keys
+-- what is expected: nothing, a value, an object's key, a template's field, the key of a row's
+-- field, which has no bytes, or a row over these keys
 pub data Due : Type 0 where
   nothing_due node_due key_due field_due : Due
   name_due : List ℕ → Due
   row_due : List (List ℕ) → Due
 
--- a value with n levels left, which stands for the tree u, templates written out
+-- a value with n levels left, which means the tree u, templates written out
 pub record FillsNode (n : ℕ) (u : Tree) (b : List ℕ) : Type 0 where
   pub tree : Tree
   pub stands : u ≡ expand tree
@@ -29,7 +30,7 @@ pub record FillsRow (n : ℕ) (ks : List (List ℕ)) (u : Tree) (b : List ℕ) :
   pub stands : u ≡ object (expand_fields ks row)
   pub spelled : Each (SpellsField (Spells n)) (fields row) b
 
--- the bytes are what is due as a whole, with n levels left, and u is what it stands for
+-- the bytes are what is expected as a whole, with n levels left, and u is what it means
 abbrev pub Fills : ℕ → Due → Tree → Format
 Fills n nothing_due u = Never
 Fills n node_due u = FillsNode n u

@@ -19,7 +19,7 @@ Never b = ⊥
 abbrev pub Given : Type 0 → Format → Format
 Given P F b = P × F b
 
--- a front of the form F, and then a rest of the form G
+-- a prefix of the form F, and then a rest of the form G
 pub record ◌then◌ (F G : Format) (b : List ℕ) : Type 0 where
   pub front : List ℕ
   pub rest : List ℕ

@@ -42,11 +42,12 @@ CanonicalBodyIsSpelled = (n : ℕ) (t : Tree) → IsWritable t → depth t ≤ n
 abbrev pub OneFront : Type 0
 OneFront = (n c d : ℕ) (a b x y : List ℕ) (t u : Tree) → IsMessage n c t a → IsMessage n d u b → a ++ x ≡ b ++ y → (a ≡ b) × (c ≡ d) × (t ≡ u)
 
--- the plain reader gives a tree exactly where a front of the bytes spells it
+-- the plain reader gives a tree exactly where a prefix of the bytes spells it
 abbrev pub ReadingIsExact : Type 0
 ReadingIsExact = (n : ℕ) (b y : List ℕ) (t : Tree) → AllByRecursion (λ x. x < 256) b → (value n b ≡ Some (t, y)) ↔ ((a : List ℕ) × (b ≡ a ++ y) × Spells n t a)
 
--- the plain reader gives a message's capabilities and its tree exactly where a front of the bytes is that message
+-- the plain reader gives a message's capabilities and its tree exactly where a prefix of the bytes
+-- is that message
 abbrev pub MessageReadingIsExact : Type 0
 MessageReadingIsExact = (n c : ℕ) (b y : List ℕ) (t : Tree) → AllByRecursion (λ x. x < 256) b → (message n b ≡ Some ((c, t), y)) ↔ ((a : List ℕ) × (b ≡ a ++ y) × IsMessage n c t a)
 

@@ -4,7 +4,8 @@ use Rattle.std.specs.Int.{w32, to_le_bytes}
 use Rattle.bser_format.specs.Tree.{Tree}
 use Rattle.bser_format.specs.Grammar.{Format, Bytes, Given, SpellsCount, ◌then◌, Spells}
 
--- a message's head: two fixed bytes, the capabilities c in four bytes, and the length k of its body
+-- a message's header: two fixed bytes, the capabilities c in four bytes, and the length k of its
+-- body
 abbrev pub Head : ℕ → ℕ → Format
 Head c k = Given (c < 2 ^ 32) (Bytes (0x00 ∷ 0x02 ∷ []) then Bytes (to_le_bytes w32 c) then SpellsCount k)
 

@@ -1,4 +1,4 @@
--- The value at the front of a byte list, and what follows it: a plain program for the grammar.
+-- The value at the start of a byte list, and what follows it: a plain program for the grammar.
 use Rattle.bser_format.specs.Tree.{items_of, entries_of, rows_of, Tree, null, boolean, integer, real, bytes, text, array, object, template}
 use Rattle.bser_format.specs.Grammar.{IntSize, int8, int16, int32, int64, width_of}
 use Rattle.std.specs.Prelude.{ℕ, zero, suc, ◌+◌, ◌^◌, ℤ, pos, negsuc, Bool, true, false, List, [], ◌∷◌, length, take, drop, Option, Some, None, option_and_then, bytes_eq, nat_lt, ◌==◌, ◌&&◌, if◌then◌else◌}

@@ -1,4 +1,4 @@
--- What a BSER body stands for. An integer's and a real's range is the grammar's matter.
+-- What a BSER body means. An integer's and a real's range is the grammar's matter.
 use Rattle.std.specs.Prelude.{ℕ, ℤ, Bool, List, [], ◌∷◌, Option, Some, None}
 
 mutual

@@ -1,4 +1,4 @@
-//! What refuses: the errors of reading and of writing, with their texts.
+//! The errors of reading and of writing, with their texts.
 ghost use Rattle.std.specs.Prelude.{◌≡◌, ◌≢◌, ◌≤◌, ◌++◌, List, ℕ, length, alloc_error};
 ghost use Rattle.bser_format.specs.Errors.{error_of};
 ghost use Rattle.bser_format.specs.declared.errors.Error.TheVariants.{OutOfMemory, Io};
@@ -14,9 +14,9 @@ use thiserror::Error;
 /// An answer, or why there is none.
 pub type Result<T> = std::result::Result<T, Error>;
 
-/// What stood where another byte was wanted, or what nests too deep.
+/// What was found where another byte was wanted, or what nests too deep.
 ///
-/// An enum's name is kept up to [`EnumName::CAPACITY`] bytes, so that a refusal takes no memory.
+/// An enum's name is kept up to [`EnumName::CAPACITY`] bytes, so that an error takes no memory.
 #[derive(Debug, Clone, Copy, PartialEq, Eq)]
 pub enum Kind {
     /// A value: an unknown tag, or a skip outside a template's field.
@@ -75,7 +75,7 @@ pub enum Complaint {
     IntegerOutOfRange,
     /// A template that has rows and no keys.
     RowsWithoutKeys,
-    /// A type that lends its bytes from the input, over a source that copies them.
+    /// A type that borrows its bytes from the input, over a source that copies them.
     BorrowedFromCopying,
     /// A name that no variant has.
     UnknownVariant,
@@ -142,7 +142,7 @@ impl fmt::Display for Collection {
     }
 }
 
-/// Why a byte source refused.
+/// Why a byte source failed.
 #[derive(Debug, Drop, Error)]
 pub enum ReadCause {
     /// Fewer bytes are left than the call wants.
@@ -151,21 +151,21 @@ pub enum ReadCause {
     /// The bytes of a text are not UTF-8.
     #[error("invalid UTF-8")]
     Utf8,
-    /// The reader answered a fault, an interruption too.
+    /// The reader answered an error, an interruption too.
     #[error("reader fault")]
     Reader(io::Error),
-    /// A growth of the scratch was refused.
+    /// The scratch could not grow.
     #[error("out of memory")]
     Memory,
-    /// An earlier call was refused, or the count of bytes would overflow.
+    /// An earlier call failed, or the count of bytes would overflow.
     #[error("failed before")]
     Failed,
 }
 
-/// Why reading or writing refused.
+/// Why reading or writing failed.
 #[derive(Debug, Drop, Error)]
 pub enum Error {
-    /// Reading: this byte cannot stand where a thing of this kind begins.
+    /// Reading: this byte cannot begin a thing of this kind.
     #[error("while deserializing BSER: invalid start byte for {kind}: {shown}", shown = HeaderByte(*.byte))]
     DeInvalidStartByte { kind: Kind, byte: u8 },
     /// Reading: the message does not fit the format, the type or the order of the calls.
@@ -180,11 +180,11 @@ pub enum Error {
     /// Reading: the message does not begin with 00 02.
     #[error("Invalid magic header: {magic:?}")]
     DeInvalidMagic { magic: [u8; 2] },
-    /// Reading: the head announces a longer body than the caller takes. Only the calls with a limit
-    /// of bytes answer it.
+    /// Reading: the header announces a longer body than the caller takes. Only the calls with a
+    /// limit of bytes answer it.
     #[error("while deserializing BSER: body of {announced} bytes, and at most {most} are taken")]
     DeTooLong { announced: usize, most: usize },
-    /// Reading: the byte source refused.
+    /// Reading: the byte source failed.
     #[error("reader error while deserializing")]
     DeReaderError { source: ReadCause },
     /// Writing: a value cannot be written.
@@ -196,10 +196,10 @@ pub enum Error {
     /// Writing: an integer above `i64::MAX`.
     #[error("while serializing BSER: integer too big: {v}")]
     SerU64TooBig { v: u64 },
-    /// The writer answered a fault, or took nothing.
+    /// The writer answered an error, or took nothing.
     #[error("IO Error")]
     Io(io::Error),
-    /// A growth was refused.
+    /// An allocation failed.
     #[error("out of memory")]
     OutOfMemory,
 }
@@ -237,8 +237,8 @@ impl From<ReadCause> for Error {
 }
 
 impl Error {
-    /// The refusal for a byte source's cause: want of memory is [`Error::OutOfMemory`], and each
-    /// other cause stands in [`Error::DeReaderError`].
+    /// The error for a byte source's cause: out of memory is [`Error::OutOfMemory`], and each other
+    /// cause is inside [`Error::DeReaderError`].
     pub fn de_reader_error(cause: ReadCause) -> Self
         ensures { result ≡ error_of cause }
     {
@@ -248,7 +248,7 @@ impl Error {
         }
     }
 
-    /// The refusal of reading with a fixed message.
+    /// The error of reading with a fixed message.
     pub fn de_custom(complaint: Complaint) -> Self
         ensures { result ≡ Error.DeCustom (Message.Fixed complaint) }
     {
@@ -257,7 +257,7 @@ impl Error {
         }
     }
 
-    /// The refusal of writing with a fixed message.
+    /// The error of writing with a fixed message.
     pub fn ser_custom(complaint: Complaint) -> Self
         ensures { result ≡ Error.SerCustom (Message.Fixed complaint) }
     {

@@ -39,12 +39,12 @@ pub fn one_front()
     ensures { OneFront }
 {}
 
-/// The plain reader of values gives exactly what the front of the bytes spells.
+/// The plain reader of values gives exactly what a prefix of the bytes spells.
 pub fn reading_is_exact()
     ensures { ReadingIsExact }
 {}
 
-/// The plain reader of messages gives exactly what the message at the front of the bytes says.
+/// The plain reader of messages gives exactly what the message at the start of the bytes says.
 pub fn message_reading_is_exact()
     ensures { MessageReadingIsExact }
 {}

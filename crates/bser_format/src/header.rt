@@ -1,4 +1,4 @@
-//! The tags of the format, and the front of a message.
+//! The tags of the format, and the header of a message.
 ghost use Rattle.std.specs.Prelude.{◌≡◌, ◌∷◌, ◌++◌, replicate, IfOk, option_map, string_bytes};
 ghost use Rattle.bser_format.specs.HeaderBytes.{tag_name, description};
 ghost use Rattle.bser_format.specs.declared.header.TheConstants.{BSER_CAP_DISABLE_UNICODE};
@@ -37,7 +37,7 @@ pub const BSER_SKIP: u8 = 0x0c;
 /// The tag of a text: a length and the bytes follow, which are UTF-8.
 pub const BSER_UTF8STRING: u8 = 0x0d;
 
-/// The front of a message with no capability, and room for a length of four bytes.
+/// The header of a message with no capability, and room for a length of four bytes.
 pub const EMPTY_HEADER: &[u8] = b"\x00\x02\x00\x00\x00\x00\x05\x00\x00\x00\x00";
 
 /// The capability that turns texts into byte strings.
@@ -98,7 +98,7 @@ impl fmt::Display for HeaderByte {
 
 /// The name of the tag that the byte is, or `unknown byte 'N'` with the byte in decimal.
 ///
-/// Refused only where memory is refused.
+/// The only error is that there is no memory.
 pub fn header_byte_desc(alloc: Global, byte: u8) -> std::result::Result<String, AllocError>
     ensures { IfOk result (λ s. string_bytes s ≡ description byte) }
 {

@@ -12,7 +12,7 @@ use Rattle.bser_messages.specs.Messages.{BeginsWith, TookMessage, ReadsMessage, 
 
 -- ---- what is read
 
--- a front of the bytes is a message that reads as what v holds, and its body has at most m bytes
+-- a prefix of the bytes is a message that reads as what v holds, and its body has at most m bytes
 pub record BeginsWithin {A : Type 0} (n m : ℕ) (reads : Meaning) (holds : A → Content → Type 0) (bytes : List ℕ) (v : A) : Type 0 where
   pub whole : BeginsWith n reads holds bytes v
   pub short : length whole.message.message.body ≤ m
@@ -27,14 +27,14 @@ pub record ReadsWithin {A : Type 0} (n m : ℕ) (reads : Meaning) (holds : A →
   pub whole : ReadsMessage n reads holds old new v
   pub short : length whole.message.message.body ≤ m
 
--- a head that announces at most m bytes was taken, and then its value
+-- a header that announces at most m bytes was taken, and then its value
 pub record ReadsBodyWithin {A : Type 0} (n m : ℕ) (reads : Meaning) (holds : A → Content → Type 0) (old : Window) (new : State) (v : A) : Type 0 where
   pub whole : ReadsBody n reads holds old new v
   pub short : whole.begins.took.size ≤ m
 
 -- ---- a body that is too long
 
--- exactly a head was taken, which announces more than m bytes, and e tells both numbers
+-- exactly a header was taken, which announces more than m bytes, and e has both numbers
 pub record TooLong (m : ℕ) (e : Error) (old new : Option (List ℕ)) : Type 0 where
   pub capabilities : ℕ
   pub announced : ℕ
@@ -44,7 +44,7 @@ pub record TooLong (m : ℕ) (e : Error) (old new : Option (List ℕ)) : Type 0 
   pub more : m < announced
   pub name : e ≡ DeTooLong announced m
 
--- a source took exactly such a head, and was closed
+-- exactly such a header was taken from a source, which was closed
 pub record StopsAt (m : ℕ) (e : Error) (old new : Window) : Type 0 where
   pub capabilities : ℕ
   pub announced : ℕ
@@ -56,72 +56,75 @@ pub record StopsAt (m : ℕ) (e : Error) (old new : Window) : Type 0 where
   pub more : m < announced
   pub name : e ≡ DeTooLong announced m
 
--- the bytes begin with a head that announces more than m bytes
+-- the bytes begin with a header that announces more than m bytes
 abbrev pub TooLongSlice : ℕ → Error → List ℕ → Type 0
 TooLongSlice m e bytes = (rest : List ℕ) × TooLong m e (Some bytes) (Some rest)
 
--- ---- how it is refused
+-- ---- its errors
 
--- a head in front announces at most m bytes, or there is a reason outside the bytes
+-- a header at the start announces at most m bytes, or there is a reason outside the bytes
 abbrev pub AnnouncesShort : ℕ → Error → Window → Type 0
 AnnouncesShort m e s =
     (c k : ℕ) (text rest : List ℕ)
     → Head c k text → left s ≡ Some (text ++ rest) → (k ≤ m) ⊎ ExcusedBy bare (length text) e s
 
--- a head or a value is refused, not for the limit of bytes
+-- the error of a header or a value, not for the limit of bytes
 pub record RefusesShortBody (n m : ℕ) (reads : Meaning) (asks : Option (Asking reads)) (needs : Needs) (e : Error) (old new : Window) : Type 0 where
   pub announced : AnnouncesShort m e old
   pub refused : RefusesBody n reads asks needs e old new
 
--- a head or a value is refused
+-- the error of a header or a value
 abbrev pub RefusesBodyWithin : ℕ → ℕ → (reads : Meaning) → Option (Asking reads) → Needs → Error → Window → Window → Type 0
 RefusesBodyWithin n m reads asks needs e old new =
     StopsAt m e old new ⊎ RefusesShortBody n m reads asks needs e old new
 
--- a message is refused, not for the limit of bytes
+-- the error of a message, not for the limit of bytes
 pub record RefusesShort (n m : ℕ) (reads : Meaning) (asks : Option (Asking reads)) (needs : Needs) (e : Error) (old new : Window) : Type 0 where
   pub announced : AnnouncesShort m e old
   pub refused : RefusesMessage n reads asks needs e old new
 
--- a message is refused
+-- the error of a message
 abbrev pub RefusesWithin : ℕ → ℕ → (reads : Meaning) → Option (Asking reads) → Needs → Error → Window → Window → Type 0
 RefusesWithin n m reads asks needs e old new =
     StopsAt m e old new ⊎ RefusesShort n m reads asks needs e old new
 
 -- ---- slices
 
--- where a head is in front, it announces at most m bytes
+-- where a header is at the start, it announces at most m bytes
 abbrev pub AnnouncesAtMost : ℕ → List ℕ → Type 0
 AnnouncesAtMost m bytes = (c k : ℕ) (text rest : List ℕ) → Head c k text → bytes ≡ text ++ rest → k ≤ m
 
--- a slice is refused, not for the limit of bytes
+-- the error of a slice, not for the limit of bytes
 pub record RefusesShortSlice (n m : ℕ) (reads : Meaning) (asks : Option (Asking reads)) (needs : Needs) (e : Error) (bytes : List ℕ) : Type 0 where
   pub announced : AnnouncesAtMost m bytes
   pub refused : RefusesSlice n reads asks needs e bytes
 
--- a slice is refused: by its head, which announces too much, or else as without a limit of bytes
+-- the error of a slice: of its header, which announces too much, or else as without a limit of
+-- bytes
 abbrev pub RefusesSliceWithin : ℕ → ℕ → (reads : Meaning) → Option (Asking reads) → Needs → Error → List ℕ → Type 0
 RefusesSliceWithin n m reads asks needs e bytes =
     TooLongSlice m e bytes ⊎ RefusesShortSlice n m reads asks needs e bytes
 
 -- ---- readers
 
--- a reader is refused, not for the limit of bytes: a head in front announces at most m bytes, or memory was refused or the reader failed
+-- the error of a reader, not for the limit of bytes: a header at the start announces at most m
+-- bytes, or memory ran out or the reader failed
 pub record RefusesShortReader (n m : ℕ) (reads : Meaning) (asks : Option (Asking reads)) (e : Error) (left : Option (List ℕ)) (before after : ℕ) : Type 0 where
   pub announced : (c k : ℕ) (text rest : List ℕ) → Head c k text → left ≡ Some (text ++ rest) → (k ≤ m) ⊎ IsReaderFault before after e
   pub refused : RefusesReader n reads asks e left before after
 
--- the head that announces too much was taken, and no failure counted
+-- the header that announces too much was taken, and no failure counted
 pub record TooLongReader (m : ℕ) (e : Error) (old new : Option (List ℕ)) (before after : ℕ) : Type 0 where
   pub head : TooLong m e old new
   pub failures : after ≡ before
 
--- a reader is refused: after its head, which announces too much, or else as without a limit of bytes
+-- the error of a reader: after its header, which announces too much, or else as without a limit of
+-- bytes
 abbrev pub RefusesReaderWithin : ℕ → ℕ → (reads : Meaning) → Option (Asking reads) → Error → Option (List ℕ) → Option (List ℕ) → ℕ → ℕ → Type 0
 RefusesReaderWithin n m reads asks e old new before after =
     TooLongReader m e old new before after ⊎ RefusesShortReader n m reads asks e old before after
 
--- the same of a reader before and after the call, by what is told of it
+-- the same of a reader before and after the call, by what its contract tells
 abbrev pub RefusesReadingWithin : {S : Type 0} → ℕ → ℕ → (reads : Meaning) → Option (Asking reads) → (S → Option (List ℕ)) → (S → ℕ) → S → S → Error → Type 0
 RefusesReadingWithin n m reads asks remaining failures old new e =
     RefusesReaderWithin n m reads asks e (remaining old) (remaining new) (failures old) (failures new)

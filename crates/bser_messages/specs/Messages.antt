@@ -28,7 +28,7 @@ pub record ReadsMessageAs (n : ℕ) (reads : Meaning) (text : List ℕ) (c : Con
   pub message : IsMessage n capabilities tree text
   pub read : reads (expand tree) ≡ Some c
 
--- a front of the bytes is a message that reads as what v holds
+-- a prefix of the bytes is a message that reads as what v holds
 pub record BeginsWith {A : Type 0} (n : ℕ) (reads : Meaning) (holds : A → Content → Type 0) (bytes : List ℕ) (v : A) : Type 0 where
   pub text : List ℕ
   pub rest : List ℕ
@@ -54,7 +54,7 @@ pub record ReadsMessage {A : Type 0} (n : ℕ) (reads : Meaning) (holds : A → 
   pub took : Took old (with_limit old.limit new) text
   pub limit : new.limit ≤ max old.limit new.count
 
--- a message's head and its value were taken
+-- a message's header and its value were taken
 pub record ReadsBody {A : Type 0} (n : ℕ) (reads : Meaning) (holds : A → Content → Type 0) (old : Window) (new : State) (v : A) : Type 0 where
   pub begun : State
   pub begins : Begins n old begun
@@ -64,24 +64,25 @@ pub record ReadsBody {A : Type 0} (n : ℕ) (reads : Meaning) (holds : A → Con
 abbrev pub IsReadableMessage : ℕ → Meaning → Format
 IsReadableMessage n reads text = (c : Content) × ReadsMessageAs n reads text c
 
--- the bytes left, where they are known, begin with a message's head
+-- the bytes left, where they are known, begin with a message's header
 pub record BeginWithHead (left : Option (List ℕ)) : Type 0 where
   pub text : List ℕ
   pub head : IsHead text
   pub front : (x : List ℕ) → left ≡ Some x → (rest : List ℕ) × (x ≡ text ++ rest)
 
--- ---- how it is refused
+-- ---- its errors
 
 -- the name that a type gives a message, where the type tells of names
 abbrev pub NamesMessage : {R : Meaning} → ℕ → Needs → Option (Asking R) → Error → Window → Type 0
 NamesMessage n needs None e s = Unit {0}
 NamesMessage n needs (Some a) e s = NamesBy needs (named.message (a.asks 0 n node_due)) e s
 
--- the head or the value of a message is refused
+-- the error of a message's header or value
 abbrev pub RefusesBody : ℕ → (reads : Meaning) → Option (Asking reads) → Needs → Error → Window → Window → Type 0
 RefusesBody n reads asks needs e old new = RefusesFront needs (IsReadableMessage n reads) (NamesMessage n needs asks e old) e old new
 
--- a message is refused: by its name, and where a front of the bytes left is one that the type reads, only for a reason outside them
+-- the error of a message: the one that its reader gives, and where a prefix of the bytes left is
+-- one that the type reads, only for a reason outside them
 pub record RefusesMessage (n : ℕ) (reads : Meaning) (asks : Option (Asking reads)) (needs : Needs) (e : Error) (old new : Window) : Type 0 where
   pub through : new.through ≡ old.through
   pub failures : new.failures ≡ failures_by e old.failures
@@ -89,31 +90,34 @@ pub record RefusesMessage (n : ℕ) (reads : Meaning) (asks : Option (Asking rea
   pub names : NamesMessage n needs asks e old
   pub excuse : (text rest : List ℕ) → IsReadableMessage n reads text → left old ≡ Some (text ++ rest) → ExcusedBy needs (length text) e old
 
--- what is told of it stays as it was
+-- what its contract tells stays as it was
 abbrev pub Same : {S X : Type 0} → (S → X) → S → S → Type 0
 Same told old new = told new ≡ told old
 
--- a type that takes no memory is not refused for want of it
+-- a type that takes no memory does not run out of it
 abbrev pub SparesMemory : {A : Type 0} → Needs → Result A Error → Type 0
 SparesMemory needs answer = TakesNoMemory needs → IfErr answer (λ e. e ≢ OutOfMemory)
 
--- want of memory comes only after a message's head
+-- out of memory comes only after a message's header
 abbrev pub HeadFirst : {A : Type 0} → Option (List ℕ) → Result A Error → Type 0
 HeadFirst left answer = IfErr answer (λ e. e ≡ OutOfMemory → BeginWithHead left)
 
 -- ---- slices
 
--- want of memory, of a type that takes some to read a value
+-- out of memory, of a type that takes some to read a value
 pub record IsMemory (needs : Needs) (e : Error) : Type 0 where
   pub memory : e ≡ OutOfMemory
   pub needed : needs.memory ≡ true
 
--- a slice is refused by the name of its first fault, where the type tells of names, or for want of memory
+-- the error of a slice is the first one in the order of reading, where the type says which, or out
+-- of memory
 abbrev pub NamesSlice : {R : Meaning} → ℕ → Option (Asking R) → Error → List ℕ → Type 0
 NamesSlice n None e bytes = Unit {0}
 NamesSlice n (Some a) e bytes = (named.message (a.asks 0 n node_due) bytes ≡ named.refuses e) ⊎ (e ≡ OutOfMemory)
 
--- a refusal of a slice: no front of it is a message that the type reads, or memory was refused to a type that takes some to read a value; want of memory is named only by a type that may take some, and else the bytes or the type are to blame
+-- the error of a slice: no prefix of it is a message that the type reads, or memory ran out for a
+-- type that takes some to read a value; out of memory is answered only of a type that may take
+-- some, and else the bytes or the type are to blame
 pub record RefusesSlice (n : ℕ) (reads : Meaning) (asks : Option (Asking reads)) (needs : Needs) (e : Error) (bytes : List ℕ) : Type 0 where
   pub may : IsRefusal e ⊎ (e ≡ OutOfMemory)
   pub names : NamesSlice n asks e bytes
@@ -122,7 +126,7 @@ pub record RefusesSlice (n : ℕ) (reads : Meaning) (asks : Option (Asking reads
 
 -- ---- readers
 
--- want of memory, or a failure that the reader counted
+-- out of memory, or a failure that the reader counted
 abbrev pub IsReaderFault : ℕ → ℕ → Error → Type 0
 IsReaderFault before after OutOfMemory = Unit {0}
 IsReaderFault before after (DeReaderError (Reader fault)) = Blamed before after
@@ -139,25 +143,27 @@ pub record TooMany {X : Type 0} (r : named.Reader X) (left : Option (List ℕ)) 
   pub few : r text ≡ named.refuses named.eof
   pub long : 2 ^ 64 ≤ suc (length text)
 
--- want of memory, a failure that the reader counted, or more bytes than are counted
+-- out of memory, a failure that the reader counted, or more bytes than are counted
 abbrev pub IsOutside : {X : Type 0} → named.Reader X → Option (List ℕ) → ℕ → ℕ → Error → Type 0
 IsOutside r left before after (DeReaderError Failed) = TooMany r left
 IsOutside r left before after e = IsReaderFault before after e
 
--- a reader is refused by the name of the first fault of the bytes left, where the type tells of names, or for a reason outside them
+-- the error of a reader is the first one of the bytes left, where the type says which, or has a
+-- reason outside them
 abbrev pub NamesReader : {R : Meaning} → ℕ → Option (Asking R) → Error → Option (List ℕ) → ℕ → ℕ → Type 0
 NamesReader n None e left before after = Unit {0}
 NamesReader n (Some a) e left before after =
     ((b : List ℕ) × MayCome left b × (named.message (a.asks 0 n node_due) b ≡ named.refuses e))
     ⊎ IsOutside (named.message (a.asks 0 n node_due)) left before after e
 
--- a refusal of a reader: no front of the bytes left is a message that the type reads, or memory was refused or the reader failed; a type that holds nothing lent is told of no loan
+-- the error of a reader: no prefix of the bytes left is a message that the type reads, or memory
+-- ran out or the reader failed; a type that borrows nothing never fails to borrow
 pub record RefusesReader (n : ℕ) (reads : Meaning) (asks : Option (Asking reads)) (e : Error) (left : Option (List ℕ)) (before after : ℕ) : Type 0 where
   pub may : IsRefusal e ⊎ IsReaderFault before after e
   pub names : NamesReader n asks e left before after
   pub excuse : (text rest : List ℕ) (c : Content) → ReadsMessageAs n reads text c → left ≡ Some (text ++ rest) → IsReaderFault before after e
 
--- the same of a reader before and after the call, by what is told of it
+-- the same of a reader before and after the call, by what its contract tells
 abbrev pub RefusesReading : {S : Type 0} → ℕ → (reads : Meaning) → Option (Asking reads) → (S → Option (List ℕ)) → (S → ℕ) → S → S → Error → Type 0
 RefusesReading n reads asks remaining failures old new e =
     RefusesReader n reads asks e (remaining old) (failures old) (failures new)

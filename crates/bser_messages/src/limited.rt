@@ -22,8 +22,9 @@ use std::alloc::Global;
 
 /// Reads one message as a value, within these limits, by a deserializer that has read nothing.
 ///
-/// Refused as [`read_message`](crate::message::read_message) is, and by [`Error::DeTooLong`] where
-/// the head announces a body of more than `limits.bytes` bytes. Then no byte of the body was taken.
+/// Fails as [`read_message`](crate::message::read_message) does, and with [`Error::DeTooLong`]
+/// where the header announces a body of more than `limits.bytes` bytes. Then no byte of the body
+/// was taken.
 pub fn read_limited<R: DeRead, T: Deserialize<R::Lent>>(
     alloc: Global,
     limits: Limits,
@@ -49,7 +50,7 @@ where
     }
 }
 
-/// Reads a message's head, which has to announce no more than the limit, and its value.
+/// Reads a message's header, which has to announce no more than the limit, and its value.
 fn read_body<R: DeRead, T: Deserialize<R::Lent>>(
     alloc: Global,
     limits: Limits,

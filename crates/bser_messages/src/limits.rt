@@ -8,7 +8,7 @@ use bser_deserializer::deserializer::LEVELS;
 pub struct Limits {
     /// The levels of containers, at most [`MOST_LEVELS`](bser_deserializer::deserializer::MOST_LEVELS) where a message is read.
     pub levels: usize,
-    /// The bytes of the body that a head may announce. The head itself is not counted.
+    /// The bytes of the body that a header may announce. The header itself is not counted.
     pub bytes: usize,
 }
 

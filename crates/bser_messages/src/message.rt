@@ -27,13 +27,15 @@ use bser_source::slice_read::SliceRead;
 use bser_types::deserialize::{Deserialize, DeserializeOwned};
 use std::alloc::Global;
 
-/// Reads a value from the message at the front of `bytes`, of at most 128 levels. What follows the
+/// Reads a value from the message at the start of `bytes`, of at most 128 levels. What follows the
 /// message is ignored.
 ///
-/// Answers a value exactly where a front of `bytes` is a well-formed message whose tree, templates
-/// written out, the type reads as that value. Refused else by the name of the first fault in the
-/// order of reading, or for want of memory, and that only after the message's head and of a type
-/// that takes memory.
+/// Answers a value exactly where a prefix of `bytes` is a well-formed message whose tree, templates
+/// written out, the type reads as that value. Else the error is the first one in the order of
+/// reading, or [`Error::OutOfMemory`]. Out of memory comes only after the message's header, and of
+/// a type that takes memory.
+///
+/// [`Error::OutOfMemory`]: bser_format::errors::Error::OutOfMemory
 pub fn from_slice<'de, T: Deserialize<&'de [u8]>>(alloc: Global, bytes: &'de [u8]) -> Result<T>
     ensures found { IfOk result (BeginsWith 128 T.reads T.holds bytes.now) }
     ensures refused { IfErr result (λ e. RefusesSlice 128 T.reads T.asks T.needs e bytes.now) }
@@ -42,7 +44,7 @@ pub fn from_slice<'de, T: Deserialize<&'de [u8]>>(alloc: Global, bytes: &'de [u8
     from_slice_within(alloc, LEVELS, bytes)
 }
 
-/// Reads a value from the message at the front of `bytes`, of at most `limit` levels.
+/// Reads a value from the message at the start of `bytes`, of at most `limit` levels.
 ///
 /// As [`from_slice`], with `limit` for 128.
 pub fn from_slice_within<'de, T: Deserialize<&'de [u8]>>(
@@ -61,11 +63,11 @@ pub fn from_slice_within<'de, T: Deserialize<&'de [u8]>>(
 
 /// Reads a value from the reader's next message, of at most 128 levels, and leaves what follows it.
 ///
-/// Answers a value exactly where a front of the bytes left is a well-formed message whose tree,
-/// templates written out, the type reads as that value, want of memory and faults that the reader
-/// counts aside. Refused else by the name of the first fault in the order of reading, or for want
-/// of memory, and that only after the message's head, and of a type that takes memory or reads bytes
-/// which are copied: never of `bool`, `()` or a number. After a refusal nothing is said of how far
+/// Answers a value exactly where a prefix of the bytes left is a well-formed message whose tree,
+/// templates written out, the type reads as that value, unless memory runs out or the reader counts
+/// an I/O error. Else the error is the first one in the order of reading, or out of memory. Out of
+/// memory comes only after the message's header, and of a type that takes memory or reads bytes
+/// which are copied: never of `bool`, `()` or a number. After an error nothing is said of how far
 /// the reader went.
 pub fn from_reader<S: Source, T: DeserializeOwned>(alloc: Global, reader: &mut S) -> Result<T>
     ensures found { IfOk result
@@ -104,7 +106,7 @@ pub fn from_reader_within<S: Source, T: DeserializeOwned>(
 
 /// Reads one message as a value, by a deserializer that has read nothing.
 ///
-/// Refused as [`from_slice_within`] and [`from_reader_within`] are.
+/// Fails as [`from_slice_within`] and [`from_reader_within`] do.
 pub fn read_message<R: DeRead, T: Deserialize<R::Lent>>(
     alloc: Global,
     limit: usize,

@@ -1,4 +1,5 @@
--- What reading a type does with the bytes left: the first refusal in the order of reading, the type's own refusals among them.
+-- What reading a type does with the bytes left: the first error in the order of reading, the type's
+-- own errors among them.
 use Rattle.std.specs.Prelude.{ℕ, zero, suc, ℤ, Bool, true, false, ◌||◌, List, [], ◌∷◌, length, Option, Some, None, bytes_eq, chars, ◌==◌, if◌then◌else◌}
 use Rattle.bser_format.specs.ReadsScalars.{is_unsigned}
 use Rattle.bser_format.specs.Expected.{Due, nothing_due, node_due, key_due, field_due, name_due, row_due, WantedItems, nodes, rows_over, WantedPairs, entries_of_object, fields_of_row}
@@ -8,7 +9,8 @@ use Rattle.bser_format.specs.declared.errors.name.EnumName.{EnumName}
 use Rattle.bser_named.specs.Named.{Answer, reads, refuses, Reader, give, refuse, ◌>>=◌, complain, string_of, text_of, field_of, many, with_text_keys}
 use Rattle.bser_named.specs.DueReaders.{Seen, tag, wrong_type, seen, asked, bool_at, integer_at, real_at, unit_at, bytes_at, text_at, items_at, pairs_at, less_one, variant_due}
 
--- what reading a type does, by how many containers are open, how many levels are left and what is due
+-- what reading a type does, by how many containers are open, how many levels are left and what is
+-- expected
 abbrev pub Asks : Type 0
 Asks = ℕ → ℕ → Due → Reader Unit
 
@@ -70,7 +72,7 @@ asks_any o n nothing_due = asked unit_at o nothing_due
 
 -- ---- types that hold others
 
--- what stands there tells which of two ways is taken, from the same byte on
+-- what is there says which of two ways is taken, from the same byte on
 abbrev pub by_sight : (Seen → Bool) → Reader Unit → Reader Unit → Answer Seen → Reader Unit
 by_sight is r s (reads x c) b = if is x then r b else s b
 by_sight is r s (refuses e) b = refuses e
@@ -85,7 +87,7 @@ abbrev pub is_sequence : Seen → Bool
 is_sequence (tag t) = (t == 0x00) || (t == 0x0b)
 is_sequence _ = false
 
--- nothing where null or a skip stands, else what A reads
+-- nothing at null or a skip, else what A reads
 abbrev pub asks_option : Asks → Asks
 asks_option A o n d b = by_sight is_null (asks_unit o n d) (A o n d) (seen o d b) b
 
@@ -158,7 +160,7 @@ required_field A = record { optional = false; type = A; found = false }
 abbrev pub optional_field : Asks → Field
 optional_field A = record { optional = true; type = asks_option A; found = false }
 
--- the first place where the name stands, counted from i, if it does
+-- the first place of the name, counted from i, if it has one
 abbrev pub place_of : ℕ → List (List ℕ) → List ℕ → Option ℕ
 place_of i [] k = None
 place_of i (l ∷ ls) k = if bytes_eq l k then Some i else place_of (suc i) ls k
@@ -228,7 +230,7 @@ abbrev pub payload_asked : Option Asks → Asks
 payload_asked None = asks_unit
 payload_asked (Some A) = A
 
--- an object stands there
+-- an object is there
 abbrev pub is_object : Answer Seen → Bool
 is_object (reads (tag t) c) = t == 0x01
 is_object _ = false

@@ -1,4 +1,5 @@
--- What each call that reads does with the bytes left: what it takes, or the first refusal in the order of reading.
+-- What each call that reads does with the bytes left: what it takes, or the first error in the
+-- order of reading.
 use Rattle.std.specs.Prelude.{ℕ, zero, suc, ℤ, Bool, true, false, ◌&&◌, ◌||◌, nat_lt, List, [], ◌∷◌, bytes_eq, ◌==◌, if◌then◌else◌}
 use Rattle.std.specs.Int.{w64, from_le_bytes}
 use Rattle.bser_format.specs.Plain.{is_positive}
@@ -11,7 +12,7 @@ use Rattle.bser_format.specs.declared.errors.Complaint.TheVariants.{WrongType, T
 use Rattle.bser_format.specs.declared.errors.name.EnumName.{EnumName}
 use Rattle.bser_named.specs.Named.{Reader, give, refuse, ◌>>=◌, complain, next, front, many, int_after, count, string, utf8, string_after, text_of, within}
 
--- what stands where something is due: a tag, the key of a row's field, or a row
+-- what is where something is expected: a tag, the key of a row's field, or a row
 pub data Seen : Type 0 where
   tag : ℕ → Seen
   name : List ℕ → Seen
@@ -21,7 +22,7 @@ pub data Seen : Type 0 where
 abbrev pub wrong_type : Error
 wrong_type = complain WrongType
 
--- nothing is due: a container is open, or the value was read
+-- nothing is expected: a container is open, or the value was read
 abbrev pub nothing_here : ℕ → Error
 nothing_here zero = complain TooFewItems
 nothing_here (suc opened) = complain ValueOpen
@@ -42,7 +43,7 @@ is_key_tag t = (t == 0x02) || (t == 0x0d)
 abbrev pub key_tag : ℕ → Reader Seen
 key_tag t = if is_key_tag t then give (tag t) else refuse (DeInvalidStartByte MapKey t)
 
--- what stands where this is due, with so many containers open
+-- what is where this is expected, with so many containers open
 abbrev pub seen : ℕ → Due → Reader Seen
 seen opened nothing_due = refuse (nothing_here opened)
 seen opened node_due = next >>= value_tag false
@@ -51,7 +52,7 @@ seen opened key_due = next >>= key_tag
 seen opened (name_due k) = give (name k)
 seen opened (row_due ks) = give (row ks)
 
--- what is due, asked for as k reads it
+-- what is expected, asked for as k reads it
 abbrev pub asked : {X : Type 0} → (Seen → Reader X) → ℕ → Due → Reader X
 asked k opened d = seen opened d >>= k
 
@@ -59,7 +60,7 @@ asked k opened d = seen opened d >>= k
 abbrev pub nothing_at : Seen → Reader Unit
 nothing_at s = refuse wrong_type
 
--- the refusal of a tag of another kind than is asked for
+-- the error of a tag of another kind than is asked for
 abbrev pub stray_at : Due → ℕ → Error
 stray_at node_due t = if is_tag false t then wrong_type else DeInvalidStartByte NextItem t
 stray_at field_due t = if is_tag true t then wrong_type else DeInvalidStartByte NextItem t
@@ -134,7 +135,7 @@ pairs_at levels (row ks) = give (fields_of_row ks)
 
 -- ---- enums
 
--- the first place where the name stands, counted from i
+-- the first place of the name, counted from i
 abbrev pub place_from : ℕ → List (List ℕ) → List ℕ → Reader ℕ
 place_from i [] s = refuse (complain UnknownVariant)
 place_from i (v ∷ vs) s = if bytes_eq v s then give i else place_from (suc i) vs s
@@ -154,7 +155,7 @@ abbrev pub variant_of_row : List (List ℕ) → List (List ℕ) → Reader ℕ
 variant_of_row vs (k ∷ []) = place_from 0 vs k
 variant_of_row vs _ = refuse (complain EnumObjectEntries)
 
--- the place of an enum's variant, where this is due
+-- the place of an enum's variant, where this is expected
 abbrev pub variant_due : EnumName → ℕ → ℕ → List (List ℕ) → Due → Reader ℕ
 variant_due enum opened levels vs nothing_due = refuse (nothing_here opened)
 variant_due enum opened levels vs node_due = next >>= variant_after enum levels vs

@@ -1,4 +1,5 @@
--- The value at the front of a byte list and what follows it, or the first refusal in the order of reading: a plain program for the format.
+-- The value at the start of a byte list and what follows it, or the first error in the order of
+-- reading: a plain program for the format.
 use Rattle.std.specs.Prelude.{ℕ, zero, suc, ◌+◌, ◌-◌, ◌^◌, ℤ, pos, negsuc, Bool, true, false, List, [], ◌∷◌, length, take, drop, Option, Some, None, bytes_eq, nat_lt, ◌==◌, if◌then◌else◌}
 use Rattle.std.specs.Int.{w32, w64, from_le_bytes, cast_signed, byte_len}
 use Rattle.std.specs.Str.{is_utf8}
@@ -19,7 +20,7 @@ pub data Answer (X : Type 0) : Type 0 where
   reads : X → List ℕ → Answer X
   refuses : Error → Answer X
 
--- what takes the front of a byte list, or refuses
+-- what takes the start of a byte list, or gives an error
 abbrev pub Reader : Type 0 → Type 0
 Reader X = List ℕ → Answer X
 
@@ -27,21 +28,21 @@ Reader X = List ℕ → Answer X
 abbrev pub give : {X : Type 0} → X → Reader X
 give x b = reads x b
 
--- a refusal, whatever the bytes are
+-- an error, whatever the bytes are
 abbrev pub refuse : {X : Type 0} → Error → Reader X
 refuse e b = refuses e
 
--- what reads on after an answer, where it is no refusal
+-- what reads on after an answer, where it is no error
 abbrev pub and_then : {X Y : Type 0} → (X → Reader Y) → Answer X → Answer Y
 and_then k (reads x b) = k x b
 and_then k (refuses e) = refuses e
 
--- one reader after the other, the first refusal being the answer
+-- one reader after the other, the first error being the answer
 infixl 10 ◌>>=◌
 abbrev pub ◌>>=◌ : {X Y : Type 0} → Reader X → (X → Reader Y) → Reader Y
 (r >>= k) b = and_then k (r b)
 
--- ---- the refusals
+-- ---- the errors
 
 -- the bytes end too early
 abbrev pub eof : Error
@@ -51,7 +52,7 @@ eof = DeReaderError Eof
 abbrev pub utf8_wanted : Error
 utf8_wanted = DeReaderError Utf8
 
--- a refusal with a fixed complaint
+-- an error with a fixed complaint
 abbrev pub complain : Complaint → Error
 complain c = DeCustom (Fixed c)
 
@@ -80,11 +81,11 @@ number s = do
   b ← front (byte_len (width_of s))
   give (cast_signed (width_of s) (from_le_bytes (width_of s) b))
 
--- an integer after its tag, another being refused so
+-- an integer after its tag, another giving this error
 abbrev pub int_after : Error → ℕ → Reader ℤ
 int_after e tag = if tag == 0x03 then number int8 else if tag == 0x04 then number int16 else if tag == 0x05 then number int32 else if tag == 0x06 then number int64 else refuse e
 
--- an integer where a length or a count stands
+-- an integer where a length or a count is
 abbrev pub int : Reader ℤ
 int = next >>= λ tag. int_after (DeInvalidStartByte Integer tag) tag
 
@@ -109,7 +110,7 @@ string = size >>= front
 abbrev pub utf8 : List ℕ → Reader (List ℕ)
 utf8 s = if is_utf8 s then give s else refuse utf8_wanted
 
--- a string after either tag, another being refused so
+-- a string after either tag, another giving this error
 abbrev pub string_after : Error → ℕ → Reader (List ℕ)
 string_after e tag = if tag == 0x02 then string else if tag == 0x0d then (string >>= utf8) else refuse e
 
@@ -205,7 +206,7 @@ with_text_keys = value (text_of MapKey)
 abbrev pub magic : Reader (List ℕ)
 magic = front 2 >>= λ s. if bytes_eq s (0x00 ∷ 0x02 ∷ []) then give s else refuse (DeInvalidMagic s)
 
--- a message's head: its capabilities, and the length of its body
+-- a message's header: its capabilities, and the length of its body
 abbrev pub head : Reader (ℕ × ℕ)
 head = do
   m ← magic

@@ -9,15 +9,15 @@ use Rattle.bser_format.specs.declared.errors.Error.{Error}
 use Rattle.bser_format.specs.Message.{IsMessage}
 use Rattle.bser_named.specs.Named.{any, with_text_keys, message, reads, refuses}
 
--- a tree is read exactly where a front of the bytes spells it
+-- a tree is read exactly where a prefix of the bytes spells it
 abbrev pub ReadsWhatIsSpelled : Type 0
 ReadsWhatIsSpelled = (n : ℕ) (b y : List ℕ) (t : Tree) → AllByRecursion (λ x. x < 256) b → (any n b ≡ reads t y) ↔ ((a : List ℕ) × (b ≡ a ++ y) × Spells n t a)
 
--- there is a refusal exactly where no front of the bytes spells a tree
+-- there is an error exactly where no prefix of the bytes spells a tree
 abbrev pub RefusesTheRest : Type 0
 RefusesTheRest = (n : ℕ) (b : List ℕ) → AllByRecursion (λ x. x < 256) b → ((e : Error) × (any n b ≡ refuses e)) ↔ ((a y : List ℕ) (t : Tree) → b ≡ a ++ y → Spells n t a → ⊥)
 
--- a message is read exactly where a front of the bytes is one
+-- a message is read exactly where a prefix of the bytes is one
 abbrev pub ReadsMessages : Type 0
 ReadsMessages = (n c : ℕ) (b y : List ℕ) (t : Tree) → AllByRecursion (λ x. x < 256) b → (message (any n) b ≡ reads (c, t) y) ↔ ((a : List ℕ) × (b ≡ a ++ y) × IsMessage n c t a)
 
@@ -27,18 +27,18 @@ ReadsMessages = (n c : ℕ) (b y : List ℕ) (t : Tree) → AllByRecursion (λ x
 abbrev pub HasTextKeys : Tree → Type 0
 HasTextKeys t = has_utf8_keys (expand t) ≡ true
 
--- a tree is read exactly where a front of the bytes spells it and all its keys are UTF-8
+-- a tree is read exactly where a prefix of the bytes spells it and all its keys are UTF-8
 abbrev pub ReadsTextKeys : Type 0
 ReadsTextKeys = (n : ℕ) (b y : List ℕ) (t : Tree) → AllByRecursion (λ x. x < 256) b → (with_text_keys n b ≡ reads t y) ↔ ((a : List ℕ) × (b ≡ a ++ y) × Spells n t a × HasTextKeys t)
 
--- there is a refusal exactly where no front of the bytes spells a tree all of whose keys are UTF-8
+-- there is an error exactly where no prefix of the bytes spells a tree all of whose keys are UTF-8
 abbrev pub RefusesOtherKeys : Type 0
 RefusesOtherKeys = (n : ℕ) (b : List ℕ) → AllByRecursion (λ x. x < 256) b → ((e : Error) × (with_text_keys n b ≡ refuses e)) ↔ ((a y : List ℕ) (t : Tree) → b ≡ a ++ y → Spells n t a → HasTextKeys t → ⊥)
 
--- a message is read exactly where a front of the bytes is one and all keys of its tree are UTF-8
+-- a message is read exactly where a prefix of the bytes is one and all keys of its tree are UTF-8
 abbrev pub ReadsTextKeyMessages : Type 0
 ReadsTextKeyMessages = (n c : ℕ) (b y : List ℕ) (t : Tree) → AllByRecursion (λ x. x < 256) b → (message (with_text_keys n) b ≡ reads (c, t) y) ↔ ((a : List ℕ) × (b ≡ a ++ y) × IsMessage n c t a × HasTextKeys t)
 
--- there is a refusal exactly where no front of the bytes is a message all of whose keys are UTF-8
+-- there is an error exactly where no prefix of the bytes is a message all of whose keys are UTF-8
 abbrev pub RefusesOtherMessages : Type 0
 RefusesOtherMessages = (n : ℕ) (b : List ℕ) → AllByRecursion (λ x. x < 256) b → ((e : Error) × (message (with_text_keys n) b ≡ refuses e)) ↔ ((a y : List ℕ) (c : ℕ) (t : Tree) → b ≡ a ++ y → IsMessage n c t a → HasTextKeys t → ⊥)

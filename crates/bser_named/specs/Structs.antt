@@ -52,7 +52,7 @@ abbrev pub fill_all : List (List ℕ) → List Slot → List (List ℕ × Tree) 
 fill_all names ss [] = Some ss
 fill_all names ss (e ∷ es) = option_and_then (λ more. fill_all names more es) (fill_entry names ss e)
 
--- what was read of a field, or else what stands for an absent one
+-- what was read of a field, or else what takes the place of an absent one
 abbrev pub or_absent : Option Content → Option Content → Option Content
 or_absent None absent = absent
 or_absent (Some c) absent = Some c

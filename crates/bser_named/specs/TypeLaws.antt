@@ -13,7 +13,7 @@ use Rattle.bser_format.specs.declared.errors.name.EnumName.{EnumName}
 use Rattle.bser_named.specs.Named.{message, reads}
 use Rattle.bser_named.specs.Asks.{Asks, asks_bool, asks_real, asks_unit, asks_integer, asks_bytes, asks_string, asks_char, asks_any, asks_option, asks_vec, asks_byte_string, asks_tuple, asks_map, Payloads, asks_enum}
 
--- bytes that are due and that R reads, A passes over, whatever follows them
+-- bytes that are expected and that R reads, A passes over, whatever follows them
 abbrev pub Passes : Asks → Meaning → Type 0
 Passes A R = (o n : ℕ) (d : Due) (u : Tree) (c : Content) (b x : List ℕ) → Fills n d u b → R u ≡ Some c → A o n d (b ++ x) ≡ reads tt x
 
@@ -73,7 +73,7 @@ PassesTuples = (As : List Asks) (Ts : List Meaning) → PassEach As Ts → Passe
 abbrev pub PassesMaps : Type 0
 PassesMaps = (K V : Asks) (S T : Meaning) → Passes K S → Passes V T → Passes (asks_map K V) (reads_map S T)
 
--- ---- whatever stands there
+-- ---- whatever is there
 
 -- a `Value` that is read is passed over
 abbrev pub PassesValues : Type 0

@@ -31,7 +31,7 @@ abbrev pub Ends : {S : Type 0} → Tells S → Result (List ℕ) Error → Seria
 Ends sink (Err e) old new = ⊥
 Ends sink (Ok text) old new = Sent sink old new text
 
--- a beginning of the text was put, and then a put was refused, with an excuse
+-- a beginning of the text was put, and then a put failed, with an excuse
 pub record Broken {S : Type 0} (sink : Tells S) (text : List ℕ) (old new : Serializer S) (e : Error) : Type 0 where
   pub front : List ℕ
   pub rest : List ℕ
@@ -39,13 +39,14 @@ pub record Broken {S : Type 0} (sink : Tells S) (text : List ℕ) (old new : Ser
   pub refused : Refused sink old new front e
   pub excuse : IsExcuse e
 
--- something was put before the refusal, which is for this reason or with an excuse
+-- something was put before the error, which is this one or has an excuse
 pub record Tried {S : Type 0} (sink : Tells S) (reason : Error) (old new : Serializer S) (e : Error) : Type 0 where
   pub front : List ℕ
   pub refused : Refused sink old new front e
   pub why : (e ≡ reason) ⊎ IsExcuse e
 
--- a refusal: without a text something was put, and the reason is why there is none, or an excuse; else a beginning of it was put, with an excuse
+-- an error: without a text something was put, and the error says why there is none, or has an
+-- excuse; else a beginning of it was put, with an excuse
 abbrev pub Stops : {S : Type 0} → Tells S → Result (List ℕ) Error → Serializer S → Serializer S → Error → Type 0
 Stops sink (Err reason) old new e = Tried sink reason old new e
 Stops sink (Ok text) old new e = Broken sink text old new e
@@ -54,6 +55,6 @@ Stops sink (Ok text) old new e = Broken sink text old new e
 abbrev pub AddsText : {S A E : Type 0} → Tells S → Serializer S → Serializer S → List ℕ → Result A E → Type 0
 AddsText sink old new text r = MatchResult r (λ _. Sent sink old new text) (λ _. Broken sink text old new (refusal_of new))
 
--- the text of a tree was put, or something was put before a refusal, of which the serializer keeps the reason
+-- the text of a tree was put, or something was put before an error, which the serializer keeps
 abbrev pub AddsTree : {S A E : Type 0} → Tells S → Serializer S → Serializer S → Result Tree Error → Result A E → Type 0
 AddsTree sink old new m r = MatchResult r (λ _. Ends sink (text_of m) old new) (λ _. Stops sink (text_of m) old new (refusal_of new))

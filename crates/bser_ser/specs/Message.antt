@@ -11,7 +11,7 @@ use Rattle.bser_ser.specs.Sent.{IsExcuse, IsFlushed, IsTooMany}
 use Rattle.bser_ser.specs.Stopped.{Tells, Takes, Accounts}
 use Rattle.bser_ser.specs.declared.serializer.Serializer.{Serializer}
 
--- what stands before a body of this length
+-- the header of a body of this length
 abbrev pub front_of : ℤ → List ℕ
 front_of len = 0x00 ∷ 0x02 ∷ (to_le_bytes w32 0 ++ least_integer len)
 
@@ -32,12 +32,13 @@ PutsMessage sink m old new r = MatchResult r (λ _. Ends sink (message_of m) old
 abbrev pub SendsMessage : {S A : Type 0} → Tells S → Result Tree Error → Serializer S → Serializer S → Result A Error → Type 0
 SendsMessage sink m old new r = MatchResult r (λ _. Ends sink (message_of m) old new × IsFlushed new) (λ e. Stops sink (message_of m) old new e)
 
--- a refusal that is no writer's fault
+-- an error that is not the writer's
 abbrev pub IsNoFault : Error → Type 0
 IsNoFault (Io e) = ⊥
 IsNoFault _ = ⊤
 
--- why a value has no length: what says that it has no tree, a body too long for an i64, or want of memory
+-- why a value has no length: the error that says why it has no tree, a body too long for an i64, or
+-- out of memory
 abbrev pub IsUnmeasured : Result Tree Error → Error → Type 0
 IsUnmeasured (Err reason) e = IsNoFault e × ((e ≡ reason) ⊎ (e ≡ OutOfMemory))
 IsUnmeasured (Ok t) e = (e ≡ OutOfMemory) ⊎ IsTooMany (length (canonical_body t)) e
@@ -62,6 +63,6 @@ abbrev pub Broke : {S : Type 0} → Tells S → Result Tree Error → S → S �
 Broke sink (Err reason) old new e = ⊥
 Broke sink (Ok t) old new e = Partly sink (canonical_message t) old new e
 
--- a refusal: of the measuring, with the writer as it was, or a message that broke off
+-- an error: of the measuring, with the writer as it was, or of a message that broke off
 abbrev pub Missed : {S : Type 0} → Tells S → Result Tree Error → S → S → Error → Type 0
 Missed sink m old new e = (IsUnmeasured m e × (new ≡ old)) ⊎ Broke sink m old new e

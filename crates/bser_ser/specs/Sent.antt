@@ -20,12 +20,12 @@ writer_of s = s.writer
 abbrev pub pending_of : {S : Type 0} → Serializer S → List ℕ
 pending_of s = s.pending.items
 
--- a fault of the writer, or else want of memory
+-- an error of the writer, or else out of memory
 abbrev pub reason : Option io.Error → Error
 reason None = OutOfMemory
 reason (Some fault) = Io fault
 
--- why the last put was refused, and want of memory before the first
+-- the error of the last put that failed, and out of memory before the first
 abbrev pub refusal_of : {S : Type 0} → Serializer S → Error
 refusal_of s = reason s.fault
 
@@ -41,7 +41,7 @@ pub record Sent {S : Type 0} (sink : Tells S) (old new : Serializer S) (bytes : 
   pub kept : sink.failures (writer_of new) ≡ sink.failures (writer_of old)
   pub reason_kept : KeepsReason old new
 
--- after these bytes a put was refused, and where that was the writer's fault, it is the writer's answer
+-- after these bytes a put failed, and where the error is the writer's, it is the writer's answer
 pub record Refused {S : Type 0} (sink : Tells S) (old new : Serializer S) (bytes : List ℕ) (e : Error) : Type 0 where
   pub taken : List ℕ
   pub took_it : sink.took (writer_of old) (writer_of new) taken
@@ -52,13 +52,13 @@ pub record Refused {S : Type 0} (sink : Tells S) (old new : Serializer S) (bytes
 abbrev pub NotPut : {S : Type 0} → Tells S → Serializer S → Serializer S → Type 0
 NotPut sink old new = Refused sink old new [] (refusal_of new)
 
--- want of memory, or a fault of the writer
+-- out of memory, or an error of the writer
 abbrev pub IsExcuse : Error → Type 0
 IsExcuse OutOfMemory = ⊤
 IsExcuse (Io e) = ⊤
 IsExcuse _ = ⊥
 
--- over this writer, nothing is pending, and nothing was refused
+-- over this writer, nothing is pending, and nothing failed
 abbrev pub IsNew : {S : Type 0} → Serializer S → S → Type 0
 IsNew s w = (writer_of s ≡ w) × (pending_of s ≡ []) × (refusal_of s ≡ OutOfMemory)
 
@@ -74,7 +74,7 @@ Finishes sink s writer = Takes sink (writer_of s) writer (pending_of s)
 abbrev pub string_piece : ℕ → List ℕ → List ℕ
 string_piece tag bytes = tag ∷ (least_count (length bytes) ++ bytes)
 
--- a variant's head, and its payload's tag and count
+-- the beginning of a variant, and its payload's tag and count
 abbrev pub payload_head : List ℕ → ℕ → ℤ → List ℕ
 payload_head name tag n = newtype_variant_head name ++ tag ∷ least_integer n
 
@@ -127,6 +127,7 @@ abbrev pub count_or_zero : Option ℕ → ℕ
 count_or_zero None = 0
 count_or_zero (Some n) = n
 
--- a put appends the head of so many items or entries, or, where they are miscounted or with an excuse, nothing
+-- a put appends the tag and count of so many items or entries, or, where they are miscounted or
+-- with an excuse, nothing
 abbrev pub PutsHead : {S A : Type 0} → Collection → (ℕ → List ℕ) → Tells S → Serializer S → Serializer S → Option ℕ → Result A Error → Type 0
 PutsHead kind head sink old new count r = PutsOr (IsMiscounted kind count) sink old new (head (count_or_zero count)) r

@@ -1,4 +1,4 @@
-//! The puts of a serializer that keep the reason of a refusal in it.
+//! The puts of a serializer that keep the error in it.
 ghost use Rattle.std.specs.Prelude.{◌≡◌, ◌<◌, ◌≤◌, ◌^◌, ◌∷◌, ◌++◌, [], length, take};
 ghost use Rattle.bser_format.specs.Canonical.{least_integer, least_count};
 ghost use Rattle.bser_written.specs.Pieces.{null_piece, bool_piece, integer_piece, real_piece, text_piece, bytes_piece, key_piece, array_head, object_head, template_tag, newtype_variant_head};
@@ -17,14 +17,14 @@ use bser_source::device::Sink;
 use byteorder::{ByteOrder, LittleEndian};
 use std::result::Result;
 
-/// What puts a value of many parts, and hands no error from part to part: a [`Serializer`]. It is a
-/// trait only so that the crates above can call what users are not handed.
+/// What puts a value of many parts, and passes no error from part to part: a [`Serializer`]. It is
+/// a trait only so that the crates above can call what users do not get.
 ///
-/// Each call does what the put of its name does. Where it is refused it answers [`PutRefused`], and
-/// [`refusal`](Self::refusal) tells why: the fault that the writer answered at this call (`Io`), or
-/// `OutOfMemory`. Every other call keeps that reason.
+/// Each call does what the put of its name does. Where it fails it answers [`PutRefused`], and
+/// [`refusal`](Self::refusal) gives the error: the writer's own at this call (`Io`), or
+/// `OutOfMemory`. Every other call keeps that error.
 pub trait Parts {
-    /// Why the last call that answered [`PutRefused`] did so, and `OutOfMemory` before the first.
+    /// The error of the last call that answered [`PutRefused`], and `OutOfMemory` before the first.
     fn refusal(&self) -> Error;
 
     /// Puts null.
@@ -48,17 +48,16 @@ pub trait Parts {
     /// Puts an object's key that is a text, as [`put_key`](Serializer::put_key) does.
     fn add_text_key(&mut self, key: &str) -> Result<(), PutRefused>;
 
-    /// Puts an array's head; the items follow.
+    /// Puts an array's tag and count; the items follow.
     fn add_seq(&mut self, count: usize) -> Result<(), PutRefused>
         requires { count < 2 ^ 63 };
 
-    /// Puts an object's head; for each entry its key and its value follow.
+    /// Puts an object's tag and count; for each entry its key and its value follow.
     fn add_map(&mut self, count: usize) -> Result<(), PutRefused>
         requires { count < 2 ^ 63 };
 
-    /// Puts a template's tag. The rest of its head follows: [`add_seq`](Self::add_seq) for the
-    /// count of its keys, each key as a text, and the count of its rows as an integer; then the
-    /// fields of each row.
+    /// Puts a template's tag. What follows is [`add_seq`](Self::add_seq) for the count of its keys,
+    /// each key as a text, and the count of its rows as an integer; then the fields of each row.
     fn add_template(&mut self) -> Result<(), PutRefused>;
 }
 
@@ -155,7 +154,7 @@ impl<W: Sink> Parts for Serializer<W> {
 
 /// What these calls are made of.
 impl<W: Sink> Serializer<W> {
-    /// Puts the head of an enum's variant with one value.
+    /// Puts the beginning of an enum's variant with one value.
     pub(crate) fn add_variant(&mut self, name: &str) -> Result<(), PutRefused>
         ensures { Adds W.Sink self.old self.new (newtype_variant_head name.now) result }
     {
@@ -166,7 +165,7 @@ impl<W: Sink> Serializer<W> {
         }
     }
 
-    /// Puts a variant's head, and its payload's tag and count.
+    /// Puts the beginning of a variant, and its payload's tag and count.
     pub(crate) fn add_variant_of(
         &mut self,
         name: &str,
@@ -182,7 +181,7 @@ impl<W: Sink> Serializer<W> {
         }
     }
 
-    /// Puts the front of a message whose body has this many bytes.
+    /// Puts the header of a message whose body has this many bytes.
     pub(crate) fn add_front(&mut self, body: i64) -> Result<(), PutRefused>
         ensures { Adds W.Sink self.old self.new (front_of body) result }
     {

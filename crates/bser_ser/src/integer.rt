@@ -9,7 +9,7 @@ use byteorder::{ByteOrder, LittleEndian};
 /// The most bytes that an integer takes: its tag and eight bytes.
 pub const LONGEST: usize = 9;
 
-/// Writes the least spelling of `v` to the front of `buf`, and answers how many bytes it takes.
+/// Writes the least spelling of `v` to the start of `buf`, and answers how many bytes it takes.
 #[inline]
 pub fn spell(buf: &mut [u8], v: i64) -> usize
     requires { LONGEST ≤ length buf.old }

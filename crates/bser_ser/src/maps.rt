@@ -1,4 +1,4 @@
-//! Maps, whose entries stand in rising byte order of their keys.
+//! Maps, whose entries are written in rising byte order of their keys.
 ghost use Rattle.std.specs.Prelude.{string_bytes};
 ghost use Rattle.bser_written.specs.Written.{object_tree, plain_bytes};
 

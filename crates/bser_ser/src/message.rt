@@ -12,15 +12,15 @@ use bser_source::count::CountWrite;
 use bser_source::device::Sink;
 use std::alloc::Global;
 
-/// Writes one message with the value as its body, to a writer that is lent.
+/// Writes one message with the value as its body, to a borrowed writer.
 ///
-/// The value is gone through twice: once to measure its body, and once to write it; the body
-/// is not kept. Where measuring refuses, the writer has taken nothing: the value has no tree, and
-/// the error is the one that its type's `meaning` names, as `SerU64TooBig` for a `u64` above
-/// `i64::MAX`; its body is longer than `i64::MAX` bytes (`SerCustom` `CountTooGreat`); or memory is
-/// refused (`OutOfMemory`). Writing itself refuses with the writer's own fault (`Io`), of kind
-/// `WriteZero` where it took nothing, or for memory; the writer has then taken a beginning of the
-/// message. It counts a failure only for an `Io`.
+/// The value is gone through twice: once to measure its body, and once to write it; the body is not
+/// kept. Where measuring fails, the writer has taken nothing. Then the value has no tree, and the
+/// error is the one that its type's `meaning` gives, as `SerU64TooBig` for a `u64` above
+/// `i64::MAX`; its body is longer than `i64::MAX` bytes (`SerCustom` `CountTooGreat`); or memory
+/// runs out (`OutOfMemory`). Writing itself fails with the writer's own error (`Io`), of kind
+/// `WriteZero` where it took nothing, or with `OutOfMemory`; the writer has then taken a beginning
+/// of the message. It counts a failure only for an `Io`.
 pub fn serialize_to<W: Sink, T: Serialize>(alloc: Global, writer: &mut W, value: &T) -> Result<()>
     ensures ok { OnOk result (Wrote W.Sink (T.meaning value.now) writer.old writer.new) }
     ensures err { IfErr result (Missed W.Sink (T.meaning value.now) writer.old writer.new) }
@@ -32,9 +32,9 @@ pub fn serialize_to<W: Sink, T: Serialize>(alloc: Global, writer: &mut W, value:
     sent
 }
 
-/// Writes one message with the value as its body, and hands the writer back either way.
+/// Writes one message with the value as its body, and gives the writer back either way.
 ///
-/// Refusals are those of [`serialize_to`], which is the call for a writer that is lent: a proof
+/// The errors are those of [`serialize_to`], which is the call for a borrowed writer: a proof
 /// cannot follow a `&mut` through this one.
 pub fn serialize<W: Sink, T: Serialize>(
     alloc: Global,
@@ -72,7 +72,7 @@ fn measure<T: Serialize>(alloc: Global, value: &T) -> Result<i64>
     }
 }
 
-/// Puts the front and the body, and sends all.
+/// Puts the header and the body, and sends all.
 fn send_message<W: Sink, T: Serialize>(
     alloc: Global,
     out: &mut Serializer<W>,
@@ -88,7 +88,7 @@ fn send_message<W: Sink, T: Serialize>(
     Ok(())
 }
 
-/// Puts the front and the body.
+/// Puts the header and the body.
 fn put_message<W: Sink, T: Serialize>(
     alloc: Global,
     out: &mut Serializer<W>,

@@ -52,7 +52,7 @@ pub fn append_head(pending: &mut Vec<u8>, tag: u8, count: i64) -> Result<(), All
     pending.extend_from_slice(&head[..len + 1])
 }
 
-/// Appends an object's head for one entry, and the entry's key, or nothing.
+/// Appends an object's tag and count for one entry, and the entry's key, or nothing.
 pub fn append_variant(pending: &mut Vec<u8>, name: &str) -> Result<(), AllocError>
     ensures { Appends pending.old.items pending.new.items (newtype_variant_head name.now) result }
 {
@@ -67,7 +67,7 @@ pub fn append_variant(pending: &mut Vec<u8>, name: &str) -> Result<(), AllocErro
     Ok(())
 }
 
-/// Appends a variant's head, and its payload's tag and count, or nothing.
+/// Appends the beginning of a variant, and its payload's tag and count, or nothing.
 pub fn append_variant_of(
     pending: &mut Vec<u8>,
     name: &str,
@@ -85,10 +85,10 @@ pub fn append_variant_of(
     Ok(())
 }
 
-/// Sends all that is pending. After a fault the bytes that the writer has not taken are pending.
+/// Sends all that is pending. After an error the bytes that the writer has not taken are pending.
 ///
-/// The fault is the writer's own, or of kind `WriteZero` where it took nothing. Where none is
-/// answered, none was counted, and else one.
+/// The error is the writer's own, or of kind `WriteZero` where it took nothing. Where none is
+/// answered, no failure was counted, and else one.
 pub fn send<W: Sink>(writer: &mut W, pending: &mut Vec<u8>) -> io::Result<()>
     ensures sent { TookAllBut W.Sink writer.old writer.new pending.old.items pending.new.items }
     ensures ok { OnOk result (pending.new.items ≡ []) }

@@ -12,12 +12,12 @@ use bser_format::errors::{Collection, Complaint, Error, Result};
 use bser_format::header::{BSER_ARRAY, BSER_OBJECT};
 use bser_source::device::Sink;
 
-/// Each put appends its piece, or nothing where it is refused.
+/// Each put appends its piece, or nothing where it fails.
 ///
-/// A put sends first where more than 4096 bytes are pending, and hands the writer's fault on as
+/// A put sends first where more than 4096 bytes are pending, and passes the writer's error on as
 /// `Io`: it is what the writer answered, or of kind `WriteZero` where it took nothing, and is not
-/// tried again. A growth that is refused is `OutOfMemory`. Other refusals stand at each put. The
-/// writer counts one failure for an `Io`, and none where a put succeeds or is refused otherwise.
+/// tried again. An allocation that fails is `OutOfMemory`. Other errors are named at each put. The
+/// writer counts one failure for an `Io`, and none where a put succeeds or fails otherwise.
 impl<W: Sink> Serializer<W> {
     /// Puts null.
     pub fn put_null(&mut self) -> Result<()>
@@ -49,7 +49,7 @@ impl<W: Sink> Serializer<W> {
         }
     }
 
-    /// Puts an integer in its least size. One above `i64::MAX` is refused with `SerU64TooBig`.
+    /// Puts an integer in its least size. One above `i64::MAX` is `SerU64TooBig`.
     pub fn put_u64(&mut self, v: u64) -> Result<()>
         ensures put { PutsOr (IsTooBig v) W.Sink self.old self.new (integer_piece (pos v)) result }
         ensures fits { OnOk result (v < 2 ^ 63) }
@@ -117,10 +117,9 @@ impl<W: Sink> Serializer<W> {
         self.put_text(key)
     }
 
-    /// Puts an array's head; the items follow.
+    /// Puts an array's tag and count; the items follow.
     ///
-    /// A missing count is refused with `SerNeedSize`, and one above `i64::MAX` with `SerCustom`
-    /// `CountTooGreat`.
+    /// A missing count is `SerNeedSize`, and one above `i64::MAX` is `SerCustom` `CountTooGreat`.
     pub fn put_seq(&mut self, count: Option<usize>) -> Result<()>
         ensures put { PutsHead Sequence array_head W.Sink self.old self.new count result }
         ensures counted { OnOk result (IsCounted count) }
@@ -137,10 +136,9 @@ impl<W: Sink> Serializer<W> {
         }
     }
 
-    /// Puts an object's head; for each entry its key and its value follow.
+    /// Puts an object's tag and count; for each entry its key and its value follow.
     ///
-    /// A missing count is refused with `SerNeedSize`, and one above `i64::MAX` with `SerCustom`
-    /// `CountTooGreat`.
+    /// A missing count is `SerNeedSize`, and one above `i64::MAX` is `SerCustom` `CountTooGreat`.
     pub fn put_map(&mut self, count: Option<usize>) -> Result<()>
         ensures put { PutsHead Map object_head W.Sink self.old self.new count result }
         ensures counted { OnOk result (IsCounted count) }
@@ -157,9 +155,9 @@ impl<W: Sink> Serializer<W> {
         }
     }
 
-    /// Puts a template's tag. The rest of its head follows: [`put_seq`](Self::put_seq) for the
-    /// count of its keys, [`put_key`](Self::put_key) for each key, and [`put_i64`](Self::put_i64)
-    /// for the count of its rows; then for each row a value for each key.
+    /// Puts a template's tag. What follows is [`put_seq`](Self::put_seq) for the count of its keys,
+    /// [`put_key`](Self::put_key) for each key, and [`put_i64`](Self::put_i64) for the count of its
+    /// rows; then for each row a value for each key.
     ///
     /// Nothing checks that what follows makes a template.
     pub fn put_template(&mut self) -> Result<()>
@@ -171,7 +169,7 @@ impl<W: Sink> Serializer<W> {
         }
     }
 
-    /// Puts the head of an enum's variant with one value, which follows.
+    /// Puts the beginning of an enum's variant with one value, which follows.
     pub fn put_newtype_variant(&mut self, name: &str) -> Result<()>
         ensures { Puts W.Sink self.old self.new (newtype_variant_head name.now) result }
     {
@@ -181,10 +179,10 @@ impl<W: Sink> Serializer<W> {
         }
     }
 
-    /// Puts the head of an enum's variant with `count` values, which follow as the items of an
+    /// Puts the beginning of an enum's variant with `count` values, which follow as the items of an
     /// array.
     ///
-    /// A count above `i64::MAX` is refused with `SerCustom` `CountTooGreat`.
+    /// A count above `i64::MAX` is `SerCustom` `CountTooGreat`.
     pub fn put_tuple_variant(&mut self, name: &str, count: usize) -> Result<()>
         ensures put { PutsOr (IsTooMany count) W.Sink self.old self.new
             (tuple_variant_head name.now count) result }
@@ -193,10 +191,10 @@ impl<W: Sink> Serializer<W> {
         self.put_variant_of(name, BSER_ARRAY, count)
     }
 
-    /// Puts the head of an enum's variant with `count` fields, which follow as the entries of an
-    /// object.
+    /// Puts the beginning of an enum's variant with `count` fields, which follow as the entries of
+    /// an object.
     ///
-    /// A count above `i64::MAX` is refused with `SerCustom` `CountTooGreat`.
+    /// A count above `i64::MAX` is `SerCustom` `CountTooGreat`.
     pub fn put_struct_variant(&mut self, name: &str, count: usize) -> Result<()>
         ensures put { PutsOr (IsTooMany count) W.Sink self.old self.new
             (struct_variant_head name.now count) result }
@@ -205,7 +203,7 @@ impl<W: Sink> Serializer<W> {
         self.put_variant_of(name, BSER_OBJECT, count)
     }
 
-    /// Puts the front of a message whose body has this many bytes.
+    /// Puts the header of a message whose body has this many bytes.
     pub(crate) fn put_front(&mut self, body: i64) -> Result<()>
         ensures { Puts W.Sink self.old self.new (front_of body) result }
     {
@@ -215,7 +213,7 @@ impl<W: Sink> Serializer<W> {
         }
     }
 
-    /// Puts a variant's head, and its payload's tag and count.
+    /// Puts the beginning of a variant, and its payload's tag and count.
     fn put_variant_of(&mut self, name: &str, tag: u8, count: usize) -> Result<()>
         ensures put { PutsOr (IsTooMany count) W.Sink self.old self.new
             (payload_head name.now tag (pos count)) result }

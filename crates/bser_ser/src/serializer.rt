@@ -22,16 +22,16 @@ pub const MOST_PENDING: usize = 4096;
 pub struct Serializer<W> {
     pub(crate) writer: W,
     pub(crate) pending: Vec<u8>,
-    /// The writer's fault, where the last refusal was for one.
+    /// The writer's error, where the last failure was one.
     pub(crate) fault: Option<io::Error>,
 }
 
-/// A put was refused, and its serializer keeps the reason: [`Parts::refusal`](crate::Parts::refusal).
+/// A put failed, and its serializer keeps the error: [`Parts::refusal`](crate::Parts::refusal).
 #[derive(Debug, Clone, Copy)]
 pub struct PutRefused;
 
 impl<W> Serializer<W> {
-    /// Writes to `writer`; nothing is pending, and no front of a message is put.
+    /// Writes to `writer`; nothing is pending, and no header of a message is put.
     pub fn new(alloc: Global, writer: W) -> Self
         ensures { IsNew result writer }
     {
@@ -58,8 +58,8 @@ impl<W> Serializer<W> {
 impl<W: Sink> Serializer<W> {
     /// Sends all that is pending. The writer's own `flush` is not called.
     ///
-    /// A fault of the writer is handed back, an interruption too, and a writer that takes nothing
-    /// gives a fault of kind `WriteZero`. The next call goes on at the first byte that the writer
+    /// An error of the writer is given back, an interruption too, and a writer that takes nothing
+    /// gives an error of kind `WriteZero`. The next call goes on at the first byte that the writer
     /// has not taken.
     pub fn flush(&mut self) -> io::Result<()>
         ensures ok { OnOk result (Sent W.Sink self.old self.new []) }
@@ -72,7 +72,7 @@ impl<W: Sink> Serializer<W> {
 
     /// Sends all that is pending and gives the writer back.
     ///
-    /// Faults are those of [`flush`](Serializer::flush); the writer is then dropped.
+    /// The errors are those of [`flush`](Serializer::flush); the writer is then dropped.
     pub fn finish(self) -> io::Result<W>
     where
         W: Drop,
@@ -88,7 +88,7 @@ impl<W: Sink> Serializer<W> {
 
     /// Sends all that is pending and gives the writer back.
     ///
-    /// Faults are those of [`flush`](Serializer::flush); the serializer is then handed back, and
+    /// The errors are those of [`flush`](Serializer::flush); the serializer is then given back, and
     /// can go on.
     pub fn try_finish(self) -> Result<W, (Self, io::Error)>
         ensures ok { IfOk result (λ w. Finishes W.Sink self w) }
@@ -115,7 +115,7 @@ impl<W: Sink> Serializer<W> {
         Ok(())
     }
 
-    /// Sends all that is pending, and keeps the writer's fault.
+    /// Sends all that is pending, and keeps the writer's error.
     #[cold]
     fn send_now(&mut self) -> Result<(), PutRefused>
         ensures ok { OnOk result (Sent W.Sink self.old self.new []) }
@@ -131,7 +131,7 @@ impl<W: Sink> Serializer<W> {
         }
     }
 
-    /// Keeps want of memory as the reason of a refusal.
+    /// Keeps out of memory as the error.
     #[cold]
     pub(crate) fn out_of_memory(&mut self) -> PutRefused
         ensures writer { writer_of self.new ≡ writer_of self.old }

@@ -5,11 +5,11 @@ use Rattle.std.specs.Prelude.{◌≡◌, ℕ, ◌+◌, ◌-◌, ◌^◌, ◌<◌
 abbrev pub one_more : ℕ → ℕ
 one_more n = if nat_lt n (2 ^ 64 - 1) then n + 1 else n
 
--- a reader's fault raises the count, and all else keeps it
+-- an error of a reader raises the count, and all else keeps it
 abbrev pub PullCounts : {E : Type 0} → ℕ → ℕ → Result ℕ E → Type 0
 PullCounts old new r = MatchResult r (λ _. new ≡ old) (λ _. new ≡ one_more old)
 
--- whether a writer's answer is a failure: a fault, or nothing taken of something
+-- whether a writer's answer is a failure: an error, or nothing taken of something
 abbrev pub has_failed : {E : Type 0} → Result ℕ E → List ℕ → Bool
 has_failed (Ok n) bytes = nat_lt n 1 && nat_lt 0 (length bytes)
 has_failed (Err e) bytes = true

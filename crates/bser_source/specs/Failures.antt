@@ -1,10 +1,10 @@
--- How many failures a device has counted after a refusal.
+-- How many failures a device has counted after an error.
 use Rattle.std.specs.Prelude.{◌≡◌, ℕ, ◌<◌, List, length, Option, IfSome}
 use Rattle.bser_source.specs.Device.{one_more}
 use Rattle.bser_format.specs.declared.errors.ReadCause.{ReadCause}
 use Rattle.bser_format.specs.declared.errors.ReadCause.TheVariants.{Eof, Utf8, Reader, Memory, Failed}
 
--- the failures after a refusal: a fault of the device is one more
+-- the failures after an error: an error of the device is one more
 abbrev pub failures_after : ReadCause → ℕ → ℕ
 failures_after (Reader e) n = one_more n
 failures_after Eof n = n

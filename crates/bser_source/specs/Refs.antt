@@ -14,7 +14,7 @@ abbrev pub bytes_of : {L : Type 0} → (L → List ℕ) → Reference L → List
 bytes_of lent (Borrowed bytes) = lent bytes
 bytes_of lent (Copied bytes) = bytes.now
 
--- whether they are lent from the input
+-- whether they are borrowed from the input
 abbrev pub is_lent : {L : Type 0} → Reference L → Bool
 is_lent (Borrowed bytes) = true
 is_lent (Copied bytes) = false
@@ -24,11 +24,11 @@ abbrev pub text_bytes : {T : Type 0} → (T → List ℕ) → TextReference T �
 text_bytes lent (texts.Borrowed text) = lent text
 text_bytes lent (texts.Copied text) = text.now
 
--- whether it is lent from the input
+-- whether it is borrowed from the input
 abbrev pub is_lent_text : {T : Type 0} → TextReference T → Bool
 is_lent_text (texts.Borrowed text) = true
 is_lent_text (texts.Copied text) = false
 
--- bytes are not kept: for want of memory where they are copied, or since they are not UTF-8
+-- bytes are not kept: there is no memory for the copy, or they are not UTF-8
 abbrev pub RefusesKept : Bool → List ℕ → Error → Type 0
 RefusesKept lends s e = ((e ≡ OutOfMemory) × (lends ≡ false)) ⊎ ((e ≡ error_of Utf8) × (¬ (IsUtf8 s)))

@@ -1,11 +1,11 @@
--- When a byte source refuses, and what state that leaves.
+-- When a byte source fails, and what state that leaves.
 use Rattle.std.specs.Prelude.{◌≡◌, ℕ, ◌+◌, ◌^◌, ◌<◌, ◌≤◌, true, false, length, ◌⊎◌, IfSome}
 use Rattle.bser_source.specs.Failures.{failures_after}
 use Rattle.bser_format.specs.declared.errors.ReadCause.{ReadCause}
 use Rattle.bser_format.specs.declared.errors.ReadCause.TheVariants.{Eof, Utf8, Reader, Memory, Failed}
 use Rattle.bser_source.specs.Window.{Window, left}
 
--- what has to hold where a call that wants n bytes refuses by this cause
+-- what has to hold where a call that wants n bytes fails with this cause
 abbrev pub Excuse : ReadCause → Window → ℕ → Type 0
 Excuse Eof s n = IfSome (left s) (λ xs. length xs < n) × (length s.buffered < n)
 Excuse Utf8 s n = ⊥
@@ -13,7 +13,7 @@ Excuse (Reader e) s n = s.lends ≡ false
 Excuse Memory s n = s.lends ≡ false
 Excuse Failed s n = (s.failed ≡ true) ⊎ ((s.lends ≡ false) × (2 ^ 64 ≤ s.count + n) × (length s.buffered < n))
 
--- a source that lends is unchanged by a refusal, and any other refuses from then on
+-- a source that lends is unchanged by an error, and any other fails from then on
 pub record Refused (cause : ReadCause) (old new : Window) (n : ℕ) : Type 0 where
   pub excuse : Excuse cause old n
   pub lends : new.lends ≡ old.lends
@@ -21,5 +21,5 @@ pub record Refused (cause : ReadCause) (old new : Window) (n : ℕ) : Type 0 whe
   pub failures : new.failures ≡ failures_after cause old.failures
   pub unchanged : old.lends ≡ true → new ≡ old
   pub failed : old.lends ≡ false → new.failed ≡ true
-  -- what has failed refuses by this alone
+  -- what has failed gives this error alone
   pub before : old.failed ≡ true → cause ≡ Failed

@@ -14,9 +14,9 @@ pub record Window : Type 0 where
   pub count : ℕ
   -- the count up to which it may take from the device ahead of the calls
   pub limit : ℕ
-  -- whether what is read is lent from the input, which is never refused but at its end
+  -- whether what is read is borrowed from the input, which never fails but at its end
   pub lends : Bool
-  -- whether all that comes is refused
+  -- whether all that comes fails
   pub failed : Bool
   -- the device's count of failures
   pub failures : ℕ
@@ -35,7 +35,7 @@ Within a s = length s.buffered ≤ max (s.limit - s.count) a
 abbrev pub consumed : ℕ → Window → Window
 consumed n s = record s { buffered = drop n s.buffered; count = s.count + n }
 
--- the same source, of which all is refused from now on
+-- the same source, all of whose calls fail from now on
 abbrev pub closed : Window → Window
 closed s = record s { buffered = []; failed = true }
 

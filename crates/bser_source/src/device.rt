@@ -24,10 +24,10 @@ pub trait Source {
     // the reference that it reads through, where it is one: each call keeps it
     ghost through: { Self → Option GName } = { λ _. None };
 
-    /// Reads some bytes to the front of `buf`, and answers how many, as std's `read` does.
+    /// Reads some bytes to the start of `buf`, and answers how many, as std's `read` does.
     ///
-    /// A fault, an interruption too, raises the count of failures by one, below `u64::MAX`;
-    /// every other answer keeps it.
+    /// An error, an interruption too, raises the count of failures by one, below `u64::MAX`; every
+    /// other answer keeps it.
     fn pull(&mut self, buf: &mut [u8]) -> io::Result<usize>
         ensures bound { ReadsAtMost result buf.new }
         ensures bytes { ReadConsumes (remaining self.old) (remaining self.new) result buf.new }
@@ -48,9 +48,9 @@ pub trait Sink {
     // the failures so far, which stay at the greatest u64
     ghost failures: { Self → ℕ };
 
-    /// Writes some bytes from the front of `bytes`, and answers how many, as std's `write` does.
+    /// Writes some bytes from the start of `bytes`, and answers how many, as std's `write` does.
     ///
-    /// A fault, an interruption too, and the answer 0 to a nonempty slice raise the count of
+    /// An error, an interruption too, and the answer 0 to a nonempty slice raise the count of
     /// failures by one, below `u64::MAX`; every other answer keeps it.
     fn push(&mut self, bytes: &[u8]) -> io::Result<usize>
         ensures bound { IfOk result (λ n. n ≤ length bytes.now) }

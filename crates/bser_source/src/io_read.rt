@@ -16,14 +16,14 @@ use bser_format::errors::ReadCause;
 /// buffered reads until it has them. One read asks for what was announced by `expect` and has not
 /// arrived, or for what the call still lacks, whichever is more, and never for more than the block
 /// has room for. So past the bytes announced it takes no more from the reader than a call needs,
-/// and a fault or an early end is answered only by a call that needs a missing byte. `gather` reads
-/// to the scratch, and takes nothing ahead.
+/// and an I/O error or an early end is answered only by a call that needs a missing byte. `gather`
+/// reads to the scratch, and takes nothing ahead.
 ///
-/// It takes memory for a scratch alone. After a fault of the reader, an early end, a refused growth,
-/// or a call that would raise the count of bytes past the greatest `usize`, bytes that had arrived
-/// are lost, nothing is buffered, and each call that can be refused answers
-/// [`ReadCause::Failed`], that last call too.
-/// An interruption is a fault too, and is not read again.
+/// It takes memory for a scratch alone. After an error of the reader, an early end, a failed
+/// allocation, or a call that would raise the count of bytes past the greatest `usize`, bytes that
+/// had arrived are lost, nothing is buffered, and each call that can fail answers
+/// [`ReadCause::Failed`], that last call too. An interruption is an error too, and is not read
+/// again.
 #[derive(Drop)]
 pub struct IoRead<S> {
     reader: S,
@@ -78,7 +78,7 @@ impl<S: Source> IoRead<S> {
         reader
     }
 
-    /// Buffers nothing, and refuses all calls from now on.
+    /// Buffers nothing, and makes all calls from now on fail.
     fn refuse(&mut self, cause: ReadCause) -> ReadCause
         ensures cause { result ≡ cause }
         ensures window { io_at S.remaining S.failures S.through self.new
@@ -88,7 +88,7 @@ impl<S: Source> IoRead<S> {
         cause
     }
 
-    /// Moves what is buffered to the front of the block.
+    /// Moves what is buffered to the start of the block.
     fn pack(&mut self)
         ensures window { io_at S.remaining S.failures S.through self.new
             ≡ io_at S.remaining S.failures S.through self.old }

@@ -26,7 +26,7 @@ pub trait Lending: Copy {
     // whether a source that lends this lends what is read
     ghost lends: { Bool };
 
-    /// What is kept of a text that is wanted again later: the loan itself, or else a copy.
+    /// What is kept of a text that is wanted again later: the borrow itself, or else a copy.
     type Kept: Drop;
 
     ghost kept: { Self.Kept → List ℕ };
@@ -39,25 +39,25 @@ pub trait Lending: Copy {
     fn kept_text<'k>(key: &'k Self::Kept) -> &'k str
         ensures { result.now ≡ kept key.now };
 
-    /// Keeps bytes that a source gave, which have to be UTF-8. Others are [`ReadCause::Utf8`]. Where
-    /// they were copied it takes memory, and a refused growth is [`Error::OutOfMemory`].
+    /// Keeps bytes that a source gave, which have to be UTF-8. Others are [`ReadCause::Utf8`].
+    /// Where they were copied it takes memory, and a failed allocation is [`Error::OutOfMemory`].
     fn keep(alloc: Global, given: Reference<'_, Self>) -> Result<Self::Kept>
         requires { is_lent given ≡ lends }
         ensures ok { IfOk result (λ k. kept k ≡ bytes_of bytes given.entry) }
         ensures utf8 { OnOk result (IsUtf8 (bytes_of bytes given.entry)) }
         ensures err { IfErr result (λ e. RefusesKept lends (bytes_of bytes given.entry) e) };
 
-    /// Lends kept bytes, or else copies them to `scratch` in place of what it held. A refused growth
-    /// is [`Error::OutOfMemory`].
+    /// Lends kept bytes, or else copies them to `scratch` in place of what it held. A failed
+    /// allocation is [`Error::OutOfMemory`].
     fn lend<'s>(key: &Self::Kept, scratch: &'s mut Vec<u8>) -> Result<Reference<'s, Self>>
         ensures ok { IfOk result (λ r. bytes_of bytes r ≡ kept key.now) }
         ensures lent { IfOk result (λ r. is_lent r ≡ lends) }
         ensures err { IfErr result (λ e. (e ≡ OutOfMemory) × (lends ≡ false)) };
 }
 
-/// Bytes that a source lends, and that are lent as a text too.
+/// Bytes that a source lends, and that are borrowed as a text too.
 pub trait LendsText: Lending {
-    /// The lent text.
+    /// The borrowed text.
     type Text: LendingText;
 
     /// The bytes as a text. Bytes that are not UTF-8 are [`ReadCause::Utf8`].
@@ -70,13 +70,13 @@ pub trait LendsText: Lending {
 
 /// What a source lends, where that may be bytes of an input of this lifetime.
 pub trait LendsFrom<'de>: LendsText {
-    /// The lent bytes, for as long as the input stands. None where the source lends nothing.
+    /// The borrowed bytes, for as long as the input lives. None where the source lends nothing.
     fn lent_bytes(given: Reference<'_, Self>) -> Option<&'de [u8]>
         requires { is_lent given ≡ Self.lends }
         ensures { MatchOption result (Self.lends ≡ false)
             (λ s. s.now ≡ bytes_of Self.bytes given.entry) };
 
-    /// The lent text, for as long as the input stands. None where the source lends nothing.
+    /// The borrowed text, for as long as the input lives. None where the source lends nothing.
     fn lent_text(given: TextReference<'_, Self::Text>) -> Option<&'de str>
         requires { is_lent_text given ≡ Self.lends }
         ensures { MatchOption result (Self.lends ≡ false)
@@ -148,7 +148,7 @@ impl<'a> LendsText for &'a [u8] {
     }
 }
 
-/// What a source that copies lends: nothing, which stands for no bytes. No call of it answers
+/// What a source that copies lends: nothing, and no bytes. No call of it answers
 /// [`Reference::Borrowed`](crate::reference::Reference::Borrowed).
 ///
 /// A type without values would say so by itself, but its calls could have no caller.

@@ -1,5 +1,5 @@
 //! What gives bytes and what takes them: readers and writers that count their failures, a window on
-//! the bytes left over a slice and over a reader, what is lent of them, and bytes as a text.
+//! the bytes left over a slice and over a reader, what is borrowed from them, and bytes as a text.
 #![tactic(auto)]
 
 pub mod count;

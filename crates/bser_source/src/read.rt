@@ -33,8 +33,8 @@ pub const WINDOW: usize = 4096;
 /// A source of the bytes of a message: a window on the bytes left, as std's `BufRead` is one on
 /// those of a reader.
 ///
-/// What is buffered is taken without a refusal. A refusal of a source that lends changes nothing. A
-/// source that copies answers [`ReadCause::Failed`] to each call after a refusal. No call here
+/// What is buffered is taken without an error. An error of a source that lends changes nothing. A
+/// source that copies answers [`ReadCause::Failed`] to each call after an error. No call here
 /// answers [`ReadCause::Utf8`].
 pub trait DeRead {
     /// What the source lends from its input.
@@ -49,7 +49,7 @@ pub trait DeRead {
     /// Buffers `n` bytes, [`WINDOW`] at most.
     ///
     /// Where fewer are left it is [`ReadCause::Eof`]. A source that copies also answers
-    /// [`ReadCause::Reader`] for a fault of its reader, and [`ReadCause::Failed`] after a refusal,
+    /// [`ReadCause::Reader`] for an error of its reader, and [`ReadCause::Failed`] after an error,
     /// or where the count of bytes would pass the greatest `usize`. It takes no memory.
     fn fill(&mut self, n: usize) -> Result<(), ReadCause>
         requires some { 0 < n }
@@ -72,7 +72,7 @@ pub trait DeRead {
 
     /// Takes `len` bytes, more than are buffered, to `scratch` in place of what it held.
     ///
-    /// Refusals are those of `fill`, and [`ReadCause::Memory`] where the scratch did not grow. A
+    /// The errors are those of `fill`, and [`ReadCause::Memory`] where the scratch did not grow. A
     /// source that lends has buffered all that is left, so it answers [`ReadCause::Eof`]. The
     /// scratch grows at most 65,536 bytes ahead of the bytes that arrived, whatever `len` is.
     fn gather(&mut self, len: usize, scratch: &mut Vec<u8>) -> Result<(), ReadCause>
@@ -90,7 +90,7 @@ pub trait DeRead {
     fn expect(&mut self, n: usize)
         ensures { Expects (window self.old) (window self.new) n };
 
-    /// Refuses all calls from now on.
+    /// Makes all calls from now on fail.
     fn close(&mut self)
         ensures { window self.new ≡ closed (window self.old) };
 
@@ -98,11 +98,11 @@ pub trait DeRead {
     fn read_count(&self) -> usize
         ensures { result ≡ (window self.now).count };
 
-    /// Whether each later call that can be refused is.
+    /// Whether each later call that can fail does.
     fn is_failed(&self) -> bool
         ensures { result ≡ (window self.now).failed };
 
-    // where all is refused nothing is buffered
+    // where all calls fail nothing is buffered
     ghost refuses: { (r : Self) → (window r).failed ≡ true → (window r).buffered ≡ [] };
 
     // it lends what is read, or copies it, throughout
@@ -110,7 +110,7 @@ pub trait DeRead {
 
     /// Buffers the next byte, and takes none.
     ///
-    /// Refusals are those of `fill` for one byte.
+    /// The errors are those of `fill` for one byte.
     final fn peek(&mut self) -> Result<u8, ReadCause>
         ensures ok { IfOk result (λ b. Peeks (window self.old) (window self.new) b) }
         ensures err { IfErr result (λ e. Refused e (window self.old) (window self.new) 1) }
@@ -122,7 +122,7 @@ pub trait DeRead {
 
     /// Takes the next byte.
     ///
-    /// Refusals are those of `fill` for one byte.
+    /// The errors are those of `fill` for one byte.
     final fn next(&mut self) -> Result<u8, ReadCause>
         ensures ok { IfOk result (λ b. Took (window self.old) (window self.new) (b ∷ [])) }
         ensures err { IfErr result (λ e. Refused e (window self.old) (window self.new) 1) }
@@ -144,7 +144,7 @@ pub trait DeRead {
     /// Takes `len` bytes, and lends them, or else copies them to `scratch` in place of what it
     /// held.
     ///
-    /// Refusals are those of `gather`.
+    /// The errors are those of `gather`.
     final fn next_bytes<'s>(
         &mut self,
         len: usize,
@@ -185,7 +185,7 @@ pub trait DeRead {
 
     /// Takes four bytes by `next_bytes`, and gives their number, the lowest first.
     ///
-    /// Refusals are those of `next_bytes`.
+    /// The errors are those of `next_bytes`.
     final fn next_u32(&mut self, scratch: &mut Vec<u8>) -> Result<u32, ReadCause>
         ensures ok { IfOk result (λ n.
             Took (window self.old) (window self.new) (to_le_bytes w32 n)) }

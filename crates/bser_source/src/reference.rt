@@ -1,4 +1,4 @@
-//! What a byte source gives: bytes and texts that are lent, or that were copied.
+//! What a byte source gives: bytes and texts that are borrowed, or that were copied.
 ghost use Rattle.std.specs.Prelude.{◌≡◌, IfOk, IfErr, OnErr};
 ghost use Rattle.bser_source.specs.Refs.{bytes_of, is_lent, text_bytes, is_lent_text};
 ghost use Rattle.std.specs.Str.{IsUtf8};
@@ -7,7 +7,7 @@ ghost use Rattle.bser_format.specs.declared.errors.ReadCause.TheVariants.{Utf8};
 pub use crate::lending::{Lending, LendingText, LendsFrom, LendsText, NoLoan};
 use bser_format::errors::ReadCause;
 
-/// Bytes that are lent from the input, or that were copied.
+/// Bytes that are borrowed from the input, or that were copied.
 ///
 /// `L` is what the source lends: `&[u8]` of a slice, and [`NoLoan`] of a reader.
 #[derive(Drop)]
@@ -18,7 +18,7 @@ pub enum Reference<'s, L> {
     Copied(&'s [u8]),
 }
 
-/// A text that is lent from the input, or that was copied.
+/// A text that is borrowed from the input, or that was copied.
 #[derive(Drop)]
 pub enum TextReference<'s, T> {
     /// A text of the input.
@@ -40,7 +40,7 @@ impl<'s, L: Lending> Reference<'s, L> {
 }
 
 impl<'s, L: LendsText> Reference<'s, L> {
-    /// The bytes as a text, lent or copied as they are.
+    /// The bytes as a text, borrowed or copied as they are.
     ///
     /// Bytes that are not UTF-8 are [`ReadCause::Utf8`].
     pub fn to_text(self) -> Result<TextReference<'s, L::Text>, ReadCause>

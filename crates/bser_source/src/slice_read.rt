@@ -6,8 +6,8 @@ use bser_format::errors::ReadCause;
 
 /// A source over a slice, which lends all that is taken and takes no memory.
 ///
-/// All that is left is buffered. It refuses past its end alone, by [`ReadCause::Eof`], or by
-/// [`ReadCause::Failed`] after `close`, and is unchanged by a refusal.
+/// All that is left is buffered. It fails past its end alone, with [`ReadCause::Eof`], or with
+/// [`ReadCause::Failed`] after `close`, and is unchanged by an error.
 #[derive(Drop)]
 pub struct SliceRead<'a> {
     slice: &'a [u8],
@@ -20,7 +20,7 @@ pub struct SliceRead<'a> {
 impl<'a> SliceRead<'a> {
     ghost use Rattle.bser_source.specs.Slice.{slice_fresh};
 
-    /// Reads the slice from its front.
+    /// Reads the slice from its start.
     pub fn new(slice: &'a [u8]) -> Self
         ensures { ⟦<SliceRead<'a> as DeRead>⟧.window result ≡ slice_fresh slice.entry.now }
     {

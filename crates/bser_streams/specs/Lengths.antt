@@ -7,7 +7,7 @@ use Rattle.bser_format.specs.declared.errors.Complaint.TheVariants.{CountTooGrea
 use Rattle.bser_named.specs.Named as named
 use Rattle.bser_bunser.specs.Names.{Agree}
 
--- a head is in front, and it has n bytes together with the body that it announces
+-- a header is at the start, and it has n bytes together with the body that it announces
 pub record HasLength (bytes : List ℕ) (n : ℕ) : Type 0 where
   pub capabilities : ℕ
   pub announced : ℕ
@@ -23,18 +23,18 @@ IsLengthOfEach bytes n =
     (levels capabilities : ℕ) (t : Tree) (text : List ℕ)
     → IsMessage levels capabilities t text → Agree text bytes → length text ≡ n
 
--- the head is refused by this name, and not for an early end
+-- the header gives this error, and not an early end
 pub record RefusesHead (bytes : List ℕ) (e : Error) : Type 0 where
   pub name : named.head bytes ≡ named.refuses e
   pub whole : e ≢ named.eof
 
--- head and body together have more bytes than any slice
+-- header and body together have more bytes than any slice
 pub record TooGreat (bytes : List ℕ) (e : Error) : Type 0 where
   pub size : ℕ
   pub length : HasLength bytes size
   pub more : 2 ^ 63 ≤ size
   pub name : e ≡ named.complain CountTooGreat
 
--- the bytes begin with no head, or with that of too long a message
+-- the bytes begin with no header, or with that of too long a message
 abbrev pub RefusesLength : List ℕ → Error → Type 0
 RefusesLength bytes e = RefusesHead bytes e ⊎ TooGreat bytes e

@@ -18,11 +18,11 @@ reader_of s = s.reader
 abbrev pub reader_taken : {S : Type 0} → ReaderMessages S → ℕ
 reader_taken s = s.taken
 
--- whether a call was refused
+-- whether a call failed
 abbrev pub reader_failed : {S : Type 0} → ReaderMessages S → Bool
 reader_failed s = s.failed
 
--- an earlier refusal is the reason, and the reader was not called
+-- an earlier error is the reason, and the reader was not called
 pub record RefusesAgain {S : Type 0} (e : Error) (old new : ReaderMessages S) : Type 0 where
   pub name : e ≡ DeReaderError Failed
   pub reader : reader_of new ≡ reader_of old

@@ -12,12 +12,13 @@ abbrev pub IsNext : {A : Type 0} → ℕ → ℕ → Meaning → (A → Content 
 IsNext n m reads holds old new None = IsAtEnd old
 IsNext n m reads holds old new (Some v) = TookWithin n m reads holds old new v
 
--- the next message is refused; where nothing is left, only because memory was refused or the reader failed
+-- the error of the next message; where nothing is left, only that memory ran out or the reader
+-- failed
 pub record RefusesNext (n m : ℕ) (reads : Meaning) (asks : Option (Asking reads)) (e : Error) (old new : Option (List ℕ)) (before after : ℕ) : Type 0 where
   pub refused : RefusesReaderWithin n m reads asks e old new before after
   pub some : old ≡ Some [] → IsReaderFault before after e
 
--- the same of a reader before and after the call, by what is told of it
+-- the same of a reader before and after the call, by what its contract tells
 abbrev pub RefusesNextOf : {S : Type 0} → ℕ → ℕ → (reads : Meaning) → Option (Asking reads) → (S → Option (List ℕ)) → (S → ℕ) → S → S → Error → Type 0
 RefusesNextOf n m reads asks remaining failures old new e =
     RefusesNext n m reads asks e (remaining old) (remaining new) (failures old) (failures new)

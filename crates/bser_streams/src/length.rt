@@ -8,12 +8,12 @@ use bser_format::errors::{Complaint, Error, ReadCause, Result};
 use bser_source::slice_read::SliceRead;
 use std::alloc::Global;
 
-/// The length in bytes of the message that begins with `bytes`, its head and its body, at most
-/// `i64::MAX`; or `None` where its head is not whole yet. What follows the message is ignored.
+/// The length in bytes of the message that begins with `bytes`, its header and its body, at most
+/// `i64::MAX`; or `None` where its header is not whole yet. What follows the message is ignored.
 ///
-/// A head has at most 15 bytes. It is refused as [`Bunser::read_pdu`] refuses it, and by the message
-/// [`Complaint::CountTooGreat`] where head and body together have more than `i64::MAX` bytes.
-/// Nothing of the body is looked at. The crate has no such call.
+/// A header has at most 15 bytes. The errors are those of [`Bunser::read_pdu`], and the message
+/// [`Complaint::CountTooGreat`] where header and body together have more than `i64::MAX` bytes.
+/// Nothing of the body is looked at.
 pub fn message_length(alloc: Global, bytes: &[u8]) -> Result<Option<usize>>
     ensures whole { IfOk result (λ answer. IfSome answer (HasLength bytes.now)) }
     ensures each { IfOk result (λ answer. IfSome answer (IsLengthOfEach bytes.now)) }

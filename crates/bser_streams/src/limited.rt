@@ -1,4 +1,4 @@
-//! Reading the message at the front of a slice, under limits of levels and of bytes.
+//! Reading the message at the start of a slice, under limits of levels and of bytes.
 ghost use Rattle.std.specs.Prelude.{◌≤◌, length, drop, Some, IfOk, IfErr};
 ghost use Rattle.bser_deserializer.specs.declared.deserializer.TheConstants.{MOST_LEVELS};
 ghost use Rattle.bser_messages.specs.Limited.{BeginsWithin, TookWithin, RefusesSliceWithin};
@@ -13,11 +13,11 @@ use bser_source::slice_read::SliceRead;
 use bser_types::deserialize::Deserialize;
 use std::alloc::Global;
 
-/// Reads a value from the message at the front of `bytes`, within these limits.
+/// Reads a value from the message at the start of `bytes`, within these limits.
 ///
-/// As [`from_slice_within`](bser_messages::message::from_slice_within), with one refusal more: a
-/// head that announces a body of more than `limits.bytes` bytes is [`Error::DeTooLong`]. Nothing of
-/// such a body is looked at, and no memory is taken for it.
+/// As [`from_slice_within`](bser_messages::message::from_slice_within), with one error more: a
+/// header that announces a body of more than `limits.bytes` bytes is [`Error::DeTooLong`]. Nothing
+/// of such a body is looked at, and no memory is taken for it.
 pub fn from_slice_limited<'de, T: Deserialize<&'de [u8]>>(
     alloc: Global,
     limits: Limits,
@@ -34,7 +34,7 @@ pub fn from_slice_limited<'de, T: Deserialize<&'de [u8]>>(
     Ok(value)
 }
 
-/// Reads a value from the message at the front of `bytes`, and tells the message's length.
+/// Reads a value from the message at the start of `bytes`, and tells the message's length.
 pub(crate) fn front_message<'de, T: Deserialize<&'de [u8]>>(
     alloc: Global,
     limits: Limits,

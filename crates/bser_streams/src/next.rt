@@ -18,7 +18,7 @@ use std::alloc::Global;
 /// Reads a value from the reader's next message, of at most 128 levels, or answers `None` where no
 /// byte is left.
 ///
-/// A reader that ends inside a message is refused by [`ReadCause::Eof`]. All else is as in
+/// A reader that ends inside a message is [`ReadCause::Eof`]. All else is as in
 /// [`from_reader`](bser_messages::message::from_reader).
 pub fn next_message<S: Source, T: DeserializeOwned>(
     alloc: Global,
@@ -38,8 +38,9 @@ pub fn next_message<S: Source, T: DeserializeOwned>(
 /// Reads a value from the reader's next message, within these limits, or answers `None` where no
 /// byte is left.
 ///
-/// As [`next_message`], with one refusal more: a head that announces a body of more than
-/// `limits.bytes` bytes is [`Error::DeTooLong`]. Then the head was taken, and no byte of the body.
+/// As [`next_message`], with one error more: a header that announces a body of more than
+/// `limits.bytes` bytes is [`Error::DeTooLong`]. Then the header was taken, and no byte of the
+/// body.
 pub fn next_message_limited<S: Source, T: DeserializeOwned>(
     alloc: Global,
     limits: Limits,
@@ -77,9 +78,9 @@ pub fn next_message_limited<S: Source, T: DeserializeOwned>(
 
 /// Reads a value from the reader's next message, within these limits, and leaves what follows it.
 ///
-/// As [`from_reader_within`](bser_messages::message::from_reader_within), with one refusal more: a
-/// head that announces a body of more than `limits.bytes` bytes is [`Error::DeTooLong`]. Then the
-/// head was taken, and no byte of the body.
+/// As [`from_reader_within`](bser_messages::message::from_reader_within), with one error more: a
+/// header that announces a body of more than `limits.bytes` bytes is [`Error::DeTooLong`]. Then the
+/// header was taken, and no byte of the body.
 pub fn from_reader_limited<S: Source, T: DeserializeOwned>(
     alloc: Global,
     limits: Limits,

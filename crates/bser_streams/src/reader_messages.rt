@@ -13,8 +13,8 @@ use std::alloc::Global;
 
 /// Reads the messages of a reader one after the other.
 ///
-/// After a refusal nothing is known of where the reader is in a message, so each later call is
-/// refused by [`ReadCause::Failed`].
+/// After an error nothing is known of where the reader is in a message, so each later call answers
+/// [`ReadCause::Failed`].
 #[derive(Drop)]
 pub struct ReaderMessages<S> {
     alloc: Global,
@@ -58,8 +58,9 @@ impl<S: Source> ReaderMessages<S> {
 
     /// Reads a value from the next message, or answers `None` where no byte is left.
     ///
-    /// Refused as [`next_message_limited`] is, and after a refusal by [`ReadCause::Failed`], without
-    /// a call of the reader. After `None` it may be called again, where the reader may give more.
+    /// Fails as [`next_message_limited`] does, and after an error with [`ReadCause::Failed`],
+    /// without a call of the reader. After `None` it may be called again, where the reader may give
+    /// more.
     pub fn next_message<T: DeserializeOwned>(&mut self) -> Result<Option<T>>
         ensures found { IfOk result (IsNext
             (reader_limits self.old).levels (reader_limits self.old).bytes T.reads T.holds
@@ -104,7 +105,7 @@ impl<S: Source> ReaderMessages<S> {
         self.taken
     }
 
-    /// Whether a call was refused, so that each later one is.
+    /// Whether a call failed, so that each later one does.
     pub fn is_failed(&self) -> bool
         ensures { result ≡ reader_failed self.now }
     {
@@ -118,7 +119,7 @@ impl<S: Source> ReaderMessages<S> {
         &self.reader
     }
 
-    /// Gives the reader back. Where no call was refused it is at the front of the next message.
+    /// Gives the reader back. Where no call failed it is at the start of the next message.
     pub fn into_inner(self) -> S
         ensures { result ≡ reader_of self }
     {

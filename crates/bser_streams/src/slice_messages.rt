@@ -13,7 +13,7 @@ use bser_types::deserialize::Deserialize;
 use std::alloc::Global;
 use std::marker::Model;
 
-/// Reads the messages of a slice one after the other, with parts lent from it.
+/// Reads the messages of a slice one after the other, with parts borrowed from it.
 #[derive(Drop)]
 pub struct SliceMessages<'de> {
     alloc: Global,
@@ -33,7 +33,7 @@ impl<'de> Model for SliceMessages<'de> {
 }
 
 impl<'de> SliceMessages<'de> {
-    /// Reads from the front of `bytes`, messages of at most 128 levels.
+    /// Reads from the start of `bytes`, messages of at most 128 levels.
     pub fn new(alloc: Global, bytes: &'de [u8]) -> Self
         ensures levels { result.limits.levels ≡ 128 }
         ensures bytes { result.limits.bytes ≡ 2 ^ 64 - 1 }
@@ -43,7 +43,7 @@ impl<'de> SliceMessages<'de> {
         Self::with_limits(alloc, Limits::new(), bytes)
     }
 
-    /// Reads from the front of `bytes`, messages within these limits.
+    /// Reads from the start of `bytes`, messages within these limits.
     pub fn with_limits(alloc: Global, limits: Limits, bytes: &'de [u8]) -> Self
         requires { limits.levels ≤ MOST_LEVELS }
         ensures limits { result.limits ≡ limits }
@@ -60,8 +60,8 @@ impl<'de> SliceMessages<'de> {
 
     /// Reads a value from the next message, or answers `None` where no byte is left.
     ///
-    /// Refused as [`from_slice_limited`](crate::limited::from_slice_limited) is. A refusal takes
-    /// nothing, so [`Self::rest`] begins with the message that is refused, which the next call reads
+    /// Fails as [`from_slice_limited`](crate::limited::from_slice_limited) does. An error takes
+    /// nothing, so [`Self::rest`] begins with the message that failed, which the next call reads
     /// again, perhaps as another type.
     pub fn next_message<T: Deserialize<&'de [u8]>>(&mut self) -> Result<Option<T>>
         ensures found { IfOk result (IsNext

@@ -40,7 +40,7 @@ fields_variant name es = variant_tree name (entries_tree es)
 abbrev pub EntriesEnd : {S : Type 0} → Tells S → List (List ℕ × Result Tree Error) → Serializer S → Serializer S → Type 0
 EntriesEnd sink es old new = Ends sink (entries_text es) old new
 
--- an entry is refused, after some were put
+-- an entry gives an error, after some were put
 abbrev pub EntriesStop : {S : Type 0} → Tells S → List (List ℕ × Result Tree Error) → Serializer S → Serializer S → Error → Type 0
 EntriesStop sink es old new = Stops sink (entries_text es) old new
 
@@ -48,7 +48,7 @@ EntriesStop sink es old new = Stops sink (entries_text es) old new
 abbrev pub ObjectEnds : {S : Type 0} → Tells S → List (List ℕ × Result Tree Error) → Serializer S → Serializer S → Type 0
 ObjectEnds sink es old new = Ends sink (text_of (entries_tree es)) old new
 
--- the object of these entries is refused, after a part of it was put
+-- the object of these entries gives an error, after a part of it was put
 abbrev pub ObjectStops : {S : Type 0} → Tells S → List (List ℕ × Result Tree Error) → Serializer S → Serializer S → Error → Type 0
 ObjectStops sink es old new = Stops sink (text_of (entries_tree es)) old new
 
@@ -56,7 +56,7 @@ ObjectStops sink es old new = Stops sink (text_of (entries_tree es)) old new
 abbrev pub VariantEnds : {S : Type 0} → Tells S → List ℕ → Result Tree Error → Serializer S → Serializer S → Type 0
 VariantEnds sink name m old new = Ends sink (text_of (variant_tree name m)) old new
 
--- such a variant is refused, after a part of it was put
+-- such a variant gives an error, after a part of it was put
 abbrev pub VariantStops : {S : Type 0} → Tells S → List ℕ → Result Tree Error → Serializer S → Serializer S → Error → Type 0
 VariantStops sink name m old new = Stops sink (text_of (variant_tree name m)) old new
 
@@ -64,6 +64,6 @@ VariantStops sink name m old new = Stops sink (text_of (variant_tree name m)) ol
 abbrev pub FieldsEnd : {S : Type 0} → Tells S → List ℕ → List (List ℕ × Result Tree Error) → Serializer S → Serializer S → Type 0
 FieldsEnd sink name es old new = Ends sink (text_of (fields_variant name es)) old new
 
--- such a variant is refused, after a part of it was put
+-- such a variant gives an error, after a part of it was put
 abbrev pub FieldsStop : {S : Type 0} → Tells S → List ℕ → List (List ℕ × Result Tree Error) → Serializer S → Serializer S → Error → Type 0
 FieldsStop sink name es old new = Stops sink (text_of (fields_variant name es)) old new

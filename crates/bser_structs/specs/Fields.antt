@@ -110,7 +110,7 @@ abbrev pub each_asking : {A : Type 0} → (fs : List (FieldOf A)) → FieldAskin
 each_asking [] = tt
 each_asking (f ∷ fs) = (f.asks, each_asking fs)
 
--- what names the refusals of the struct, where all types tell
+-- which reader gives the errors of the struct, where all types say one
 abbrev pub asking_fields : {A : Type 0} → (fs : List (FieldOf A)) → Option (Asking (reads_fields fs))
 asking_fields fs = asking_struct (names_of fs) (slots_of fs) (each_asking fs)
 
@@ -123,8 +123,8 @@ fields_entries (f ∷ fs) v = f.entries v ++ fields_entries fs v
 abbrev pub fields_tree : {A : Type 0} → List (FieldOf A) → A → Result Tree Error
 fields_tree fs v = entries_tree (fields_entries fs v)
 
--- ---- what is lent
+-- ---- what is borrowed
 
--- where neither part may hold lent bytes, the whole holds none
+-- where neither part may hold borrowed bytes, the whole holds none
 pub none_lent : {a b : Bool} → a ≡ false → b ≡ false → (a || b) ≡ false
 none_lent p q = rw (p, q) refl

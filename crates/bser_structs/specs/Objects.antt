@@ -14,7 +14,7 @@ abbrev pub HoldsObjectOr : {A B : Type 0} → (A → Content → Type 0) → (B 
 HoldsObjectOr object other (Object v) c = object v c
 HoldsObjectOr object other (Other v) c = other v c
 
--- what names its refusals, where both types tell of names
+-- which reader gives its errors, where both types say one
 abbrev pub asking_object_or : {O T : Meaning} → Option (Asking O) → Option (Asking T) → Option (Asking (reads_object_or O T))
 asking_object_or {O = O} {T = T} (Some a) (Some b) =
     Some (record {

@@ -23,7 +23,7 @@ abbrev pub IsPayloadOf : Payload → (Content → Type 0) → OpenEnum → State
 IsPayloadOf unit keeps old new = IsUnitVariant old new × keeps one
 IsPayloadOf (holds T) keeps old new = IsPayload T (λ _. keeps) old new (tt {0})
 
--- the payload is refused, by the name that its type tells
+-- the payload gives an error, the one that its type says
 abbrev pub RefusesPayloadOf : (p : Payload) → PayloadAsking p → Needs → Error → OpenEnum → State
     → Type 0
 RefusesPayloadOf unit asks needs e old new = RefusesUnitVariant e old new
@@ -42,7 +42,7 @@ abbrev pub PayloadAskings : List Payload → Type 0
 PayloadAskings [] = Unit {0}
 PayloadAskings (p ∷ ps) = PayloadAsking p × PayloadAskings ps
 
--- the payload of the variant at this place is refused, as its type's needs allow
+-- the payload of the variant at this place gives an error, as its type's needs allow
 abbrev pub RefusesPayloadAt : (ps : List Payload) → PayloadAskings ps → List Needs → ℕ → Error
     → OpenEnum → State → Type 0
 RefusesPayloadAt [] qs ns place e old new = ⊥
@@ -69,18 +69,19 @@ labelled_askings [] ps qs = tt
 labelled_askings (n ∷ ns) [] qs = tt
 labelled_askings (n ∷ ns) (p ∷ ps) qs = (qs.0, labelled_askings ns ps qs.1)
 
--- what names the refusals of an enum of this name, whose variants have these names and payloads
+-- which reader gives the errors of an enum of this name, whose variants have these names and
+-- payloads
 abbrev pub asking_labelled : (name : List ℕ) → (ns : List (List ℕ)) → (ps : List Payload)
     → PayloadAskings ps → Option (Asking (reads_enum (labelled ns ps)))
 asking_labelled name ns ps qs = asking_enum name (labelled ns ps) (labelled_askings ns ps qs)
 
 -- ---- what the calls answer
 
--- the payload in the object or row of this head, or of a name that stands alone, was read, and v holds it
+-- the payload in the object or row of this head, or of a name alone, was read, and v holds it
 abbrev pub GivesPayload : {A : Type 0} → Payload → (A → Content → Type 0) → Option MapHead → Seen → Seen → A → Type 0
 GivesPayload p held head old new v = IsPayloadOf p (held v) (enum_head head old.state) new.state
 
--- it is refused, as its type tells
+-- it gives an error, as its type says
 abbrev pub GivesNone : (p : Payload) → PayloadAsking p → Needs → Option MapHead → Seen → Seen → Type 0
 GivesNone p asks needs head old new = RefusesPayloadOf p asks needs new.refusal (enum_head head old.state) new.state
 
@@ -89,7 +90,7 @@ abbrev pub GivesAt : {A : Type 0} → ℕ → List Payload → (ℕ → A → Co
 GivesAt place ps held head old new v =
     (first : ℕ) → IsPayloadAt ps place (λ c. held first v (variant (first + place) c)) (enum_head head old.state) new.state
 
--- where there is such a place, the payload is refused, as its type tells
+-- where there is such a place, the payload gives an error, as its type says
 abbrev pub GivesNoneAt : ℕ → (ps : List Payload) → PayloadAskings ps → List Needs → Option MapHead → Seen → Seen → Type 0
 GivesNoneAt place ps asks needs head old new =
     place < length ps → RefusesPayloadAt ps asks needs place new.refusal (enum_head head old.state) new.state
@@ -98,7 +99,7 @@ GivesNoneAt place ps asks needs head old new =
 abbrev pub ReadsEnum : {A : Type 0} → Names → List Payload → (ℕ → A → Content → Type 0) → Seen → Seen → A → Type 0
 ReadsEnum names ps held old new = Answers (reads_enum (labelled (texts names) ps)) (held 0) old.state new.state
 
--- what is due is refused as that enum, of this name
+-- what is expected gives an error as that enum, of this name
 abbrev pub RefusesEnum : List ℕ → Names → (ps : List Payload) → PayloadAskings ps → List Needs → Seen → Seen → Type 0
 RefusesEnum name names ps asks needs old new =
     RefusesDue (reads_enum (labelled (texts names) ps)) (asking_labelled name (texts names) ps asks) (struct_needs needs) old new

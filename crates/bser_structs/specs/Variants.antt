@@ -150,7 +150,8 @@ abbrev pub each_payload : {A : Type 0} → (fs : List (VariantOf A)) → Variant
 each_payload [] = tt
 each_payload (f ∷ fs) = (f.asks, each_payload fs)
 
--- what names the refusals of the enum of this name, where all its payloads tell and it has at most 60 bytes
+-- which reader gives the errors of the enum of this name, where all its payloads say one and it has
+-- at most 60 bytes
 abbrev pub asking_variants : {A : Type 0} → List ℕ → (fs : List (VariantOf A))
     → Option (Asking (reads_variants fs))
 asking_variants name fs = asking_enum name (payloads_of fs) (each_payload fs)

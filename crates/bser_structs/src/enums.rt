@@ -17,12 +17,12 @@ pub trait Variants {
     ghost variants: { List (VariantOf Self) };
 }
 
-/// Reads the variant that is due, of an enum of this name: one of these names, and its payload.
+/// Reads the variant that is expected, of an enum of this name: one of these names, and its
+/// payload.
 ///
-/// A variant is refused as [`read_enum`](bser_variants::enum_access::ReadsEnums::read_enum) refuses
-/// it, and a payload as its type does, or by
-/// [`Complaint::WrongType`](bser_format::errors::Complaint::WrongType) where a name stands alone
-/// that has to have a payload. After a refusal each later call is refused.
+/// The errors are those of [`read_enum`](bser_variants::enum_access::ReadsEnums::read_enum), those
+/// of the payload's type, and [`Complaint::WrongType`](bser_format::errors::Complaint::WrongType)
+/// for a name without its payload. After an error each later call fails.
 #[inline(always)]
 pub fn read_variants<R: DeRead, P: ReadPayloads<R::Lent>>(
     alloc: Global,
@@ -94,10 +94,10 @@ macro_rules! variant_read {
     };
 }
 
-/// Reads the variant that is due as an enum, by [`read_variants`](crate::read_variants), and
-/// refuses as it does.
+/// Reads the variant that is expected as an enum, by [`read_variants`](crate::read_variants), and
+/// fails as it does.
 ///
-/// Each variant stands with its name, and each field of a variant as in
+/// Each variant is written with its name, and each field of a variant as in
 /// [`read_struct`](crate::read_struct).
 #[macro_export]
 macro_rules! read_enum {
@@ -150,9 +150,9 @@ macro_rules! variant_put {
 
 /// Puts an enum, the variant that it is, by [`put_text`](bser_ser::Serializer::put_text),
 /// [`put_variant`](crate::put_variant) or [`put_variant_fields`](crate::put_variant_fields), and
-/// refuses as they do.
+/// fails as they do.
 ///
-/// Each variant stands with its name, and each field of a variant as in
+/// Each variant is written with its name, and each field of a variant as in
 /// [`put_struct`](crate::put_struct).
 #[macro_export]
 macro_rules! put_enum {

@@ -4,7 +4,7 @@
 //! A struct's [`Fields`] say what it is read as and written as. [`read_struct`](crate::read_struct)
 //! reads it, and [`put_struct`](crate::put_struct) writes it. An enum's [`Variants`] say the same
 //! of an enum, which [`read_enum`](crate::read_enum) reads and [`put_enum`](crate::put_enum)
-//! writes. [`ObjectOr`] chooses by the kind of what is due.
+//! writes. [`ObjectOr`] chooses by the kind of what is expected.
 #![tactic(auto)]
 
 pub mod enums;

@@ -15,10 +15,11 @@ use bser_source::reference::LendsText;
 use bser_types::deserialize::{Deserialize, OwnedShape, Shape};
 use std::alloc::Global;
 
-/// A struct or a map where an object stands, and a value of another type where none does.
+/// A struct or a map where the message has an object, and a value of another type where it has
+/// none.
 ///
-/// So an answer's files are read that are names alone where one field was asked for, and else
-/// objects. It stands for serde's untagged enums, whose choice is by the kind of the value alone.
+/// So an answer's files are read, which are names where one field was asked for, and else objects.
+/// It takes the place of serde's untagged enums whose choice is by the kind of the value alone.
 #[derive(Debug, PartialEq, Eq, Drop)]
 pub enum ObjectOr<O, T> {
     /// What an object, or a template's row, was read as.
@@ -27,8 +28,8 @@ pub enum ObjectOr<O, T> {
     Other(T),
 }
 
-/// Neither type is asked about a value of the other's kind: an object that the first one refuses
-/// is refused.
+/// Neither type is asked about a value of the other's kind: an object that the first one does not
+/// read is an error.
 impl<O: Shape, T: Shape> Shape for ObjectOr<O, T> {
     ghost reads = { reads_object_or O.reads T.reads };
 

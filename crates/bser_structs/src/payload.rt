@@ -38,14 +38,14 @@ pub trait ReadPayload<L: LendsText> {
     // what reading it needs
     ghost needs: { Needs };
 
-    // what names its refusals, where its type tells of names
+    // which reader gives its errors, where its type says one
     ghost asks: { (p : Self) → PayloadAsking (payload p) };
 
     /// Reads the payload of the variant whose name was read, in the object or row of this head, or
-    /// of a name that stands alone, and closes the object.
+    /// of a name alone, and closes the object.
     ///
-    /// Refused as the payload's type is, and by [`Complaint::WrongType`] where the name stands
-    /// alone and there has to be a payload; the deserializer then refuses each later call.
+    /// The errors are those of the payload's type, and [`Complaint::WrongType`] for a name alone
+    /// where there has to be a payload. After an error each later call of the deserializer fails.
     fn read<R: DeRead<Lent = L>>(
         &self,
         alloc: Global,

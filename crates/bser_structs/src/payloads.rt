@@ -37,13 +37,13 @@ pub trait ReadPayloads<L: LendsText> {
     // what reading each of them needs
     ghost needs: { List Needs };
 
-    // what names the refusals of each of them, where its type tells of names
+    // which reader gives the errors of each of them, where its type says one
     ghost asks: { (t : Self) → PayloadAskings (payloads t) };
 
     /// Reads the payload of the variant at this place.
     ///
-    /// Refused as [`ReadPayload::read`] is, and where there is no such place; the deserializer then
-    /// refuses each later call.
+    /// Fails as [`ReadPayload::read`] does, and where there is no such place. After an error each
+    /// later call of the deserializer fails.
     fn read_at<R: DeRead<Lent = L>>(
         &self,
         alloc: Global,

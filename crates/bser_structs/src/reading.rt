@@ -22,10 +22,10 @@ macro_rules! field_values {
     ($first:ident $($others:ident)*) => { ($first, $crate::field_values!($($others)*)) };
 }
 
-/// Reads the object or the row that is due as a struct, by
-/// [`read_fields`](bser_fields::fields::ReadsFields::read_fields), and refuses as it does.
+/// Reads the object or the row that is expected as a struct, by
+/// [`read_fields`](bser_fields::fields::ReadsFields::read_fields), and fails as it does.
 ///
-/// Each field stands with its name. A `Required` one has to be there; an `Optional` and a
+/// Each field is written with its name. A `Required` one has to be there; an `Optional` and a
 /// `Nullable` one is `None` where it is null or absent. Other names are passed over.
 #[macro_export]
 macro_rules! read_struct {

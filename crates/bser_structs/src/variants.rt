@@ -14,7 +14,7 @@ use std::alloc::Global;
 ///
 /// A variant without a value is put as its name, by [`put_text`](Serializer::put_text).
 ///
-/// Refused as the puts of its parts are. After a refusal the parts before it have been put.
+/// Fails as the puts of its parts do. After an error the parts before it have been put.
 #[inline(always)]
 pub fn put_variant<W: Sink, T: Serialize>(
     alloc: Global,
@@ -35,7 +35,7 @@ pub fn put_variant<W: Sink, T: Serialize>(
 /// Puts a variant with fields: an object of one entry, whose value is the object of the fields, in
 /// their order.
 ///
-/// Refused as the puts of its parts are. After a refusal the parts before it have been put.
+/// Fails as the puts of its parts do. After an error the parts before it have been put.
 #[inline(always)]
 pub fn put_variant_fields<W: Sink, F: PutFields>(
     alloc: Global,

@@ -21,7 +21,7 @@ pub trait PutField {
 
     /// Puts its key and its value, or nothing where it is left out.
     ///
-    /// Refused as [`put_key`](Serializer::put_key) and the value's writing are. After a refusal the
+    /// Fails as [`put_key`](Serializer::put_key) and the value's writing do. After an error the
     /// parts before it have been put.
     fn put<W: Sink>(&self, alloc: Global, out: &mut Serializer<W>) -> Result<()>
         ensures ok { OnOk result (EntriesEnd W.Sink (entry self.now) out.old out.new) }
@@ -81,7 +81,7 @@ pub trait PutFields {
 
     /// Puts their keys and values, in their order.
     ///
-    /// Refused as [`PutField::put`] is.
+    /// Fails as [`PutField::put`] does.
     fn put_each<W: Sink>(&self, alloc: Global, out: &mut Serializer<W>) -> Result<()>
         ensures ok { OnOk result (EntriesEnd W.Sink (entries self.now) out.old out.new) }
         ensures writable { OnOk result (EntriesCanBeWritten (entries self.now)) }
@@ -119,8 +119,8 @@ impl<A: PutField, F: PutFields> PutFields for (A, F) {
 
 /// Puts a struct, the object of these fields, in their order.
 ///
-/// Refused with `SerCustom` `CountTooGreat` where there are more than `i64::MAX` fields, and else
-/// as the first part is that is refused. After a refusal the parts before it have been put.
+/// More than `i64::MAX` fields are `SerCustom` `CountTooGreat`; else it fails as the first part
+/// that does. After an error the parts before it have been put.
 #[inline(always)]
 pub fn put_fields<W: Sink, F: PutFields>(
     alloc: Global,
@@ -156,10 +156,10 @@ macro_rules! fields_given {
 }
 
 /// Puts a struct, the object of these fields in their order, by [`put_fields`](crate::put_fields),
-/// and refuses as it does.
+/// and fails as it does.
 ///
-/// Each field stands with its name. A `Required` one is put whatever it is; an `Optional` one is
-/// left out where it is `None`, and a `Nullable` one is null there.
+/// Each field is written with its name. A `Required` one is put whatever it is; an `Optional` one
+/// is left out where it is `None`, and a `Nullable` one is null there.
 #[macro_export]
 macro_rules! put_struct {
     ($alloc:expr, $out:expr, $of:expr, { $($fields:tt)* }) => {

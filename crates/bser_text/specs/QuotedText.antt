@@ -13,13 +13,14 @@ escape_letter c =
 abbrev pub control_code : ℕ → List ℕ
 control_code c = codes "\\u00" ++ digit_char (c / 16) ∷ digit_char (c % 16) ∷ []
 
--- how a character stands between the quotes: by its letter, as a code below the space, or as it is
+-- how a character is written between the quotes: by its letter, as a code below the space, or as it
+-- is
 abbrev pub json_escape : ℕ → List ℕ
 json_escape c =
     if escape_letter c == 0 then (if nat_lt c 0x20 then control_code c else c ∷ [])
     else 0x5C ∷ escape_letter c ∷ []
 
--- the characters of a text, as they stand between the quotes
+-- the characters of a text, as they are written between the quotes
 abbrev pub between_quotes : List ℕ → List ℕ
 between_quotes bs = encode_utf8_all (flat_map json_escape (chars bs))
 

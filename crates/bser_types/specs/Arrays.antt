@@ -14,6 +14,6 @@ abbrev pub equal_parts : {T : Meaning} → (n : ℕ) → Option (Asking T) → P
 equal_parts zero a = tt
 equal_parts (suc n) a = (a, equal_parts n a)
 
--- an array of n items, where its items tell
+-- an array of n items, where its items say one
 abbrev pub asking_array : {T : Meaning} → (n : ℕ) → Option (Asking T) → Option (Asking (reads_array n T))
 asking_array {T = T} n a = asking_tuple (replicate n T) (equal_parts n a)

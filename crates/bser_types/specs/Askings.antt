@@ -25,7 +25,7 @@ counted_passes A R pass (suc o) n d u c b x f r = pass (one_more o) n d u c b x 
 
 -- ---- options, lists and byte strings
 
--- nothing where null or a skip stands, else what the value inside asks for
+-- nothing at null or a skip, else what the value inside asks for
 abbrev pub asking_option : {T : Meaning} → Asking T → Asking (reads_option T)
 asking_option {T = T} a =
     record { asks = asks_option a.asks; passes = option_passes a.asks T a.passes }
@@ -44,7 +44,7 @@ asking_byte_string = record { asks = asks_byte_string; passes = byte_string_pass
 
 -- ---- tuples
 
--- what each part asks for, where it tells of names
+-- what each part asks for, where it says a reader
 abbrev pub PartAskings : List Meaning → Type 0
 PartAskings [] = Unit {0}
 PartAskings (T ∷ Ts) = Option (Asking T) × PartAskings Ts
@@ -54,7 +54,7 @@ pub record AllAsked (Ts : List Meaning) : Type 0 where
   pub asks : List Asks
   pub passes : PassEach asks Ts
 
--- the first part and the others, where they all tell
+-- the first part and the others, where they all say one
 abbrev pub joined : {T : Meaning} → {Ts : List Meaning} → Option (Asking T) → Option (AllAsked Ts)
     → Option (AllAsked (T ∷ Ts))
 joined {T = T} (Some a) (Some r) =
@@ -64,7 +64,7 @@ joined {T = T} (Some a) (Some r) =
     })
 joined _ _ = None
 
--- what all parts ask for, where they all tell
+-- what all parts ask for, where they all say one
 abbrev pub all_asked : (Ts : List Meaning) → PartAskings Ts → Option (AllAsked Ts)
 all_asked [] ps = Some (record { asks = []; passes = tt })
 all_asked (T ∷ Ts) ps = joined ps.0 (all_asked Ts ps.1)
@@ -74,13 +74,13 @@ abbrev pub asking_parts : {Ts : List Meaning} → AllAsked Ts → Asking (reads_
 asking_parts {Ts = Ts} r =
     record { asks = asks_tuple r.asks; passes = tuple_passes r.asks Ts r.passes }
 
--- a tuple, where all its parts tell
+-- a tuple, where all its parts say one
 abbrev pub asking_tuple : (Ts : List Meaning) → PartAskings Ts → Option (Asking (reads_tuple Ts))
 asking_tuple Ts ps = option_map asking_parts (all_asked Ts ps)
 
 -- ---- maps
 
--- a map, where its keys and its values tell
+-- a map, where its keys and its values say one
 abbrev pub asking_map : {K V : Meaning} → Option (Asking K) → Option (Asking V)
     → Option (Asking (reads_map K V))
 asking_map {K = K} {V = V} (Some a) (Some b) =

@@ -16,6 +16,6 @@ is_pairs (tag t) = t == 0x01
 is_pairs (name k) = false
 is_pairs (row ks) = true
 
--- where an object or a row stands what the first type asks for, else what the second does
+-- at an object or a row what the first type asks for, else what the second does
 abbrev pub asks_object_or : Asks → Asks → Asks
 asks_object_or A B o n d b = by_sight is_pairs (A o n d) (B o n d) (seen o d b) b

@@ -8,7 +8,7 @@ use Rattle.bser_deserializer.specs.Reading.{Needs}
 use Rattle.bser_deserializer.specs.Fields.{field_of}
 use Rattle.bser_deserializer.specs.declared.field.Field.{Field}
 
--- what the entries make of a, each by a step that may refuse
+-- what the entries make of a, each by a step that may be an error
 abbrev pub folds : {A : Type 0} → (A → List ℕ → Tree → Option A) → A → List (List ℕ × Tree) → Option A
 folds step a [] = Some a
 folds step a (e ∷ es) = option_and_then (λ b. folds step b es) (step a e.0 e.1)
@@ -22,7 +22,7 @@ abbrev pub object_of : {A : Type 0} → (A → List ℕ → Tree → Option A) �
 object_of step start finish (object es) = comes_to step finish start (entries es)
 object_of step start finish _ = None
 
--- a step by the place of the entry's name; a name that is not UTF-8 is refused
+-- a step by the place of the entry's name; a name that is not UTF-8 is an error
 abbrev pub step_by_name : {A : Type 0} → List (List ℕ) → (A → Field → Tree → Option A) → A → List ℕ → Tree → Option A
 step_by_name names step a name t = if is_utf8 name then step a (field_of names name) t else None
 

@@ -1,4 +1,4 @@
--- What texts hold that are lent or owned.
+-- What texts hold that are borrowed or owned.
 use Rattle.std.specs.Cow.{cow_str_bytes}
 use Rattle.std.specs.declared.borrow.CowStr.{CowStr}
 use Rattle.bser_format.specs.Content.{Content}

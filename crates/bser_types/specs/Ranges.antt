@@ -11,6 +11,6 @@ use Rattle.bser_deserializer.specs.State.{State}
 abbrev pub LiesWithin : (ℤ → Bool) → ℤ → ℤ → Type 0
 LiesWithin fits least most = (v : ℤ) → FitsSigned w64 v → fits v ≡ true → (least ≤ℤ v) × (v ≤ℤ most)
 
--- why an integer that was read is refused
+-- the error of an integer that was read
 abbrev pub out_of_range : State → Error
 out_of_range s = after_a_refusal s.source.failed (complain IntegerOutOfRange)

@@ -1,4 +1,4 @@
--- What a deserializer ends as that a call lends to an access, and answers one only where nothing is refused.
+-- What the deserializer that an access borrows ends as, where a call fails and answers no access.
 use Rattle.std.specs.Prelude.{Result, OnErr}
 use Rattle.std.specs.Borrow.{Fml, GName, MutBor, RattleType, RestsIfErr}
 use Rattle.bser_source.specs.declared.read.DeRead as source
@@ -10,9 +10,9 @@ use Rattle.bser_types.specs.Accesses.{items_reference, pairs_reference}
 use Rattle.bser_types.specs.declared.seq.SeqAccess.{SeqAccess}
 use Rattle.bser_types.specs.declared.map.MapAccess.{MapAccess}
 
--- over sources of this row, which lend this, of which these keys are kept
+-- over sources of this row, from which this is borrowed, and these keys are kept
 module _ (R L K : RattleType) (g : source.Ghosts R.Denot L.Denot K.Denot) (h : lending.Ghosts L.Denot K.Denot) where
-  -- it rests in the access under this name, and is as told where the call is refused
+  -- it rests in the access under this name, and is as said where the call fails
   abbrev pub rests : {A E : Type 0} → MutBor Seen → (A → GName) → Result A E → (Seen → Type 0) → Fml
   rests d name r P = RestsIfErr (deserializer.the_row R L K g h) d name r (λ last. OnErr r (P last))
 

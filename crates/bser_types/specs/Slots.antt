@@ -1,4 +1,5 @@
--- Structs, of which each field is read at most once. What a field is and how it is read is told with what a struct reads as.
+-- Structs, of which each field is read at most once. What a field is and how it is read is said
+-- with what a struct reads as.
 use Rattle.std.specs.Prelude.{◌≡◌, ℕ, ◌||◌, Bool, false, true, List, [], ◌∷◌, Option, Some, None, option_map}
 use Rattle.bser_format.specs.Tree.{Tree}
 use Rattle.bser_format.specs.Content.{Content, Meaning, each_some}
@@ -27,7 +28,7 @@ fill_field ss Unknown t = option_map (λ c. ss) (reads_ignored t)
 abbrev pub reads_struct : List (List ℕ) → List StructField → Meaning
 reads_struct names fields = struct_of names fill_field fields all_at_end
 
--- whether one of these types may hold lent bytes
+-- whether one of these types may hold borrowed bytes
 abbrev pub any_lent : List Needs → Bool
 any_lent [] = false
 any_lent (n ∷ ns) = n.lent || any_lent ns
@@ -64,7 +65,7 @@ FinishesEach holds ss (Some v) = (cs : List Content) × (each_some field_at_end 
 
 -- ---- the value of a field
 
--- what is due, as a tree by which a step leads on from a
+-- what is expected, as a tree by which a step leads on from a
 pub record FillsStep {A : Type 0} (step : A → Tree → Option A) (a : A) (s : State) (text : List ℕ) : Type 0 where
   pub tree : Tree
   pub next : A

@@ -20,6 +20,7 @@ abbrev pub any_memory : List Needs → Bool
 any_memory [] = false
 any_memory (n ∷ ns) = n.memory || any_memory ns
 
--- what its parts need, and memory for the keys of a template, which are copied; where no template is read, that is memory for refusals alone
+-- what its parts need, and memory for the keys of a template, which are copied; where no template
+-- is read, that is memory for errors alone
 abbrev pub tuple_needs : List Needs → (Ts : List Meaning) → Plain Ts → Needs
 tuple_needs ns Ts ps = record { lent = any_lent ns; memory = any_memory ns || may_read_rows Ts ps; keys = true; copied = true }

@@ -22,12 +22,12 @@ pub(crate) trait Collects<T>: Drop {
     // what these items make of an empty one
     ghost collected: { List T → Self → Type 0 };
 
-    /// Puts the next item in; false for want of memory.
+    /// Puts the next item in; false if there is no memory.
     fn collect(&mut self, item: T) -> bool
         ensures { result ≡ true → CollectsItem collected self.old self.new item };
 }
 
-/// Reads the array or the template that is due, and puts each item into `empty`.
+/// Reads the array or the template that is expected, and puts each item into `empty`.
 #[inline(always)]
 pub(crate) fn read_items<L, R, T, C>(
     alloc: Global,
@@ -63,12 +63,12 @@ pub(crate) trait CollectsEntries<K: MapKey, V: Shape>: Drop {
     // the pairs that its entries are
     ghost pairs: { Self → List (List ℕ × Content) → Type 0 };
 
-    /// Puts the next entry in, in place of one of an equal key; false for want of memory.
+    /// Puts the next entry in, in place of one of an equal key; false if there is no memory.
     fn put(&mut self, key: K, value: V) -> bool
         ensures { result ≡ true → PutsEntry pairs K.name V.holds self.old self.new key value };
 }
 
-/// Reads the object or the row that is due, and puts each entry into `empty`.
+/// Reads the object or the row that is expected, and puts each entry into `empty`.
 #[inline(always)]
 pub(crate) fn read_entries<L, R, K, V, M>(
     alloc: Global,

@@ -17,21 +17,21 @@ pub trait ReadsContainers {
     /// The source that it reads from.
     type Source: DeRead;
 
-    /// Reads the array or template that is due, as an access to its items. The items of a template
-    /// are its rows, each an object.
+    /// Reads the array or template that is expected, as an access to its items. The items of a
+    /// template are its rows, each an object.
     ///
-    /// Another kind of value is [`Complaint::WrongType`](bser_format::errors::Complaint::WrongType). A
-    /// container that nests too deep is [`Error::DeRecursionLimitExceeded`], a template's list of
-    /// keys too; a template without that list, or with a key of another kind, is
-    /// [`Error::DeInvalidStartByte`]; and a count below 0, and rows without keys, are
-    /// [`Error::DeCustom`]. A template takes memory for its keys, as they are read, and a refused
-    /// growth is [`Error::OutOfMemory`]; an array takes none. After a refusal each later call is
-    /// refused.
+    /// Another kind of value is
+    /// [`Complaint::WrongType`](bser_format::errors::Complaint::WrongType). A container that nests
+    /// too deep is [`Error::DeRecursionLimitExceeded`], a template's list of keys too; a template
+    /// without that list, or with a key of another kind, is [`Error::DeInvalidStartByte`]; and a
+    /// count below 0, and rows without keys, are [`Error::DeCustom`]. A template takes memory for
+    /// its keys, as they are read, and a failed allocation is [`Error::OutOfMemory`]; an array
+    /// takes none. After an error each later call fails.
     fn read_seq<'a>(&'a mut self) -> Answer<SeqAccess<'a, Self::Source>>;
 
-    /// Reads the object or the row that is due, as an access to its entries.
+    /// Reads the object or the row that is expected, as an access to its entries.
     ///
-    /// Another kind of value is [`Complaint::WrongType`]. After a refusal each later call is refused.
+    /// Another kind of value is [`Complaint::WrongType`]. After an error each later call fails.
     fn read_map<'a>(&'a mut self) -> Answer<MapAccess<'a, Self::Source>>;
 }
 

@@ -13,7 +13,8 @@ use std::alloc::Global;
 
 /// The meaning of a type that is read: which trees it reads, and what a value of it holds.
 ///
-/// It has no calls and no lifetime, so that a type has one meaning whatever lends its bytes.
+/// It has no calls and no lifetime, so that a type has one meaning wherever its bytes are borrowed
+/// from.
 pub trait Shape {
     // which trees the type reads, and as what
     ghost reads: { Meaning };
@@ -21,11 +22,11 @@ pub trait Shape {
     // what a value holds
     ghost holds: { Self → Content → Type 0 };
 
-    // whether a value may hold lent bytes, whether reading one may take memory, whether a refusal
-    // may, and whether bytes are read that a source copies
+    // whether a value may hold borrowed bytes, whether reading one may take memory, whether an
+    // error may, and whether bytes are read that a source copies
     ghost needs: { Needs };
 
-    // what names its refusals, where the type tells of names
+    // which reader gives its errors, where the type says one
     ghost asks: { Option (Asking Self.reads) };
 
     // that the type reads no object, where that is known; then a tuple that has such a part is
@@ -37,12 +38,12 @@ pub trait Shape {
 ///
 /// In place of serde's visitors a type pulls its parts from the deserializer.
 pub trait Deserialize<L: LendsText>: Shape + Drop {
-    /// Reads what is due, a value as a rule, and answers by the type's meaning: exactly where a
-    /// front of the bytes left spells a tree that the type reads, and then it takes that front.
+    /// Reads what is expected, a value as a rule, and answers by the type's meaning: exactly where
+    /// a prefix of the bytes left spells a tree that the type reads, and then it takes that prefix.
     ///
-    /// Refused otherwise, and for a reader's fault, or, for a type that holds lent bytes over a
-    /// source that copies, [`Complaint::BorrowedFromCopying`]. For want of memory only a type is
-    /// refused that takes some, or that reads bytes which are copied.
+    /// Else it is an error, as an I/O error of the reader is. A type that holds borrowed bytes,
+    /// over a source that copies, is [`Complaint::BorrowedFromCopying`]. Out of memory comes only
+    /// of a type that takes some, or that reads bytes which are copied.
     ///
     /// [`Complaint::BorrowedFromCopying`]: bser_format::errors::Complaint::BorrowedFromCopying
     fn deserialize<R: DeRead<Lent = L>>(alloc: Global, from: &mut Deserializer<R>) -> Answer<Self>
@@ -53,12 +54,12 @@ pub trait Deserialize<L: LendsText>: Shape + Drop {
             → OnErr result (from.new.refusal ≢ Error.OutOfMemory) };
 }
 
-/// A meaning whose values hold nothing that is lent.
+/// A meaning whose values hold nothing that is borrowed.
 pub trait OwnedShape: Shape {
     ghost owned: { Self.needs.lent ≡ false };
 }
 
-/// A type that needs nothing lent, so that it is read from any reader.
+/// A type that borrows nothing, so that it is read from any reader.
 ///
 /// Each type is one that has both halves.
 pub trait DeserializeOwned: OwnedShape + Deserialize<NoLoan> {}

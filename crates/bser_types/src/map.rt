@@ -24,7 +24,7 @@ pub struct MapAccess<'a, R: DeRead> {
     // of an object how many entries are to come, of a row the place of the next field, and how it
     // stood outside
     pub(crate) head: MapHead,
-    // whether the value of a key that was read is due
+    // whether the value of a key that was read is expected
     pub(crate) pending: bool,
 }
 
@@ -41,7 +41,7 @@ impl<'a, R: DeRead> MapAccess<'a, R> {
         }
     }
 
-    /// Makes the next key due, if one is left.
+    /// Makes the next key expected, if one is left.
     #[inline(always)]
     fn await_key(&mut self) -> Answer<bool>
         ensures same_reference { SamePairsReference self.old self.new }
@@ -65,7 +65,7 @@ impl<'a, R: DeRead> MapAccess<'a, R> {
         Ok(true)
     }
 
-    /// Makes the value of the key that was read due.
+    /// Makes the value of the key that was read expected.
     #[inline(always)]
     fn await_value(&mut self) -> Answer<()>
         ensures same_reference { SamePairsReference self.old self.new }
@@ -100,7 +100,7 @@ impl<'a, R: DeRead> MapAccess<'a, R> {
         self.pending = true;
     }
 
-    /// Refuses all calls from now on, and keeps the reason.
+    /// Makes all calls from now on fail, and keeps the error.
     #[inline(always)]
     pub fn refuse(&mut self, reason: Error) -> Refused
         ensures same_reference { SamePairsReference self.old self.new }
@@ -112,8 +112,8 @@ impl<'a, R: DeRead> MapAccess<'a, R> {
 
     /// Closes the object.
     ///
-    /// Refused by [`Complaint::ItemsLeft`] where entries are left or a value is due, and by
-    /// [`ReadCause::Failed`](bser_format::errors::ReadCause::Failed) after an earlier refusal.
+    /// The error is [`Complaint::ItemsLeft`] where entries are left or a value is expected, and
+    /// [`ReadCause::Failed`](bser_format::errors::ReadCause::Failed) after an earlier error.
     #[inline(always)]
     pub fn end(self) -> Answer<()>
         ensures ok { OnOk result (EndsMap self.entry self.exit.0.now) }
@@ -127,12 +127,12 @@ impl<'a, R: DeRead> MapAccess<'a, R> {
         Ok(())
     }
 
-    /// Reads the next key, if one is left, as the place in `names` at which it first stands. Its
-    /// value is due then.
+    /// Reads the next key, if one is left, as its first place in `names`. Its value is expected
+    /// then.
     ///
-    /// A name takes memory only where the source copies. Refused where the key is not UTF-8, as
-    /// [`Deserializer::read_text`] is, and by [`Complaint::ValueOpen`] where a value is due; the
-    /// deserializer then refuses each later call.
+    /// A name takes memory only where the source copies. A key that is not UTF-8 fails as in
+    /// [`Deserializer::read_text`], and where a value is expected the error is
+    /// [`Complaint::ValueOpen`]. After an error each later call of the deserializer fails.
     #[inline(always)]
     pub fn next_field(&mut self, names: &[&str]) -> Answer<Option<Field>>
     where
@@ -150,7 +150,7 @@ impl<'a, R: DeRead> MapAccess<'a, R> {
     }
 }
 
-/// Reads the key that is due, as the place in `names` at which it first stands.
+/// Reads the key that is expected, as its first place in `names`.
 #[inline(always)]
 fn take_field<R: DeRead>(from: &mut Deserializer<R>, head: MapHead, names: &[&str]) -> Answer<Field>
 where
@@ -176,10 +176,10 @@ impl<'a, R: DeRead> MapAccess<'a, R>
 where
     R::Lent: LendsText,
 {
-    /// Reads the next key, if one is left. Its value is due then.
+    /// Reads the next key, if one is left. Its value is expected then.
     ///
-    /// Refused as the type's reading is, and by [`Complaint::ValueOpen`] where a value is due; the
-    /// deserializer then refuses each later call.
+    /// The errors are those of the type's reading, and [`Complaint::ValueOpen`] where a value is
+    /// expected. After an error each later call of the deserializer fails.
     #[inline(always)]
     pub fn next_key<K: Deserialize<R::Lent>>(&mut self, alloc: Global) -> Answer<Option<K>>
         ensures same_reference { SamePairsReference self.old self.new }
@@ -196,8 +196,8 @@ where
 
     /// Reads the value of the key that was read.
     ///
-    /// Refused as the type's reading is, and by [`Complaint::ValueOpen`] where no key was read
-    /// before; the deserializer then refuses each later call.
+    /// The errors are those of the type's reading, and [`Complaint::ValueOpen`] where no key was
+    /// read before. After an error each later call of the deserializer fails.
     #[inline(always)]
     pub fn next_value<V: Deserialize<R::Lent>>(&mut self, alloc: Global) -> Answer<V>
         ensures same_reference { SamePairsReference self.old self.new }
@@ -212,7 +212,7 @@ where
 
     /// Reads the next key and its value, if an entry is left.
     ///
-    /// Refused as [`MapAccess::next_key`] and [`MapAccess::next_value`] are.
+    /// Fails as [`MapAccess::next_key`] and [`MapAccess::next_value`] do.
     #[inline(always)]
     pub fn next_entry<K: Deserialize<R::Lent>, V: Deserialize<R::Lent>>(
         &mut self,

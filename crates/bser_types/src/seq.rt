@@ -31,7 +31,7 @@ impl<'a, R: DeRead> SeqAccess<'a, R> {
         self.head.remaining
     }
 
-    /// Makes the next item due.
+    /// Makes the next item expected.
     #[inline(always)]
     pub(crate) fn await_item(&mut self)
         ensures same_reference { SameItemsReference self.old self.new }
@@ -54,7 +54,7 @@ impl<'a, R: DeRead> SeqAccess<'a, R> {
         self.head.remaining -= 1;
     }
 
-    /// Refuses all calls from now on, and keeps the reason.
+    /// Makes all calls from now on fail, and keeps the error.
     #[inline(always)]
     pub fn refuse(&mut self, reason: Error) -> Refused
         ensures same_reference { SameItemsReference self.old self.new }
@@ -66,8 +66,8 @@ impl<'a, R: DeRead> SeqAccess<'a, R> {
 
     /// Closes the array.
     ///
-    /// Refused by [`Complaint::ItemsLeft`] where items are left, and by
-    /// [`ReadCause::Failed`](bser_format::errors::ReadCause::Failed) after an earlier refusal.
+    /// The error is [`Complaint::ItemsLeft`] where items are left, and
+    /// [`ReadCause::Failed`](bser_format::errors::ReadCause::Failed) after an earlier error.
     #[inline(always)]
     pub fn end(self) -> Answer<()>
         ensures ok { OnOk result (EndsSeq self.entry self.exit.0.now) }
@@ -88,7 +88,8 @@ where
 {
     /// Reads the next item, if one is left.
     ///
-    /// Refused as the type's reading is; the deserializer then refuses each later call.
+    /// The errors are those of the type's reading. After one each later call of the deserializer
+    /// fails.
     #[inline(always)]
     pub fn next_element<T: Deserialize<R::Lent>>(&mut self, alloc: Global) -> Answer<Option<T>>
         ensures same_reference { SameItemsReference self.old self.new }
@@ -104,10 +105,10 @@ where
         Ok(Some(item))
     }
 
-    /// Reads the next item, which has to be there: where none is left it is refused by
-    /// [`Complaint::TooFewItems`], and the deserializer then refuses each later call.
+    /// Reads the next item, which has to be there: where none is left it is
+    /// [`Complaint::TooFewItems`], and each later call of the deserializer fails.
     ///
-    /// Refused else as [`SeqAccess::next_element`] is.
+    /// The other errors are those of [`SeqAccess::next_element`].
     #[inline(always)]
     pub fn required_element<T: Deserialize<R::Lent>>(&mut self, alloc: Global) -> Answer<T>
         ensures same_reference { SameItemsReference self.old self.new }

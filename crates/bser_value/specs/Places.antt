@@ -18,7 +18,7 @@ abbrev pub places_from : ℕ → List (List ℕ) → List Tree
 places_from n [] = []
 places_from n (k ∷ ks) = integer (pos n) ∷ places_from (suc n) ks
 
--- the entries have each key, with the last place at which it stands
+-- the entries have each key, with the last place at which it occurs
 abbrev pub ArePlaces : List (List ℕ) → List (String Global × Value) → Type 0
 ArePlaces ks es = entry_trees es ≡ last_entries (zip ks (places_from 0 ks))
 

@@ -25,7 +25,7 @@ tree_step (Value-F.Bool v) = boolean v
 tree_step Value-F.Null = null
 tree_step (Value-F.Utf8String s) = text (string_bytes s)
 
--- the tree that a value stands for
+-- the tree of a value
 abbrev pub tree_of : Value → Tree
 tree_of = fold-Value Tree tree_step
 

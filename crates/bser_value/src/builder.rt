@@ -35,7 +35,7 @@ impl ValueBuilder {
         }
     }
 
-    /// The value, once all of it was told.
+    /// The value, once all of it was reported.
     pub fn into_value(self) -> Option<Value>
         ensures { (t : Tree) → Shows self (read_as t) → option_map tree_of result ≡ Some t }
     {

@@ -1,8 +1,8 @@
-//! A map that holds places in the place of values, and values that take them.
+//! A map that holds places where values will be, and values that take them.
 //!
-//! The map of a row is a copy of the map of places in which each place gives way to the field that
-//! stands there. So no key of a row is searched or compared, and a slot for either is a `Value`: a
-//! type of its own for places would have the copy built anew, entry by entry.
+//! The map of a row is a copy of the map of places in which each place gives way to its field. So
+//! no key of a row is searched or compared, and a slot for either is a `Value`: with a type of its
+//! own for places the copy would be built entry by entry.
 ghost use Rattle.std.specs.Prelude.{◌≡◌, pos, OnOk};
 ghost use Rattle.bser_format.specs.Tree.{integer};
 ghost use Rattle.bser_value.specs.Places.{PutsEntry, TakesPlace, TakesFields};
@@ -12,8 +12,8 @@ use std::alloc::{AllocError, Global};
 use std::collections::BTreeMap;
 use std::mem;
 
-/// Puts the place at a copy of the key. It is refused for want of memory, as a place that no memory
-/// could hold the keys for.
+/// Puts the place at a copy of the key. The error is that there is no memory, also for a place that
+/// no memory could hold the keys for.
 pub fn put_place(
     alloc: Global,
     places: &mut BTreeMap<String, Value>,
@@ -76,7 +76,7 @@ pub fn put_field(field: &mut Value, value: Value)
     }
 }
 
-/// Puts a value into a field, in the place of one whose key stands again later.
+/// Puts a value into a field, in the place of one whose key comes again later.
 #[cold]
 #[inline(never)]
 fn put_other(field: &mut Value, value: Value)

@@ -15,7 +15,7 @@ use bser_types::deserialize::{Deserialize, OwnedShape, Shape};
 use std::alloc::Global;
 
 /// Any value is read, as a key's text or bytes too. The keys of objects have to be UTF-8, and the
-/// last of equal keys stays. Want of memory is refused by `Error::OutOfMemory`.
+/// last of equal keys stays. Out of memory is `Error::OutOfMemory`.
 impl Shape for Value {
     ghost reads = { reads_value };
 

@@ -12,7 +12,7 @@ use std::collections::BTreeMap;
 /// The keys of a template, and what of its rows was read.
 #[derive(Drop)]
 pub struct Table {
-    /// Each key, with the last place at which it stands.
+    /// Each key, with the last place at which it occurs.
     places: BTreeMap<String, Value>,
     /// How many keys there are.
     count: usize,

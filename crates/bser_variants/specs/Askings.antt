@@ -1,4 +1,4 @@
--- What names the refusals of an enum, by what its payloads ask for.
+-- Which reader gives the errors of an enum, by what its payloads ask for.
 use Rattle.std.specs.Prelude.{refl, ℕ, List, [], ◌∷◌, Option, Some, None}
 use Rattle.bser_format.specs.EnumName.{kept_whole}
 use Rattle.bser_format.specs.Enums.{Payload, unit, holds, reads_enum}

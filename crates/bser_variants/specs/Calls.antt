@@ -31,7 +31,7 @@ use Rattle.bser_variants.specs.declared.variant_access.EnumForm.{EnumForm}
 use Rattle.bser_variants.specs.declared.variant_access.UnitVariantAccess.{UnitVariantAccess}
 use Rattle.bser_variants.specs.declared.variant_access.VariantAccess.{VariantAccess}
 
--- what holds after any refusal
+-- what holds after any error
 abbrev pub HasFailed : Seen → Seen → Type 0
 HasFailed old new = Fails new.refusal old.state.source new.state.source
 
@@ -41,22 +41,22 @@ HasFailed old new = Fails new.refusal old.state.source new.state.source
 abbrev pub entries_left : MapHead → Seen → ℕ
 entries_left h s = pairs_left (pairs_head h s.state).wanted
 
--- the same state, and its first key is due
+-- the same state, and its first key is expected
 abbrev pub awaiting_first_key : MapHead → Seen → State
 awaiting_first_key h s = awaiting (pair_key (pairs_head h s.state).wanted) s.state
 
 -- ---- names
 
 module _ (variants : List (Bor (List ℕ))) where
-  -- the name that is due was read, as its first place among the variants
+  -- the name that is expected was read, as its first place among the variants
   abbrev pub Finds : Seen → Seen → ℕ → Type 0
   Finds old new = Answers (reads_place (texts variants)) HoldsPlace old.state new.state
 
-  -- the name that is due was read, and where it stands among the variants, if it does
+  -- the name that is expected was read, and its place among the variants, if it has one
   abbrev pub FindsField : Seen → Seen → Field → Type 0
   FindsField old new = Answers reads_string (HoldsField (texts variants)) old.state new.state
 
-  -- the name that is due is refused as no text, or as none of the variants
+  -- the name that is expected is no text, or none of the variants
   abbrev pub Misses : Seen → Seen → Type 0
   Misses old new = NamesBy bare (place_due old.state.opened (texts variants) old.state.due) new.refusal old.state.source
 
@@ -64,13 +64,13 @@ module _ (variants : List (Bor (List ℕ))) where
   abbrev pub FindsKey : MapHead → Seen → Seen → ℕ → Type 0
   FindsKey h old new = Answers (reads_place (texts variants)) HoldsPlace (awaiting_first_key h old) new.state
 
-  -- there is no only key, or it is refused as none of the variants
+  -- there is no only key, or it is none of the variants
   abbrev pub MissesKey : MapHead → Seen → Seen → Type 0
   MissesKey h old new = NamesBy bare (only_place (texts variants) (pairs_head h old.state).wanted) new.refusal old.state.source
 
   -- ---- variants
 
-  -- a variant's name was read: its place, and the head of its object or row, unless it stands alone
+  -- a variant's name was read: its place, and the head of its object or row, unless it is alone
   abbrev pub Opens : Seen → Seen → ℕ × Option MapHead → Type 0
   Opens old new p = OpensVariant (texts variants) old.state (enum_head p.1 new.state) p.0
 
@@ -86,20 +86,20 @@ module _ (variants : List (Bor (List ℕ))) where
   abbrev pub OpensForm : {R L K : Type 0} → Seen → EnumForm R L K → Type 0
   OpensForm old f = OpensVariant (texts variants) old.state (open_form f) (place_in f)
 
-  -- the row that is due is no variant
+  -- the row that is expected is no variant
   abbrev pub MissesRow : Seen → Seen → Type 0
   MissesRow old new = NamesBy bare (variant_of_row (texts variants) old.state.keys) new.refusal old.state.source
 
 module _ (name : List ℕ) (variants : List (Bor (List ℕ))) where
-  -- what is due is no variant of an enum of this name
+  -- what is expected is no variant of an enum of this name
   abbrev pub RefusesEnum : Seen → Seen → Type 0
   RefusesEnum old new = RefusesVariant name (texts variants) new.refusal old.state new.state
 
-  -- the value that is due is refused as no variant of an enum of this name
+  -- the value that is expected gives an error as no variant of an enum of this name
   abbrev pub NamesValue : Seen → Seen → Type 0
   NamesValue old new = NamesVariant name (texts variants) new.refusal old.state
 
-  -- the object that is due is refused as no variant of an enum of this name
+  -- the object that is expected gives an error as no variant of an enum of this name
   abbrev pub NamesObject : Seen → Seen → Type 0
   NamesObject = NamesValue
 
@@ -137,7 +137,7 @@ module _ (head : MapHead) (old new : Seen) where
   abbrev pub TakesPayload : {A : Type 0} → Meaning → (A → Content → Type 0) → A → Type 0
   TakesPayload reads holds = ReadsPayload reads holds (variant_head head old.state) new.state
 
-  -- the payload is refused as its type tells
+  -- the payload gives an error, as its type says
   abbrev pub RefusesHeld : (reads : Meaning) → Option (Asking reads) → Needs → Type 0
   RefusesHeld reads asks needs = Refuses reads asks needs new.refusal (before_payload (variant_head head old.state)) new.state
 
@@ -181,7 +181,7 @@ module _ {R L K : Type 0} (v : VariantAccess R L K) (new : Seen) where
   abbrev pub RefusesOther : Type 0
   RefusesOther = Refuses reads_unit (Some asking_unit) bare new.refusal (before_payload (open_variant v)) new.state
 
-  -- the payload is refused as its type tells
+  -- the payload gives an error, as its type says
   abbrev pub RefusesGiven : (reads : Meaning) → Option (Asking reads) → Needs → Type 0
   RefusesGiven reads asks needs = Refuses reads asks needs new.refusal (before_payload (open_variant v)) new.state
 
@@ -203,7 +203,7 @@ module _ {R L K : Type 0} (a : EnumAccess R L K) where
   abbrev pub RefusesUnit : Seen → Type 0
   RefusesUnit new = RefusesUnitVariant new.refusal (open_enum a) new.state
 
-  -- the payload is refused as its type tells, or there is none
+  -- the payload gives an error, as its type says, or there is none
   abbrev pub RefusesNewtype : (reads : Meaning) → Option (Asking reads) → Needs → Seen → Type 0
   RefusesNewtype reads asks needs new = RefusesPayload reads asks needs new.refusal (open_enum a) new.state
 

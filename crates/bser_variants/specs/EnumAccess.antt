@@ -22,7 +22,7 @@ enum_head None s = name_alone s
 enum_head (Some h) s = with_payload (variant_head h s)
 
 module _ {R L K : Type 0} where
-  -- the deserializer that is lent to an access to an enum
+  -- the deserializer that an access to an enum borrows
   abbrev pub enum_deserializer : EnumAccess R L K → MutBor Seen
   enum_deserializer a = a.from
 
@@ -38,15 +38,15 @@ module _ {R L K : Type 0} where
   abbrev pub IsEnumOf : MutBor Seen → EnumAccess R L K → Type 0
   IsEnumOf d a = (enum_deserializer a).ghost_name ≡ d.ghost_name
 
-  -- the deserializer that is lent to an access to a name alone
+  -- the deserializer that an access to a name alone borrows
   abbrev pub unit_deserializer : UnitVariantAccess R L K → MutBor Seen
   unit_deserializer u = u.from
 
-  -- the state in which the name stands alone
+  -- the state in which the name is alone
   abbrev pub unit_state : UnitVariantAccess R L K → State
   unit_state u = (unit_deserializer u).now.state
 
-  -- the deserializer that is lent to an access to a payload
+  -- the deserializer that an access to a payload borrows
   abbrev pub variant_deserializer : VariantAccess R L K → MutBor Seen
   variant_deserializer v = v.from
 
@@ -54,7 +54,7 @@ module _ {R L K : Type 0} where
   abbrev pub open_variant : VariantAccess R L K → OpenVariant
   open_variant v = variant_head v.head (variant_deserializer v).now.state
 
-  -- the deserializer that is lent to an access of either form
+  -- the deserializer that an access of either form borrows
   abbrev pub form_deserializer : EnumForm R L K → MutBor Seen
   form_deserializer (form.Unit u) = unit_deserializer u
   form_deserializer (form.Object v) = variant_deserializer v

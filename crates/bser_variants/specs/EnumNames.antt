@@ -1,4 +1,4 @@
--- What the calls on an enum refuse, its type refuses by the same name.
+-- An error of the calls on an enum is one of its type too.
 use Rattle.std.specs.Prelude.{◌≡◌, ℕ, suc, Some}
 use Rattle.bser_format.specs.declared.errors.Error.{Error}
 use Rattle.bser_format.specs.declared.errors.name.EnumName.{EnumName}
@@ -8,11 +8,11 @@ use Rattle.bser_deserializer.specs.Reading.{Answers, NamesBy, Needs}
 use Rattle.bser_deserializer.specs.State.{State}
 use Rattle.bser_variants.specs.Variants.{reads_place, HoldsPlace, LacksPayload, OpenVariant, OpensEntry}
 
--- the enum's own name for what is due
+-- the enum's own error for what is expected
 abbrev pub NamesEnum : Needs → EnumName → Payloads → Error → State → Type 0
 NamesEnum needs enum vs e s = NamesBy needs (asks_enum enum vs s.opened s.levels s.due) e s.source
 
--- a variant that is refused is named by the enum
+-- an error of a variant is one that the enum gives
 abbrev pub NamesOfVariants : Type 0
 NamesOfVariants =
     (enum : EnumName) (vs : Payloads) (needs : Needs) (e : Error) (s : State)

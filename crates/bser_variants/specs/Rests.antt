@@ -1,4 +1,4 @@
--- What a deserializer ends as that is lent to an access to an enum, where a call is refused.
+-- What the deserializer that an access to an enum borrows ends as, where a call fails.
 use Rattle.std.specs.Prelude.{ℕ, List, Result}
 use Rattle.std.specs.Borrow.{Bor, Fml, MutBor, RattleType}
 use Rattle.bser_source.specs.declared.read.DeRead as source
@@ -17,7 +17,7 @@ use Rattle.bser_variants.specs.declared.variant_access.EnumForm.{EnumForm}
 use Rattle.bser_variants.specs.declared.variant_access.UnitVariantAccess.{UnitVariantAccess}
 use Rattle.bser_variants.specs.declared.variant_access.VariantAccess.{VariantAccess}
 
--- over sources of this row, which lend this, of which these keys are kept
+-- over sources of this row, from which this is borrowed, and these keys are kept
 module _ (R L K : RattleType) (g : source.Ghosts R.Denot L.Denot K.Denot) (h : lending.Ghosts L.Denot K.Denot) {E : Type 0} where
   -- it rests in an access to an enum, unless no variant is opened
   abbrev pub enum_rests : MutBor Seen → Result (EnumAccess R.Denot L.Denot K.Denot) E → List ℕ → List (Bor (List ℕ)) → Fml

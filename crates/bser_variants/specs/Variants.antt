@@ -23,14 +23,15 @@ abbrev pub known_place : Field → Option Content
 known_place (Known place) = Some (number (pos place))
 known_place Unknown = None
 
--- a text, or bytes that are UTF-8, read as the first place among the names at which it stands
+-- a text, or bytes that are UTF-8, read as its first place among the names
 abbrev pub reads_place : List (List ℕ) → Meaning
 reads_place names t = option_and_then (λ name. known_place (field_of names name)) (utf8_of t)
 
 abbrev pub HoldsPlace : ℕ → Content → Type 0
 HoldsPlace place c = c ≡ number (pos place)
 
--- an object's head, or a row's, with one entry, and the key of that entry, which is one of the names
+-- the head of an object or a row with one entry, and the key of that entry, which is one of the
+-- names
 pub record BeginsEntry (names : List (List ℕ)) (s : State) (text : List ℕ) : Type 0 where
   pub wanted : WantedPairs
   pub single : pairs_left wanted ≡ 1
@@ -47,7 +48,8 @@ RefusesVariant name names e old new =
 
 -- ---- a variant whose name was read
 
--- the only entry of an open object: what is due as its value, and the levels and the number of open containers outside
+-- the only entry of an open object: what is expected as its value, and the levels and the number of
+-- open containers outside
 pub record OpenVariant : Type 0 where
   pub state : State
   pub payload : Due
@@ -81,7 +83,7 @@ OpensVariant names old (with_payload new) place = OpensEntry names old new place
 
 -- ---- payloads
 
--- the state in which the payload is due
+-- the state in which the payload is expected
 abbrev pub before_payload : OpenVariant → State
 before_payload u = awaiting u.payload u.state
 
@@ -101,17 +103,17 @@ abbrev pub IsUnitVariant : OpenEnum → State → Type 0
 IsUnitVariant (name_alone old) new = new ≡ old
 IsUnitVariant (with_payload old) new = ReadsPayload reads_unit (λ _ c. c ≡ one) old new (tt {0})
 
--- a name alone where a payload is wanted, or a call after a refusal
+-- a name alone where a payload is wanted, or a call after an error
 pub record LacksPayload (e : Error) (old new : State) : Type 0 where
   pub name : e ≡ after_a_refusal old.source.failed wrong_type
   pub state : new ≡ refused old
 
--- the payload is refused as its type tells, or there is none
+-- the payload gives an error, as its type says, or there is none
 abbrev pub RefusesPayload : (reads : Meaning) → Option (Asking reads) → Needs → Error → OpenEnum → State → Type 0
 RefusesPayload reads asks needs e (name_alone old) new = LacksPayload e old new
 RefusesPayload reads asks needs e (with_payload old) new = Refuses reads asks needs e (before_payload old) new
 
--- the null that is the payload of a unit variant is refused; a name alone is not
+-- the null that is the payload of a unit variant gives an error; a name alone does not
 abbrev pub RefusesUnitVariant : Error → OpenEnum → State → Type 0
 RefusesUnitVariant e (name_alone old) new = ⊥
 RefusesUnitVariant e (with_payload old) new =

@@ -27,9 +27,9 @@ use std::alloc::Global;
 #[derive(Drop)]
 pub struct EnumAccess<'a, R: DeRead> {
     pub(crate) from: &'a mut Deserializer<R>,
-    // the first place at which the name stands among the variants
+    // the first place of the name among the variants
     pub(crate) place: usize,
-    // the object or row whose only entry it is; none where the name stands alone
+    // the object or row whose only entry it is; none for a name alone
     pub(crate) head: Option<MapHead>,
 }
 
@@ -38,15 +38,15 @@ pub trait ReadsEnums {
     /// The source that it reads from.
     type Source: DeRead;
 
-    /// Reads the name of the variant of the enum that is due, as an access to its payload, which
-    /// tells the first place in `variants` at which the name stands.
+    /// Reads the name of the variant of the enum that is expected, as an access to its payload,
+    /// which tells the first place of the name in `variants`.
     ///
-    /// A string of either kind, or a key, is a variant without a payload; an object of one entry, or
-    /// a row of one field, is a variant with one. Another kind of value is
+    /// A string of either kind, or a key, is a variant without a payload; an object of one entry,
+    /// or a row of one field, is a variant with one. Another kind of value is
     /// [`Error::DeInvalidStartByte`], and an object where no level is left
     /// [`Error::DeRecursionLimitExceeded`], both with the enum's `name`; an object without exactly
     /// one entry is [`Complaint::EnumObjectEntries`], and a name that is not in `variants` is
-    /// [`Complaint::UnknownVariant`]. After a refusal each later call is refused.
+    /// [`Complaint::UnknownVariant`]. After an error each later call fails.
     ///
     /// [`Error::DeInvalidStartByte`]: bser_format::errors::Error::DeInvalidStartByte
     /// [`Error::DeRecursionLimitExceeded`]: bser_format::errors::Error::DeRecursionLimitExceeded
@@ -56,7 +56,7 @@ pub trait ReadsEnums {
         variants: &[&str],
     ) -> Answer<EnumAccess<'a, Self::Source>>;
 
-    /// Reads the name as [`ReadsEnums::read_enum`] does, and refuses as it does, as an access of the
+    /// Reads the name as [`ReadsEnums::read_enum`] does, and fails as it does, as an access of the
     /// form that the variant has: a name alone, or an entry whose value is the payload.
     fn read_enum_form<'a>(
         &'a mut self,
@@ -112,7 +112,7 @@ fn form_of<'a, R: DeRead>(
     }
 }
 
-/// Opens the array or template that is a variant's payload, or refuses a name alone.
+/// Opens the array or template that is a variant's payload. A name alone is an error.
 fn open_tuple<R: DeRead>(from: &mut Deserializer<R>, head: Option<MapHead>) -> Answer<SeqHead>
     ensures found { IfOk result (OpensTupleHead head from.old from.new) }
     ensures refused { OnErr result (RefusesTupleHead head from.old from.new) }
@@ -123,7 +123,7 @@ fn open_tuple<R: DeRead>(from: &mut Deserializer<R>, head: Option<MapHead>) -> A
     }
 }
 
-/// Opens the object or row that is a variant's payload, or refuses a name alone.
+/// Opens the object or row that is a variant's payload. A name alone is an error.
 fn open_struct<R: DeRead>(from: &mut Deserializer<R>, head: Option<MapHead>) -> Answer<MapHead>
     ensures found { IfOk result (OpensStructHead head from.old from.new) }
     ensures refused { OnErr result (RefusesStructHead head from.old from.new) }
@@ -135,16 +135,17 @@ fn open_struct<R: DeRead>(from: &mut Deserializer<R>, head: Option<MapHead>) -> 
 }
 
 impl<'a, R: DeRead> EnumAccess<'a, R> {
-    /// The first place at which the variant's name stands among the names that were passed.
+    /// The first place of the variant's name among the names that were passed.
     pub fn place(&self) -> usize
         ensures { result ≡ place_of self.now }
     {
         self.place
     }
 
-    /// Reads null, or a skipped field, as the payload, or nothing where the name stands alone.
+    /// Reads null, or a skipped field, as the payload, or nothing for a name alone.
     ///
-    /// Another payload is [`Complaint::WrongType`]; the deserializer then refuses each later call.
+    /// Another payload is [`Complaint::WrongType`]. After an error each later call of the
+    /// deserializer fails.
     pub fn unit_variant(self) -> Answer<()>
         ensures found { OnOk result (GivesUnit self.entry self.exit.0.now) }
         ensures refused { OnErr result (RefusesUnit self.entry self.exit.0.now) }
@@ -162,8 +163,9 @@ impl<'a, R: DeRead> EnumAccess<'a, R> {
 
     /// Reads the payload as an array or a template, whose end closes the variant too.
     ///
-    /// Refused as [`ReadsContainers::read_seq`](bser_types::container::ReadsContainers::read_seq) is,
-    /// and by [`Complaint::WrongType`] where the name stands alone.
+    /// The errors are those of
+    /// [`ReadsContainers::read_seq`](bser_types::container::ReadsContainers::read_seq), and
+    /// [`Complaint::WrongType`] for a name alone.
     pub fn tuple_variant(self) -> Answer<SeqAccess<'a, R>>
         ensures* rests { sem 𝓛 (tuple_rests R.row R.Lent.row R.Lent.Kept.row R.DeRead
             R.Lent.Lending self.entry result) }
@@ -181,8 +183,9 @@ impl<'a, R: DeRead> EnumAccess<'a, R> {
 
     /// Reads the payload as an object or a row, whose end closes the variant too.
     ///
-    /// Refused as [`ReadsContainers::read_map`](bser_types::container::ReadsContainers::read_map) is,
-    /// and by [`Complaint::WrongType`] where the name stands alone.
+    /// The errors are those of
+    /// [`ReadsContainers::read_map`](bser_types::container::ReadsContainers::read_map), and
+    /// [`Complaint::WrongType`] for a name alone.
     pub fn struct_variant(self) -> Answer<MapAccess<'a, R>>
         ensures* rests { sem 𝓛 (struct_rests R.row R.Lent.row R.Lent.Kept.row R.DeRead
             R.Lent.Lending self.entry result) }
@@ -205,8 +208,8 @@ where
 {
     /// Reads the payload.
     ///
-    /// Refused as the type's reading is, and by [`Complaint::WrongType`] where the name stands
-    /// alone; the deserializer then refuses each later call.
+    /// The errors are those of the type's reading, and [`Complaint::WrongType`] for a name alone.
+    /// After an error each later call of the deserializer fails.
     pub fn newtype_variant<T: Deserialize<R::Lent>>(self, alloc: Global) -> Answer<T>
         ensures found { IfOk result (GivesNewtype T.reads T.holds self.entry self.exit.0.now) }
         ensures refused { OnErr result

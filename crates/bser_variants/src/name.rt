@@ -11,7 +11,7 @@ use bser_format::errors::Complaint;
 use bser_source::read::DeRead;
 use bser_source::reference::{Lending, LendsText};
 
-/// Reads the name that is due, as the first place in `variants` at which it stands.
+/// Reads the name that is expected, as its first place in `variants`.
 pub(crate) fn read_place<R: DeRead>(from: &mut Deserializer<R>, variants: &[&str]) -> Answer<usize>
 where
     R::Lent: LendsText,
@@ -25,7 +25,7 @@ where
     }
 }
 
-/// Reads the name that is due, and tells where it stands in `variants`, if it does.
+/// Reads the name that is expected, and tells its place in `variants`, if it has one.
 fn read_name<R: DeRead>(from: &mut Deserializer<R>, variants: &[&str]) -> Answer<Field>
 where
     R::Lent: LendsText,
@@ -44,8 +44,8 @@ where
     Ok(find_field(variants, name.get_ref().as_bytes()))
 }
 
-/// Reads the key of the only entry of the object or row that was opened, as the first place in
-/// `variants` at which it stands.
+/// Reads the key of the only entry of the object or row that was opened, as its first place in
+/// `variants`.
 pub(crate) fn read_only_key<R: DeRead>(
     from: &mut Deserializer<R>,
     head: MapHead,
@@ -76,7 +76,7 @@ fn entries_in<R: DeRead>(from: &Deserializer<R>, head: MapHead) -> usize
     }
 }
 
-/// Makes the first key due.
+/// Makes the first key expected.
 fn await_first_key<R: DeRead>(from: &mut Deserializer<R>, head: MapHead)
     ensures { from.new.state ≡ awaiting_first_key head from.old }
 {

@@ -13,7 +13,7 @@ use bser_source::reference::LendsText;
 use bser_types::deserialize::Deserialize;
 use std::alloc::Global;
 
-/// Makes the payload due.
+/// Makes the payload expected.
 pub fn await_payload<R: DeRead>(from: &mut Deserializer<R>, head: MapHead)
     ensures { from.new.state ≡ awaiting (payload_due head.row) from.old.state }
 {

@@ -1,4 +1,4 @@
-//! A variant that stands where an enum is due.
+//! A variant where an enum is expected.
 ghost use Rattle.std.specs.Prelude.{◌≡◌, IfOk, OnErr};
 ghost use Rattle.bser_format.specs.Expected.{row_due};
 ghost use Rattle.bser_deserializer.specs.Dues.{IsValueDue};
@@ -16,8 +16,8 @@ use bser_format::header::{BSER_BYTESTRING, BSER_OBJECT, BSER_UTF8STRING};
 use bser_source::read::DeRead;
 use bser_source::reference::LendsText;
 
-/// Reads the name of the variant that is due: its first place in `variants`, and the head of its
-/// object or row, unless the name stands alone.
+/// Reads the name of the variant that is expected: its first place in `variants`, and the head of
+/// its object or row, unless the name is alone.
 pub fn open_variant<R: DeRead>(
     from: &mut Deserializer<R>,
     name: &str,
@@ -61,7 +61,7 @@ where
     }
 }
 
-/// Refuses a byte that begins no enum of this name.
+/// Fails for a byte that begins no enum of this name.
 #[cold]
 #[inline(never)]
 fn refuse_kind<R: DeRead>(from: &mut Deserializer<R>, name: &str, byte: u8) -> Refused
@@ -74,7 +74,7 @@ fn refuse_kind<R: DeRead>(from: &mut Deserializer<R>, name: &str, byte: u8) -> R
     })
 }
 
-/// Refuses an enum of this name that nests too deep.
+/// Fails for an enum of this name that nests too deep.
 #[cold]
 #[inline(never)]
 fn refuse_depth<R: DeRead>(from: &mut Deserializer<R>, name: &str) -> Refused
@@ -107,7 +107,7 @@ where
     Ok((place, head))
 }
 
-/// Reads the name in the row that is due, of which it is the only key.
+/// Reads the name in the row that is expected, of which it is the only key.
 fn open_row<R: DeRead>(from: &mut Deserializer<R>, variants: &[&str]) -> Answer<(usize, MapHead)>
 where
     R::Lent: LendsText,

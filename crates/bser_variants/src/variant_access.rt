@@ -19,11 +19,11 @@ use bser_types::map::MapAccess;
 use bser_types::seq::SeqAccess;
 use std::alloc::Global;
 
-/// A variant's name that stands alone.
+/// A variant's name alone.
 #[derive(Drop)]
 pub struct UnitVariantAccess<'a, R: DeRead> {
     pub(crate) from: &'a mut Deserializer<R>,
-    // the first place at which the name stands among the variants
+    // the first place of the name among the variants
     pub(crate) place: usize,
 }
 
@@ -33,7 +33,7 @@ pub struct UnitVariantAccess<'a, R: DeRead> {
 #[derive(Drop)]
 pub struct VariantAccess<'a, R: DeRead> {
     pub(crate) from: &'a mut Deserializer<R>,
-    // the first place at which the name stands among the variants
+    // the first place of the name among the variants
     pub(crate) place: usize,
     // whether it is a row, and how it stood outside
     pub(crate) head: MapHead,
@@ -42,14 +42,14 @@ pub struct VariantAccess<'a, R: DeRead> {
 /// A variant whose name was read, by its form.
 #[derive(Drop)]
 pub enum EnumForm<'a, R: DeRead> {
-    /// A string or a key: the name stands alone.
+    /// A string or a key: the name alone.
     Unit(UnitVariantAccess<'a, R>),
     /// An object or a row of one entry, whose value is the payload.
     Object(VariantAccess<'a, R>),
 }
 
 impl<'a, R: DeRead> EnumForm<'a, R> {
-    /// The first place at which the variant's name stands among the names that were passed.
+    /// The first place of the variant's name among the names that were passed.
     pub fn place(&self) -> usize
         ensures { result ≡ place_in self.now }
     {
@@ -69,7 +69,7 @@ impl<'a, R: DeRead> UnitVariantAccess<'a, R> {
         Ok(())
     }
 
-    /// Refused by [`Complaint::WrongType`]: a name alone has no payload.
+    /// Fails with [`Complaint::WrongType`]: a name alone has no payload.
     pub fn newtype_variant<T>(self, _alloc: Global) -> Answer<T>
         ensures none { OnOk result ⊥ }
         ensures refused { OnErr result (LacksAny self.entry self.exit.0.now) }
@@ -77,7 +77,7 @@ impl<'a, R: DeRead> UnitVariantAccess<'a, R> {
         Err(self.from.complain(Complaint::WrongType))
     }
 
-    /// Refused by [`Complaint::WrongType`]: a name alone has no payload.
+    /// Fails with [`Complaint::WrongType`]: a name alone has no payload.
     pub fn tuple_variant(self) -> Answer<SeqAccess<'a, R>>
         ensures* rests { sem 𝓛 (lacking_seq_rests R.row R.Lent.row R.Lent.Kept.row
             R.DeRead R.Lent.Lending self.entry result) }
@@ -87,7 +87,7 @@ impl<'a, R: DeRead> UnitVariantAccess<'a, R> {
         Err(from.complain(Complaint::WrongType))
     }
 
-    /// Refused by [`Complaint::WrongType`]: a name alone has no payload.
+    /// Fails with [`Complaint::WrongType`]: a name alone has no payload.
     pub fn struct_variant(self) -> Answer<MapAccess<'a, R>>
         ensures* rests { sem 𝓛 (lacking_map_rests R.row R.Lent.row R.Lent.Kept.row
             R.DeRead R.Lent.Lending self.entry result) }
@@ -101,7 +101,8 @@ impl<'a, R: DeRead> UnitVariantAccess<'a, R> {
 impl<'a, R: DeRead> VariantAccess<'a, R> {
     /// Reads null, or a skipped field, as the payload.
     ///
-    /// Another payload is [`Complaint::WrongType`]; the deserializer then refuses each later call.
+    /// Another payload is [`Complaint::WrongType`]. After an error each later call of the
+    /// deserializer fails.
     pub fn unit_variant(self) -> Answer<()>
         ensures found { OnOk result (GivesNull self.entry self.exit.0.now) }
         ensures refused { OnErr result (RefusesOther self.entry self.exit.0.now) }
@@ -112,7 +113,8 @@ impl<'a, R: DeRead> VariantAccess<'a, R> {
 
     /// Reads the payload as an array or a template, whose end closes the variant too.
     ///
-    /// Refused as [`ReadsContainers::read_seq`](bser_types::container::ReadsContainers::read_seq) is.
+    /// Fails as [`ReadsContainers::read_seq`](bser_types::container::ReadsContainers::read_seq)
+    /// does.
     pub fn tuple_variant(self) -> Answer<SeqAccess<'a, R>>
         ensures* rests { sem 𝓛 (payload_seq_rests R.row R.Lent.row R.Lent.Kept.row
             R.DeRead R.Lent.Lending self.entry result) }
@@ -130,7 +132,8 @@ impl<'a, R: DeRead> VariantAccess<'a, R> {
 
     /// Reads the payload as an object or a row, whose end closes the variant too.
     ///
-    /// Refused as [`ReadsContainers::read_map`](bser_types::container::ReadsContainers::read_map) is.
+    /// Fails as [`ReadsContainers::read_map`](bser_types::container::ReadsContainers::read_map)
+    /// does.
     pub fn struct_variant(self) -> Answer<MapAccess<'a, R>>
         ensures* rests { sem 𝓛 (payload_map_rests R.row R.Lent.row R.Lent.Kept.row
             R.DeRead R.Lent.Lending self.entry result) }
@@ -153,7 +156,8 @@ where
 {
     /// Reads the payload.
     ///
-    /// Refused as the type's reading is; the deserializer then refuses each later call.
+    /// The errors are those of the type's reading. After one each later call of the deserializer
+    /// fails.
     pub fn newtype_variant<T: Deserialize<R::Lent>>(self, alloc: Global) -> Answer<T>
         ensures found { IfOk result (GivesPayload T.reads T.holds self.entry self.exit.0.now) }
         ensures refused { OnErr result

@@ -20,7 +20,7 @@ IsCompactReadable n t = IsValueTree t × (depth t ≤ n) × (length (compact_mes
 
 -- ---- the compact tree
 
--- the compact tree stands for what the tree stands for
+-- the compact tree means what the tree means
 abbrev pub FoldedStandsForTheSame : Type 0
 FoldedStandsForTheSame = (t : Tree) → expand (fold_templates t) ≡ expand t
 
@@ -46,7 +46,7 @@ ShortCompactIsWritable = (t : Tree) → IsValueTree t → CompactFits t → IsWr
 abbrev pub CompactIsMessage : Type 0
 CompactIsMessage = (n : ℕ) (t : Tree) → IsCompactReadable n t → IsMessage n 0 (fold_templates t) (compact_message t)
 
--- whatever follows a compact message, it is the only front that is a message
+-- whatever follows a compact message, it is the only prefix that is a message
 abbrev pub CompactIsTheFront : Type 0
 CompactIsTheFront = (n c : ℕ) (t u : Tree) (a x y : List ℕ) → IsCompactReadable n t → IsMessage n c u a → compact_message t ++ x ≡ a ++ y → (compact_message t ≡ a) × (0 ≡ c) × (fold_templates t ≡ u)
 

@@ -29,7 +29,7 @@ ReadsAs t v = normal (expand t) ≡ Some v
 abbrev pub CanonicalIsMessage : Type 0
 CanonicalIsMessage = (n : ℕ) (t : Tree) → IsReadable n t → IsMessage n 0 t (canonical_message t)
 
--- whatever follows a canonical message, it is the only front that is a message
+-- whatever follows a canonical message, it is the only prefix that is a message
 abbrev pub CanonicalIsTheFront : Type 0
 CanonicalIsTheFront = (n c : ℕ) (t u : Tree) (a x y : List ℕ) → IsReadable n t → IsMessage n c u a → canonical_message t ++ x ≡ a ++ y → (canonical_message t ≡ a) × (0 ≡ c) × (t ≡ u)
 
@@ -63,11 +63,11 @@ ValueIsReturned = (n : ℕ) (t : Tree) → IsReadable n t → IsReturned n t
 abbrev pub WrittenIsMessage : Type 0
 WrittenIsMessage = (n : ℕ) (t : Tree) → IsReturned n t → IsMessage n 0 t (canonical_message t)
 
--- whatever follows it, it is the only front that is a message
+-- whatever follows it, it is the only prefix that is a message
 abbrev pub WrittenIsTheFront : Type 0
 WrittenIsTheFront = (n c : ℕ) (t u : Tree) (a x y : List ℕ) → IsReturned n t → IsMessage n c u a → canonical_message t ++ x ≡ a ++ y → (canonical_message t ≡ a) × (0 ≡ c) × (t ≡ u)
 
--- a tree without templates stands for itself
+-- a tree without templates means itself
 abbrev pub StandsForItself : Type 0
 StandsForItself = (t : Tree) → IsTemplateFree t → expand t ≡ t
 

@@ -1,7 +1,7 @@
 //! Reading.
 
 pub mod read {
-    //! Byte sources, and what they lend.
+    //! Byte sources, and what is borrowed from them.
     pub use bser_source::io_read::IoRead;
     pub use bser_source::read::DeRead;
     pub use bser_source::reference::{

@@ -1,4 +1,4 @@
-//! Reading with refusals that are described for people: the cause in plain words, the field, what was
+//! Reading with errors that are described for people: the cause in plain words, the field, what was
 //! found and what is wanted, and the place.
 
 pub use bser_describe::description::{Description, FieldName, Finding, Note, Wanted};

@@ -5,7 +5,7 @@ ghost use Rattle.bser_format.specs.GrammarLaws.{OneFront};
 ghost use Rattle.serde_bser.specs.CompactLaws.{CompactIsMessage, CompactIsNoDeeper, CompactIsNoLonger, CompactIsTheFront, CompactIsWritable, CompactMeaningStays, CompactReadsAsItself, EqualCompactMessages, FoldedStandsForTheSame, LeastCompact, ShortCompactIsWritable};
 ghost use Rattle.serde_bser.specs.Laws.{BodyBound, CanonicalIsMessage, CanonicalIsTheFront, DepthBound, EqualMessages, LeastLength, MeaningStays, NodesBound, ReadIsValueTree, ShortBodiesFit, StandsForItself, TwiceIsOnce, ValueIsReturned, ValueReadsAsItself, WrittenIsMessage, WrittenIsTheFront, WrittenOutIsOneTree, WrittenOutIsSpelled, WrittenOutReadsAlike};
 
-/// A byte list begins with one message at most, of one tree and one number of capabilities.
+/// A byte list begins with at most one message, of one tree and one number of capabilities.
 pub fn one_front()
     ensures { OneFront }
 {}
@@ -36,11 +36,11 @@ pub fn read_values_are_value_trees()
     ensures { ReadIsValueTree }
 {}
 
-/// The canonical message of a tree without templates is a message, whatever follows it, stands for
-/// that tree alone, and means to every type what the tree does: for trees that can be written, of at
-/// most as many levels as are read, whose message is at most `i64::MAX` bytes. So a value of any type
-/// that reads its own tree as what it holds is read back from what was written for it. The trees of
-/// values are among them.
+/// The canonical message of a tree without templates is a message, whatever follows it, spells that
+/// tree alone, and means to every type what the tree does: for trees that can be written, of at
+/// most as many levels as are read, whose message is at most `i64::MAX` bytes. So a value of any
+/// type that reads its own tree as what it holds is read back from what was written for it. The
+/// trees of values are among them.
 pub fn round_trip()
     ensures message { WrittenIsMessage }
     ensures front { WrittenIsTheFront }
@@ -72,9 +72,9 @@ pub fn written_out()
     ensures alike { WrittenOutReadsAlike }
 {}
 
-/// The compact tree of any tree stands for what the tree stands for, so every type reads both alike,
-/// and it is no deeper. Where a value can be written its compact tree can, also where only the
-/// compact body is at most `i64::MAX` bytes.
+/// The compact tree of any tree means what the tree means, so every type reads both alike, and it
+/// is no deeper. Where a value can be written its compact tree can, also where only the compact
+/// body is at most `i64::MAX` bytes.
 pub fn compact_tree()
     ensures same { FoldedStandsForTheSame }
     ensures depth { CompactIsNoDeeper }

@@ -2,8 +2,8 @@
 //!
 //! [`from_slice`] and [`from_reader`] read one message as a value of a type that is
 //! [`Deserialize`](de::Deserialize); [`ser::to_vec`], [`ser::serialize`] and [`ser::serialize_to`]
-//! write one. Those of [`describe`] read one too, and describe a refusal for people. The modules of
-//! the crates below stand here under the names that users know.
+//! write one. Those of [`describe`] read one too, and describe an error for people. The modules of
+//! the crates below are here under the names that users know.
 #![tactic(auto)]
 
 pub mod de;

@@ -14,10 +14,10 @@ use std::alloc::Global;
 
 /// The value's message in a new vector.
 ///
-/// Refused where the value has no tree, with the error that its type's `meaning` names, as
+/// It fails where the value has no tree, with the error that its type's `meaning` gives, as
 /// `SerU64TooBig` for a `u64` above `i64::MAX`; where its body is longer than `i64::MAX` bytes
-/// (`SerCustom` `CountTooGreat`); and for memory, that of the vector included (`OutOfMemory`). No
-/// other error comes.
+/// (`SerCustom` `CountTooGreat`); and where memory runs out, that of the vector included
+/// (`OutOfMemory`). No other error comes.
 pub fn to_vec<T: Serialize>(alloc: Global, value: &T) -> Result<Vec<u8>>
     ensures ok { IfOk result (λ message. message_of (T.meaning value.now) ≡ Ok message.items) }
     ensures writable { OnOk result (CanBeWritten (T.meaning value.now)) }

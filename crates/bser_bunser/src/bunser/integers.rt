@@ -13,10 +13,10 @@ use bser_source::read::{DeRead, count_octets};
 const LONGEST: usize = 9;
 
 impl<R: DeRead> Bunser<R> {
-    /// Takes an integer of any width. Where another tag stands nothing is taken, and it is
+    /// Takes an integer of any width. At another tag nothing is taken, and it is
     /// [`Look::Unexpected`] with [`Unexpected::Tag`].
     ///
-    /// An integer that is cut short, or none at all, is refused as by [`Self::fill`].
+    /// An integer that is cut short, or none at all, fails as [`Self::fill`] does.
     #[inline(always)]
     pub fn next_int(&mut self) -> Answer<Look<i64>>
         ensures ok { IfOk result (λ l. LooksFor l self.old self.new) }
@@ -76,7 +76,7 @@ impl<R: DeRead> Bunser<R> {
 
     /// Takes an integer of any width.
     ///
-    /// Refusals are those of [`Self::check_next_int`].
+    /// The errors are those of [`Self::check_next_int`].
     #[inline(always)]
     pub(crate) fn int(&mut self) -> Answer<i64>
         ensures ok { IfOk result (λ v. TakesInt v self.old self.new) }
@@ -106,7 +106,7 @@ impl<R: DeRead> Bunser<R> {
     /// Takes an integer of any width.
     ///
     /// Another tag is [`Error::DeInvalidStartByte`] of kind [`Kind::Integer`], with that tag. An
-    /// integer that is cut short, or none at all, is refused as by [`Self::fill`].
+    /// integer that is cut short, or none at all, fails as [`Self::fill`] does.
     #[inline(always)]
     pub fn check_next_int(&mut self) -> Result<i64>
         ensures ok { IfOk result (λ v. TakesInt v self.old self.new) }

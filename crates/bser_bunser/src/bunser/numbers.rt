@@ -13,8 +13,8 @@ use byteorder::{ByteOrder, LittleEndian};
 impl<R: DeRead> Bunser<R> {
     /// Takes the first buffered byte without looking at it, and then a byte, as an i8.
     ///
-    /// It wants a buffered byte, which a [`Self::peek`] that succeeds gives. Refusals are those of
-    /// [`Self::fill`] for 2 bytes.
+    /// It wants a buffered byte, which a [`Self::peek`] that succeeds gives. The errors are those
+    /// of [`Self::fill`] for 2 bytes.
     pub fn next_i8(&mut self) -> Result<i8>
         requires { 0 < length self.old.window.buffered }
         ensures ok { IfOk result (λ v. TakesNumber w8 v self.old self.new) }
@@ -30,8 +30,8 @@ impl<R: DeRead> Bunser<R> {
     /// Takes the first buffered byte without looking at it, and then 2 bytes, the lowest first, as
     /// an i16.
     ///
-    /// It wants a buffered byte, which a [`Self::peek`] that succeeds gives. Refusals are those of
-    /// [`Self::fill`] for 3 bytes.
+    /// It wants a buffered byte, which a [`Self::peek`] that succeeds gives. The errors are those
+    /// of [`Self::fill`] for 3 bytes.
     pub fn next_i16(&mut self) -> Result<i16>
         requires { 0 < length self.old.window.buffered }
         ensures ok { IfOk result (λ v. TakesNumber w16 v self.old self.new) }
@@ -47,8 +47,8 @@ impl<R: DeRead> Bunser<R> {
     /// Takes the first buffered byte without looking at it, and then 4 bytes, the lowest first, as
     /// an i32.
     ///
-    /// It wants a buffered byte, which a [`Self::peek`] that succeeds gives. Refusals are those of
-    /// [`Self::fill`] for 5 bytes.
+    /// It wants a buffered byte, which a [`Self::peek`] that succeeds gives. The errors are those
+    /// of [`Self::fill`] for 5 bytes.
     pub fn next_i32(&mut self) -> Result<i32>
         requires { 0 < length self.old.window.buffered }
         ensures ok { IfOk result (λ v. TakesNumber w32 v self.old self.new) }
@@ -64,8 +64,8 @@ impl<R: DeRead> Bunser<R> {
     /// Takes the first buffered byte without looking at it, and then 8 bytes, the lowest first, as
     /// an i64.
     ///
-    /// It wants a buffered byte, which a [`Self::peek`] that succeeds gives. Refusals are those of
-    /// [`Self::fill`] for 9 bytes.
+    /// It wants a buffered byte, which a [`Self::peek`] that succeeds gives. The errors are those
+    /// of [`Self::fill`] for 9 bytes.
     pub fn next_i64(&mut self) -> Result<i64>
         requires { 0 < length self.old.window.buffered }
         ensures ok { IfOk result (λ v. TakesNumber w64 v self.old self.new) }
@@ -81,8 +81,8 @@ impl<R: DeRead> Bunser<R> {
     /// Takes the first buffered byte without looking at it, and then 8 bytes, the lowest first, as
     /// the bits of a real.
     ///
-    /// It wants a buffered byte, which a [`Self::peek`] that succeeds gives. Refusals are those of
-    /// [`Self::fill`] for 9 bytes.
+    /// It wants a buffered byte, which a [`Self::peek`] that succeeds gives. The errors are those
+    /// of [`Self::fill`] for 9 bytes.
     pub fn next_f64(&mut self) -> Result<u64>
         requires { 0 < length self.old.window.buffered }
         ensures ok { IfOk result (λ n. TakesBits n self.old self.new) }
@@ -98,7 +98,7 @@ impl<R: DeRead> Bunser<R> {
     /// Takes the first buffered byte without looking at it, and then 8 bytes, the lowest first, as
     /// the bits of a real.
     ///
-    /// It wants a buffered byte. Refusals are those of [`Self::fill`] for 9 bytes.
+    /// It wants a buffered byte. The errors are those of [`Self::fill`] for 9 bytes.
     #[inline(always)]
     pub fn next_bits(&mut self) -> Answer<u64>
         requires { 0 < length self.old.window.buffered }

@@ -1,4 +1,4 @@
-//! The head of a message, and where its body ends.
+//! The header of a message, and where its body ends.
 ghost use Rattle.std.specs.Prelude.{◌≡◌, ◌-◌, ◌∷◌, [], false, IfOk, IfErr, OnOk, OnErr};
 ghost use Rattle.std.specs.Int.{w32, to_le_bytes};
 ghost use Rattle.bser_named.specs.Clauses.{after_a_refusal};
@@ -14,7 +14,7 @@ use bser_format::errors::{Complaint, Error, ReadCause, Result};
 use bser_source::read::DeRead;
 use byteorder::{ByteOrder, LittleEndian};
 
-/// What stands in the head of a message.
+/// What is in the header of a message.
 #[derive(Clone, Copy)]
 pub struct PduInfo {
     /// The capabilities that the message asks for, one bit each.
@@ -26,12 +26,12 @@ pub struct PduInfo {
 }
 
 impl<R: DeRead> Bunser<R> {
-    /// Checks that the body ended where its head says, by the count of the source itself.
+    /// Checks that the body ended where its header says, by the count of the source itself.
     ///
     /// A negative start or length is the message [`Complaint::NegativeLength`], a sum of both above
     /// `i64::MAX` is [`Complaint::CountTooGreat`], and another count of bytes than that sum is
-    /// [`Error::DeEof`]. After an earlier refusal it is refused by [`ReadCause::Failed`], whatever
-    /// the count. A refusal changes nothing.
+    /// [`Error::DeEof`]. After an earlier error it is [`ReadCause::Failed`], whatever the count. An
+    /// error changes nothing.
     pub fn end(&self, pdu_info: &PduInfo) -> Result<()>
         ensures ok { OnOk result (EndsAt pdu_info.now.start pdu_info.now.len
             self.now.window.count) }
@@ -92,9 +92,9 @@ impl<R: DeRead> Bunser<R> {
         self.read.expect(n);
     }
 
-    /// Takes the head of a message, and announces the length of its body to the source.
+    /// Takes the header of a message, and announces the length of its body to the source.
     ///
-    /// Refusals are those of [`Self::read_pdu`].
+    /// The errors are those of [`Self::read_pdu`].
     pub fn read_head(&mut self) -> Answer<PduInfo>
         ensures ok { IfOk result (λ info. TakesHead info self.old self.new) }
         ensures start { IfOk result (λ i. i.start ≡ bytes_taken self.new) }
@@ -112,12 +112,12 @@ impl<R: DeRead> Bunser<R> {
         })
     }
 
-    /// Takes the head of a message, and announces the length of its body to the source.
+    /// Takes the header of a message, and announces the length of its body to the source.
     ///
-    /// Other bytes than `00 02` in front are [`Error::DeInvalidMagic`], a length without an
+    /// Other bytes than `00 02` at the start are [`Error::DeInvalidMagic`], a length without an
     /// integer's tag is [`Error::DeInvalidStartByte`] of kind
     /// [`bser_format::errors::Kind::Integer`], and a negative one the message
-    /// [`Complaint::NegativeLength`]. A head that is cut short is refused as by [`Self::fill`].
+    /// [`Complaint::NegativeLength`]. A header that is cut short fails as [`Self::fill`] does.
     pub fn read_pdu(&mut self) -> Result<PduInfo>
         ensures ok { IfOk result (λ info. TakesHead info self.old self.new) }
         ensures start { IfOk result (λ i. i.start ≡ bytes_taken self.new) }

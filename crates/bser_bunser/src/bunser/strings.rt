@@ -18,9 +18,8 @@ use std::alloc::Global;
 impl<R: DeRead> Bunser<R> {
     /// Takes `len` bytes, and keeps none.
     ///
-    /// It takes no memory, however great `len` is: over a reader it takes 4096 bytes at a time.
-    /// Refusals are those of [`Self::fill`] for `len` bytes, of which some may have been taken
-    /// then.
+    /// It takes no memory, however great `len` is: over a reader it takes 4096 bytes at a time. The
+    /// errors are those of [`Self::fill`] for `len` bytes, of which some may have been taken then.
     #[inline(always)]
     pub fn pass(&mut self, len: usize) -> Answer<()>
         ensures ok { OnOk result (TakesSome len self.old self.new) }
@@ -59,7 +58,7 @@ impl<R: DeRead> Bunser<R> {
     /// Takes `len` bytes, and lends them from the input where the source does, or else copies them
     /// to `scratch` in place of what it held.
     ///
-    /// Refusals are those of [`Self::fill`] for `len` bytes, and [`Error::OutOfMemory`] where the
+    /// The errors are those of [`Self::fill`] for `len` bytes, and [`Error::OutOfMemory`] where the
     /// scratch did not grow. Its length grows at most 65,536 bytes ahead of the bytes that arrived.
     #[inline(always)]
     pub fn bytes<'s>(
@@ -99,7 +98,7 @@ impl<R: DeRead> Bunser<R> {
 
     /// Takes `len` bytes as a copy.
     ///
-    /// Refusals are those of [`Self::fill`] for `len` bytes, and [`Error::OutOfMemory`] where the
+    /// The errors are those of [`Self::fill`] for `len` bytes, and [`Error::OutOfMemory`] where the
     /// copy did not grow. It grows at most 65,536 bytes ahead of the bytes that arrived.
     #[inline(always)]
     pub fn copy(&mut self, alloc: Global, len: usize) -> Answer<Vec<u8>>
@@ -149,7 +148,7 @@ impl<R: DeRead> Bunser<R> {
         }
     }
 
-    /// Refuses for want of memory.
+    /// Fails, since there is no memory.
     #[cold]
     #[inline(never)]
     fn refuse_growth(&mut self) -> Refused
@@ -184,7 +183,7 @@ impl<R: DeRead> Bunser<R> {
     /// Takes `len` bytes, and lends them from the input where the source does, or else copies them
     /// to `scratch` in place of what it held.
     ///
-    /// A negative `len` is the message [`Complaint::NegativeLength`]. Other refusals are those of
+    /// A negative `len` is the message [`Complaint::NegativeLength`]. The other errors are those of
     /// [`Self::fill`] for `len` bytes, and [`Error::OutOfMemory`] where the scratch did not grow.
     /// Its length grows at most 65,536 bytes ahead of the bytes that arrived.
     #[inline(always)]
@@ -245,7 +244,7 @@ impl<R: DeRead> Bunser<R> {
     ///
     /// Another byte than an integer's tag is [`Error::DeInvalidStartByte`] of kind
     /// [`bser_format::errors::Kind::Integer`], and an integer below 0 the message
-    /// [`Complaint::NegativeLength`]. Other refusals are those of [`Self::fill`] for the bytes
+    /// [`Complaint::NegativeLength`]. The other errors are those of [`Self::fill`] for the bytes
     /// wanted.
     #[inline(always)]
     pub fn length(&mut self) -> Answer<usize>
@@ -288,7 +287,7 @@ impl<R: DeRead> Bunser<R> {
     ///
     /// Another byte than an integer's tag is [`Error::DeInvalidStartByte`] of kind
     /// [`bser_format::errors::Kind::Integer`], and an integer below 0 the message
-    /// [`Complaint::NegativeCount`]. Other refusals are those of [`Self::fill`] for the bytes
+    /// [`Complaint::NegativeCount`]. The other errors are those of [`Self::fill`] for the bytes
     /// wanted.
     #[inline(always)]
     pub fn count(&mut self) -> Answer<usize>
@@ -305,7 +304,7 @@ impl<R: DeRead> Bunser<R> {
     ///
     /// Another byte than an integer's tag is [`Error::DeInvalidStartByte`] of kind
     /// [`bser_format::errors::Kind::Integer`], and a length below 0 the message
-    /// [`Complaint::NegativeLength`]. Other refusals are those of [`Self::fill`] for the bytes
+    /// [`Complaint::NegativeLength`]. The other errors are those of [`Self::fill`] for the bytes
     /// wanted, and [`Error::OutOfMemory`] where the scratch did not grow.
     #[inline(always)]
     pub fn next_string<'s>(&mut self, scratch: &'s mut Vec<u8>) -> Answer<Reference<'s, R::Lent>>
@@ -323,7 +322,7 @@ impl<R: DeRead> Bunser<R> {
     /// Takes the length and the bytes of a string, of which the tag was taken, as a copy. They need
     /// not be UTF-8.
     ///
-    /// Refusals are those of [`Self::length`] and of [`Self::copy`].
+    /// The errors are those of [`Self::length`] and of [`Self::copy`].
     #[inline(always)]
     pub fn next_copy(&mut self, alloc: Global) -> Answer<Vec<u8>>
         ensures ok { IfOk result (λ c. TakesCounted c.items self.old self.new) }

@@ -20,7 +20,7 @@ impl EnumName {
     /// How many bytes of a name are kept.
     pub const CAPACITY: usize = 60;
 
-    /// Keeps the name, or the longest front of whole characters that fits.
+    /// Keeps the name, or the longest prefix of whole characters that fits.
     pub fn new(name: &str) -> Self
         ensures whole { length name.now ≤ 60 → kept result ≡ name.now }
         ensures front { (rest : List ℕ) × (name.now ≡ kept result ++ rest) }

@@ -13,9 +13,8 @@ use bser_source::read::DeRead;
 use bser_source::reference::LendsText;
 use std::alloc::Global;
 
-/// An array of `N` items. Fewer are refused by [`Complaint::TooFewItems`], more by
-/// [`Complaint::ItemsLeft`]. It takes memory while it is read, and want of memory is refused by
-/// [`Error::OutOfMemory`].
+/// An array of `N` items. Fewer are [`Complaint::TooFewItems`], more [`Complaint::ItemsLeft`]. It
+/// takes memory while it is read, and out of memory is [`Error::OutOfMemory`].
 ///
 /// [`Complaint::TooFewItems`]: bser_format::errors::Complaint::TooFewItems
 /// [`Complaint::ItemsLeft`]: bser_format::errors::Complaint::ItemsLeft

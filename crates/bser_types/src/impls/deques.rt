@@ -14,7 +14,7 @@ use bser_source::reference::LendsText;
 use std::alloc::Global;
 use std::collections::VecDeque;
 
-/// An array of any number of items, the first at the front. Want of memory is refused by
+/// An array of any number of items, the first at the front. Out of memory is
 /// [`Error::OutOfMemory`].
 ///
 /// [`Error::OutOfMemory`]: bser_format::errors::Error::OutOfMemory

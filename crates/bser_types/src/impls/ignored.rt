@@ -43,7 +43,7 @@ impl OwnedShape for Ignored {
 /// What skips values: a [`Deserializer`]. A trait, since the deserializer is a type of a lower crate,
 /// to which only a trait adds calls.
 pub trait SkipsValues {
-    /// Skips what is due, of any kind, whole.
+    /// Skips what is expected, of any kind, whole.
     fn skip_value(&mut self) -> Answer<()>;
 }
 
@@ -51,11 +51,11 @@ impl<R: DeRead> SkipsValues for Deserializer<R>
 where
     R::Lent: LendsText,
 {
-    /// Skips what is due, of any kind, whole, and keeps nothing of it.
+    /// Skips what is expected, of any kind, whole, and keeps nothing of it.
     ///
-    /// It is read as [`Ignored`] is: well-formed, the keys of its objects UTF-8. It takes memory for
-    /// the containers that are open inside, and over a reader for keys and texts. After a refusal
-    /// each later call is refused.
+    /// It is read as [`Ignored`] is: well-formed, the keys of its objects UTF-8. It takes memory
+    /// for the containers that are open inside, and over a reader for keys and texts. After an
+    /// error each later call fails.
     fn skip_value(&mut self) -> Answer<()>
         ensures found { IfOk result (SkipsDue self.old self.new) }
         ensures refused { OnErr result (RefusesSkip self.old self.new) }

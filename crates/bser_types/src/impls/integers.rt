@@ -17,7 +17,7 @@ use bser_source::read::DeRead;
 use bser_source::reference::LendsText;
 use std::alloc::Global;
 
-/// Refuses an integer that the type does not hold, and notes it.
+/// Fails for an integer that the type does not hold, and notes it.
 #[cold]
 #[inline(never)]
 fn refuse_number<R: DeRead>(from: &mut Deserializer<R>, number: i64) -> Refused
@@ -27,7 +27,7 @@ fn refuse_number<R: DeRead>(from: &mut Deserializer<R>, number: i64) -> Refused
     from.complain_of(Complaint::IntegerOutOfRange, Finding::OutOfRange(number))
 }
 
-/// Reads an integer from `least` to `most`. Another one is refused as by a type whose range lies
+/// Reads an integer from `least` to `most`. Another one is the error of a type whose range lies
 /// between the two.
 #[inline(always)]
 fn read_within<R: DeRead>(from: &mut Deserializer<R>, least: i64, most: i64) -> Answer<i64>
@@ -68,7 +68,7 @@ impl OwnedShape for i64 {
     ghost owned = { refl };
 }
 
-/// An integer is refused by [`Complaint::IntegerOutOfRange`] where the type does not hold it.
+/// An integer that the type does not hold is [`Complaint::IntegerOutOfRange`].
 impl Shape for i8 {
     ghost reads = { reads_signed 8 };
 

@@ -13,7 +13,7 @@ use bser_source::read::DeRead;
 use bser_source::reference::LendsText;
 use std::alloc::Global;
 
-/// An array of any number of items. Want of memory is refused by [`Error::OutOfMemory`].
+/// An array of any number of items. Out of memory is [`Error::OutOfMemory`].
 ///
 /// [`Error::OutOfMemory`]: bser_format::errors::Error::OutOfMemory
 impl<T: Shape> Shape for Vec<T> {

@@ -14,8 +14,8 @@ use bser_source::reference::LendsText;
 use std::alloc::Global;
 use std::collections::BTreeSet;
 
-/// An array of any number of items, in any order. The first of equal items stays, and each is to
-/// be one that the type reads. Want of memory is refused by [`Error::OutOfMemory`].
+/// An array of any number of items, in any order. The first of equal items stays, and each is to be
+/// one that the type reads. Out of memory is [`Error::OutOfMemory`].
 ///
 /// [`Error::OutOfMemory`]: bser_format::errors::Error::OutOfMemory
 impl<T: Shape + Ord> Shape for BTreeSet<T> {

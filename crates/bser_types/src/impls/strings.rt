@@ -48,7 +48,7 @@ impl OwnedShape for String {
     ghost owned = { refl };
 }
 
-/// A text, or a byte string or key that is UTF-8, lent from the input.
+/// A text, or a byte string or key that is UTF-8, borrowed from the input.
 impl<'de> Shape for &'de str {
     ghost reads = { reads_string };
 
@@ -75,10 +75,10 @@ impl<'de, L: LendsFrom<'de>> Deserialize<L> for &'de str {
     }
 }
 
-/// A text, or a byte string or key that is UTF-8: lent from the input where it is a slice, and else
-/// a copy.
+/// A text, or a byte string or key that is UTF-8: borrowed from the input where it is a slice, and
+/// else a copy.
 ///
-/// A copy takes memory, and want of it is refused by [`Error::OutOfMemory`].
+/// A copy takes memory, and out of memory is [`Error::OutOfMemory`].
 impl<'de> Shape for CowStr<'de> {
     ghost reads = { reads_string };
 
@@ -121,7 +121,7 @@ impl<'de> OwnedShape for CowStr<'de> {
     ghost owned = { refl };
 }
 
-/// The bytes of a string or key, lent from the input.
+/// The bytes of a string or key, borrowed from the input.
 impl<'de> Shape for &'de [u8] {
     ghost reads = { reads_slice };
 
@@ -150,8 +150,8 @@ impl<'de, L: LendsFrom<'de>> Deserialize<L> for &'de [u8] {
 
 /// The bytes of a string or key, or those of an array of integers from 0 to 255.
 ///
-/// Another integer in the array is refused by [`Complaint::IntegerOutOfRange`], another kind of
-/// value by [`Complaint::WrongType`], and want of memory by [`Error::OutOfMemory`].
+/// Another integer in the array is [`Complaint::IntegerOutOfRange`], another kind of value
+/// [`Complaint::WrongType`], and out of memory [`Error::OutOfMemory`].
 ///
 /// [`Error::OutOfMemory`]: bser_format::errors::Error::OutOfMemory
 impl Shape for ByteString {

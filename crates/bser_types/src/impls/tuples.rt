@@ -1,7 +1,7 @@
 //! Tuples. A template is read as the array of its rows.
 //!
 //! A tuple takes memory for a template's keys alone, besides what its parts take. Where a part
-//! reads no object no template is read, so that memory is taken only where the tuple is refused.
+//! reads no object no template is read, so that memory is taken only where the tuple fails.
 ghost use Rattle.std.specs.Prelude.{◌||◌, true, false, refl, Some, [], ◌∷◌};
 ghost use Rattle.bser_format.specs.ReadsHolders.{reads_tuple};
 ghost use Rattle.bser_deserializer.specs.HoldsLists.{HoldsTuple};
@@ -18,8 +18,7 @@ use bser_source::read::DeRead;
 use bser_source::reference::LendsText;
 use std::alloc::Global;
 
-/// An array of one item. None is refused by [`Complaint::TooFewItems`], more by
-/// [`Complaint::ItemsLeft`].
+/// An array of one item. None is [`Complaint::TooFewItems`], more are [`Complaint::ItemsLeft`].
 ///
 /// [`Complaint::TooFewItems`]: bser_format::errors::Complaint::TooFewItems
 /// [`Complaint::ItemsLeft`]: bser_format::errors::Complaint::ItemsLeft
@@ -48,8 +47,7 @@ impl<A: OwnedShape> OwnedShape for (A,) {
     ghost owned = { ap (λ a. a || any_lent []) A.owned };
 }
 
-/// An array of two items. Fewer are refused by [`Complaint::TooFewItems`], more by
-/// [`Complaint::ItemsLeft`].
+/// An array of two items. Fewer are [`Complaint::TooFewItems`], more [`Complaint::ItemsLeft`].
 ///
 /// [`Complaint::TooFewItems`]: bser_format::errors::Complaint::TooFewItems
 /// [`Complaint::ItemsLeft`]: bser_format::errors::Complaint::ItemsLeft
@@ -84,8 +82,7 @@ impl<A: OwnedShape, B: OwnedShape> OwnedShape for (A, B) {
         ∙ ap (λ b. b || any_lent []) B.owned };
 }
 
-/// An array of three items. Fewer are refused by [`Complaint::TooFewItems`], more by
-/// [`Complaint::ItemsLeft`].
+/// An array of three items. Fewer are [`Complaint::TooFewItems`], more [`Complaint::ItemsLeft`].
 ///
 /// [`Complaint::TooFewItems`]: bser_format::errors::Complaint::TooFewItems
 /// [`Complaint::ItemsLeft`]: bser_format::errors::Complaint::ItemsLeft
@@ -124,8 +121,7 @@ impl<A: OwnedShape, B: OwnedShape, C: OwnedShape> OwnedShape for (A, B, C) {
         ∙ ap (λ c. c || any_lent []) C.owned };
 }
 
-/// An array of four items. Fewer are refused by [`Complaint::TooFewItems`], more by
-/// [`Complaint::ItemsLeft`].
+/// An array of four items. Fewer are [`Complaint::TooFewItems`], more [`Complaint::ItemsLeft`].
 ///
 /// [`Complaint::TooFewItems`]: bser_format::errors::Complaint::TooFewItems
 /// [`Complaint::ItemsLeft`]: bser_format::errors::Complaint::ItemsLeft

@@ -27,7 +27,7 @@ impl Serialize for Value {
     }
 }
 
-/// Puts a value. The serializer keeps the reason of a refusal.
+/// Puts a value. The serializer keeps the error.
 #[cycle(add)]
 #[inline(always)]
 fn add_value<W: Sink>(value: &Value, out: &mut Serializer<W>) -> Result<(), PutRefused>
