@@ -18,3 +18,4 @@ pub mod HoldsMaps
 pub mod Holds
 pub mod Required
 pub mod Seen
+pub mod Kept

@@ -1,8 +1,9 @@
 //! Opening and closing containers.
-ghost use Rattle.std.specs.Prelude.{◌≡◌, ◌+◌, true, false, map, IfOk, OnOk, OnErr};
+ghost use Rattle.std.specs.Prelude.{◌≡◌, ◌+◌, true, false, IfOk, OnOk, OnErr};
 ghost use Rattle.bser_format.specs.Expected.{row_due};
 ghost use Rattle.bser_deserializer.specs.Access.{after_closing};
 ghost use Rattle.bser_deserializer.specs.Calls.{Keeps, ItemsOpened, ItemsRefused, ItemsRefusedBy, PairsOpened, PairsRefused, ItemsClosed, KeysGivenBack};
+ghost use Rattle.bser_deserializer.specs.Kept.{kept_keys};
 ghost use Rattle.bser_deserializer.specs.Reading.{bare, owned};
 ghost use Rattle.bser_deserializer.specs.State.{refused, inside, inside_template};
 ghost use Rattle.bser_deserializer.specs.View.{IsBefore};
@@ -122,7 +123,7 @@ impl<R: DeRead> Deserializer<R> {
     /// Goes into a template with these keys, with so many levels inside.
     fn enter_template(&mut self, keys: Vec<<R::Lent as Lending>::Kept>, levels: usize) -> Answer<()>
         ensures ok { OnOk result (self.new.state
-            ≡ inside_template (map R.Lent.kept keys.items) levels self.old.state) }
+            ≡ inside_template (kept_keys R.Lent.Lending keys) levels self.old.state) }
         ensures kept { OnOk result (Keeps self.old self.new) }
         ensures reason { OnErr result (self.new.refusal ≡ Error.OutOfMemory) }
         ensures source { OnErr result (self.new.state.source ≡ (refused self.old.state).source) }

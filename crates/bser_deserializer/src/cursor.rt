@@ -1,10 +1,11 @@
 //! What is expected.
-ghost use Rattle.std.specs.Prelude.{◌≡◌, ◌≢◌, ◌<◌, ◌^◌, true, false, map, length, Some, IfOk, OnErr, IfSome, IfNone, if◌then◌else◌, OnOk};
+ghost use Rattle.std.specs.Prelude.{◌≡◌, ◌≢◌, ◌<◌, ◌^◌, true, false, length, Some, IfOk, OnErr, IfSome, IfNone, if◌then◌else◌, OnOk};
 ghost use Rattle.bser_format.specs.Expected.{nothing_due, node_due, key_due, field_due, row_due};
 ghost use Rattle.bser_named.specs.DueReaders as due_readers;
 ghost use Rattle.bser_named.specs.DueReaders.{nothing_at, stray_at, wrong_type};
 ghost use Rattle.bser_deserializer.specs.Calls.{Keeps, HasFailed, NamesTag, nothing_due_in};
 ghost use Rattle.bser_deserializer.specs.Dues.{IsValueDue, name_at};
+ghost use Rattle.bser_deserializer.specs.Kept.{kept_key, kept_keys};
 ghost use Rattle.bser_deserializer.specs.Reading.{NamesDue, bare};
 ghost use Rattle.bser_deserializer.specs.State.{awaiting, refused};
 ghost use Rattle.bser_deserializer.specs.View.{IsDue, SeesTag, IsNameDue, NoNameDue};
@@ -227,7 +228,7 @@ impl<R: DeRead> Deserializer<R> {
 /// The keys of the innermost open template.
 #[inline(always)]
 pub fn keys_of<R: DeRead>(from: &Deserializer<R>) -> &Vec<<R::Lent as Lending>::Kept>
-    ensures { map R.Lent.kept result.now.items ≡ from.now.state.keys }
+    ensures { kept_keys R.Lent.Lending result.now ≡ from.now.state.keys }
 {
     &from.keys
 }
@@ -235,7 +236,8 @@ pub fn keys_of<R: DeRead>(from: &Deserializer<R>) -> &Vec<<R::Lent as Lending>::
 /// The key of a row's field, where it is expected and no call failed.
 #[inline(always)]
 pub fn name_of<R: DeRead>(from: &Deserializer<R>) -> Option<&<R::Lent as Lending>::Kept>
-    ensures some { IfSome result (λ k. IsNameDue (R.Lent.kept k.now) from.now.state) }
+    ensures some { IfSome result (λ k.
+        IsNameDue (kept_key R.Lent.Lending k.now) from.now.state) }
     ensures lends { IfSome result (λ _. from.now.state.source.lends ≡ R.Lent.lends) }
     ensures none { IfNone result (NoNameDue from.now.state) }
 {

@@ -1,10 +1,10 @@
 //! A template's keys.
-ghost use Rattle.std.specs.Prelude.{◌≡◌, [], map, IfOk, OnOk, OnErr};
-ghost use Rattle.bser_format.specs.Grammar.{SpellsKey};
+ghost use Rattle.std.specs.Prelude.{◌≡◌, IfOk, OnOk, OnErr};
 ghost use Rattle.bser_format.specs.declared.errors.Kind.TheVariants.{TemplateKey};
 ghost use Rattle.bser_named.specs.Named.{text_of};
 ghost use Rattle.bser_bunser.specs.Calls.{HasFailed};
-ghost use Rattle.bser_deserializer.specs.Templates.{TakesPart, SpellsKeys, SpellsKeysAndRows, NamesPart, keys_after_number, keys_and_rows};
+ghost use Rattle.bser_deserializer.specs.Kept.{TakesKey, TakesKeys, TakesKeysAndRows};
+ghost use Rattle.bser_deserializer.specs.Templates.{NamesPart, keys_after_number, keys_and_rows};
 
 use bser_bunser::bunser::Bunser;
 use bser_bunser::prefix::is_key_tag;
@@ -20,7 +20,7 @@ fn take_key<R: DeRead>(
     bunser: &mut Bunser<R>,
     scratch: &mut Vec<u8>,
 ) -> Answer<<R::Lent as Lending>::Kept>
-    ensures ok { IfOk result (λ k. TakesPart (SpellsKey (R.Lent.kept k)) bunser.old bunser.new) }
+    ensures ok { IfOk result (TakesKey R.Lent.Lending bunser.old bunser.new) }
     ensures kept { OnOk result (bunser.new.refusal ≡ bunser.old.refusal) }
     ensures err { OnErr result (HasFailed bunser.old bunser.new) }
     ensures names { OnErr result (NamesPart (text_of TemplateKey) bunser.old bunser.new) }
@@ -46,8 +46,7 @@ fn take_keys<R: DeRead>(
     alloc: Global,
     bunser: &mut Bunser<R>,
 ) -> Answer<Vec<<R::Lent as Lending>::Kept>>
-    ensures ok { IfOk result (λ ks.
-        TakesPart (SpellsKeys (map R.Lent.kept ks.items)) bunser.old bunser.new) }
+    ensures ok { IfOk result (TakesKeys R.Lent.Lending bunser.old bunser.new) }
     ensures kept { OnOk result (bunser.new.refusal ≡ bunser.old.refusal) }
     ensures err { OnErr result (HasFailed bunser.old bunser.new) }
     ensures names { OnErr result (NamesPart keys_after_number bunser.old bunser.new) }
@@ -69,8 +68,7 @@ pub(crate) fn take_keys_and_rows<R: DeRead>(
     alloc: Global,
     bunser: &mut Bunser<R>,
 ) -> Answer<(Vec<<R::Lent as Lending>::Kept>, usize)>
-    ensures ok { IfOk result (λ t.
-        TakesPart (SpellsKeysAndRows (map R.Lent.kept t.0.items) t.1) bunser.old bunser.new) }
+    ensures ok { IfOk result (TakesKeysAndRows R.Lent.Lending bunser.old bunser.new) }
     ensures kept { OnOk result (bunser.new.refusal ≡ bunser.old.refusal) }
     ensures err { OnErr result (HasFailed bunser.old bunser.new) }
     ensures names { OnErr result (NamesPart keys_and_rows bunser.old bunser.new) }

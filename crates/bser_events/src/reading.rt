@@ -48,10 +48,8 @@ pub fn read_value<R: DeRead, B: Builder>(
 {
     check_working(bunser)?;
     frames.clear();
-    let mut frame = Frame {
-        levels,
-        parts: Parts::Items(1),
-    };
+    let parts = Parts::Items(1);
+    let mut frame = Frame { levels, parts };
     'parts: loop {
         let bytes = bunser.buffered();
         let mut at = 0;

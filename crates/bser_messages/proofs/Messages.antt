@@ -99,10 +99,6 @@ read_text n reads holds a t v body over =
       refl,
     )
 
-pub read_whole : {A : Type 0} (n : ℕ) (reads : Meaning) (holds : A → Content → Type 0) (a : Window) (t : State) (v : A)
-    → ReadsBody n reads holds a t v → IsAtEnd t → ReadsMessage n reads holds a t.source v
-read_whole n reads holds a t v body over = (read_text n reads holds a t v body over).0
-
 -- ---- what was refused
 
 -- a message begins with a head

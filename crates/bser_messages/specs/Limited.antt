@@ -1,14 +1,27 @@
 -- What a message is read as under limits: of n levels, and of m bytes of its body.
-use Rattle.std.specs.Prelude.{◌≡◌, ◌⊎◌, ◌≤◌, ◌<◌, ℕ, List, ◌++◌, length, Option, Some}
+use Rattle.std.specs.Prelude.{◌≡◌, ◌⊎◌, ◌≤◌, ◌<◌, ◌^◌, ◌-◌, ℕ, List, ◌++◌, length, Option, Some}
 use Rattle.std.specs.Io.KnownBytes.{Consumes}
 use Rattle.bser_format.specs.Content.{Content, Meaning}
 use Rattle.bser_format.specs.Message.{Head}
 use Rattle.bser_format.specs.declared.errors.Error.{Error}
 use Rattle.bser_format.specs.declared.errors.Error.TheVariants.{DeTooLong}
+use Rattle.bser_source.specs.declared.device.Source as source
 use Rattle.bser_source.specs.Window.{Window, Took, closed, left, with_limit}
 use Rattle.bser_deserializer.specs.Reading.{Asking, ExcusedBy, bare, Needs}
+use Rattle.bser_deserializer.specs.Seen.{Seen}
 use Rattle.bser_deserializer.specs.State.{State}
+use Rattle.bser_deserializer.specs.declared.deserializer.TheConstants.{LEVELS}
+use Rattle.bser_types.specs.declared.deserialize.Shape as shape
+use Rattle.bser_messages.specs.declared.limits.Limits.{Limits}
 use Rattle.bser_messages.specs.Messages.{BeginsWith, TookMessage, ReadsMessage, ReadsBody, RefusesBody, RefusesMessage, RefusesSlice, RefusesReader, IsReaderFault}
+
+-- a limit of bytes that no body exceeds
+abbrev pub any_length : ℕ
+any_length = 2 ^ 64 - 1
+
+-- the limits where none are given
+abbrev pub usual_limits : Limits
+usual_limits = record { levels = LEVELS; bytes = any_length }
 
 -- ---- what is read
 
@@ -128,3 +141,46 @@ RefusesReaderWithin n m reads asks e old new before after =
 abbrev pub RefusesReadingWithin : {S : Type 0} → ℕ → ℕ → (reads : Meaning) → Option (Asking reads) → (S → Option (List ℕ)) → (S → ℕ) → S → S → Error → Type 0
 RefusesReadingWithin n m reads asks remaining failures old new e =
     RefusesReaderWithin n m reads asks e (remaining old) (remaining new) (failures old) (failures new)
+
+-- ---- what the calls answer, by a type's meaning
+
+-- within these limits
+module _ {A : Type 0} (limits : Limits) (type : shape.Ghosts A) where
+  -- a front of the bytes is a message that reads as what v holds
+  abbrev pub BeginsInLimits : List ℕ → A → Type 0
+  BeginsInLimits bytes v = BeginsWithin limits.levels limits.bytes type.reads type.holds bytes v
+
+  -- a slice is refused as a message of the type
+  abbrev pub FrontFails : List ℕ → Error → Type 0
+  FrontFails bytes e =
+      RefusesSliceWithin limits.levels limits.bytes type.reads type.asks type.needs e bytes
+
+  -- exactly one message of a deserializer was read, as what v holds
+  abbrev pub LimitedRead : Seen → Seen → A → Type 0
+  LimitedRead old new v =
+      ReadsWithin limits.levels limits.bytes type.reads type.holds old.state.source new.state.source v
+
+  -- a deserializer's message is refused as one of the type
+  abbrev pub LimitedRefused : Seen → Seen → Error → Type 0
+  LimitedRefused old new e =
+      RefusesWithin limits.levels limits.bytes type.reads type.asks type.needs e old.state.source new.state.source
+
+  -- the head of a deserializer's message and its value were read, as what v holds
+  abbrev pub LimitedBodyRead : Seen → Seen → A → Type 0
+  LimitedBodyRead old new v =
+      ReadsBodyWithin limits.levels limits.bytes type.reads type.holds old.state.source new.state v
+
+  -- the head or the value of a deserializer's message is refused
+  abbrev pub LimitedBodyRefused : Seen → Seen → Type 0
+  LimitedBodyRefused old new =
+      RefusesBodyWithin limits.levels limits.bytes type.reads type.asks type.needs new.refusal old.state.source new.state.source
+
+  -- exactly the next message of a reader was taken, which reads as what v holds
+  abbrev pub LimitedReaderRead : {S : Type 0} → source.Ghosts S → S → S → A → Type 0
+  LimitedReaderRead told old new v =
+      TookWithin limits.levels limits.bytes type.reads type.holds (told.remaining old) (told.remaining new) v
+
+  -- a reader's next message is refused as one of the type
+  abbrev pub LimitedReaderRefused : {S : Type 0} → source.Ghosts S → S → S → Error → Type 0
+  LimitedReaderRefused told old new e =
+      RefusesReadingWithin limits.levels limits.bytes type.reads type.asks told.remaining told.failures old new e

@@ -11,11 +11,14 @@ use Rattle.bser_format.specs.declared.errors.Error.{Error}
 use Rattle.bser_format.specs.declared.errors.Error.TheVariants.{DeReaderError, OutOfMemory}
 use Rattle.bser_format.specs.declared.errors.ReadCause.TheVariants.{Reader, Failed}
 use Rattle.bser_source.specs.Device.{Blamed}
+use Rattle.bser_source.specs.declared.device.Source as source
 use Rattle.bser_named.specs.Named as named
 use Rattle.bser_source.specs.Window.{Window, Took, left, with_limit}
 use Rattle.bser_bunser.specs.Refusal.{failures_by}
 use Rattle.bser_bunser.specs.Tagged.{IsHead}
+use Rattle.bser_deserializer.specs.Seen.{Seen}
 use Rattle.bser_deserializer.specs.State.{State, Begins}
+use Rattle.bser_types.specs.declared.deserialize.Shape as shape
 use Rattle.bser_bunser.specs.Names.{Agree}
 use Rattle.bser_deserializer.specs.Reading.{Answers, Asking, ExcusedBy, IsRefusal, MayRefuse, NamesBy, RefusesFront, TakesNoMemory, Needs}
 
@@ -167,3 +170,32 @@ pub record RefusesReader (n : ℕ) (reads : Meaning) (asks : Option (Asking read
 abbrev pub RefusesReading : {S : Type 0} → ℕ → (reads : Meaning) → Option (Asking reads) → (S → Option (List ℕ)) → (S → ℕ) → S → S → Error → Type 0
 RefusesReading n reads asks remaining failures old new e =
     RefusesReader n reads asks e (remaining old) (failures old) (failures new)
+
+-- ---- what the calls answer, by a type's meaning
+
+-- a slice is refused as a message of the type
+abbrev pub SliceRefused : {A : Type 0} → ℕ → shape.Ghosts A → List ℕ → Error → Type 0
+SliceRefused n type bytes e = RefusesSlice n type.reads type.asks type.needs e bytes
+
+-- exactly one message of a deserializer was read, as what v holds
+abbrev pub WholeRead : {A : Type 0} → ℕ → shape.Ghosts A → Seen → Seen → A → Type 0
+WholeRead n type old new v = ReadsMessage n type.reads type.holds old.state.source new.state.source v
+
+-- a deserializer's message is refused as one of the type
+abbrev pub WholeRefused : {A : Type 0} → ℕ → shape.Ghosts A → Seen → Seen → Error → Type 0
+WholeRefused n type old new e =
+    RefusesMessage n type.reads type.asks type.needs e old.state.source new.state.source
+
+-- out of memory is the reason only after a deserializer's message began with a head
+abbrev pub HeadBeforeMemory : Seen → Seen → Type 0
+HeadBeforeMemory old new = new.refusal ≡ OutOfMemory → BeginWithHead (left old.state.source)
+
+-- exactly the next message of a reader was taken, which reads as what v holds
+abbrev pub ReaderRead : {A S : Type 0} → ℕ → shape.Ghosts A → source.Ghosts S → S → S → A → Type 0
+ReaderRead n type told old new v =
+    TookMessage n type.reads type.holds (told.remaining old) (told.remaining new) v
+
+-- a reader's next message is refused as one of the type
+abbrev pub ReaderRefused : {A S : Type 0} → ℕ → shape.Ghosts A → source.Ghosts S → S → S → Error → Type 0
+ReaderRefused n type told old new e =
+    RefusesReading n type.reads type.asks told.remaining told.failures old new e

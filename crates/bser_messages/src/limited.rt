@@ -4,12 +4,12 @@ ghost use Rattle.bser_source.specs.Window.{left};
 ghost use Rattle.bser_deserializer.specs.Reading.{TakesNoMemory};
 ghost use Rattle.bser_deserializer.specs.State.{IsUnread};
 ghost use Rattle.bser_messages.specs.Limited.{
-  ReadsBodyWithin,
-  ReadsWithin,
-  RefusesBodyWithin,
-  RefusesWithin,
+  LimitedBodyRead,
+  LimitedBodyRefused,
+  LimitedRead,
+  LimitedRefused,
 };
-ghost use Rattle.bser_messages.specs.Messages.{BeginWithHead, HeadFirst, SparesMemory};
+ghost use Rattle.bser_messages.specs.Messages.{HeadBeforeMemory, HeadFirst, SparesMemory};
 
 use crate::limits::Limits;
 use bser_bunser::refusal::{Answer, Refused};
@@ -34,10 +34,8 @@ where
     R::Lent: LendsText,
     requires unread { IsUnread from.old.state }
     requires start { from.old.state.source.count ≡ 0 }
-    ensures found { IfOk result (ReadsWithin limits.levels limits.bytes T.reads T.holds
-        from.old.state.source from.new.state.source) }
-    ensures refused { IfErr result (λ e. RefusesWithin limits.levels limits.bytes
-        T.reads T.asks T.needs e from.old.state.source from.new.state.source) }
+    ensures found { IfOk result (LimitedRead limits T.Shape from.old from.new) }
+    ensures refused { IfErr result (LimitedRefused limits T.Shape from.old from.new) }
     ensures memory { SparesMemory T.needs result }
     ensures head { HeadFirst (left from.old.state.source) result }
 {
@@ -59,14 +57,11 @@ fn read_body<R: DeRead, T: Deserialize<R::Lent>>(
 where
     R::Lent: LendsText,
     requires { IsUnread from.old.state }
-    ensures found { IfOk result (ReadsBodyWithin limits.levels limits.bytes T.reads T.holds
-        from.old.state.source from.new.state) }
-    ensures refused { OnErr result (RefusesBodyWithin limits.levels limits.bytes
-        T.reads T.asks T.needs from.new.refusal from.old.state.source from.new.state.source) }
+    ensures found { IfOk result (LimitedBodyRead limits T.Shape from.old from.new) }
+    ensures refused { OnErr result (LimitedBodyRefused limits T.Shape from.old from.new) }
     ensures memory { TakesNoMemory T.needs
         → OnErr result (from.new.refusal ≢ Error.OutOfMemory) }
-    ensures head { OnErr result (from.new.refusal ≡ Error.OutOfMemory
-        → BeginWithHead (left from.old.state.source)) }
+    ensures head { OnErr result (HeadBeforeMemory from.old from.new) }
 {
     from.read_head(limits.levels)?;
     let announced = from.body_length() as usize;

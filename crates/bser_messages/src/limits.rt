@@ -1,5 +1,7 @@
 //! How much of a message is taken.
-ghost use Rattle.std.specs.Prelude.{◌≡◌, ◌^◌, ◌-◌};
+ghost use Rattle.std.specs.Prelude.{◌≡◌};
+ghost use Rattle.bser_deserializer.specs.declared.deserializer.TheConstants.{LEVELS};
+ghost use Rattle.bser_messages.specs.Limited.{any_length};
 
 use bser_deserializer::deserializer::LEVELS;
 
@@ -15,8 +17,8 @@ pub struct Limits {
 impl Limits {
     /// 128 levels, and bodies of any length.
     pub const fn new() -> Self
-        ensures levels { result.levels ≡ 128 }
-        ensures bytes { result.bytes ≡ 2 ^ 64 - 1 }
+        ensures levels { result.levels ≡ LEVELS }
+        ensures bytes { result.bytes ≡ any_length }
     {
         Limits {
             levels: LEVELS,

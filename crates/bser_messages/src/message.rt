@@ -2,17 +2,17 @@
 ghost use Rattle.std.specs.Prelude.{◌≡◌, ◌≤◌, IfOk, IfErr, OnOk, Some};
 ghost use Rattle.bser_source.specs.Window.{left};
 ghost use Rattle.bser_deserializer.specs.State.{IsUnread};
-ghost use Rattle.bser_deserializer.specs.declared.deserializer.TheConstants.{MOST_LEVELS};
+ghost use Rattle.bser_deserializer.specs.declared.deserializer.TheConstants.{LEVELS, MOST_LEVELS};
 ghost use Rattle.bser_messages.specs.Messages.{
   BeginsWith,
   HeadFirst,
+  ReaderRead,
+  ReaderRefused,
   Same,
-  ReadsMessage,
-  RefusesMessage,
-  RefusesReading,
-  RefusesSlice,
+  SliceRefused,
   SparesMemory,
-  TookMessage,
+  WholeRead,
+  WholeRefused,
 };
 
 use crate::limited::read_limited;
@@ -37,8 +37,8 @@ use std::alloc::Global;
 ///
 /// [`Error::OutOfMemory`]: bser_format::errors::Error::OutOfMemory
 pub fn from_slice<'de, T: Deserialize<&'de [u8]>>(alloc: Global, bytes: &'de [u8]) -> Result<T>
-    ensures found { IfOk result (BeginsWith 128 T.reads T.holds bytes.now) }
-    ensures refused { IfErr result (λ e. RefusesSlice 128 T.reads T.asks T.needs e bytes.now) }
+    ensures found { IfOk result (BeginsWith LEVELS T.reads T.holds bytes.now) }
+    ensures refused { IfErr result (SliceRefused LEVELS T.Shape bytes.now) }
     ensures head { HeadFirst (Some bytes.now) result }
 {
     from_slice_within(alloc, LEVELS, bytes)
@@ -54,7 +54,7 @@ pub fn from_slice_within<'de, T: Deserialize<&'de [u8]>>(
 ) -> Result<T>
     requires { limit ≤ MOST_LEVELS }
     ensures found { IfOk result (BeginsWith limit T.reads T.holds bytes.now) }
-    ensures refused { IfErr result (λ e. RefusesSlice limit T.reads T.asks T.needs e bytes.now) }
+    ensures refused { IfErr result (SliceRefused limit T.Shape bytes.now) }
     ensures head { HeadFirst (Some bytes.now) result }
 {
     let mut from = Deserializer::unread(alloc, SliceRead::new(bytes));
@@ -70,10 +70,8 @@ pub fn from_slice_within<'de, T: Deserialize<&'de [u8]>>(
 /// which are copied: never of `bool`, `()` or a number. After an error nothing is said of how far
 /// the reader went.
 pub fn from_reader<S: Source, T: DeserializeOwned>(alloc: Global, reader: &mut S) -> Result<T>
-    ensures found { IfOk result
-        (TookMessage 128 T.reads T.holds (S.remaining reader.old) (S.remaining reader.new)) }
-    ensures refused { IfErr result (RefusesReading 128 T.reads T.asks S.remaining S.failures
-        reader.old reader.new) }
+    ensures found { IfOk result (ReaderRead LEVELS T.Shape S.Source reader.old reader.new) }
+    ensures refused { IfErr result (ReaderRefused LEVELS T.Shape S.Source reader.old reader.new) }
     ensures kept { OnOk result (Same S.failures reader.old reader.new) }
     ensures memory { SparesMemory T.needs result }
     ensures head { HeadFirst (S.remaining reader.old) result }
@@ -90,10 +88,8 @@ pub fn from_reader_within<S: Source, T: DeserializeOwned>(
     reader: &mut S,
 ) -> Result<T>
     requires { limit ≤ MOST_LEVELS }
-    ensures found { IfOk result
-        (TookMessage limit T.reads T.holds (S.remaining reader.old) (S.remaining reader.new)) }
-    ensures refused { IfErr result (RefusesReading limit T.reads T.asks S.remaining S.failures
-        reader.old reader.new) }
+    ensures found { IfOk result (ReaderRead limit T.Shape S.Source reader.old reader.new) }
+    ensures refused { IfErr result (ReaderRefused limit T.Shape S.Source reader.old reader.new) }
     ensures kept { OnOk result (Same S.failures reader.old reader.new) }
     ensures memory { SparesMemory T.needs result }
     ensures head { HeadFirst (S.remaining reader.old) result }
@@ -116,10 +112,8 @@ where
     R::Lent: LendsText,
     requires unread { IsUnread from.old.state }
     requires start { from.old.state.source.count ≡ 0 }
-    ensures found { IfOk result (ReadsMessage limit T.reads T.holds
-        from.old.state.source from.new.state.source) }
-    ensures refused { IfErr result (λ e. RefusesMessage limit T.reads T.asks T.needs e
-        from.old.state.source from.new.state.source) }
+    ensures found { IfOk result (WholeRead limit T.Shape from.old from.new) }
+    ensures refused { IfErr result (WholeRefused limit T.Shape from.old from.new) }
     ensures memory { SparesMemory T.needs result }
     ensures head { HeadFirst (left from.old.state.source) result }
 {
