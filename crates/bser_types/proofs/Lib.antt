@@ -13,7 +13,6 @@ pub mod Arrays
 pub mod Lists
 pub mod Tuples
 pub mod Sets
-pub mod Collected
 pub mod EqualParts
 pub mod Choices
 pub mod ObjectFills
