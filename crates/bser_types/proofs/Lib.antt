@@ -3,6 +3,7 @@ pub mod Integers
 pub mod Keys
 pub mod Naming
 pub mod Looks
+pub mod NodeKinds
 pub mod Options
 pub mod ByteLists
 pub mod Pairs
