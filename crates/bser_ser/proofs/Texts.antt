@@ -3,13 +3,14 @@ use Rattle.std.proofs.Common.{◌≡◌, ℕ, suc, ◌<◌, ◌^◌, List, [], �
 use Rattle.bser_format.specs.Tree.{Tree, Items, Entries, array, object, items, entries}
 use Rattle.bser_format.specs.Canonical.{canonical_body, canonical_items, canonical_entries, canonical_key}
 use Rattle.bser_written.specs.Pieces.{array_head, object_head}
-use Rattle.bser_written.specs.Written.{map_ok, item_before, entry_before, written_items, written_entries, array_tree, object_tree, slice_tree, part_tree, tuple_tree}
+use Rattle.bser_written.specs.Written.{map_ok, item_before, entry_before, written_items, written_entries, array_tree, object_tree, slice_tree}
 use Rattle.bser_format.specs.declared.errors.Error.{Error}
 use Rattle.bser_ser.specs.Sent.{Sent}
-use Rattle.bser_ser.specs.Ends.{Ends, Stops, text_of, then}
+use Rattle.bser_ser.specs.Ends.{Ends, Stops, text_of, then, CanBeWritten}
 use Rattle.bser_ser.specs.Stopped.{Tells}
 use Rattle.bser_ser.specs.declared.serializer.Serializer.{Serializer}
 use Rattle.bser_ser.proofs.Sends.{Joins}
+use Rattle.bser_ser.proofs.Writable.{EntryCanBeWritten, AllBefore, AllBefore-start, AllBefore-more, AllBefore-all, array_writable, object_writable}
 use Rattle.bser_ser.proofs.Ends.{joined, UpTo, UpTo-start, UpTo-more, UpTo-all, UpTo-stops}
 
 -- a count, and what is written after it
@@ -70,44 +71,64 @@ array_text f xs = as_array (written_items f xs) (length xs) (joined (item_text f
 pub object_text : {K V : Type 0} (k : K → List ℕ) (f : V → Result Tree Error) (es : List (K × V)) → text_of (object_tree k f es) ≡ then (Ok (object_head (length es))) (joined (entry_text k f) es)
 object_text k f es = as_object (written_entries k f es) (length es) (joined (entry_text k f) es) (entries_joined k f es)
 
-module _ {S A : Type 0} (sink : Tells S) (f : A → Result Tree Error) (xs : List A) where
-  pub Ends-array : (rest : List A) (a b : Serializer S) → UpTo sink (array_head (length xs)) (item_text f) xs rest a b → rest ≡ [] → Ends sink (text_of (array_tree f xs)) a b
-  Ends-array rest a b u none = subst (λ (m : Result (List ℕ) Error). Ends sink m a b) (sym (array_text f xs)) (UpTo-all sink (array_head (length xs)) (item_text f) xs rest a b u none)
+-- an array of which the items before rest are written, and can be
+pub record ItemsPut {S A : Type 0} (sink : Tells S) (f : A → Result Tree Error) (xs rest : List A) (a b : Serializer S) : Type 0 where
+  pub put : UpTo sink (array_head (length xs)) (item_text f) xs rest a b
+  pub writable : AllBefore (λ x. CanBeWritten (f x)) xs rest
 
-module _ {S A : Type 0} (sink : Tells S) (f : A → Result Tree Error) (xs : List A) where
-  pub Stops-array : Joins sink → (rest left : List A) (x : A) (a b c : Serializer S) (e : Error)
-      → UpTo sink (array_head (length xs)) (item_text f) xs rest a b → rest ≡ x ∷ left → Stops sink (text_of (f x)) b c e → Stops sink (text_of (array_tree f xs)) a c e
-  Stops-array both rest left x a b c e u step t =
-      subst (λ (m : Result (List ℕ) Error). Stops sink m a c e) (sym (array_text f xs)) (UpTo-stops sink both (array_head (length xs)) (item_text f) xs rest left x a b c e u step t)
+module _ {S A : Type 0} {sink : Tells S} {f : A → Result Tree Error} {xs rest : List A} {a b : Serializer S} where
+  pub items_start : rest ≡ xs → Sent sink a b (array_head (length xs)) → ItemsPut sink f xs rest a b
+  items_start is s = record { put = UpTo-start sink (array_head (length xs)) (item_text f) xs rest a b is s; writable = AllBefore-start (λ x. CanBeWritten (f x)) xs rest is }
 
-module _ {S K V : Type 0} (sink : Tells S) (k : K → List ℕ) (f : V → Result Tree Error) (es : List (K × V)) where
-  pub Ends-object : (rest : List (K × V)) (a b : Serializer S) → UpTo sink (object_head (length es)) (entry_text k f) es rest a b → rest ≡ [] → Ends sink (text_of (object_tree k f es)) a b
-  Ends-object rest a b u none = subst (λ (m : Result (List ℕ) Error). Ends sink m a b) (sym (object_text k f es)) (UpTo-all sink (object_head (length es)) (entry_text k f) es rest a b u none)
+  pub items_more : {left : List A} {x : A} {c : Serializer S} → Joins sink → ItemsPut sink f xs rest a b → rest ≡ x ∷ left → Ends sink (text_of (f x)) b c → CanBeWritten (f x) → ItemsPut sink f xs left a c
+  items_more {left = left} {x = x} {c = c} both p step t w = record {
+    put = UpTo-more sink both (array_head (length xs)) (item_text f) xs rest left x a b c p.put step t;
+    writable = AllBefore-more (λ x. CanBeWritten (f x)) xs rest left x p.writable step w;
+  }
 
-module _ {S K V : Type 0} (sink : Tells S) (k : K → List ℕ) (f : V → Result Tree Error) (es : List (K × V)) where
-  pub Stops-object : Joins sink → (rest left : List (K × V)) (x : K × V) (a b c : Serializer S) (e : Error)
-      → UpTo sink (object_head (length es)) (entry_text k f) es rest a b → rest ≡ x ∷ left → Stops sink (entry_text k f x) b c e → Stops sink (text_of (object_tree k f es)) a c e
-  Stops-object both rest left x a b c e u step t =
-      subst (λ (m : Result (List ℕ) Error). Stops sink m a c e) (sym (object_text k f es)) (UpTo-stops sink both (object_head (length es)) (entry_text k f) es rest left x a b c e u step t)
+  pub items_put : ItemsPut sink f xs rest a b → rest ≡ [] → Ends sink (text_of (array_tree f xs)) a b
+  items_put p none = subst (λ (m : Result (List ℕ) Error). Ends sink m a b) (sym (array_text f xs)) (UpTo-all sink (array_head (length xs)) (item_text f) xs rest a b p.put none)
 
--- a tuple, part by part
-module _ {S : Type 0} (sink : Tells S) (both : Joins sink) (parts : List (Result Tree Error)) where
-  -- the parts before rest are written, after the head
-  abbrev pub Parts : List (Result Tree Error) → Serializer S → Serializer S → Type 0
-  Parts rest a b = UpTo sink (array_head (length parts)) (item_text part_tree) parts rest a b
+  pub items_writable : ItemsPut sink f xs rest a b → rest ≡ [] → length xs < 2 ^ 63 → CanBeWritten (array_tree f xs)
+  items_writable p none few = array_writable f xs few (AllBefore-all (λ x. CanBeWritten (f x)) xs rest p.writable none)
 
-  pub parts_start : (a b : Serializer S) → Sent sink a b (array_head (length parts)) → Parts parts a b
-  parts_start a b s = UpTo-start sink (array_head (length parts)) (item_text part_tree) parts parts a b refl s
+  pub items_stop : {left : List A} {x : A} (c : Serializer S) (e : Error) → Joins sink → ItemsPut sink f xs rest a b → rest ≡ x ∷ left → Stops sink (text_of (f x)) b c e → Stops sink (text_of (array_tree f xs)) a c e
+  items_stop {left = left} {x = x} c e both p step t =
+      subst (λ (m : Result (List ℕ) Error). Stops sink m a c e) (sym (array_text f xs)) (UpTo-stops sink both (array_head (length xs)) (item_text f) xs rest left x a b c e p.put step t)
 
-  pub parts_more : {m : Result Tree Error} {rest : List (Result Tree Error)} {a b : Serializer S} (c : Serializer S) → Parts (m ∷ rest) a b → Ends sink (text_of m) b c → Parts rest a c
-  parts_more {m = m} {rest = rest} {a = a} {b = b} c u t = UpTo-more sink both (array_head (length parts)) (item_text part_tree) parts (m ∷ rest) rest m a b c u refl t
+-- the last item is put
+pub items_done : {S A : Type 0} {sink : Tells S} {f : A → Result Tree Error} {xs : List A} {x : A} {a b : Serializer S} (c : Serializer S) → Joins sink → ItemsPut sink f xs (x ∷ []) a b → Ends sink (text_of (f x)) b c → Ends sink (text_of (array_tree f xs)) a c
+items_done {sink = sink} {f = f} {xs = xs} {x = x} {a = a} {b = b} c both p t =
+    subst (λ (m : Result (List ℕ) Error). Ends sink m a c) (sym (array_text f xs)) (UpTo-all sink (array_head (length xs)) (item_text f) xs [] a c (UpTo-more sink both (array_head (length xs)) (item_text f) xs (x ∷ []) [] x a b c p.put refl t) refl)
 
-  pub parts_all : (a b : Serializer S) → Parts [] a b → Ends sink (text_of (tuple_tree parts)) a b
-  parts_all a b u = Ends-array sink part_tree parts [] a b u refl
+-- an object of which the entries before rest are written, and can be
+pub record EntriesPut {S K V : Type 0} (sink : Tells S) (k : K → List ℕ) (f : V → Result Tree Error) (es rest : List (K × V)) (a b : Serializer S) : Type 0 where
+  pub put : UpTo sink (object_head (length es)) (entry_text k f) es rest a b
+  pub writable : AllBefore (EntryCanBeWritten k f) es rest
 
-module _ {S : Type 0} (sink : Tells S) (both : Joins sink) (parts : List (Result Tree Error)) where
-  pub parts_stop : {m : Result Tree Error} {rest : List (Result Tree Error)} {a b : Serializer S} (c : Serializer S) (e : Error) → Parts sink both parts (m ∷ rest) a b → Stops sink (text_of m) b c e → Stops sink (text_of (tuple_tree parts)) a c e
-  parts_stop {m = m} {rest = rest} {a = a} {b = b} c e u t = Stops-array sink part_tree parts both (m ∷ rest) rest m a b c e u refl t
+module _ {S K V : Type 0} {sink : Tells S} {k : K → List ℕ} {f : V → Result Tree Error} {es rest : List (K × V)} {a b : Serializer S} where
+  pub entries_start : rest ≡ es → Sent sink a b (object_head (length es)) → EntriesPut sink k f es rest a b
+  entries_start is s = record { put = UpTo-start sink (object_head (length es)) (entry_text k f) es rest a b is s; writable = AllBefore-start (EntryCanBeWritten k f) es rest is }
+
+  pub entries_more : {left : List (K × V)} {x : K × V} {c : Serializer S} → Joins sink → EntriesPut sink k f es rest a b → rest ≡ x ∷ left → Ends sink (entry_text k f x) b c → EntryCanBeWritten k f x → EntriesPut sink k f es left a c
+  entries_more {left = left} {x = x} {c = c} both p step t w = record {
+    put = UpTo-more sink both (object_head (length es)) (entry_text k f) es rest left x a b c p.put step t;
+    writable = AllBefore-more (EntryCanBeWritten k f) es rest left x p.writable step w;
+  }
+
+  pub entries_put : EntriesPut sink k f es rest a b → rest ≡ [] → Ends sink (text_of (object_tree k f es)) a b
+  entries_put p none = subst (λ (m : Result (List ℕ) Error). Ends sink m a b) (sym (object_text k f es)) (UpTo-all sink (object_head (length es)) (entry_text k f) es rest a b p.put none)
+
+  pub entries_writable : EntriesPut sink k f es rest a b → rest ≡ [] → length es < 2 ^ 63 → CanBeWritten (object_tree k f es)
+  entries_writable p none few = object_writable k f es few (AllBefore-all (EntryCanBeWritten k f) es rest p.writable none)
+
+  pub entries_stop : {left : List (K × V)} {x : K × V} (c : Serializer S) (e : Error) → Joins sink → EntriesPut sink k f es rest a b → rest ≡ x ∷ left → Stops sink (entry_text k f x) b c e → Stops sink (text_of (object_tree k f es)) a c e
+  entries_stop {left = left} {x = x} c e both p step t =
+      subst (λ (m : Result (List ℕ) Error). Stops sink m a c e) (sym (object_text k f es)) (UpTo-stops sink both (object_head (length es)) (entry_text k f) es rest left x a b c e p.put step t)
+
+pub no_items : {A : Type 0} (xs : List A) → length xs ≡ 0 → xs ≡ []
+no_items [] e = refl
+no_items (x ∷ xs) e = absurd cc
 
 slice_within : {A : Type 0} (f : A → Result Tree Error) (xs : List A) → length xs < 2 ^ 63 → slice_tree f xs ≡ array_tree f xs
 slice_within f xs h = grind (arith, h)

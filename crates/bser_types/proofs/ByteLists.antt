@@ -1,20 +1,19 @@
 -- Byte strings that stand as strings, or as arrays of bytes.
-use Rattle.std.proofs.Common.{◌≡◌, ◌≤◌, ℕ, zero, suc, Bool, true, false, cond, ◌||◌, ◌==◌, nat_eq, List, [], ◌∷◌, Option, Some, None, Vec, refl, sym, ap, ◌∙◌, arith, inl, inr}
+use Rattle.std.proofs.Common.{◌≡◌, ℕ, suc, Bool, true, false, List, [], ◌∷◌, Option, Some, None, Vec, refl, sym, ap, ◌∙◌}
 use Rattle.std.specs.Prelude.{pos, negsuc, option_map, option_and_then, map, nat_lt, if◌then◌else◌}
 use Rattle.std.specs.Global.{Global}
-use Rattle.std.proofs.lemmas.Bool.{eqb-true, ne_eqb}
 use Rattle.bser_format.specs.Tree.{Tree, null, boolean, integer, real, bytes, text, array, object, template, items}
 use Rattle.bser_format.specs.Content.{Content, byte_list, number, contents_of, each_some}
 use Rattle.bser_format.specs.ReadsScalars.{byte_of, is_unsigned, reads_unsigned, reads_slice, reads_byte_string}
 use Rattle.bser_format.specs.ReadsHolders.{list_of, reads_vec}
-use Rattle.bser_format.specs.Expected.{Due, nothing_due, node_due, key_due, field_due, name_due, row_due, WantedItems, nodes, rows_over}
+use Rattle.bser_format.specs.Expected.{Due, WantedItems, nodes, rows_over}
 use Rattle.bser_format.specs.declared.errors.Error.{Error}
 use Rattle.bser_named.specs.Named.{Answer, Reader, reads, refuses, and_then}
-use Rattle.bser_named.specs.DueReaders.{Seen, tag, name, row, is_key_tag, seen, asked, items_at, less_one}
+use Rattle.bser_named.specs.DueReaders.{Seen, seen, asked, items_at, less_one}
 use Rattle.bser_named.specs.Asks.{is_sequence, by_sight, asks_integer, asks_bytes, asks_vec, items_asked}
 use Rattle.bser_named.proofs.Sights.{array_tree, way}
 use Rattle.bser_deserializer.specs.Askings.{asking_integer, asking_bytes}
-use Rattle.bser_deserializer.specs.Nodes.{node_at, tag_node, SeesNode, BeginsNode}
+use Rattle.bser_deserializer.specs.Nodes.{SeesNode, BeginsNode}
 use Rattle.bser_deserializer.specs.State.{State}
 use Rattle.bser_deserializer.specs.Reading.{Answers, Refuses, RefusesFront, NamesBy, bare, owned}
 use Rattle.bser_deserializer.specs.Holds.{HoldsSize}
@@ -22,9 +21,9 @@ use Rattle.bser_deserializer.specs.HoldsLists.{HoldsAll, HoldsList}
 use Rattle.bser_deserializer.specs.HoldsTexts.{HoldsBytes}
 use Rattle.bser_deserializer.specs.declared.node.Node.{Node}
 use Rattle.bser_deserializer.specs.declared.node.Node.TheVariants as kinds
-use Rattle.bser_deserializer.proofs.Tags.{key_tag_told}
 use Rattle.bser_types.specs.Askings.{counted, asking_vec, asking_byte_string}
 use Rattle.bser_types.proofs.Naming.{HeadAsked}
+use Rattle.bser_types.proofs.NodeKinds.{is_array, kind_tells}
 use Rattle.bser_types.proofs.Looks.{SeenAsked, look_answers, look_refused, no_value}
 
 -- ---- bytes and their numbers
@@ -120,95 +119,19 @@ array_bytes (template ks rs) c k e = absurd cc
 
 -- ---- strings
 
-slice_bytes : (u : Tree) (c : Content) → reads_slice u ≡ Some c → reads_byte_string u ≡ Some c
-slice_bytes null c e = absurd cc
-slice_bytes (boolean v) c e = absurd cc
-slice_bytes (integer v) c e = absurd cc
-slice_bytes (real r) c e = absurd cc
-slice_bytes (bytes s) c e = e
-slice_bytes (text s) c e = e
-slice_bytes (array ts) c e = absurd cc
-slice_bytes (object es) c e = absurd cc
-slice_bytes (template ks rs) c e = absurd cc
-
-string_bytes : (u : Tree) (c : Content) → array_tree u ≡ false → reads_byte_string u ≡ Some c → reads_slice u ≡ Some c
-string_bytes null c other e = e
-string_bytes (boolean v) c other e = e
-string_bytes (integer v) c other e = e
-string_bytes (real r) c other e = e
-string_bytes (bytes s) c other e = e
-string_bytes (text s) c other e = e
-string_bytes (array ts) c other e = absurd cc
-string_bytes (object es) c other e = e
-string_bytes (template ks rs) c other e = e
+-- what is no array is read as its bytes both ways
+string_bytes : (u : Tree) (c : Content) → (reads_slice u ≡ Some c → reads_byte_string u ≡ Some c) × (array_tree u ≡ false → reads_byte_string u ≡ Some c → reads_slice u ≡ Some c)
+string_bytes null c = (λ e. absurd cc, λ other e. e)
+string_bytes (boolean v) c = (λ e. absurd cc, λ other e. e)
+string_bytes (integer v) c = (λ e. absurd cc, λ other e. e)
+string_bytes (real r) c = (λ e. absurd cc, λ other e. e)
+string_bytes (bytes s) c = (λ e. e, λ other e. e)
+string_bytes (text s) c = (λ e. e, λ other e. e)
+string_bytes (array ts) c = (λ e. absurd cc, λ other e. absurd cc)
+string_bytes (object es) c = (λ e. absurd cc, λ other e. e)
+string_bytes (template ks rs) c = (λ e. absurd cc, λ other e. e)
 
 -- ---- the kind that was seen tells arrays from the others
-
-abbrev is_array : Option Node → Bool
-is_array (Some kinds.Array) = true
-is_array _ = false
-
-beyond_arrays : (t : ℕ) → 14 ≤ t → (t == 0x00) || (t == 0x0b) ≡ false
-beyond_arrays t le = rw (ne_eqb t 0 (λ e. omega (arith, le, e)), ne_eqb t 11 (λ e. omega (arith, le, e))) refl
-
--- the tags of arrays and templates
-tag_array : (t : ℕ) → (t == 0x00) || (t == 0x0b) ≡ is_array (tag_node t)
-tag_array zero = refl
-tag_array (suc zero) = refl
-tag_array (suc (suc zero)) = refl
-tag_array (suc (suc (suc zero))) = refl
-tag_array (suc (suc (suc (suc zero)))) = refl
-tag_array (suc (suc (suc (suc (suc zero))))) = refl
-tag_array (suc (suc (suc (suc (suc (suc zero)))))) = refl
-tag_array (suc (suc (suc (suc (suc (suc (suc zero))))))) = refl
-tag_array (suc (suc (suc (suc (suc (suc (suc (suc zero)))))))) = refl
-tag_array (suc (suc (suc (suc (suc (suc (suc (suc (suc zero))))))))) = refl
-tag_array (suc (suc (suc (suc (suc (suc (suc (suc (suc (suc zero)))))))))) = refl
-tag_array (suc (suc (suc (suc (suc (suc (suc (suc (suc (suc (suc zero))))))))))) = refl
-tag_array (suc (suc (suc (suc (suc (suc (suc (suc (suc (suc (suc (suc zero)))))))))))) = refl
-tag_array (suc (suc (suc (suc (suc (suc (suc (suc (suc (suc (suc (suc (suc zero))))))))))))) = refl
-tag_array (suc (suc (suc (suc (suc (suc (suc (suc (suc (suc (suc (suc (suc (suc t)))))))))))))) =
-    beyond_arrays (suc (suc (suc (suc (suc (suc (suc (suc (suc (suc (suc (suc (suc (suc t)))))))))))))) (omega arith)
-
-key_array : (t : ℕ) (k : Node) → node_at key_due (tag t) ≡ Some k → (t == 0x00) || (t == 0x0b) ≡ is_array (Some k)
-key_array t k e = at (is_key_tag t) refl e
-  where
-    at : (c : Bool) → is_key_tag t ≡ c → cond c (Some kinds.Key) None ≡ Some k → (t == 0x00) || (t == 0x0b) ≡ is_array (Some k)
-    at true q h = elim (key_tag_told t q) [ inl p ↦ rw p (ap is_array h) | inr p ↦ rw p (ap is_array h) ]
-    at false q h = absurd cc
-
-field_array : (t : ℕ) (k : Node) → node_at field_due (tag t) ≡ Some k → (t == 0x00) || (t == 0x0b) ≡ is_array (Some k)
-field_array t k e = at (nat_eq t 0x0c) refl e
-  where
-    at : (c : Bool) → nat_eq t 0x0c ≡ c → cond c (Some kinds.Null) (tag_node t) ≡ Some k → (t == 0x00) || (t == 0x0b) ≡ is_array (Some k)
-    at true q h = rw (eqb-true t 0x0c q) (ap is_array h)
-    at false q h = tag_array t ∙ ap is_array h
-
-name_kind : (d : Due) (n : List ℕ) → node_at d (name n) ≡ Some kinds.Key
-name_kind nothing_due n = refl
-name_kind node_due n = refl
-name_kind key_due n = refl
-name_kind field_due n = refl
-name_kind (name_due m) n = refl
-name_kind (row_due ks) n = refl
-
-row_kind : (d : Due) (ks : List (List ℕ)) → node_at d (row ks) ≡ Some kinds.Object
-row_kind nothing_due ks = refl
-row_kind node_due ks = refl
-row_kind key_due ks = refl
-row_kind field_due ks = refl
-row_kind (name_due m) ks = refl
-row_kind (row_due ls) ks = refl
-
-kind_tells : (d : Due) (v : Seen) (k : Node) → node_at d v ≡ Some k → is_sequence v ≡ is_array (Some k)
-kind_tells nothing_due (tag t) k e = absurd cc
-kind_tells node_due (tag t) k e = tag_array t ∙ ap is_array e
-kind_tells key_due (tag t) k e = key_array t k e
-kind_tells field_due (tag t) k e = field_array t k e
-kind_tells (name_due n) (tag t) k e = absurd cc
-kind_tells (row_due ks) (tag t) k e = absurd cc
-kind_tells d (name n) k e = ap is_array (sym (name_kind d n) ∙ e)
-kind_tells d (row ks) k e = ap is_array (sym (row_kind d ks) ∙ e)
 
 other_kind : (k : Node) → (k ≡ kinds.Array → ⊥) → is_array (Some k) ≡ false
 other_kind kinds.Array other = absurd (other refl)
@@ -255,16 +178,16 @@ array_answers s mid t v sees a =
 pub array_refused : (s mid z : State) (e : Error) → SeesNode s mid kinds.Array → Refuses (reads_vec (reads_unsigned 8)) (Some (asking_vec (asking_integer (is_unsigned 8)))) owned e mid z
     → Refuses reads_byte_string (Some asking_byte_string) owned e s z
 array_refused s mid z e sees u =
-    let is : is_sequence sees.seen ≡ true = kind_tells s.due sees.seen kinds.Array sees.kind in
+    let is : is_sequence sees.seen ≡ true = (kind_tells s.due sees.seen kinds.Array sees.kind).0 in
     look_refused owned (reads_vec (reads_unsigned 8)) reads_byte_string (Some (asking_vec (asking_integer (is_unsigned 8)))) (Some asking_byte_string) s mid z kinds.Array e sees
     (λ t c none sequence read. array_bytes t c (sym sequence ∙ is) read) (array_seen s sees.seen is) u
 
 pub string_answers : (s mid t : State) (k : Node) (v : List ℕ) → SeesNode s mid k → Answers reads_slice (λ w c. c ≡ byte_list w) mid t v → Answers reads_byte_string HoldsBytes s t v
 string_answers s mid t k v sees a =
-    look_answers reads_slice reads_byte_string (λ w c. c ≡ byte_list w) HoldsBytes s mid t k v v sees (λ u c none sequence read held. (c, slice_bytes u c read, held)) a
+    look_answers reads_slice reads_byte_string (λ w c. c ≡ byte_list w) HoldsBytes s mid t k v v sees (λ u c none sequence read held. (c, (string_bytes u c).0 read, held)) a
 
 pub string_refused : (s mid z : State) (k : Node) (e : Error) → SeesNode s mid k → (k ≡ kinds.Array → ⊥) → Refuses reads_slice (Some asking_bytes) owned e mid z → Refuses reads_byte_string (Some asking_byte_string) owned e s z
 string_refused s mid z k e sees other u =
-    let is : is_sequence sees.seen ≡ false = kind_tells s.due sees.seen k sees.kind ∙ other_kind k other in
+    let is : is_sequence sees.seen ≡ false = (kind_tells s.due sees.seen k sees.kind).0 ∙ other_kind k other in
     look_refused owned reads_slice reads_byte_string (Some asking_bytes) (Some asking_byte_string) s mid z k e sees
-    (λ t c none sequence read. (c, string_bytes t c (sym sequence ∙ is) read)) (string_seen s sees.seen is) u
+    (λ t c none sequence read. (c, (string_bytes t c).1 (sym sequence ∙ is) read)) (string_seen s sees.seen is) u

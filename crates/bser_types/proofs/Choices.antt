@@ -1,6 +1,5 @@
 -- A look that tells objects from the others, and then a call that reads by one of two types.
-use Rattle.std.proofs.Common.{◌≡◌, ◌≤◌, ℕ, zero, suc, Bool, true, false, cond, ◌==◌, nat_eq, List, [], ◌∷◌, ◌++◌, Option, Some, None, refl, sym, ap, ◌∙◌, arith, inl, inr}
-use Rattle.std.proofs.lemmas.Bool.{eqb-true, ne_eqb}
+use Rattle.std.proofs.Common.{◌≡◌, ℕ, zero, suc, Bool, true, false, cond, List, [], ◌∷◌, ◌++◌, Option, Some, refl, sym, ap, ◌∙◌, inl, inr}
 use Rattle.std.specs.Prelude.{ℤ}
 use Rattle.std.specs.Str.{is_utf8}
 use Rattle.bser_format.specs.Tree.{Tree, null, boolean, integer, real, bytes, text, array, object, template}
@@ -10,17 +9,18 @@ use Rattle.bser_format.specs.Content.{Content, Meaning}
 use Rattle.bser_format.specs.Expected.{Due, Fills, nothing_due, node_due, key_due, field_due, name_due, row_due}
 use Rattle.bser_format.specs.declared.errors.Error.{Error}
 use Rattle.bser_named.specs.Named.{Reader, reads, and_then, next}
-use Rattle.bser_named.specs.DueReaders.{Seen, tag, name, row, value_tag, key_tag, seen, is_key_tag}
+use Rattle.bser_named.specs.DueReaders.{Seen, tag, name, row, value_tag, key_tag, seen}
 use Rattle.bser_named.specs.Asks.{Asks}
 use Rattle.bser_named.specs.TypeLaws.{Passes}
 use Rattle.bser_named.proofs.Sights.{way}
 use Rattle.bser_deserializer.specs.State.{State}
-use Rattle.bser_deserializer.specs.Nodes.{node_at, tag_node, BeginsNode, SeesNode}
+use Rattle.bser_deserializer.specs.Nodes.{BeginsNode, SeesNode}
 use Rattle.bser_deserializer.specs.Reading.{Answers, Asking, RefusesFront, Refuses, NamesBy, bare, Needs}
 use Rattle.bser_deserializer.specs.declared.node.Node.{Node}
 use Rattle.bser_deserializer.specs.declared.node.Node.TheVariants as kinds
 use Rattle.bser_types.specs.Choices.{reads_object_or, is_pairs, asks_object_or}
 use Rattle.bser_types.proofs.Naming.{HeadAsked}
+use Rattle.bser_types.proofs.NodeKinds.{is_object, kind_tells}
 use Rattle.bser_types.proofs.Looks.{Tells, SeenAsked, known_answers, known_refused, no_value, stands_seen}
 
 -- ---- what is seen tells objects from the others
@@ -91,75 +91,6 @@ sight o n (row_due ks) u b f = as_tree (seen o (row_due ks)) _ u b f.stands (rec
 
 -- ---- the kind that was seen tells
 
-abbrev is_object : Option Node → Bool
-is_object (Some kinds.Object) = true
-is_object _ = false
-
-beyond_objects : (t : ℕ) → 14 ≤ t → t == 0x01 ≡ false
-beyond_objects t le = ne_eqb t 1 (λ e. omega (arith, le, e))
-
-tag_object : (t : ℕ) → t == 0x01 ≡ is_object (tag_node t)
-tag_object zero = refl
-tag_object (suc zero) = refl
-tag_object (suc (suc zero)) = refl
-tag_object (suc (suc (suc zero))) = refl
-tag_object (suc (suc (suc (suc zero)))) = refl
-tag_object (suc (suc (suc (suc (suc zero))))) = refl
-tag_object (suc (suc (suc (suc (suc (suc zero)))))) = refl
-tag_object (suc (suc (suc (suc (suc (suc (suc zero))))))) = refl
-tag_object (suc (suc (suc (suc (suc (suc (suc (suc zero)))))))) = refl
-tag_object (suc (suc (suc (suc (suc (suc (suc (suc (suc zero))))))))) = refl
-tag_object (suc (suc (suc (suc (suc (suc (suc (suc (suc (suc zero)))))))))) = refl
-tag_object (suc (suc (suc (suc (suc (suc (suc (suc (suc (suc (suc zero))))))))))) = refl
-tag_object (suc (suc (suc (suc (suc (suc (suc (suc (suc (suc (suc (suc zero)))))))))))) = refl
-tag_object (suc (suc (suc (suc (suc (suc (suc (suc (suc (suc (suc (suc (suc zero))))))))))))) = refl
-tag_object (suc (suc (suc (suc (suc (suc (suc (suc (suc (suc (suc (suc (suc (suc t)))))))))))))) =
-    beyond_objects (suc (suc (suc (suc (suc (suc (suc (suc (suc (suc (suc (suc (suc (suc t)))))))))))))) (omega arith)
-
-key_object : (t : ℕ) (k : Node) → node_at key_due (tag t) ≡ Some k → t == 0x01 ≡ is_object (Some k)
-key_object t k e = at (nat_eq t 0x01) refl e
-  where
-    at : (c : Bool) → nat_eq t 0x01 ≡ c → node_at key_due (tag t) ≡ Some k → t == 0x01 ≡ is_object (Some k)
-    at true q h = absurd (let none : None ≡ Some k = sym (ap (λ x. node_at key_due (tag x)) (eqb-true t 0x01 q)) ∙ h in cc)
-    at false q h = q ∙ key_kind (is_key_tag t) h
-      where
-        key_kind : (c : Bool) → cond c (Some kinds.Key) None ≡ Some k → false ≡ is_object (Some k)
-        key_kind true r = ap is_object r
-        key_kind false r = absurd cc
-
-field_object : (t : ℕ) (k : Node) → node_at field_due (tag t) ≡ Some k → t == 0x01 ≡ is_object (Some k)
-field_object t k e = at (nat_eq t 0x0c) refl e
-  where
-    at : (c : Bool) → nat_eq t 0x0c ≡ c → cond c (Some kinds.Null) (tag_node t) ≡ Some k → t == 0x01 ≡ is_object (Some k)
-    at true q h = rw (eqb-true t 0x0c q) (ap is_object h)
-    at false q h = tag_object t ∙ ap is_object h
-
-name_kind : (d : Due) (n : List ℕ) → node_at d (name n) ≡ Some kinds.Key
-name_kind nothing_due n = refl
-name_kind node_due n = refl
-name_kind key_due n = refl
-name_kind field_due n = refl
-name_kind (name_due m) n = refl
-name_kind (row_due ks) n = refl
-
-row_kind : (d : Due) (ks : List (List ℕ)) → node_at d (row ks) ≡ Some kinds.Object
-row_kind nothing_due ks = refl
-row_kind node_due ks = refl
-row_kind key_due ks = refl
-row_kind field_due ks = refl
-row_kind (name_due m) ks = refl
-row_kind (row_due ls) ks = refl
-
-kind_tells : (d : Due) (v : Seen) (k : Node) → node_at d v ≡ Some k → is_pairs v ≡ is_object (Some k)
-kind_tells nothing_due (tag t) k e = absurd cc
-kind_tells node_due (tag t) k e = tag_object t ∙ ap is_object e
-kind_tells key_due (tag t) k e = key_object t k e
-kind_tells field_due (tag t) k e = field_object t k e
-kind_tells (name_due n) (tag t) k e = absurd cc
-kind_tells (row_due ks) (tag t) k e = absurd cc
-kind_tells d (name n) k e = ap is_object (sym (name_kind d n) ∙ e)
-kind_tells d (row ks) k e = ap is_object (sym (row_kind d ks) ∙ e)
-
 other_kind : (k : Node) → (k ≡ kinds.Object → ⊥) → is_object (Some k) ≡ false
 other_kind kinds.Object other = absurd (other refl)
 other_kind _ other = refl
@@ -169,7 +100,7 @@ object_told : (s mid : State) (k : Node) → (sees : SeesNode s mid k) → Tells
 object_told s mid k sees u taken rest more filled same =
     let g = sight s.opened s.levels s.due u taken filled in
     let is : g.shown ≡ sees.seen = stands_seen s mid.source sees.seen g.shown (taken ++ rest) (g.left rest) more sees.stands (g.sees rest) same in
-    sym g.pairs ∙ ap is_pairs is ∙ kind_tells s.due sees.seen k sees.kind
+    sym g.pairs ∙ ap is_pairs is ∙ (kind_tells s.due sees.seen k sees.kind).1
 
 -- ---- the two ways
 
@@ -211,10 +142,10 @@ other_answers O T holds_in holds_out s mid t k v w sees other holds a =
 
 -- what was seen of an object, and what of anything else
 pub object_seen : (s mid : State) → (sees : SeesNode s mid kinds.Object) → is_pairs sees.seen ≡ true
-object_seen s mid sees = kind_tells s.due sees.seen kinds.Object sees.kind
+object_seen s mid sees = (kind_tells s.due sees.seen kinds.Object sees.kind).1
 
 pub other_seen : (s mid : State) (k : Node) → (sees : SeesNode s mid k) → (k ≡ kinds.Object → ⊥) → is_pairs sees.seen ≡ false
-other_seen s mid k sees other = kind_tells s.due sees.seen k sees.kind ∙ other_kind k other
+other_seen s mid k sees other = (kind_tells s.due sees.seen k sees.kind).1 ∙ other_kind k other
 
 -- the first type refused an object
 pub object_refused : (O T : Meaning) (tells : Option (Asking O)) (asks : Option (Asking (reads_object_or O T))) (needs : Needs) (s mid z : State) (e : Error) → (sees : SeesNode s mid kinds.Object) → SeenAsked asks tells s sees.seen → Refuses O tells needs e mid z

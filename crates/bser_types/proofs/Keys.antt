@@ -10,20 +10,12 @@ use Rattle.bser_deserializer.specs.Parts.{wanted_pairs, pair_key}
 use Rattle.bser_deserializer.specs.Access.{OpenPairs, AwaitsKey}
 use Rattle.bser_deserializer.specs.declared.field.Field.{Field}
 use Rattle.bser_types.proofs.Pairs.{field_key}
+use Rattle.bser_types.proofs.Lists.{answers_as}
 
 -- the field of a name that was read
 pub field_named : {A : Type 0} (names : List (List ℕ)) (held : A → List ℕ) (s t : State) (v : A) (f : Field) → Answers reads_string (λ w c. c ≡ byte_list (held w)) s t v → f ≡ field_of names (held v)
     → Answers reads_string (HoldsField names) s t f
-field_named names held s t v f a same = record {
-  tree = a.tree;
-  content = a.content;
-  text = a.text;
-  filled = a.filled;
-  read = a.read;
-  held = (held v, a.held, same);
-  took = a.took;
-  state = a.state;
-}
+field_named {A = A} names held s t v f a same = answers_as (λ (w : A) c. c ≡ byte_list (held w)) (λ c h. (held v, h, same)) a
 
 -- the key of a row's field is due
 pub row_awaited : (old new : OpenPairs) (row : Bool) (at : ℕ) → AwaitsKey old new → new.wanted ≡ wanted_pairs new.state.keys row at → row ≡ true → new.state.due ≡ name_at at new.state.keys

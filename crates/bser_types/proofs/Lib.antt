@@ -3,6 +3,7 @@ pub mod Integers
 pub mod Keys
 pub mod Naming
 pub mod Looks
+pub mod NodeKinds
 pub mod Options
 pub mod ByteLists
 pub mod Pairs
@@ -13,7 +14,6 @@ pub mod Arrays
 pub mod Lists
 pub mod Tuples
 pub mod Sets
-pub mod Collected
 pub mod EqualParts
 pub mod Choices
 pub mod ObjectFills

@@ -1,7 +1,7 @@
 -- Lists that are read item by item.
-use Rattle.std.proofs.Common.{◌≡◌, ℕ, zero, suc, ◌-◌, true, false, List, [], ◌∷◌, ◌++◌, append_assoc, ◌<◌, Option, Some, None, inl, inr, refl, sym, ap, subst, ◌∙◌, arith}
+use Rattle.std.proofs.Common.{◌≡◌, ℕ, zero, suc, ◌-◌, true, List, [], ◌∷◌, ◌++◌, append_assoc, ◌<◌, Option, Some, None, inl, inr, refl, sym, ap, subst, ◌∙◌, arith}
 use Rattle.std.proofs.lemmas.List.{append-nil}
-use Rattle.std.specs.Prelude.{option_map, option_and_then}
+use Rattle.std.specs.Prelude.{option_map, option_and_then, Result, Ok, Err, IfOk, OnOk, is_ok}
 use Rattle.bser_format.specs.Tree.{Tree, null, boolean, integer, real, bytes, text, array, object, template, Items}
 use Rattle.bser_format.specs.Content.{Content, Meaning, each_some}
 use Rattle.bser_format.specs.Expected.{Fills, node_due, row_due, WantedItems, nodes, rows_over}
@@ -17,9 +17,10 @@ use Rattle.bser_deserializer.specs.Reading.{Answers, Asking, Refuses, Needs}
 use Rattle.bser_deserializer.specs.Required.{RefusesRequired}
 use Rattle.bser_deserializer.specs.Parts.{BeginsItems, items_left, item_due, items_after}
 use Rattle.bser_deserializer.specs.Access.{OpenItems, OpensItems, RefusesItems, IsNextItem, ClosesItems, inside_items}
-use Rattle.bser_deserializer.specs.HoldsLists.{HoldsAll, HoldsList}
+use Rattle.bser_deserializer.specs.HoldsLists.{HoldsAll}
 use Rattle.bser_deserializer.proofs.Containers.{items_pass}
 use Rattle.bser_types.specs.Askings.{counted, asking_vec}
+use Rattle.bser_types.specs.Collected.{CollectsItem, HoldsCollected, list_needs}
 use Rattle.bser_types.proofs.Naming.{Asked, StepAsked, HeadAsked, FirstAsked, asked_inside, part_passes}
 use Rattle.bser_types.proofs.Arrays.{ReadsArrays, ReadsNext, Inside, inside_start, inside_next, inside_end, inner_levels, inner_opened, array_refused, item_refused}
 
@@ -120,55 +121,78 @@ holds_last holds [] (d ∷ cs) v c h k = absurd h
 holds_last holds (w ∷ vs) [] v c h k = absurd h
 holds_last holds (w ∷ vs) (d ∷ cs) v c h k = (h.0, holds_last holds vs cs v c h.1 k)
 
--- these items were read of an array that was opened in the state o
-pub record ReadsItems {A : Type 0} (T : Meaning) (tells : Option (Asking T)) (holds : A → Content → Type 0) (o : State) (vs : List A) (u : OpenItems) : Type 0 where
+-- items that were read of an array that was opened in the state o make this collection
+pub record ReadsItems {A C : Type 0} (T : Meaning) (tells : Option (Asking T)) (holds : A → Content → Type 0) (collected : List A → C → Type 0) (o : State) (made : C) (u : OpenItems) : Type 0 where
+  pub values : List A
+  pub make : collected values made
   pub contents : List Content
-  pub held : HoldsAll holds vs contents
+  pub held : HoldsAll holds values contents
   pub inside : Inside (reads_vec T) (option_map asking_vec tells) o (rest_of_list T contents) (list_now tells o u.wanted) u
-
-pub items_start : {A : Type 0} (T : Meaning) (tells : Option (Asking T)) (holds : A → Content → Type 0) (o : State) (u : OpenItems) → OpensItems o u → ReadsItems T tells holds o [] u
-items_start T tells holds o u opens = record {
-  contents = [];
-  held = tt;
-  inside = inside_start (reads_vec T) (option_map asking_vec tells) (rest_of_list T []) (list_now tells o u.wanted) o u (reads_list T) opens (list_begins T tells o u.wanted opens.text opens.head);
-}
-
-pub items_next : {A : Type 0} (T : Meaning) (tells : Option (Asking T)) (holds : A → Content → Type 0) (o : State) (vs : List A) (u t : OpenItems) (v : A) → ReadsItems T tells holds o vs u → IsNextItem T holds u t v
-    → ReadsItems T tells holds o (vs ++ v ∷ []) t
-items_next T tells holds o vs u t v h next =
-    let a = next.answers in
-    let step = list_step T tells o u.state u.wanted t.wanted a.tree a.content a.text h.inside.state (ap (λ (z : OpenItems). z.wanted) next.after) next.counted a.filled a.read in
-    record {
-      contents = h.contents ++ a.content ∷ [];
-      held = holds_last holds vs h.contents v a.content h.held a.held;
-      inside = inside_next T holds (reads_vec T) (option_map asking_vec tells) (rest_of_list T h.contents) (λ c. rest_of_list T (h.contents ++ c ∷ [])) (list_now tells o u.wanted) (list_now tells o t.wanted) o u t v
-          (list_next T h.contents) h.inside next step;
-    }
-
-pub items_end : {A B : Type 0} (T : Meaning) (tells : Option (Asking T)) (holds : A → Content → Type 0) (items_of : B → List A) (o z : State) (u : OpenItems) (v : B) → ReadsItems T tells holds o (items_of v) u → ClosesItems u z
-    → Answers (reads_vec T) (λ (w : B) c. HoldsList holds (items_of w) c) o z v
-items_end T tells holds items_of o z u v h closes =
-    inside_end (λ w c. HoldsList holds (items_of w) c) (reads_vec T) (option_map asking_vec tells) (rest_of_list T h.contents) (list_now tells o u.wanted) o z u (list_of (h.contents ++ [])) v h.inside closes refl
-    (record { contents = h.contents; list = ap list_of (append-nil h.contents); items = h.held })
-
--- ---- a list that is refused
-
--- what a list needs of its items' needs
-abbrev pub with_memory : Needs → Needs
-with_memory needs = record { lent = needs.lent; memory = true; keys = false; copied = true }
 
 -- how a list is refused
 abbrev pub RefusesList : (T : Meaning) → Option (Asking T) → Needs → Error → State → State → Type 0
-RefusesList T tells needs e o z = Refuses (reads_vec T) (option_map asking_vec tells) (with_memory needs) e o z
+RefusesList T tells needs e o z = Refuses (reads_vec T) (option_map asking_vec tells) (list_needs needs) e o z
 
-pub list_refused : (T : Meaning) (tells : Option (Asking T)) (needs : Needs) (e : Error) (o z : State) → RefusesItems e o z → RefusesList T tells needs e o z
-list_refused T tells needs e o z u =
-    array_refused (reads_vec T) (option_map asking_vec tells) (rest_of_list T []) (with_memory needs) e o z (reads_list T) (list_head T tells o) refl u
+pub list_refused : (T : Meaning) (tells : Option (Asking T)) (needs : Needs) {e : Error} {o z : State} → RefusesItems e o z → RefusesList T tells needs e o z
+list_refused T tells needs {e = e} {o = o} {z = z} u =
+    array_refused (reads_vec T) (option_map asking_vec tells) (rest_of_list T []) (list_needs needs) e o z (reads_list T) (list_head T tells o) refl u
 
--- an item that was refused, or was not there, though one was left
-pub item_lacks : {A : Type 0} (T : Meaning) (tells : Option (Asking T)) (needs : Needs) (holds : A → Content → Type 0) (e : Error) (o z : State) (vs : List A) (u : OpenItems) → ReadsItems T tells holds o vs u → 0 < items_left u.wanted
-    → RefusesRequired T tells needs e u z → RefusesList T tells needs e o z
-item_lacks T tells needs holds e o z vs u h some (inl unread) =
-    item_refused T tells needs (reads_vec T) (option_map asking_vec tells) (rest_of_list T h.contents) (λ c. rest_of_list T (h.contents ++ c ∷ [])) (list_now tells o u.wanted) (with_memory needs) e o z u
-    (list_next T h.contents) (λ lent. lent) (λ m. refl) (λ t. refl) h.inside (list_first T tells o u.state u.wanted h.inside.state some) unread
-item_lacks T tells needs holds e o z vs u h some (inr lacks) = absurd (omega (arith, some, lacks.counted))
+module _ {A C : Type 0} {T : Meaning} {tells : Option (Asking T)} {holds : A → Content → Type 0} {collected : List A → C → Type 0} {o : State} {made : C} {u : OpenItems} where
+  pub items_start : collected [] made → OpensItems o u → ReadsItems T tells holds collected o made u
+  items_start make opens = record {
+    values = [];
+    make = make;
+    contents = [];
+    held = tt;
+    inside = inside_start (reads_vec T) (option_map asking_vec tells) (rest_of_list T []) (list_now tells o u.wanted) o u (reads_list T) opens (list_begins T tells o u.wanted opens.text opens.head);
+  }
+
+  pub items_next : {more : C} {t : OpenItems} {v : A} → ReadsItems T tells holds collected o made u → IsNextItem T holds u t v → CollectsItem collected made more v → ReadsItems T tells holds collected o more t
+  items_next {t = t} {v = v} h next put =
+      let a = next.answers in
+      let step = list_step T tells o u.state u.wanted t.wanted a.tree a.content a.text h.inside.state (ap (λ (z : OpenItems). z.wanted) next.after) next.counted a.filled a.read in
+      record {
+        values = h.values ++ v ∷ [];
+        make = put h.values h.make;
+        contents = h.contents ++ a.content ∷ [];
+        held = holds_last holds h.values h.contents v a.content h.held a.held;
+        inside = inside_next T holds (reads_vec T) (option_map asking_vec tells) (rest_of_list T h.contents) (λ c. rest_of_list T (h.contents ++ c ∷ [])) (list_now tells o u.wanted) (list_now tells o t.wanted) o u t v
+            (list_next T h.contents) h.inside next step;
+      }
+
+  pub items_end : {z : State} → ReadsItems T tells holds collected o made u → ClosesItems u z → Answers (reads_vec T) (HoldsCollected collected holds) o z made
+  items_end {z = z} h closes =
+      inside_end (HoldsCollected collected holds) (reads_vec T) (option_map asking_vec tells) (rest_of_list T h.contents) (list_now tells o u.wanted) o z u (list_of (h.contents ++ [])) made h.inside closes refl
+      (record { items = h.values; made = h.make; held = record { contents = h.contents; list = ap list_of (append-nil h.contents); items = h.held } })
+
+  -- an item that was refused, or was not there, though one was left
+  pub item_lacks : {needs : Needs} {e : Error} {z : State} → ReadsItems T tells holds collected o made u → 0 < items_left u.wanted → RefusesRequired T tells needs e u z → RefusesList T tells needs e o z
+  item_lacks {needs = needs} {e = e} {z = z} h some (inl unread) =
+      item_refused T tells needs (reads_vec T) (option_map asking_vec tells) (rest_of_list T h.contents) (λ c. rest_of_list T (h.contents ++ c ∷ [])) (list_now tells o u.wanted) (list_needs needs) e o z u
+      (list_next T h.contents) (λ lent. lent) (λ m. refl) (λ t. refl) h.inside (list_first T tells o u.state u.wanted h.inside.state some) unread
+  item_lacks h some (inr lacks) = absurd (omega (arith, some, lacks.counted))
+
+-- ---- what is held
+
+-- what stands at `Ok` of a result that is one
+pub where_ok : {X E : Type 0} (r : Result X E) {P : Type 0} → is_ok r ≡ true → OnOk r P → P
+where_ok (Ok x) ok p = p
+where_ok (Err e) ok p = absurd cc
+
+-- a value that was read also holds what is held by another
+pub answers_as : {A B : Type 0} {reads : Meaning} (P : A → Content → Type 0) {Q : B → Content → Type 0} {o z : State} {v : A} {w : B} → ((c : Content) → P v c → Q w c) → Answers reads P o z v → Answers reads Q o z w
+answers_as P so a = record {
+  tree = a.tree;
+  content = a.content;
+  text = a.text;
+  filled = a.filled;
+  read = a.read;
+  held = so a.content a.held;
+  took = a.took;
+  state = a.state;
+}
+
+-- a collection that was read holds what is held by what its items make
+pub read_as : {C E : Type 0} (r : Result C E) (reads : Meaning) (P Q : C → Content → Type 0) (o z : State) → ((v : C) (c : Content) → P v c → Q v c) → IfOk r (Answers reads P o z) → IfOk r (Answers reads Q o z)
+read_as (Err e) reads P Q o z so a = a
+read_as (Ok v) reads P Q o z so a = answers_as P (so v) a

@@ -247,8 +247,8 @@ module _ (T : MapOf) where
     pub inside : AtKey (reads_map T.keys T.vals) (asking_map T.key_asks T.val_asks) o (map_outlook T.keys T.vals pairs) (map_now T.key_asks T.val_asks o u.wanted) u
     pub pending : u.pending ≡ false
 
-  pub map_start : (o : State) (Held : HoldsPairs) (u : OpenPairs) → Held [] → OpensPairs o u → AtEntry o Held u
-  map_start o Held u empty opens = record {
+  pub map_start : {o : State} {Held : HoldsPairs} {u : OpenPairs} → Held [] → OpensPairs o u → AtEntry o Held u
+  map_start {o = o} {u = u} empty opens = record {
     pairs = [];
     held = empty;
     inside = inside_start reads asks (outlook []) (at_key o u.wanted) o u (map_reads T.keys T.vals) opens (map_begins T.keys T.vals T.key_asks T.val_asks o u.wanted opens.text opens.head);
@@ -259,8 +259,8 @@ module _ (T : MapOf) where
   abbrev pub PutsPair : HoldsPairs → HoldsPairs → T.Key × T.Val → Type 0
   PutsPair Held After e = (d : Content) (ps : List (List ℕ × Content)) → T.holds e.1 d → Held ps → After (with_pair ps (T.name e.0, pair (byte_list (T.name e.0)) d))
 
-  pub map_entry : (o : State) (Held After : HoldsPairs) (u t : OpenPairs) (e : T.Key × T.Val) → AtEntry o Held u → IsEntry T.keys T.vals T.holds_key T.holds u t e → PutsPair Held After e → AtEntry o After t
-  map_entry o Held After u t e h next puts =
+  pub map_entry : {o : State} {Held After : HoldsPairs} {u t : OpenPairs} {e : T.Key × T.Val} → AtEntry o Held u → IsEntry T.keys T.vals T.holds_key T.holds u t e → PutsPair Held After e → AtEntry o After t
+  map_entry {o = o} {After = After} {u = u} {t = t} {e = e} h next puts =
       let m = next.between in
       let key = next.key in
       let k = key.answers in
@@ -283,21 +283,21 @@ module _ (T : MapOf) where
         pending = ap (λ (p : OpenPairs). p.pending) next.value.after;
       }
 
-  pub map_end : {M : Type 0} (holds : M → Content → Type 0) (o z : State) (Held : HoldsPairs) (u t : OpenPairs) (m : M) → ((ps : List (List ℕ × Content)) → Held ps → holds m (list_of (map (λ p. p.1) ps)))
+  pub map_end : {M : Type 0} (holds : M → Content → Type 0) {o z : State} {Held : HoldsPairs} {u t : OpenPairs} (m : M) → ((ps : List (List ℕ × Content)) → Held ps → holds m (list_of (map (λ p. p.1) ps)))
       → AtEntry o Held u → NoEntry u t → ClosesPairs t z → Answers (reads_map T.keys T.vals) holds o z m
-  map_end holds o z Held u t m whole h none closes =
+  map_end holds {o = o} {z = z} {u = u} {t = t} m whole h none closes =
       inside_end holds reads asks (outlook h.pairs) (at_key o u.wanted) o z t (list_of (map (λ p. p.1) h.pairs)) m
       (inside_same reads asks (outlook h.pairs) (at_key o u.wanted) o u t h.inside none) closes refl (whole h.pairs h.held)
 
-  pub map_refused : (e : Error) (o z : State) → RefusesPairs e o z → RefusesMap e o z
-  map_refused e o z u =
+  pub map_refused : {e : Error} {o : State} (z : State) → RefusesPairs e o z → RefusesMap e o z
+  map_refused {e = e} {o = o} z u =
       opening_refused reads asks (outlook []) (map_needs T.key_needs T.val_needs) e o z (map_reads T.keys T.vals) (map_head T.keys T.vals T.key_asks T.val_asks o) u
 
-  pub entry_refused : (e : Error) (o z : State) (Held : HoldsPairs) (u : OpenPairs) → AtEntry o Held u → RefusesEntry T.keys T.vals T.key_asks T.val_asks T.holds_key T.key_needs T.val_needs e u z → RefusesMap e o z
-  entry_refused e o z Held u h (inl unread) =
+  pub entry_refused : {e : Error} {o z : State} {Held : HoldsPairs} {u : OpenPairs} → AtEntry o Held u → RefusesEntry T.keys T.vals T.key_asks T.val_asks T.holds_key T.key_needs T.val_needs e u z → RefusesMap e o z
+  entry_refused {e = e} {o = o} {z = z} {u = u} h (inl unread) =
       key_refused T.keys T.key_asks T.key_needs (map_needs T.key_needs T.val_needs) reads asks (outlook h.pairs) (at_key o u.wanted) e o z u (or_left T.key_needs.lent T.val_needs.lent) (λ memory. refl) (λ takes. refl)
       (map_keys T.keys T.vals h.pairs) h.inside h.pending (λ some. map_key_first T.keys T.vals T.key_asks T.val_asks o u.state u.wanted h.inside.inner_opened h.inside.inner_levels some) unread
-  entry_refused e o z Held u h (inr later) =
+  entry_refused {e = e} {o = o} {z = z} {u = u} h (inr later) =
       let m = later.between in
       let k = later.key.answers in
       let name = key_name T.keys T.holds_key u m later.name later.key in
@@ -306,15 +306,14 @@ module _ (T : MapOf) where
       value_refused T.vals T.val_asks T.val_needs (map_needs T.key_needs T.val_needs) reads asks (outlook h.pairs) name (at_value o m.wanted) e o z m (or_right T.key_needs.lent T.val_needs.lent) (λ memory. refl) (λ takes. refl)
       (map_values T.keys T.vals h.pairs name) at (ap (λ (p : OpenPairs). p.pending) later.key.after) (map_value_first T.keys T.vals T.key_asks T.val_asks o m.state m.wanted at.inner_opened at.inner_levels) later.value
 
-  entry_room : (e : Error) (o z : State) (Held : HoldsPairs) (u : OpenPairs) → AtEntry o Held u → e ≡ OutOfMemory → z.source ≡ closed u.state.source → RefusesMap e o z
-  entry_room e o z Held u h same closes = room_refused reads asks (outlook h.pairs) (at_key o u.wanted) (map_needs T.key_needs T.val_needs) e o z u refl h.inside same closes
-
   -- no room for an entry that was read
-  pub insert_refused : (err : Error) (o z : State) (Held : HoldsPairs) (u t : OpenPairs) (e : T.Key × T.Val) → AtEntry o Held u → IsEntry T.keys T.vals T.holds_key T.holds u t e → err ≡ OutOfMemory → z.source ≡ closed t.state.source → RefusesMap err o z
-  insert_refused err o z Held u t e h next same closes = entry_room err o z (λ ps. Unit {0}) t (map_entry o Held (λ ps. Unit {0}) u t e h next (λ d ps held pairs. tt)) same closes
+  pub insert_refused : (err : Error) (z : State) {o : State} {Held : HoldsPairs} {u t : OpenPairs} {e : T.Key × T.Val} → AtEntry o Held u → IsEntry T.keys T.vals T.holds_key T.holds u t e → err ≡ OutOfMemory → z.source ≡ closed t.state.source → RefusesMap err o z
+  insert_refused err z {o = o} {t = t} h next same closes =
+      let more : AtEntry o (λ ps. Unit {0}) t = map_entry h next (λ d ps held pairs. tt) in
+      room_refused reads asks (outlook more.pairs) (at_key o t.wanted) (map_needs T.key_needs T.val_needs) err o z t refl more.inside same closes
 
-pub entry_fewer : {A B : Type 0} (K V : Meaning) (holds_key : A → Content → Type 0) (holds : B → Content → Type 0) (u t : OpenPairs) (e : A × B) → IsEntry K V holds_key holds u t e → pairs_left t.wanted < pairs_left u.wanted
-entry_fewer K V holds_key holds u t e next =
+pub entry_fewer : {A B : Type 0} {K V : Meaning} {holds_key : A → Content → Type 0} {holds : B → Content → Type 0} {u t : OpenPairs} {e : A × B} → IsEntry K V holds_key holds u t e → pairs_left t.wanted < pairs_left u.wanted
+entry_fewer {u = u} next =
     let key = ap (λ (p : OpenPairs). p.wanted) next.key.after in
     let value = ap (λ (p : OpenPairs). p.wanted) next.value.after in
     rw (value, key) (fewer u.wanted next.key.counted)

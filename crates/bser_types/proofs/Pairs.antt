@@ -1,7 +1,7 @@
 -- What the calls on an open object make of a key's and a value's answers.
 use Rattle.std.proofs.Common.{subst, ◌≡◌, ℕ, zero, suc, ◌+◌, ◌-◌, ◌<◌, Bool, true, false, List, [], ◌∷◌, drop, Option, refl, ap, ◌∙◌, arith}
 use Rattle.bser_format.specs.Content.{Meaning}
-use Rattle.bser_format.specs.Expected.{WantedPairs, entries_of_object, fields_of_row, node_due, key_due, field_due}
+use Rattle.bser_format.specs.Expected.{fields_of_row, node_due, key_due, field_due}
 use Rattle.bser_format.specs.Expected as expected
 use Rattle.bser_format.specs.declared.errors.Error.{Error}
 use Rattle.bser_format.specs.declared.errors.Complaint.TheVariants.{ValueOpen}

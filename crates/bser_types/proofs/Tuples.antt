@@ -175,43 +175,71 @@ whole_asks P = asking_tuple P.types P.asks
 abbrev pub RefusesTuple : TupleOf → Error → State → State → Type 0
 RefusesTuple P e o z = Refuses (reads_tuple P.types) (whole_asks P) (tuple_needs P.needs P.types P.plain) e o z
 
--- these parts were read of an array that was opened in the state o, and those of the types Ts are left
-pub record ReadsParts (P : TupleOf) (Ts : List Meaning) (left : PartAskings Ts) (hs : List (Content → Type 0)) (o : State) (u : OpenItems) : Type 0 where
+-- these parts were read of an array that was opened in the state o, and those of the types Ts are left, which need this
+pub record ReadsParts (P : TupleOf) (Ts : List Meaning) (left : PartAskings Ts) (needs : List Needs) (hs : List (Content → Type 0)) (o : State) (u : OpenItems) : Type 0 where
   pub contents : List Content
   pub held : HoldsEach hs contents
   pub tell : LeftTell (all_asked P.types P.asks) (all_asked Ts left)
   pub inside : Inside (reads_tuple P.types) (whole_asks P) o (rest_of_tuple Ts contents) (parts_now (all_asked Ts left) o u.wanted) u
+  pub lent : any_lent needs ≡ true → any_lent P.needs ≡ true
+  pub memory : any_memory needs ≡ true → any_memory P.needs ≡ true
 
-pub parts_start : (P : TupleOf) (o : State) (u : OpenItems) → OpensItems o u → ReadsParts P P.types P.asks [] o u
-parts_start P o u opens =
+pub parts_start : (P : TupleOf) {o : State} {u : OpenItems} → OpensItems o u → ReadsParts P P.types P.asks P.needs [] o u
+parts_start P {o = o} {u = u} opens =
     let all = all_asked P.types P.asks in
     record {
       contents = [];
       held = tt;
       tell = all_tell P.types all;
       inside = inside_start (reads_tuple P.types) (whole_asks P) (rest_of_tuple P.types []) (parts_now all o u.wanted) o u (reads_parts P.types) opens (tuple_begins P.types all o u.wanted opens.text opens.head);
+      lent = λ l. l;
+      memory = λ m. m;
     }
 
-pub parts_next : {A : Type 0} (P : TupleOf) (T : Meaning) (Ts : List Meaning) (tells : Option (Asking T)) (left : PartAskings Ts) (holds : A → Content → Type 0) (hs : List (Content → Type 0)) (o : State) (u t : OpenItems) (v : A)
-    → ReadsParts P (T ∷ Ts) (tells, left) hs o u → IsNextItem T holds u t v → ReadsParts P Ts left (hs ++ holds v ∷ []) o t
-parts_next P T Ts tells left holds hs o u t v h next =
-    let a = next.answers in
-    let all = all_asked P.types P.asks in
-    let others = all_asked Ts left in
-    let step = tuple_step P.types T Ts all tells others o u.state u.wanted t.wanted a.tree a.content a.text h.tell h.inside.state (ap (λ (z : OpenItems). z.wanted) next.after) next.counted a.filled a.read in
-    record {
-      contents = h.contents ++ a.content ∷ [];
-      held = each_last hs h.contents (holds v) a.content h.held a.held;
-      tell = others_tell P.types T Ts all tells others h.tell;
-      inside = inside_next T holds (reads_tuple P.types) (whole_asks P) (rest_of_tuple (T ∷ Ts) h.contents) (λ c. rest_of_tuple Ts (h.contents ++ c ∷ [])) (parts_now (joined tells others) o u.wanted) (parts_now others o t.wanted) o u t v
-          (tuple_next T Ts h.contents) h.inside next step;
-    }
+module _ {P : TupleOf} {T : Meaning} {Ts : List Meaning} {tells : Option (Asking T)} {left : PartAskings Ts} {some : Needs} {others : List Needs} {hs : List (Content → Type 0)} {o : State} {u : OpenItems} where
+  pub parts_next : {A : Type 0} {holds : A → Content → Type 0} {t : OpenItems} {v : A} → ReadsParts P (T ∷ Ts) (tells, left) (some ∷ others) hs o u → IsNextItem T holds u t v → ReadsParts P Ts left others (hs ++ holds v ∷ []) o t
+  parts_next {holds = holds} {t = t} {v = v} h next =
+      let a = next.answers in
+      let all = all_asked P.types P.asks in
+      let rest = all_asked Ts left in
+      let step = tuple_step P.types T Ts all tells rest o u.state u.wanted t.wanted a.tree a.content a.text h.tell h.inside.state (ap (λ (z : OpenItems). z.wanted) next.after) next.counted a.filled a.read in
+      record {
+        contents = h.contents ++ a.content ∷ [];
+        held = each_last hs h.contents (holds v) a.content h.held a.held;
+        tell = others_tell P.types T Ts all tells rest h.tell;
+        inside = inside_next T holds (reads_tuple P.types) (whole_asks P) (rest_of_tuple (T ∷ Ts) h.contents) (λ c. rest_of_tuple Ts (h.contents ++ c ∷ [])) (parts_now (joined tells rest) o u.wanted) (parts_now rest o t.wanted) o u t v
+            (tuple_next T Ts h.contents) h.inside next step;
+        lent = λ l. h.lent (or_right some.lent (any_lent others) l);
+        memory = λ m. h.memory (or_right some.memory (any_memory others) m);
+      }
 
-pub parts_end : {B : Type 0} (P : TupleOf) (parts_of : B → List (Content → Type 0)) (o z : State) (u : OpenItems) (v : B) → ReadsParts P [] tt (parts_of v) o u → ClosesItems u z
+  -- a part is refused, or is not there
+  pub parts_refused : {e : Error} {z : State} → ReadsParts P (T ∷ Ts) (tells, left) (some ∷ others) hs o u → RefusesRequired T tells some e u z → RefusesTuple P e o z
+  parts_refused {e = e} {z = z} h (inl unread) =
+      let needs : Needs = tuple_needs P.needs P.types P.plain in
+      let all = all_asked P.types P.asks in
+      let rest = all_asked Ts left in
+      let there : 0 < items_left u.wanted = unread.counted h.inside.took.failed in
+      item_refused T tells some (reads_tuple P.types) (whole_asks P) (rest_of_tuple (T ∷ Ts) h.contents) (λ c. rest_of_tuple Ts (h.contents ++ c ∷ [])) (parts_now (joined tells rest) o u.wanted) needs e o z u (tuple_next T Ts h.contents)
+      (λ l. h.lent (or_left some.lent (any_lent others) l)) (λ m. or_left (any_memory P.needs) (may_read_rows P.types P.plain) (h.memory (or_left some.memory (any_memory others) m))) (λ takes. or_right needs.memory true refl)
+      h.inside (tuple_first P.types T Ts all tells rest o u.state u.wanted h.tell h.inside.state there) unread
+  parts_refused {e = e} {z = z} h (inr lacks) =
+      let all = all_asked P.types P.asks in
+      let rest = all_asked Ts left in
+      over_refused (reads_tuple P.types) (whole_asks P) (rest_of_tuple (T ∷ Ts) h.contents) (parts_now (joined tells rest) o u.wanted) (tuple_needs P.needs P.types P.plain) e o z u refl h.inside
+      (λ none. tuple_short P.types T Ts all tells rest o u.wanted h.tell none) lacks
+
+pub parts_end : {B : Type 0} {P : TupleOf} (parts_of : B → List (Content → Type 0)) {o z : State} {u : OpenItems} (v : B) → ReadsParts P [] tt [] (parts_of v) o u → ClosesItems u z
     → Answers (reads_tuple P.types) (λ (w : B) c. HoldsTuple (parts_of w) c) o z v
-parts_end P parts_of o z u v h closes =
+parts_end {P = P} parts_of {o = o} {z = z} {u = u} v h closes =
     inside_end (λ w c. HoldsTuple (parts_of w) c) (reads_tuple P.types) (whole_asks P) (rest_of_tuple [] h.contents) (parts_now (all_asked [] tt) o u.wanted) o z u (list_of (h.contents ++ [])) v h.inside closes refl
     (record { contents = h.contents; list = ap list_of (append-nil h.contents); held = h.held })
+
+-- more items than parts
+pub parts_many : {P : TupleOf} {hs : List (Content → Type 0)} {e : Error} {o z : State} {u : OpenItems} → ReadsParts P [] tt [] hs o u → LeavesItems e u z → RefusesTuple P e o z
+parts_many {P = P} {e = e} {o = o} {z = z} {u = u} h leaves =
+    leaves_refused (reads_tuple P.types) (whole_asks P) (rest_of_tuple [] h.contents) (parts_now (all_asked [] tt) o u.wanted) (tuple_needs P.needs P.types P.plain) e o z u (no_part h.contents) h.inside
+    (λ some. tuple_long P.types (all_asked P.types P.asks) o u.wanted some) leaves
 
 -- ---- what is read of no template
 
@@ -252,21 +280,11 @@ array_first Ts ps s taken none f =
         let q = items_only s.levels s.due (rows_over ks k) us first taken [] second head filled (append-nil taken ∙ whole) in
         absurd (no_rows _ ks Ts ps (items us) q.0 cs none q.2.1 read)
 
--- ---- what a tuple needs
-
-lent_at : (front back : List Needs) (some : Needs) → some.lent ≡ true → any_lent (front ++ some ∷ back) ≡ true
-lent_at [] back some h = or_left some.lent (any_lent back) h
-lent_at (n ∷ ns) back some h = or_right n.lent (any_lent (ns ++ some ∷ back)) (lent_at ns back some h)
-
-memory_at : (front back : List Needs) (some : Needs) → some.memory ≡ true → any_memory (front ++ some ∷ back) ≡ true
-memory_at [] back some h = or_left some.memory (any_memory back) h
-memory_at (n ∷ ns) back some h = or_right n.memory (any_memory (ns ++ some ∷ back)) (memory_at ns back some h)
-
 -- ---- what is refused
 
 -- what is no array is refused
-pub tuple_refused : (P : TupleOf) (e : Error) (o z : State) → RefusesItems e o z → RefusesTuple P e o z
-tuple_refused P e o z u = by (may_read_rows P.types P.plain) refl
+pub tuple_refused : (P : TupleOf) {e : Error} {o z : State} → RefusesItems e o z → RefusesTuple P e o z
+tuple_refused P {e = e} {o = o} {z = z} u = by (may_read_rows P.types P.plain) refl
   where
     head : HeadAsked (whole_asks P) o (asked (items_at o.levels) o.opened o.due)
     head = tuple_head P.types (all_asked P.types P.asks) o
@@ -277,30 +295,3 @@ tuple_refused P e o z u = by (may_read_rows P.types P.plain) refl
         let needs : Needs = tuple_needs P.needs P.types P.plain in
         opening_refused (reads_tuple P.types) (whole_asks P) only_keys needs (IsArrayHead o) e o z (λ taken f. array_first P.types P.plain o taken same f) head (λ lent. absurd cc) (λ memory. absurd cc)
         (λ takes. or_right needs.memory true refl) u.array
-
--- the parts before a part, and those after it, by what they need
-abbrev pub Around : TupleOf → List Needs → Needs → List Needs → Type 0
-Around P front some back = P.needs ≡ front ++ some ∷ back
-
--- a part is refused, or is not there
-pub parts_refused : (P : TupleOf) (T : Meaning) (Ts : List Meaning) (tells : Option (Asking T)) (left : PartAskings Ts) (some : Needs) (front back : List Needs) (hs : List (Content → Type 0)) (e : Error) (o z : State) (u : OpenItems) → Around P front some back
-    → ReadsParts P (T ∷ Ts) (tells, left) hs o u → RefusesRequired T tells some e u z → RefusesTuple P e o z
-parts_refused P T Ts tells left some front back hs e o z u around h (inl unread) =
-    let needs : Needs = tuple_needs P.needs P.types P.plain in
-    let all = all_asked P.types P.asks in
-    let others = all_asked Ts left in
-    let there : 0 < items_left u.wanted = unread.counted h.inside.took.failed in
-    item_refused T tells some (reads_tuple P.types) (whole_asks P) (rest_of_tuple (T ∷ Ts) h.contents) (λ c. rest_of_tuple Ts (h.contents ++ c ∷ [])) (parts_now (joined tells others) o u.wanted) needs e o z u (tuple_next T Ts h.contents)
-    (λ l. ap any_lent around ∙ lent_at front back some l) (λ m. or_left (any_memory P.needs) (may_read_rows P.types P.plain) (ap any_memory around ∙ memory_at front back some m)) (λ takes. or_right needs.memory true refl)
-    h.inside (tuple_first P.types T Ts all tells others o u.state u.wanted h.tell h.inside.state there) unread
-parts_refused P T Ts tells left some front back hs e o z u around h (inr lacks) =
-    let all = all_asked P.types P.asks in
-    let others = all_asked Ts left in
-    over_refused (reads_tuple P.types) (whole_asks P) (rest_of_tuple (T ∷ Ts) h.contents) (parts_now (joined tells others) o u.wanted) (tuple_needs P.needs P.types P.plain) e o z u refl h.inside
-    (λ none. tuple_short P.types T Ts all tells others o u.wanted h.tell none) lacks
-
--- more items than parts
-pub parts_many : (P : TupleOf) (hs : List (Content → Type 0)) (e : Error) (o z : State) (u : OpenItems) → ReadsParts P [] tt hs o u → LeavesItems e u z → RefusesTuple P e o z
-parts_many P hs e o z u h leaves =
-    leaves_refused (reads_tuple P.types) (whole_asks P) (rest_of_tuple [] h.contents) (parts_now (all_asked [] tt) o u.wanted) (tuple_needs P.needs P.types P.plain) e o z u (no_part h.contents) h.inside
-    (λ some. tuple_long P.types (all_asked P.types P.asks) o u.wanted some) leaves

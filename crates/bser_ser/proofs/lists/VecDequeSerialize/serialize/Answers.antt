@@ -1,32 +1,24 @@
-use Rattle.std.proofs.Common.{arith, ◌≡◌, List, [], ◌∷◌, length, refl}
+use Rattle.std.proofs.Common.{◌≡◌, rules, arith, length}
 use Rattle.std.proofs.lemmas.Result.{err_from_is_err_and}
-use Rattle.bser_written.specs.Pieces.{array_head}
-use Rattle.bser_ser.specs.Ends.{CanBeWritten}
-use Rattle.bser_ser.proofs.Ends.{UpTo-more}
-use Rattle.bser_ser.proofs.Texts.{item_text, Ends-array, Stops-array}
-use Rattle.bser_ser.proofs.Writable.{AllBefore-more, AllBefore-all, array_writable}
+use Rattle.bser_ser.proofs.Texts.{items_start, items_more, items_put, items_writable, items_stop, no_items}
 use Rattle.bser_ser.proofs.lists.VecDequeSerialize.serialize.Goals as goal
 
-none_left : {A : Type 0} (xs : List A) → length xs ≡ 0 → xs ≡ []
-none_left [] e = refl
-none_left (x ∷ xs) e = absurd cc
+pub loop-item-init : goal.loop-item-init
+loop-item-init g c =
+    let n : c.len.result ≡ length c.args.self.now.items = omega arith in
+    items_start (search rules) (rw n at c.in_ok-put_seq.ensures.put.0)
 
 pub loop-item-preserved : goal.loop-item-preserved
 loop-item-preserved g c =
-    record {
-      put = UpTo-more g.W.Sink g.met.W.Sink.took_both (array_head (length c.args.self.now.items)) (item_text g.T.Serialize.meaning) c.args.self.now.items _ _ c.in-Some.item.now
-          c.args.out.now c.loop-item.out c.serialize.new.out c.loop-item.invariant.put c.in-Some.ensures.steps c.in_ok-serialize.ensures.ok;
-      writable = AllBefore-more (λ x. CanBeWritten (g.T.Serialize.meaning x)) c.args.self.now.items _ _ c.in-Some.item.now c.loop-item.invariant.writable c.in-Some.ensures.steps c.in_ok-serialize.ensures.writable;
-    }
+    items_more g.met.W.Sink.took_both c.loop-item.invariant c.in-Some.ensures.steps c.in_ok-serialize.ensures.ok c.in_ok-serialize.ensures.writable
 
 pub returns-in_err-serialize-clause-err : goal.returns-in_err-serialize-clause-err
 returns-in_err-serialize-clause-err g c =
     let p = err_from_is_err_and c.from_residual-in_err-serialize.result c.from_residual-in_err-serialize.ensures.1 in
-    rw (p.1, p.2) (Stops-array g.W.Sink g.T.Serialize.meaning c.args.self.now.items g.met.W.Sink.took_both _ _ c.in-Some.item.now
-    c.args.out.now c.loop-item.out c.serialize.new.out c.in_err-serialize.field-0.0 c.loop-item.invariant.put c.in-Some.ensures.steps c.in_err-serialize.ensures.err)
+    rw (p.1, p.2) (items_stop _ _ g.met.W.Sink.took_both c.loop-item.invariant c.in-Some.ensures.steps c.in_err-serialize.ensures.err)
 
 pub returns-clause-ok : goal.returns-clause-ok
-returns-clause-ok g c = Ends-array g.W.Sink g.T.Serialize.meaning c.args.self.now.items _ c.args.out.now c.loop-item.out c.loop-item.invariant.put (none_left _ c.in-None.ensures.steps.0)
+returns-clause-ok g c = items_put c.loop-item.invariant (no_items _ c.in-None.ensures.steps.0)
 
 pub returns-clause-writable : goal.returns-clause-writable
-returns-clause-writable g c = array_writable g.T.Serialize.meaning c.args.self.now.items (omega (arith, c.in_ok-put_seq.ensures.counted)) (AllBefore-all (λ x. CanBeWritten (g.T.Serialize.meaning x)) c.args.self.now.items _ c.loop-item.invariant.writable (none_left _ c.in-None.ensures.steps.0))
+returns-clause-writable g c = items_writable c.loop-item.invariant (no_items _ c.in-None.ensures.steps.0) (omega (arith, c.in_ok-put_seq.ensures.counted))

@@ -1,12 +1,6 @@
-use Rattle.std.proofs.Common.{length, string_bytes}
-use Rattle.bser_written.specs.Pieces.{object_head}
-use Rattle.bser_ser.proofs.Ends.{UpTo}
-use Rattle.bser_ser.proofs.Texts.{entry_text}
-use Rattle.bser_ser.proofs.Writable.{EntryCanBeWritten, AllBefore}
+use Rattle.std.proofs.Common.{string_bytes}
+use Rattle.bser_ser.proofs.Texts.{EntriesPut}
 use Rattle.bser_ser.proofs.maps.BTreeMapStringSerialize.serialize.Given as goal
 
 abbrev pub invariant-loop-key : goal.invariant-loop-key
-invariant-loop-key g l = record {
-  put : UpTo g.W.Sink (object_head (length l.self.entries)) (entry_text string_bytes g.V.Serialize.meaning) l.self.entries l.key-iterator l.fn.out l.out;
-  writable : AllBefore (EntryCanBeWritten string_bytes g.V.Serialize.meaning) l.self.entries l.key-iterator;
-}
+invariant-loop-key g l = EntriesPut g.W.Sink string_bytes g.V.Serialize.meaning l.self.entries l.key-iterator l.fn.out l.out

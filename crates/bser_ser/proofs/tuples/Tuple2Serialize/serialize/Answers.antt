@@ -1,31 +1,25 @@
-use Rattle.std.proofs.Common.{rules, List, [], ◌∷◌, Result}
+use Rattle.std.proofs.Common.{rules, [], ◌∷◌, refl}
 use Rattle.std.proofs.lemmas.Result.{err_from_is_err_and, MatchResult-weaker}
-use Rattle.bser_format.specs.Tree.{Tree}
-use Rattle.bser_format.specs.declared.errors.Error.{Error}
-use Rattle.bser_ser.proofs.Texts.{parts_start, parts_more, parts_all, parts_stop}
+use Rattle.bser_written.specs.Written.{part_tree}
+use Rattle.bser_ser.proofs.Texts.{ItemsPut, items_start, items_more, items_done, items_stop}
 use Rattle.bser_ser.proofs.Writable.{tuple_writable}
 use Rattle.bser_ser.proofs.tuples.Tuple2Serialize.serialize.Goals as goal
 
 pub returns-in_err-serialize-clause-err : goal.returns-in_err-serialize-clause-err
 returns-in_err-serialize-clause-err g c =
-    let same = err_from_is_err_and c.from_residual-in_err-serialize.result c.from_residual-in_err-serialize.ensures.1 in
-    let parts : List (Result Tree Error) = g.A.Serialize.meaning c.args.self.now.0 ∷ g.B.Serialize.meaning c.args.self.now.1 ∷ [] in
-    let u0 = parts_start g.W.Sink g.met.W.Sink.took_both parts c.args.out.now c.put_seq.new.self c.in_ok-put_seq.ensures.put.0 in
-    rw (same.1, same.2) (parts_stop g.W.Sink g.met.W.Sink.took_both parts c.serialize.new.out c.in_err-serialize.field-0.0 u0 c.in_err-serialize.ensures.err)
+    let start : ItemsPut g.W.Sink part_tree (g.A.Serialize.meaning c.args.self.now.0 ∷ g.B.Serialize.meaning c.args.self.now.1 ∷ []) (g.A.Serialize.meaning c.args.self.now.0 ∷ g.B.Serialize.meaning c.args.self.now.1 ∷ []) c.args.out.now c.put_seq.new.self = items_start refl c.in_ok-put_seq.ensures.put.0 in
+    let p = err_from_is_err_and c.from_residual-in_err-serialize.result c.from_residual-in_err-serialize.ensures.1 in
+    rw (p.1, p.2) (items_stop _ _ g.met.W.Sink.took_both start refl c.in_err-serialize.ensures.err)
 
 pub returns-clause-ok : goal.returns-clause-ok
 returns-clause-ok g c =
-    let parts : List (Result Tree Error) = g.A.Serialize.meaning c.args.self.now.0 ∷ g.B.Serialize.meaning c.args.self.now.1 ∷ [] in
-    let u0 = parts_start g.W.Sink g.met.W.Sink.took_both parts c.args.out.now c.put_seq.new.self c.in_ok-put_seq.ensures.put.0 in
-    let u1 = parts_more g.W.Sink g.met.W.Sink.took_both parts c.serialize.new.out u0 c.in_ok-serialize.ensures.ok in
-    MatchResult-weaker c.serialize-2.result c.serialize-2.ensures.ok (λ _ t. parts_all g.W.Sink g.met.W.Sink.took_both parts c.args.out.now c.serialize-2.new.out (parts_more g.W.Sink g.met.W.Sink.took_both parts c.serialize-2.new.out u1 t)) (λ _ t. t)
+    let start : ItemsPut g.W.Sink part_tree (g.A.Serialize.meaning c.args.self.now.0 ∷ g.B.Serialize.meaning c.args.self.now.1 ∷ []) (g.A.Serialize.meaning c.args.self.now.0 ∷ g.B.Serialize.meaning c.args.self.now.1 ∷ []) c.args.out.now c.put_seq.new.self = items_start refl c.in_ok-put_seq.ensures.put.0 in
+    MatchResult-weaker c.serialize-2.result c.serialize-2.ensures.ok (λ _ t. items_done _ g.met.W.Sink.took_both (items_more g.met.W.Sink.took_both start refl c.in_ok-serialize.ensures.ok c.in_ok-serialize.ensures.writable) t) (λ _ t. t)
 
 pub returns-clause-err : goal.returns-clause-err
 returns-clause-err g c =
-    let parts : List (Result Tree Error) = g.A.Serialize.meaning c.args.self.now.0 ∷ g.B.Serialize.meaning c.args.self.now.1 ∷ [] in
-    let u0 = parts_start g.W.Sink g.met.W.Sink.took_both parts c.args.out.now c.put_seq.new.self c.in_ok-put_seq.ensures.put.0 in
-    let u1 = parts_more g.W.Sink g.met.W.Sink.took_both parts c.serialize.new.out u0 c.in_ok-serialize.ensures.ok in
-    MatchResult-weaker c.serialize-2.result c.serialize-2.ensures.err (λ _ t. t) (λ e t. parts_stop g.W.Sink g.met.W.Sink.took_both parts c.serialize-2.new.out e u1 t)
+    let start : ItemsPut g.W.Sink part_tree (g.A.Serialize.meaning c.args.self.now.0 ∷ g.B.Serialize.meaning c.args.self.now.1 ∷ []) (g.A.Serialize.meaning c.args.self.now.0 ∷ g.B.Serialize.meaning c.args.self.now.1 ∷ []) c.args.out.now c.put_seq.new.self = items_start refl c.in_ok-put_seq.ensures.put.0 in
+    MatchResult-weaker c.serialize-2.result c.serialize-2.ensures.err (λ _ t. t) (λ e t. items_stop _ _ g.met.W.Sink.took_both (items_more g.met.W.Sink.took_both start refl c.in_ok-serialize.ensures.ok c.in_ok-serialize.ensures.writable) refl t)
 
 pub returns-clause-writable : goal.returns-clause-writable
 returns-clause-writable g c =

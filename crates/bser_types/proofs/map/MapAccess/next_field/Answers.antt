@@ -19,12 +19,10 @@ pub returns-in_err-field-clause-refused : goal.returns-in_err-field-clause-refus
 returns-in_err-field-clause-refused g c =
     let old : OpenPairs = open_pairs c.args.self.now in
     let mid : OpenPairs = open_pairs c.await_key.new.self in
-    let p = err_from_is_err_and c.from_residual-in_err-field.result c.from_residual-in_err-field.ensures.1 in
-    rw p.1 (key_refused reads_string (Some asking_string) bare _ old mid _ (c.in_ok-await_key.ensures.some c.if-not-branch.false) c.in_err-field.ensures.refused)
+    rw (err_from_is_err_and c.from_residual-in_err-field.result c.from_residual-in_err-field.ensures.1).1 (key_refused reads_string (Some asking_string) bare _ old mid _ (c.in_ok-await_key.ensures.some c.if-not-branch.false) c.in_err-field.ensures.refused)
 
 pub returns-in_err-await_key-clause-refused : goal.returns-in_err-await_key-clause-refused
 returns-in_err-await_key-clause-refused g c =
     let old : OpenPairs = open_pairs c.args.self.now in
     let new : OpenPairs = open_pairs c.await_key.new.self in
-    let p = err_from_is_err_and c.from_residual.result c.from_residual.ensures.1 in
-    rw p.1 (key_out_of_turn reads_string (Some asking_string) bare _ old new c.in_err-await_key.ensures.refused c.in_err-await_key.ensures.turn)
+    rw (err_from_is_err_and c.from_residual.result c.from_residual.ensures.1).1 (key_out_of_turn reads_string (Some asking_string) bare _ old new c.in_err-await_key.ensures.refused c.in_err-await_key.ensures.turn)

@@ -8,5 +8,4 @@ pub returns-in_err-await_key-clause-refused : goal.returns-in_err-await_key-clau
 returns-in_err-await_key-clause-refused g c =
     let old : OpenPairs = open_pairs c.args.self.now in
     let new : OpenPairs = open_pairs c.await_key.new.self in
-    let p = err_from_is_err_and c.from_residual.result c.from_residual.ensures.1 in
-    rw p.1 (key_out_of_turn g.K.Shape.reads g.K.Shape.asks g.K.Shape.needs _ old new c.in_err-await_key.ensures.refused c.in_err-await_key.ensures.turn)
+    rw (err_from_is_err_and c.from_residual.result c.from_residual.ensures.1).1 (key_out_of_turn g.K.Shape.reads g.K.Shape.asks g.K.Shape.needs _ old new c.in_err-await_key.ensures.refused c.in_err-await_key.ensures.turn)

@@ -8,5 +8,4 @@ pub returns-in_err-await_value-clause-refused : goal.returns-in_err-await_value-
 returns-in_err-await_value-clause-refused g c =
     let old : OpenPairs = open_pairs c.args.self.now in
     let new : OpenPairs = open_pairs c.await_value.new.self in
-    let p = err_from_is_err_and c.from_residual.result c.from_residual.ensures.1 in
-    rw p.1 (value_out_of_turn g.V.Shape.reads g.V.Shape.asks g.V.Shape.needs _ old new c.in_err-await_value.ensures.refused c.in_err-await_value.ensures.turn)
+    rw (err_from_is_err_and c.from_residual.result c.from_residual.ensures.1).1 (value_out_of_turn g.V.Shape.reads g.V.Shape.asks g.V.Shape.needs _ old new c.in_err-await_value.ensures.refused c.in_err-await_value.ensures.turn)

@@ -1,5 +1,4 @@
-use Rattle.bser_deserializer.specs.State.{State}
-use Rattle.bser_types.proofs.Collected.{read_as}
+use Rattle.bser_types.proofs.Lists.{read_as}
 use Rattle.bser_types.proofs.HashMaps.{names_start}
 use Rattle.bser_types.proofs.impls.hash_maps.HashMapDeserialize.deserialize.Goals as goal
 
@@ -8,6 +7,4 @@ read_entries-requires g c = rw c.new.ensures.empty (names_start g.K.MapKey.name 
 
 pub returns-clause-found : goal.returns-clause-found
 returns-clause-found g c =
-    let o : State = c.args.from.now.state in
-    let z : State = c.read_entries.new.from.state in
-    read_as _ _ _ _ o z (λ v k h. record { pairs = h.entries; list = h.list; held = h.held }) c.read_entries.ensures.found
+    read_as _ _ _ _ c.args.from.now.state c.read_entries.new.from.state (λ v k h. record { pairs = h.entries; list = h.list; held = h.held }) c.read_entries.ensures.found

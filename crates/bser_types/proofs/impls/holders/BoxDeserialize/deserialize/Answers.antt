@@ -1,13 +1,9 @@
 -- A value that is refused is refused in a box, which needs more.
 use Rattle.std.proofs.Common.{refl}
 use Rattle.std.proofs.lemmas.Result.{err_from_is_err_and}
-use Rattle.bser_deserializer.specs.State.{State}
 use Rattle.bser_types.proofs.Taken.{wider_type}
 use Rattle.bser_types.proofs.impls.holders.BoxDeserialize.deserialize.Goals as goal
 
 pub returns-in_err-value-clause-refused : goal.returns-in_err-value-clause-refused
 returns-in_err-value-clause-refused g c =
-    let s : State = c.args.from.now.state in
-    let z : State = c.deserialize.new.from.state in
-    let p = err_from_is_err_and c.from_residual.result c.from_residual.ensures.1 in
-    rw p.1 (wider_type g.T.Shape.reads g.T.Shape.asks g.T.Shape.needs _ _ s z (λ l. l) (λ m. refl) (λ t. refl) c.in_err-value.ensures.refused)
+    rw (err_from_is_err_and c.from_residual.result c.from_residual.ensures.1).1 (wider_type g.T.Shape.reads g.T.Shape.asks g.T.Shape.needs _ _ c.args.from.now.state c.deserialize.new.from.state (λ l. l) (λ m. refl) (λ t. refl) c.in_err-value.ensures.refused)

@@ -5,5 +5,4 @@ use Rattle.bser_types.proofs.impls.integers.I8Deserialize.deserialize.Goals as g
 
 pub returns-in_err-read_within-clause-refused : goal.returns-in_err-read_within-clause-refused
 returns-in_err-read_within-clause-refused g c =
-    let p = err_from_is_err_and c.from_residual.result c.from_residual.ensures.1 in
-    rw p.1 (c.in_err-read_within.ensures.refused (is_signed 8) (signed_within 8))
+    rw (err_from_is_err_and c.from_residual.result c.from_residual.ensures.1).1 (c.in_err-read_within.ensures.refused (is_signed 8) (signed_within 8))

@@ -4,5 +4,4 @@ use Rattle.bser_types.proofs.impls.integers.IsizeDeserialize.deserialize.Goals a
 
 pub returns-in_err-read_i64-clause-refused : goal.returns-in_err-read_i64-clause-refused
 returns-in_err-read_i64-clause-refused g c =
-    let p = err_from_is_err_and c.from_residual.result c.from_residual.ensures.1 in
-    rw p.1 (c.in_err-read_i64.ensures.refused (is_signed 64))
+    rw (err_from_is_err_and c.from_residual.result c.from_residual.ensures.1).1 (c.in_err-read_i64.ensures.refused (is_signed 64))

@@ -5,5 +5,4 @@ use Rattle.bser_types.proofs.impls.integers.U32Deserialize.deserialize.Goals as 
 
 pub returns-in_err-read_within-clause-refused : goal.returns-in_err-read_within-clause-refused
 returns-in_err-read_within-clause-refused g c =
-    let p = err_from_is_err_and c.from_residual.result c.from_residual.ensures.1 in
-    rw p.1 (c.in_err-read_within.ensures.refused (is_unsigned 32) (unsigned_within 32))
+    rw (err_from_is_err_and c.from_residual.result c.from_residual.ensures.1).1 (c.in_err-read_within.ensures.refused (is_unsigned 32) (unsigned_within 32))

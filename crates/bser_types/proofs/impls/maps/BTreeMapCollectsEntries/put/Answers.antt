@@ -1,5 +1,5 @@
 use Rattle.std.proofs.Common.{◌∙◌, sym, refl}
-use Rattle.bser_types.proofs.Collected.{where_ok}
+use Rattle.bser_types.proofs.Lists.{where_ok}
 use Rattle.bser_types.proofs.Maps.{holds_insert}
 use Rattle.bser_types.proofs.impls.maps.BTreeMapCollectsEntries.put.Goals as goal
 

@@ -1,6 +1,6 @@
 use Rattle.std.proofs.Common.{◌∙◌, [], sym, ap}
 use Rattle.std.specs.BTreeSet.{insert_key}
-use Rattle.bser_types.proofs.Collected.{where_ok}
+use Rattle.bser_types.proofs.Lists.{where_ok}
 use Rattle.bser_types.proofs.Sets.{insert_last}
 use Rattle.bser_types.proofs.impls.sets.BTreeSetCollects.collect.Goals as goal
 

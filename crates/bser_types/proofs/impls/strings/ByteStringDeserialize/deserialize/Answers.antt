@@ -10,19 +10,15 @@ use Rattle.bser_types.proofs.impls.strings.ByteStringDeserialize.deserialize.Goa
 
 pub returns-in_err-node-clause-refused : goal.returns-in_err-node-clause-refused
 returns-in_err-node-clause-refused g c =
-    let p = err_from_is_err_and c.from_residual.result c.from_residual.ensures.1 in
-    let s : State = c.args.from.now.state in
-    let z : State = c.node.new.self.state in
-    rw p.1 (nothing_seen s z _ c.in_err-node.ensures.refused)
+    rw (err_from_is_err_and c.from_residual.result c.from_residual.ensures.1).1 (nothing_seen c.args.from.now.state c.node.new.self.state _ c.in_err-node.ensures.refused)
 
 pub returns-in_err-deserialize-in-Array-clause-refused : goal.returns-in_err-deserialize-in-Array-clause-refused
 returns-in_err-deserialize-in-Array-clause-refused g c =
-    let p = err_from_is_err_and c.from_residual-in_err-deserialize-in-Array.result c.from_residual-in_err-deserialize-in-Array.ensures.1 in
     let s : State = c.args.from.now.state in
     let mid : State = c.node.new.self.state in
     let z : State = c.deserialize.new.from.state in
     let sees : SeesNode s mid kinds.Array = subst (SeesNode s mid) c.in-Array.is c.in_ok-node.ensures.found in
-    rw p.1 (array_refused s mid z _ sees c.in_err-deserialize-in-Array.ensures.refused)
+    rw (err_from_is_err_and c.from_residual-in_err-deserialize-in-Array.result c.from_residual-in_err-deserialize-in-Array.ensures.1).1 (array_refused s mid z _ sees c.in_err-deserialize-in-Array.ensures.refused)
 
 pub returns-in_ok-deserialize-in-Array-clause-found : goal.returns-in_ok-deserialize-in-Array-clause-found
 returns-in_ok-deserialize-in-Array-clause-found g c =

@@ -4,20 +4,14 @@ use Rattle.std.specs.Prelude.{chars}
 use Rattle.std.proofs.lemmas.Result.{err_from_is_err_and}
 use Rattle.bser_source.specs.Refs.{text_bytes}
 use Rattle.bser_format.specs.ReadsScalars.{one_char}
-use Rattle.bser_deserializer.specs.State.{State}
 use Rattle.bser_types.proofs.Chars.{char_refused, not_one_char}
 use Rattle.bser_types.proofs.impls.strings.CharDeserialize.deserialize.Goals as goal
 
 pub returns-in_err-text-clause-refused : goal.returns-in_err-text-clause-refused
 returns-in_err-text-clause-refused g c =
-    let s : State = c.args.from.now.state in
-    let z : State = c.read_text.new.self.state in
-    let p = err_from_is_err_and c.from_residual.result c.from_residual.ensures.1 in
-    rw p.1 (char_refused _ s z c.in_err-text.ensures.refused)
+    rw (err_from_is_err_and c.from_residual.result c.from_residual.ensures.1).1 (char_refused _ c.args.from.now.state c.read_text.new.self.state c.in_err-text.ensures.refused)
 
 pub returns-clause-refused : goal.returns-clause-refused
 returns-clause-refused g c =
-    let s : State = c.args.from.now.state in
-    let mid : State = c.read_text.new.self.state in
-    not_one_char (text_bytes g.L.Text.LendingText.text) _ s mid _ c.in_ok-text.text c.in_ok-text.ensures.found
+    not_one_char (text_bytes g.L.Text.LendingText.text) _ c.args.from.now.state c.read_text.new.self.state _ c.in_ok-text.text c.in_ok-text.ensures.found
     (ap (λ b. one_char (chars b)) (sym c.get_ref.ensures) ∙ sym c.in-None.ensures) c.complain.ensures.reason c.complain.ensures.state
