@@ -1,11 +1,14 @@
 -- Messages that follow each other.
-use Rattle.std.specs.Prelude.{◌≡◌, ℕ, ◌+◌, ◌-◌, ◌^◌, min, List, [], Option, Some, None}
+use Rattle.std.specs.Prelude.{◌≡◌, ℕ, ◌+◌, ◌-◌, ◌^◌, drop, min, List, [], Option, Some, None}
 use Rattle.std.specs.Io.KnownBytes.{IsAtEnd}
 use Rattle.bser_format.specs.Content.{Content, Meaning}
 use Rattle.bser_format.specs.declared.errors.Error.{Error}
+use Rattle.bser_source.specs.declared.device.Source as source
 use Rattle.bser_deserializer.specs.Reading.{Asking}
+use Rattle.bser_types.specs.declared.deserialize.Shape as shape
 use Rattle.bser_messages.specs.Messages.{IsReaderFault}
 use Rattle.bser_messages.specs.Limited.{TookWithin, RefusesReaderWithin}
+use Rattle.bser_messages.specs.declared.limits.Limits.{Limits}
 
 -- the next message was taken, or nothing was left
 abbrev pub IsNext : {A : Type 0} → ℕ → ℕ → Meaning → (A → Content → Type 0) → Option (List ℕ) → Option (List ℕ) → Option A → Type 0
@@ -22,6 +25,27 @@ pub record RefusesNext (n m : ℕ) (reads : Meaning) (asks : Option (Asking read
 abbrev pub RefusesNextOf : {S : Type 0} → ℕ → ℕ → (reads : Meaning) → Option (Asking reads) → (S → Option (List ℕ)) → (S → ℕ) → S → S → Error → Type 0
 RefusesNextOf n m reads asks remaining failures old new e =
     RefusesNext n m reads asks e (remaining old) (remaining new) (failures old) (failures new)
+
+-- ---- what the calls answer, by a type's meaning
+
+-- within these limits
+module _ {A : Type 0} (limits : Limits) (type : shape.Ghosts A) where
+  -- the message at the front of a slice was read, as what the first part holds, and the second is its length
+  abbrev pub FrontRead : List ℕ → A × ℕ → Type 0
+  FrontRead bytes p =
+      TookWithin limits.levels limits.bytes type.reads type.holds (Some bytes) (Some (drop p.1 bytes)) p.0
+
+  -- the next message of a reader was taken, or nothing was left
+  abbrev pub NextRead : {S : Type 0} → source.Ghosts S → S → S → Option A → Type 0
+  NextRead told old new answer =
+      IsNext limits.levels limits.bytes type.reads type.holds (told.remaining old) (told.remaining new) answer
+
+  -- the next message of a reader is refused as one of the type
+  abbrev pub NextRefused : {S : Type 0} → source.Ghosts S → S → S → Error → Type 0
+  NextRefused told old new e =
+      RefusesNextOf limits.levels limits.bytes type.reads type.asks told.remaining told.failures old new e
+
+-- ---- counts
 
 -- one message more, up to the greatest u64
 abbrev pub counts_message : {A : Type 0} → Option A → ℕ → ℕ

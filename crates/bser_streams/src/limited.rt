@@ -1,8 +1,9 @@
 //! Reading the message at the start of a slice, under limits of levels and of bytes.
-ghost use Rattle.std.specs.Prelude.{◌≤◌, length, drop, Some, IfOk, IfErr};
+ghost use Rattle.std.specs.Prelude.{◌≤◌, length, Some, IfOk, IfErr};
 ghost use Rattle.bser_deserializer.specs.declared.deserializer.TheConstants.{MOST_LEVELS};
-ghost use Rattle.bser_messages.specs.Limited.{BeginsWithin, TookWithin, RefusesSliceWithin};
+ghost use Rattle.bser_messages.specs.Limited.{BeginsInLimits, FrontFails};
 ghost use Rattle.bser_messages.specs.Messages.{HeadFirst};
+ghost use Rattle.bser_streams.specs.Streams.{FrontRead};
 
 use bser_deserializer::deserializer::Deserializer;
 use bser_format::errors::Result;
@@ -24,10 +25,8 @@ pub fn from_slice_limited<'de, T: Deserialize<&'de [u8]>>(
     bytes: &'de [u8],
 ) -> Result<T>
     requires { limits.levels ≤ MOST_LEVELS }
-    ensures found { IfOk result
-        (BeginsWithin limits.levels limits.bytes T.reads T.holds bytes.now) }
-    ensures refused { IfErr result (λ e.
-        RefusesSliceWithin limits.levels limits.bytes T.reads T.asks T.needs e bytes.now) }
+    ensures found { IfOk result (BeginsInLimits limits T.Shape bytes.now) }
+    ensures refused { IfErr result (FrontFails limits T.Shape bytes.now) }
     ensures head { HeadFirst (Some bytes.now) result }
 {
     let (value, _length) = front_message(alloc, limits, bytes)?;
@@ -42,10 +41,8 @@ pub(crate) fn front_message<'de, T: Deserialize<&'de [u8]>>(
 ) -> Result<(T, usize)>
     requires { limits.levels ≤ MOST_LEVELS }
     ensures within { IfOk result (λ answer. answer.1 ≤ length bytes.now) }
-    ensures found { IfOk result (λ answer. TookWithin limits.levels limits.bytes T.reads T.holds
-        (Some bytes.now) (Some (drop answer.1 bytes.now)) answer.0) }
-    ensures refused { IfErr result (λ e.
-        RefusesSliceWithin limits.levels limits.bytes T.reads T.asks T.needs e bytes.now) }
+    ensures found { IfOk result (FrontRead limits T.Shape bytes.now) }
+    ensures refused { IfErr result (FrontFails limits T.Shape bytes.now) }
     ensures head { HeadFirst (Some bytes.now) result }
 {
     let mut from = Deserializer::unread(alloc, SliceRead::new(bytes));

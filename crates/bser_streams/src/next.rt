@@ -1,9 +1,9 @@
 //! The next message of a reader, or the end of its stream.
-ghost use Rattle.std.specs.Prelude.{◌≤◌, ◌^◌, ◌-◌, IfOk, IfErr, OnOk};
+ghost use Rattle.std.specs.Prelude.{◌≤◌, IfOk, IfErr, OnOk};
 ghost use Rattle.bser_deserializer.specs.declared.deserializer.TheConstants.{MOST_LEVELS};
-ghost use Rattle.bser_messages.specs.Limited.{TookWithin, RefusesReadingWithin};
+ghost use Rattle.bser_messages.specs.Limited.{LimitedReaderRead, LimitedReaderRefused, usual_limits};
 ghost use Rattle.bser_messages.specs.Messages.{HeadFirst, Same, SparesMemory};
-ghost use Rattle.bser_streams.specs.Streams.{IsNext, RefusesNextOf};
+ghost use Rattle.bser_streams.specs.Streams.{NextRead, NextRefused};
 
 use bser_deserializer::deserializer::Deserializer;
 use bser_format::errors::{Error, ReadCause, Result};
@@ -24,10 +24,10 @@ pub fn next_message<S: Source, T: DeserializeOwned>(
     alloc: Global,
     reader: &mut S,
 ) -> Result<Option<T>>
-    ensures found { IfOk result (IsNext 128 (2 ^ 64 - 1) T.reads T.holds
-        (S.remaining reader.old) (S.remaining reader.new)) }
-    ensures refused { IfErr result (RefusesNextOf 128 (2 ^ 64 - 1) T.reads T.asks
-        S.remaining S.failures reader.old reader.new) }
+    ensures found { IfOk result
+        (NextRead usual_limits T.Shape S.Source reader.old reader.new) }
+    ensures refused { IfErr result
+        (NextRefused usual_limits T.Shape S.Source reader.old reader.new) }
     ensures kept { OnOk result (Same S.failures reader.old reader.new) }
     ensures memory { SparesMemory T.needs result }
     ensures head { HeadFirst (S.remaining reader.old) result }
@@ -47,10 +47,8 @@ pub fn next_message_limited<S: Source, T: DeserializeOwned>(
     reader: &mut S,
 ) -> Result<Option<T>>
     requires { limits.levels ≤ MOST_LEVELS }
-    ensures found { IfOk result (IsNext limits.levels limits.bytes T.reads T.holds
-        (S.remaining reader.old) (S.remaining reader.new)) }
-    ensures refused { IfErr result (RefusesNextOf limits.levels limits.bytes T.reads T.asks
-        S.remaining S.failures reader.old reader.new) }
+    ensures found { IfOk result (NextRead limits T.Shape S.Source reader.old reader.new) }
+    ensures refused { IfErr result (NextRefused limits T.Shape S.Source reader.old reader.new) }
     ensures kept { OnOk result (Same S.failures reader.old reader.new) }
     ensures memory { SparesMemory T.needs result }
     ensures head { HeadFirst (S.remaining reader.old) result }
@@ -87,10 +85,10 @@ pub fn from_reader_limited<S: Source, T: DeserializeOwned>(
     reader: &mut S,
 ) -> Result<T>
     requires { limits.levels ≤ MOST_LEVELS }
-    ensures found { IfOk result (TookWithin limits.levels limits.bytes T.reads T.holds
-        (S.remaining reader.old) (S.remaining reader.new)) }
-    ensures refused { IfErr result (RefusesReadingWithin limits.levels limits.bytes
-        T.reads T.asks S.remaining S.failures reader.old reader.new) }
+    ensures found { IfOk result
+        (LimitedReaderRead limits T.Shape S.Source reader.old reader.new) }
+    ensures refused { IfErr result
+        (LimitedReaderRefused limits T.Shape S.Source reader.old reader.new) }
     ensures kept { OnOk result (Same S.failures reader.old reader.new) }
     ensures memory { SparesMemory T.needs result }
     ensures head { HeadFirst (S.remaining reader.old) result }

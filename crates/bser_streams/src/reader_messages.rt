@@ -1,8 +1,8 @@
 //! The messages of a reader, one after the other.
-ghost use Rattle.std.specs.Prelude.{◌≡◌, ◌≤◌, ◌^◌, ◌-◌, true, false, IfOk, IfErr, OnOk, OnErr};
-ghost use Rattle.bser_deserializer.specs.declared.deserializer.TheConstants.{MOST_LEVELS};
+ghost use Rattle.std.specs.Prelude.{◌≡◌, ◌≤◌, true, false, IfOk, IfErr, OnOk, OnErr};
+ghost use Rattle.bser_deserializer.specs.declared.deserializer.TheConstants.{LEVELS, MOST_LEVELS};
+ghost use Rattle.bser_messages.specs.Limited.{any_length};
 ghost use Rattle.bser_messages.specs.Messages.{HeadFirst, Same, SparesMemory};
-ghost use Rattle.bser_streams.specs.Streams.{IsNext, RefusesNextOf, counts_message};
 
 use crate::next::next_message_limited;
 use bser_format::errors::{Error, ReadCause, Result};
@@ -26,12 +26,12 @@ pub struct ReaderMessages<S> {
 }
 
 impl<S: Source> ReaderMessages<S> {
-    ghost use Rattle.bser_streams.specs.Readers.{reader_limits, reader_of, reader_taken, reader_failed, RefusesAgain};
+    ghost use Rattle.bser_streams.specs.Readers.{reader_limits, reader_of, reader_taken, reader_failed, Gives, Counts, RefusesFirst, RefusesLater};
 
     /// Reads from the reader's next byte on, messages of at most 128 levels. Nothing is read yet.
     pub fn new(alloc: Global, reader: S) -> Self
-        ensures levels { (reader_limits result).levels ≡ 128 }
-        ensures bytes { (reader_limits result).bytes ≡ 2 ^ 64 - 1 }
+        ensures levels { (reader_limits result).levels ≡ LEVELS }
+        ensures bytes { (reader_limits result).bytes ≡ any_length }
         ensures reader { reader_of result ≡ reader }
         ensures taken { reader_taken result ≡ 0 }
         ensures failed { reader_failed result ≡ false }
@@ -62,20 +62,14 @@ impl<S: Source> ReaderMessages<S> {
     /// without a call of the reader. After `None` it may be called again, where the reader may give
     /// more.
     pub fn next_message<T: DeserializeOwned>(&mut self) -> Result<Option<T>>
-        ensures found { IfOk result (IsNext
-            (reader_limits self.old).levels (reader_limits self.old).bytes T.reads T.holds
-            (S.remaining (reader_of self.old)) (S.remaining (reader_of self.new))) }
+        ensures found { IfOk result (Gives T.Shape S.Source self.old self.new) }
         ensures kept { OnOk result
             (Same S.failures (reader_of self.old) (reader_of self.new)) }
-        ensures counted { IfOk result (λ answer.
-            reader_taken self.new ≡ counts_message answer (reader_taken self.old)) }
+        ensures counted { IfOk result (Counts self.old self.new) }
         ensures works { OnOk result (reader_failed self.old ≡ false) }
         ensures working { OnOk result (reader_failed self.new ≡ false) }
-        ensures refused { IfErr result (λ e. reader_failed self.old ≡ false
-            → RefusesNextOf (reader_limits self.old).levels (reader_limits self.old).bytes
-            T.reads T.asks S.remaining S.failures (reader_of self.old) (reader_of self.new) e) }
-        ensures again { IfErr result (λ e. reader_failed self.old ≡ true
-            → RefusesAgain e self.old self.new) }
+        ensures refused { IfErr result (RefusesFirst T.Shape S.Source self.old self.new) }
+        ensures again { IfErr result (RefusesLater self.old self.new) }
         ensures failed { OnErr result (reader_failed self.new ≡ true) }
         ensures stays { OnErr result (reader_taken self.new ≡ reader_taken self.old) }
         ensures limits { reader_limits self.new ≡ reader_limits self.old }

@@ -1,10 +1,9 @@
 //! The messages of a slice, one after the other.
-ghost use Rattle.std.specs.Prelude.{◌≡◌, ◌≢◌, ◌≤◌, ◌+◌, ◌^◌, ◌-◌, [], length, Some, IfOk, IfErr, IfNone, OnErr};
-ghost use Rattle.bser_deserializer.specs.declared.deserializer.TheConstants.{MOST_LEVELS};
-ghost use Rattle.bser_messages.specs.Limited.{RefusesSliceWithin};
+ghost use Rattle.std.specs.Prelude.{◌≡◌, ◌≢◌, ◌≤◌, ◌+◌, [], length, Some, IfOk, IfErr, IfNone, OnErr};
+ghost use Rattle.bser_deserializer.specs.declared.deserializer.TheConstants.{LEVELS, MOST_LEVELS};
+ghost use Rattle.bser_messages.specs.Limited.{any_length};
 ghost use Rattle.bser_messages.specs.Messages.{HeadFirst};
-ghost use Rattle.bser_streams.specs.Slices.{rest_of};
-ghost use Rattle.bser_streams.specs.Streams.{IsNext};
+ghost use Rattle.bser_streams.specs.Slices.{rest_of, GivesPart, RefusesPart};
 
 use crate::limited::front_message;
 use bser_format::errors::Result;
@@ -35,8 +34,8 @@ impl<'de> Model for SliceMessages<'de> {
 impl<'de> SliceMessages<'de> {
     /// Reads from the start of `bytes`, messages of at most 128 levels.
     pub fn new(alloc: Global, bytes: &'de [u8]) -> Self
-        ensures levels { result.limits.levels ≡ 128 }
-        ensures bytes { result.limits.bytes ≡ 2 ^ 64 - 1 }
+        ensures levels { result.limits.levels ≡ LEVELS }
+        ensures bytes { result.limits.bytes ≡ any_length }
         ensures whole { result.whole ≡ bytes.entry.now }
         ensures taken { result.taken ≡ 0 }
     {
@@ -64,12 +63,8 @@ impl<'de> SliceMessages<'de> {
     /// nothing, so [`Self::rest`] begins with the message that failed, which the next call reads
     /// again, perhaps as another type.
     pub fn next_message<T: Deserialize<&'de [u8]>>(&mut self) -> Result<Option<T>>
-        ensures found { IfOk result (IsNext
-            self.old.limits.levels self.old.limits.bytes T.reads T.holds
-            (Some (rest_of self.old)) (Some (rest_of self.new))) }
-        ensures refused { IfErr result (λ e. RefusesSliceWithin
-            self.old.limits.levels self.old.limits.bytes
-            T.reads T.asks T.needs e (rest_of self.old)) }
+        ensures found { IfOk result (GivesPart T.Shape self.old self.new) }
+        ensures refused { IfErr result (RefusesPart T.Shape self.old) }
         ensures head { HeadFirst (Some (rest_of self.old)) result }
         ensures ended { IfOk result (λ a. IfNone a (self.new.taken ≡ self.old.taken)) }
         ensures some { OnErr result (rest_of self.old ≢ []) }
