@@ -1,14 +1,14 @@
 //! Reading whole messages, with errors that are described.
 ghost use Rattle.std.specs.Prelude.{◌≡◌, ◌≤◌, length, Some, IfOk, IfErr, OnOk};
-ghost use Rattle.bser_deserializer.specs.declared.deserializer.TheConstants.{MOST_LEVELS};
+ghost use Rattle.bser_deserializer.specs.declared.deserializer.TheConstants.{LEVELS, MOST_LEVELS};
 ghost use Rattle.bser_messages.specs.Messages.{
   BeginsWith,
   HeadFirst,
+  ReaderRead,
+  ReaderRefused,
   Same,
-  RefusesReading,
-  RefusesSlice,
+  SliceRefused,
   SparesMemory,
-  TookMessage,
 };
 ghost use Rattle.bser_describe.specs.Descriptions.{LiesWithin, caused};
 
@@ -31,9 +31,8 @@ pub fn from_slice<'de, T: Deserialize<&'de [u8]>>(
     alloc: Global,
     bytes: &'de [u8],
 ) -> Result<T, Description>
-    ensures found { IfOk (caused result) (BeginsWith 128 T.reads T.holds bytes.now) }
-    ensures refused { IfErr (caused result) (λ e.
-        RefusesSlice 128 T.reads T.asks T.needs e bytes.now) }
+    ensures found { IfOk (caused result) (BeginsWith LEVELS T.reads T.holds bytes.now) }
+    ensures refused { IfErr (caused result) (SliceRefused LEVELS T.Shape bytes.now) }
     ensures head { HeadFirst (Some bytes.now) (caused result) }
     ensures place { IfErr result (LiesWithin (length bytes.now)) }
 {
@@ -50,8 +49,7 @@ pub fn from_slice_within<'de, T: Deserialize<&'de [u8]>>(
 ) -> Result<T, Description>
     requires { limit ≤ MOST_LEVELS }
     ensures found { IfOk (caused result) (BeginsWith limit T.reads T.holds bytes.now) }
-    ensures refused { IfErr (caused result) (λ e.
-        RefusesSlice limit T.reads T.asks T.needs e bytes.now) }
+    ensures refused { IfErr (caused result) (SliceRefused limit T.Shape bytes.now) }
     ensures head { HeadFirst (Some bytes.now) (caused result) }
     ensures place { IfErr result (LiesWithin (length bytes.now)) }
 {
@@ -71,9 +69,9 @@ pub fn from_reader<S: Source, T: DeserializeOwned>(
     reader: &mut S,
 ) -> Result<T, Description>
     ensures found { IfOk (caused result)
-        (TookMessage 128 T.reads T.holds (S.remaining reader.old) (S.remaining reader.new)) }
-    ensures refused { IfErr (caused result) (RefusesReading 128 T.reads T.asks
-        S.remaining S.failures reader.old reader.new) }
+        (ReaderRead LEVELS T.Shape S.Source reader.old reader.new) }
+    ensures refused { IfErr (caused result)
+        (ReaderRefused LEVELS T.Shape S.Source reader.old reader.new) }
     ensures kept { OnOk result (Same S.failures reader.old reader.new) }
     ensures memory { SparesMemory T.needs (caused result) }
     ensures head { HeadFirst (S.remaining reader.old) (caused result) }
@@ -91,9 +89,9 @@ pub fn from_reader_within<S: Source, T: DeserializeOwned>(
 ) -> Result<T, Description>
     requires { limit ≤ MOST_LEVELS }
     ensures found { IfOk (caused result)
-        (TookMessage limit T.reads T.holds (S.remaining reader.old) (S.remaining reader.new)) }
-    ensures refused { IfErr (caused result) (RefusesReading limit T.reads T.asks
-        S.remaining S.failures reader.old reader.new) }
+        (ReaderRead limit T.Shape S.Source reader.old reader.new) }
+    ensures refused { IfErr (caused result)
+        (ReaderRefused limit T.Shape S.Source reader.old reader.new) }
     ensures kept { OnOk result (Same S.failures reader.old reader.new) }
     ensures memory { SparesMemory T.needs (caused result) }
     ensures head { HeadFirst (S.remaining reader.old) (caused result) }
