@@ -8,9 +8,9 @@ use Rattle.bser_format.specs.Grammar.{SpellsInteger}
 use Rattle.bser_format.specs.declared.errors.Error.{Error}
 use Rattle.bser_format.specs.declared.errors.Complaint.{Complaint}
 use Rattle.bser_format.specs.declared.errors.Complaint.TheVariants.{NegativeLength}
-use Rattle.bser_named.specs.Named as named
-use Rattle.bser_named.specs.Named.{eof, refuses, reads, complain, and_then, ◌>>=◌}
-use Rattle.bser_named.specs.Clauses.{after_a_refusal}
+use Rattle.bser_format.specs.Named as named
+use Rattle.bser_format.specs.Named.{eof, refuses, reads, complain, and_then, ◌>>=◌}
+use Rattle.bser_format.specs.Clauses.{after_a_refusal}
 use Rattle.bser_source.specs.Window.{Window, AreOctets, Filled, Took, consumed}
 use Rattle.bser_source.proofs.Windows.{taken, took_filled, took_then, works}
 use Rattle.bser_bunser.specs.declared.refusal.Refused.{Refused}

@@ -6,7 +6,7 @@ use Rattle.std.proofs.lemmas.Bool.{false_from_ne_true}
 use Rattle.std.proofs.lemmas.Slice.Eq.{bytes_eq-Decides}
 use Rattle.bser_format.specs.declared.errors.Error.{Error}
 use Rattle.bser_format.specs.declared.errors.Error.TheVariants.{DeInvalidMagic}
-use Rattle.bser_named.specs.Named as named
+use Rattle.bser_format.specs.Named as named
 use Rattle.bser_source.specs.Window.{Window, Took, Expects, with_limit}
 use Rattle.bser_source.proofs.Windows.{took_then}
 use Rattle.bser_bunser.specs.Names.{Names}

@@ -11,8 +11,8 @@ use Rattle.bser_format.specs.Grammar.{IntSize, int8, int16, int32, int64, int_by
 use Rattle.bser_format.specs.declared.errors.Error.{Error}
 use Rattle.bser_format.specs.declared.errors.Kind.TheVariants.{Integer}
 use Rattle.bser_bunser.proofs.NumberBytes.{AreOf}
-use Rattle.bser_named.specs.Named as named
-use Rattle.bser_named.specs.Named.{eof, refuses}
+use Rattle.bser_format.specs.Named as named
+use Rattle.bser_format.specs.Named.{eof, refuses}
 use Rattle.bser_source.specs.Window.{Window, AreOctets, Grown, consumed}
 use Rattle.bser_bunser.specs.Refusal.{ShortOf, unexpected_refusal}
 use Rattle.bser_bunser.specs.Names.{Names, IsCutInteger, CutsInteger}

@@ -4,8 +4,8 @@ use Rattle.std.proofs.lemmas.List.{take-append-drop, take-take, length-take}
 use Rattle.std.proofs.lemmas.Bool.{ltb-true, ltb-false}
 use Rattle.std.proofs.Math.Seq.{take-append-add}
 use Rattle.bser_format.specs.declared.errors.Error.{Error}
-use Rattle.bser_named.specs.Named.{Reader, Answer, reads, refuses, eof}
-use Rattle.bser_named.proofs.Steps.{Passes}
+use Rattle.bser_format.specs.Named.{Reader, Answer, reads, refuses, eof}
+use Rattle.bser_format.proofs.Steps.{Passes}
 use Rattle.bser_source.specs.Window.{Window, Grown, AreOctets, Filled, Took, consumed}
 use Rattle.bser_source.proofs.Windows.{grown_none, grown_then, taken_after, works}
 use Rattle.bser_bunser.specs.Refusal.{ShortOf}

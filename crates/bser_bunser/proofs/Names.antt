@@ -9,9 +9,9 @@ use Rattle.bser_format.specs.Grammar.{Format}
 use Rattle.bser_format.specs.declared.errors.Error.{Error}
 use Rattle.bser_format.specs.declared.errors.Error.TheVariants.{DeReaderError, OutOfMemory}
 use Rattle.bser_format.specs.declared.errors.ReadCause.TheVariants.{Eof, Utf8, Reader, Memory, Failed}
-use Rattle.bser_named.specs.Named as named
-use Rattle.bser_named.specs.Named.{eof, refuses, reads, and_then, ◌>>=◌}
-use Rattle.bser_named.proofs.Steps.{Passes}
+use Rattle.bser_format.specs.Named as named
+use Rattle.bser_format.specs.Named.{eof, refuses, reads, and_then, ◌>>=◌}
+use Rattle.bser_format.proofs.Steps.{Passes}
 use Rattle.bser_source.specs.Window.{Window, left, Grown, Took}
 use Rattle.bser_source.proofs.Windows.{grown_none}
 use Rattle.bser_bunser.specs.Refusal.{ShortOf}

@@ -10,10 +10,10 @@ use Rattle.bser_format.specs.declared.errors.Error.TheVariants.{DeInvalidMagic}
 use Rattle.bser_format.specs.declared.errors.Complaint.{Complaint}
 use Rattle.bser_format.specs.declared.errors.Complaint.TheVariants.{NegativeLength}
 use Rattle.bser_format.proofs.Fronts.{int_reads, front_reads, from_to_le_bytes}
-use Rattle.bser_named.specs.Named as named
-use Rattle.bser_named.specs.Named.{Reader, eof, refuses, reads, complain, and_then, ◌>>=◌, give, refuse}
-use Rattle.bser_named.proofs.Agreement.{int_same, front_same, forgotten}
-use Rattle.bser_named.proofs.Steps.{Passes}
+use Rattle.bser_format.specs.Named as named
+use Rattle.bser_format.specs.Named.{Reader, eof, refuses, reads, complain, and_then, ◌>>=◌, give, refuse}
+use Rattle.bser_format.proofs.Agreement.{int_same, front_same, forgotten}
+use Rattle.bser_format.proofs.Steps.{Passes}
 use Rattle.bser_bunser.specs.Names.{IsCutInteger}
 use Rattle.bser_bunser.specs.Tagged.{SpellsCounted}
 

@@ -11,10 +11,10 @@ use Rattle.bser_format.specs.declared.errors.Kind.TheVariants.{Integer, NextItem
 use Rattle.bser_format.specs.declared.errors.Complaint.{Complaint}
 use Rattle.bser_format.specs.declared.errors.Complaint.TheVariants as complaints
 use Rattle.bser_format.proofs.Fronts.{from_to_le_bytes}
-use Rattle.bser_named.specs.Named as named
-use Rattle.bser_named.specs.Named.{eof, refuses, reads, complain, and_then, ◌>>=◌, give}
-use Rattle.bser_named.proofs.Agreement.{number_same, forgotten}
-use Rattle.bser_named.proofs.Steps.{Passes}
+use Rattle.bser_format.specs.Named as named
+use Rattle.bser_format.specs.Named.{eof, refuses, reads, complain, and_then, ◌>>=◌, give}
+use Rattle.bser_format.proofs.Agreement.{number_same, forgotten}
+use Rattle.bser_format.proofs.Steps.{Passes}
 use Rattle.bser_format.proofs.Fronts.{number_reads}
 use Rattle.bser_source.specs.Window.{Window, AreOctets, consumed}
 use Rattle.bser_bunser.specs.Prefixes.{CutInt, BitsPrefix, IsLengthPrefix}

@@ -6,7 +6,7 @@ use Rattle.bser_format.specs.Tree.{Tree, integer, real, bytes, text, array, obje
 use Rattle.bser_format.specs.declared.errors.Error.{Error}
 use Rattle.bser_format.specs.declared.errors.Error.TheVariants.{DeInvalidStartByte}
 use Rattle.bser_format.specs.declared.errors.Kind.TheVariants.{NextItem}
-use Rattle.bser_named.specs.Named.{Reader, Answer, reads, refuses, and_then, ◌>>=◌, give, front, many, size, count, utf8, int_after, entry_of, value}
+use Rattle.bser_format.specs.Named.{Reader, Answer, reads, refuses, and_then, ◌>>=◌, give, front, many, size, count, utf8, int_after, entry_of, value}
 use Rattle.bser_bunser.specs.Tokens.{after_token, TokensBeginValues}
 use Rattle.bser_bunser.specs.declared.prefix.Token.{Token}
 use Rattle.bser_bunser.specs.declared.prefix.Token.TheVariants as tokens

@@ -2,7 +2,7 @@
 use Rattle.std.specs.Prelude.{◌≡◌, ℕ, length, ◌-◌, ◌^◌, ℤ, pos, List, min}
 use Rattle.std.specs.Int.{Width}
 use Rattle.bser_format.specs.declared.errors.Error.{Error}
-use Rattle.bser_named.specs.Named.{Reader, front}
+use Rattle.bser_format.specs.Named.{Reader, front}
 use Rattle.bser_source.specs.Window.{Filled, Took, closed}
 use Rattle.bser_source.specs.Refs.{bytes_of}
 use Rattle.bser_source.specs.declared.reference.Reference.{Reference}

@@ -7,8 +7,8 @@ use Rattle.bser_format.specs.declared.errors.Error.TheVariants.{DeReaderError, O
 use Rattle.bser_format.specs.declared.errors.ReadCause.TheVariants.{Reader, Failed}
 use Rattle.bser_format.specs.declared.errors.Complaint.{Complaint}
 use Rattle.bser_format.specs.declared.errors.Complaint.TheVariants.{NegativeLength}
-use Rattle.bser_named.specs.Named as named
-use Rattle.bser_named.specs.Named.{◌>>=◌}
+use Rattle.bser_format.specs.Named as named
+use Rattle.bser_format.specs.Named.{◌>>=◌}
 use Rattle.bser_source.specs.Window.{Window, left}
 use Rattle.bser_bunser.specs.Refusal.{Fails, ShortOf}
 

@@ -8,8 +8,8 @@ use Rattle.bser_format.specs.declared.errors.Kind.{Kind}
 use Rattle.bser_format.specs.declared.errors.Kind.TheVariants.{Integer}
 use Rattle.bser_format.specs.declared.errors.Complaint.TheVariants as complaints
 use Rattle.bser_source.specs.Failures.{failures_after}
-use Rattle.bser_named.specs.Named.{complain}
-use Rattle.bser_named.specs.Clauses.{after_a_refusal}
+use Rattle.bser_format.specs.Named.{complain}
+use Rattle.bser_format.specs.Clauses.{after_a_refusal}
 use Rattle.bser_source.specs.Window.{Window}
 use Rattle.bser_source.specs.Refusal.{Excuse}
 use Rattle.bser_bunser.specs.declared.prefix.Unexpected.{Unexpected}

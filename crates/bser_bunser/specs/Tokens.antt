@@ -7,7 +7,7 @@ use Rattle.bser_format.specs.Plain.{is_positive}
 use Rattle.bser_format.specs.declared.errors.Error.{Error}
 use Rattle.bser_format.specs.declared.errors.Error.TheVariants.{DeInvalidStartByte}
 use Rattle.bser_format.specs.declared.errors.Kind.TheVariants.{NextItem}
-use Rattle.bser_named.specs.Named.{Reader, refuses, give, refuse, ◌>>=◌, eof, next, front, many, int_after, size, count, utf8, entry_of, template_after, value}
+use Rattle.bser_format.specs.Named.{Reader, refuses, give, refuse, ◌>>=◌, eof, next, front, many, int_after, size, count, utf8, entry_of, template_after, value}
 use Rattle.bser_bunser.specs.declared.prefix.Prefix.{Prefix}
 use Rattle.bser_bunser.specs.declared.prefix.Prefix.TheVariants.{Found, Short}
 use Rattle.bser_bunser.specs.declared.prefix.Prefix.TheVariants as prefixes

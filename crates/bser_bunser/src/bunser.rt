@@ -1,7 +1,7 @@
 //! Tagged values over a byte source.
 ghost use Rattle.std.specs.Prelude.{◌≡◌, ◌≢◌, ◌≤◌, ◌<◌, ◌-◌, length, IfOk, IfErr, OnOk, OnErr};
 ghost use Rattle.bser_format.specs.Errors.{error_of};
-ghost use Rattle.bser_named.specs.Named.{next, front};
+ghost use Rattle.bser_format.specs.Named.{next, front};
 ghost use Rattle.bser_source.specs.declared.read.TheConstants.{WINDOW};
 ghost use Rattle.bser_source.specs.Window.{Peeks, consumed};
 ghost use Rattle.bser_bunser.specs.Calls.{bytes_taken, Buffers, Takes, TakesToken, Keeps, Closes, FailsShort, FailsBy};

@@ -1,8 +1,8 @@
 //! Laws of the plain readers that contracts cite: functions that do nothing, whose contracts are
 //! the laws.
 
-ghost use Rattle.bser_named.specs.Named.{int, size, string};
-ghost use Rattle.bser_named.specs.Named as named;
+ghost use Rattle.bser_format.specs.Named.{int, size, string};
+ghost use Rattle.bser_format.specs.Named as named;
 ghost use Rattle.bser_bunser.specs.Names.{Excuses};
 ghost use Rattle.bser_bunser.specs.Tagged.{IsInteger, IsLength, IsToken, IsString, IsHead};
 ghost use Rattle.bser_bunser.specs.Tokens.{token, TokensBeginValues};

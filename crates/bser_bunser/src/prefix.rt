@@ -1,7 +1,7 @@
 //! What bytes begin with, as far as they tell: an integer, a length or a token.
 ghost use Rattle.std.specs.Prelude.{◌≡◌, ◌<◌, ◌^◌, length, slice_index, MatchOption, IfSome};
 ghost use Rattle.std.specs.Int.{w8, w16, w32, w64};
-ghost use Rattle.bser_named.specs.DueReaders as due_readers;
+ghost use Rattle.bser_format.specs.DueReaders as due_readers;
 ghost use Rattle.bser_bunser.specs.Prefixes.{NumberPrefix, BitsPrefix, IsIntPrefix, IsLengthPrefix};
 ghost use Rattle.bser_bunser.specs.Tokens.{IsTokenPrefix, IsNoIntTag, IsCounted, IsTokenOf, fault_after};
 

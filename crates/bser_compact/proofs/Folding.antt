@@ -4,10 +4,10 @@ use Rattle.std.specs.Prelude.{unwrap_or, is_some, ◌&&◌, if◌then◌else◌}
 use Rattle.std.proofs.lemmas.List.{drop_all}
 use Rattle.std.specs.declared.alloc.Global.{Global}
 use Rattle.bser_format.specs.Tree.{Tree, null, boolean, integer, real, bytes, text, array, object, template, Items, no_items, item, Entries, no_entries, entry, Rows, row, items}
-use Rattle.bser_written.specs.Compact.{keys, values, same_keys, rows_with, as_template, fold_templates, fold_items, fold_entries}
+use Rattle.bser_format.specs.Compact.{keys, values, same_keys, rows_with, as_template, fold_templates, fold_items, fold_entries}
 use Rattle.bser_source.proofs.Lists.{item_here}
-use Rattle.bser_written.proofs.TemplateRows.{as_template_cases, same_keys_itself, keys_length}
-use Rattle.bser_written.proofs.FoldedFits.{items_stay, folded_keys}
+use Rattle.bser_format.proofs.TemplateRows.{as_template_cases, same_keys_itself, keys_length}
+use Rattle.bser_format.proofs.FoldedFits.{items_stay, folded_keys}
 use Rattle.bser_value.specs.declared.value.Value.{Value, Object}
 use Rattle.bser_value.specs.ValueView.{tree_of, items_view, entries_view}
 use Rattle.bser_value.proofs.Views.{length-items, length-entries}

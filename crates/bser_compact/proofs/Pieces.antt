@@ -4,10 +4,10 @@ use Rattle.std.proofs.lemmas.Option.{same_Some}
 use Rattle.std.specs.declared.alloc.Global.{Global}
 use Rattle.bser_format.specs.Tree.{array, object, Items, no_items, item, Rows, no_rows, row, items, rows}
 use Rattle.bser_format.specs.Canonical.{least_count, canonical_text, canonical_key, canonical_body, canonical_items, canonical_entries, canonical_rows, canonical_fields}
-use Rattle.bser_written.specs.Compact.{values, as_template, fold_templates, fold_items, fold_entries}
-use Rattle.bser_written.specs.Pieces.{array_head, object_head, template_tag}
-use Rattle.bser_written.proofs.TemplateRows.{AreRows, as_template_cases, rows_length, keys_length}
-use Rattle.bser_written.proofs.FoldedFits.{items_stay, entries_stay}
+use Rattle.bser_format.specs.Compact.{values, as_template, fold_templates, fold_items, fold_entries}
+use Rattle.bser_format.specs.Pieces.{array_head, object_head, template_tag}
+use Rattle.bser_format.proofs.TemplateRows.{AreRows, as_template_cases, rows_length, keys_length}
+use Rattle.bser_format.proofs.FoldedFits.{items_stay, entries_stay}
 use Rattle.bser_value.specs.declared.value.Value.{Value, Array, Object}
 use Rattle.bser_value.specs.ValueView.{items_view, entries_view}
 use Rattle.bser_value.proofs.Views.{Entry, tree_of-Array, length-items, length-entries, tree_of-Object}

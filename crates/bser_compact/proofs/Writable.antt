@@ -5,9 +5,9 @@ use Rattle.std.specs.declared.alloc.Global.{Global}
 use Rattle.std.proofs.lemmas.Option.{same_Some}
 use Rattle.bser_format.specs.Tree.{object, Items, no_items, item, Rows, no_rows, row, items}
 use Rattle.bser_format.specs.Canonical.{IsCount, IsWritableText, IsWritable, RowsAreWritable, FieldsAreWritable}
-use Rattle.bser_written.specs.Compact.{as_template, fold_items, fold_templates}
-use Rattle.bser_written.proofs.TemplateRows.{AreRows, as_template_cases, rows_even, rows_length, keys_length}
-use Rattle.bser_written.proofs.FoldedFits.{items_stay}
+use Rattle.bser_format.specs.Compact.{as_template, fold_items, fold_templates}
+use Rattle.bser_format.proofs.TemplateRows.{AreRows, as_template_cases, rows_even, rows_length, keys_length}
+use Rattle.bser_format.proofs.FoldedFits.{items_stay}
 use Rattle.bser_value.specs.declared.value.Value.{Value, Array}
 use Rattle.bser_value.specs.ValueView.{items_view, entries_view}
 use Rattle.bser_value.proofs.Views.{Entry, tree_of-Array, length-items, length-entries}

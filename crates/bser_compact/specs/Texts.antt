@@ -3,8 +3,8 @@ use Rattle.std.specs.Prelude.{ℕ, Bool, false, List, [], ◌∷◌, ◌++◌, l
 use Rattle.std.specs.declared.alloc.Global.{Global}
 use Rattle.bser_format.specs.Tree.{Tree, array, object, template, Fields, no_fields}
 use Rattle.bser_format.specs.Canonical.{least_count, canonical_text, canonical_body, canonical_fields, FieldsAreWritable}
-use Rattle.bser_written.specs.Compact.{keys, values, same_keys, as_template, fold_templates, fold_items, fold_entries}
-use Rattle.bser_written.specs.Pieces.{array_head, template_tag}
+use Rattle.bser_format.specs.Compact.{keys, values, same_keys, as_template, fold_templates, fold_items, fold_entries}
+use Rattle.bser_format.specs.Pieces.{array_head, template_tag}
 use Rattle.bser_value.specs.declared.value.Value.{Value}
 use Rattle.bser_value.specs.ValueView.{tree_of, items_view, entries_view}
 

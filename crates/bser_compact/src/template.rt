@@ -2,7 +2,7 @@
 ghost use Rattle.std.specs.Prelude.{◌≡◌, ◌<◌, ◌^◌, length, OnOk, option_map};
 ghost use Rattle.std.specs.List.{AllByRecursion};
 ghost use Rattle.bser_format.specs.Canonical.{IsWritableText};
-ghost use Rattle.bser_written.specs.Compact.{same_keys};
+ghost use Rattle.bser_format.specs.Compact.{same_keys};
 ghost use Rattle.bser_ser.specs.Ends.{AddsText};
 ghost use Rattle.bser_compact.specs.Texts.{has_keys, head_text, names_of, template_names};
 

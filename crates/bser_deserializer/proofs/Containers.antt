@@ -12,10 +12,10 @@ use Rattle.bser_source.specs.Device.{one_more}
 use Rattle.std.proofs.KnownBytes.{Consumes-nil}
 use Rattle.bser_source.specs.Window.{Window, AreOctets, Within, Took, consumed}
 use Rattle.bser_source.proofs.Windows.{grown_none, taken_after, took_then}
-use Rattle.bser_named.specs.Named.{Reader, reads, refuses, give, refuse, and_then, ◌>>=◌, next, count, many, text_of}
-use Rattle.bser_named.specs.DueReaders.{Seen, tag, is_tag, asked, items_at, pairs_at, rows_wanted, table_at}
-use Rattle.bser_named.proofs.Steps.{Passes, passes_then}
-use Rattle.bser_named.proofs.Heads.{count_passes, keys_pass}
+use Rattle.bser_format.specs.Named.{Reader, reads, refuses, give, refuse, and_then, ◌>>=◌, next, count, many, text_of}
+use Rattle.bser_format.specs.DueReaders.{Seen, tag, is_tag, asked, items_at, pairs_at, rows_wanted, table_at}
+use Rattle.bser_format.proofs.Steps.{Passes, passes_then}
+use Rattle.bser_format.proofs.Heads.{count_passes, keys_pass}
 use Rattle.bser_bunser.specs.Names.{Names}
 use Rattle.bser_bunser.specs.Refusal.{Fails}
 use Rattle.bser_bunser.specs.Tagged.{TookInt}

@@ -5,9 +5,9 @@ use Rattle.bser_format.specs.Content.{Meaning}
 use Rattle.bser_format.specs.ReadsScalars.{reads_slice, reads_string}
 use Rattle.bser_format.specs.declared.errors.Error.{Error}
 use Rattle.bser_format.specs.declared.errors.Error.TheVariants.{OutOfMemory}
-use Rattle.bser_named.specs.Named.{string}
-use Rattle.bser_named.specs.DueReaders.{is_key_tag}
-use Rattle.bser_named.specs.Asks.{asks_bytes, asks_string}
+use Rattle.bser_format.specs.Named.{string}
+use Rattle.bser_format.specs.DueReaders.{is_key_tag}
+use Rattle.bser_format.specs.Asks.{asks_bytes, asks_string}
 use Rattle.bser_source.specs.Window.{Window, Took}
 use Rattle.bser_bunser.specs.Names.{NamesOrMemory, RefusedAs}
 use Rattle.bser_bunser.specs.Refusal.{Fails}

@@ -1,7 +1,7 @@
 -- What is due, by the place of a row's key.
 use Rattle.std.proofs.Common.{◌≡◌, ℕ, zero, suc, ◌<◌, List, [], ◌∷◌, length, ◌≤◌, None, refl, arith}
 use Rattle.bser_format.specs.Expected.{nothing_due, name_due}
-use Rattle.bser_named.specs.DueReaders.{tag}
+use Rattle.bser_format.specs.DueReaders.{tag}
 use Rattle.bser_deserializer.specs.declared.due.Due as code
 use Rattle.bser_deserializer.specs.declared.due.Due.TheVariants as due
 use Rattle.bser_deserializer.specs.Dues.{due_of, name_at, IsTagged, IsValueDue}

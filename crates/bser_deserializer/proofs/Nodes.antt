@@ -6,11 +6,11 @@ use Rattle.bser_format.specs.Expected.{Due, nothing_due, node_due, key_due, fiel
 use Rattle.bser_format.specs.declared.errors.Error.{Error}
 use Rattle.bser_format.specs.declared.errors.Error.TheVariants.{DeInvalidStartByte}
 use Rattle.bser_format.specs.declared.errors.Kind.TheVariants.{NextItem, MapKey}
-use Rattle.bser_named.specs.Named as named
-use Rattle.bser_named.specs.Named.{refuses, reads, and_then, eof, front}
-use Rattle.bser_named.specs.DueReaders.{Seen, tag, name, row, seen, stray_at, nothing_here, is_tag, is_key_tag}
-use Rattle.bser_named.specs.Clauses.{after_a_refusal}
-use Rattle.bser_named.proofs.Steps as steps
+use Rattle.bser_format.specs.Named as named
+use Rattle.bser_format.specs.Named.{refuses, reads, and_then, eof, front}
+use Rattle.bser_format.specs.DueReaders.{Seen, tag, name, row, seen, stray_at, nothing_here, is_tag, is_key_tag}
+use Rattle.bser_format.specs.Clauses.{after_a_refusal}
+use Rattle.bser_format.proofs.Steps as steps
 use Rattle.bser_source.specs.Window.{Window, Peeks, closed, consumed}
 use Rattle.bser_bunser.specs.Refusal.{Fails}
 use Rattle.bser_deserializer.specs.declared.node.Node.{Node}

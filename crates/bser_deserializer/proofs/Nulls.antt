@@ -3,7 +3,7 @@ use Rattle.std.proofs.Common.{◌≡◌, ℕ, Bool, true, false, ◌||◌, [], �
 use Rattle.std.proofs.lemmas.Bool.{eqb-true}
 use Rattle.bser_format.specs.Expected.{Due, nothing_due, node_due, key_due, field_due, name_due, row_due}
 use Rattle.bser_format.specs.declared.errors.Error.{Error}
-use Rattle.bser_named.specs.DueReaders.{tag, seen, stray_at}
+use Rattle.bser_format.specs.DueReaders.{tag, seen, stray_at}
 use Rattle.bser_source.specs.Window.{Window, Peeks, closed, consumed}
 use Rattle.bser_deserializer.specs.declared.node.Node.{Node}
 use Rattle.bser_deserializer.specs.declared.node.Node.TheVariants as kinds

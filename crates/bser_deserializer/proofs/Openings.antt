@@ -9,10 +9,10 @@ use Rattle.bser_format.specs.declared.errors.Message.TheVariants.{Fixed}
 use Rattle.bser_format.specs.declared.errors.Complaint.TheVariants.{BorrowedFromCopying}
 use Rattle.bser_source.specs.Window.{Window, Grown}
 use Rattle.bser_source.proofs.Windows.{left_grown, hand_first}
-use Rattle.bser_named.specs.Named as named
-use Rattle.bser_named.specs.Named.{Reader, reads, refuses, eof}
-use Rattle.bser_named.specs.DueReaders.{Seen, tag, asked, items_at, pairs_at, stray_at, wrong_type}
-use Rattle.bser_named.proofs.Steps.{Passes}
+use Rattle.bser_format.specs.Named as named
+use Rattle.bser_format.specs.Named.{Reader, reads, refuses, eof}
+use Rattle.bser_format.specs.DueReaders.{Seen, tag, asked, items_at, pairs_at, stray_at, wrong_type}
+use Rattle.bser_format.proofs.Steps.{Passes}
 use Rattle.bser_bunser.specs.Refusal.{Fails}
 use Rattle.bser_deserializer.specs.Dues.{IsTagged, name_at, due_of}
 use Rattle.bser_deserializer.specs.declared.due.Due as code

@@ -7,9 +7,9 @@ use Rattle.bser_format.specs.declared.errors.Error.TheVariants.{DeCustom, DeRead
 use Rattle.bser_format.specs.declared.errors.Message.TheVariants.{Fixed}
 use Rattle.bser_format.specs.declared.errors.Complaint.TheVariants as complaints
 use Rattle.bser_format.specs.declared.errors.ReadCause.TheVariants.{Eof, Utf8, Reader, Memory, Failed}
-use Rattle.bser_named.specs.Named as named
-use Rattle.bser_named.specs.Named.{eof, reads, refuses}
-use Rattle.bser_named.proofs.Steps as steps
+use Rattle.bser_format.specs.Named as named
+use Rattle.bser_format.specs.Named.{eof, reads, refuses}
+use Rattle.bser_format.proofs.Steps as steps
 use Rattle.bser_source.specs.Window.{Window, Grown, Took, closed, left}
 use Rattle.bser_source.proofs.Windows.{grown_none, left_took}
 use Rattle.bser_bunser.specs.Refusal.{Fails, failures_by}

@@ -12,11 +12,11 @@ use Rattle.bser_format.specs.ReadsAny.{has_utf8_keys, entries_have_utf8_keys, re
 use Rattle.bser_format.specs.Plain as plain
 use Rattle.bser_format.proofs.Fronts.{value_reads, field_reads}
 use Rattle.bser_format.specs.declared.errors.Error.{Error}
-use Rattle.bser_named.specs.Named.{Reader, reads, refuses, give, and_then, ◌>>=◌, many, field_of, any, with_text_keys}
-use Rattle.bser_named.specs.NamedLaws.{HasTextKeys}
-use Rattle.bser_named.specs.Asks.{done, asks_any}
-use Rattle.bser_named.proofs.Agreement.{forgotten, value_same, field_same, no_skip}
-use Rattle.bser_named.proofs.TextKeys.{join, KeyedField, field_sifts, text_keys_sift}
+use Rattle.bser_format.specs.Named.{Reader, reads, refuses, give, and_then, ◌>>=◌, many, field_of, any, with_text_keys}
+use Rattle.bser_format.specs.NamedLaws.{HasTextKeys}
+use Rattle.bser_format.specs.Asks.{done, asks_any}
+use Rattle.bser_format.proofs.Agreement.{forgotten, value_same, field_same, no_skip}
+use Rattle.bser_format.proofs.TextKeys.{join, KeyedField, field_sifts, text_keys_sift}
 use Rattle.bser_source.specs.Window.{Took}
 use Rattle.bser_source.proofs.Windows.{took_then}
 use Rattle.bser_bunser.specs.Refusal.{Fails}

@@ -11,9 +11,9 @@ use Rattle.bser_format.specs.Content.{Content, Meaning, one, truth, number}
 use Rattle.bser_format.specs.Expected.{Due, Fills, FillsNode, nothing_due, node_due, key_due, field_due, name_due, row_due}
 use Rattle.bser_format.specs.ReadsScalars.{reads_bool, reads_unit, reads_real, reads_integer, reads_signed, is_signed}
 use Rattle.bser_format.specs.declared.errors.Error.{Error}
-use Rattle.bser_named.specs.Named as named
-use Rattle.bser_named.specs.Named.{refuses, reads, and_then, eof, front}
-use Rattle.bser_named.specs.DueReaders.{Seen, tag, asked, nothing_at, stray_at, value_tag, wrong_type, bool_at, integer_at, real_at, unit_at}
+use Rattle.bser_format.specs.Named as named
+use Rattle.bser_format.specs.Named.{refuses, reads, and_then, eof, front}
+use Rattle.bser_format.specs.DueReaders.{Seen, tag, asked, nothing_at, stray_at, value_tag, wrong_type, bool_at, integer_at, real_at, unit_at}
 use Rattle.bser_source.specs.Window.{Window, Took, Peeks, closed, consumed}
 use Rattle.bser_source.proofs.Windows.{took_by}
 use Rattle.bser_bunser.specs.Refusal.{Fails}

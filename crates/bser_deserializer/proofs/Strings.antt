@@ -8,9 +8,9 @@ use Rattle.bser_format.specs.Grammar.{Bytes, SpellsCount, ◌then◌}
 use Rattle.bser_format.specs.ReadsScalars.{reads_slice, reads_string}
 use Rattle.bser_format.specs.Expected.{Due, nothing_due, node_due, key_due, field_due, name_due, row_due}
 use Rattle.bser_format.specs.declared.errors.Error.{Error}
-use Rattle.bser_named.specs.Named.{Answer, Reader, reads, refuses, refuse, and_then, ◌>>=◌, eof, front, string, utf8, utf8_wanted, string_after, give}
-use Rattle.bser_named.specs.DueReaders.{Seen, tag, is_key_tag, seen, asked, bytes_at, text_at, nothing_at, stray_at, wrong_type}
-use Rattle.bser_named.specs.Asks.{done, asks_bytes, asks_string}
+use Rattle.bser_format.specs.Named.{Answer, Reader, reads, refuses, refuse, and_then, ◌>>=◌, eof, front, string, utf8, utf8_wanted, string_after, give}
+use Rattle.bser_format.specs.DueReaders.{Seen, tag, is_key_tag, seen, asked, bytes_at, text_at, nothing_at, stray_at, wrong_type}
+use Rattle.bser_format.specs.Asks.{done, asks_bytes, asks_string}
 use Rattle.bser_source.specs.Window.{Window, Filled, Peeks, Took, closed, consumed}
 use Rattle.bser_source.proofs.Windows.{took_by}
 use Rattle.bser_bunser.specs.Names.{Names, RefusedAs}

@@ -8,11 +8,11 @@ use Rattle.bser_format.specs.declared.errors.Error.{Error}
 use Rattle.bser_format.specs.declared.errors.Error.TheVariants.{DeInvalidStartByte, DeReaderError}
 use Rattle.bser_format.specs.declared.errors.Kind.TheVariants.{NextItem, MapKey}
 use Rattle.bser_format.specs.declared.errors.ReadCause.TheVariants.{Failed}
-use Rattle.bser_named.specs.Named as named
-use Rattle.bser_named.specs.Named.{refuses, and_then, next}
-use Rattle.bser_named.specs.DueReaders.{Seen, tag, name, row, is_tag, is_key_tag, asked, nothing_here, nothing_at, stray_at, wrong_type}
-use Rattle.bser_named.specs.Clauses.{after_a_refusal}
-use Rattle.bser_named.proofs.Steps as steps
+use Rattle.bser_format.specs.Named as named
+use Rattle.bser_format.specs.Named.{refuses, and_then, next}
+use Rattle.bser_format.specs.DueReaders.{Seen, tag, name, row, is_tag, is_key_tag, asked, nothing_here, nothing_at, stray_at, wrong_type}
+use Rattle.bser_format.specs.Clauses.{after_a_refusal}
+use Rattle.bser_format.proofs.Steps as steps
 use Rattle.bser_source.specs.Window.{Window, Grown, Filled, Peeks, Took, closed}
 use Rattle.bser_source.proofs.Windows.{took_grown}
 use Rattle.bser_bunser.specs.Refusal.{Fails, failures_by}

@@ -8,8 +8,8 @@ use Rattle.bser_format.specs.declared.errors.Kind.TheVariants.{Array, TemplateKe
 use Rattle.bser_source.specs.Device.{one_more}
 use Rattle.bser_source.specs.Window.{Window, Peeks, Took, closed, consumed}
 use Rattle.bser_source.proofs.Windows.{took_filled, took_then}
-use Rattle.bser_named.specs.Named.{Answer, Reader, reads, refuses, eof, and_then, ◌>>=◌, next, front, count, many, text_of}
-use Rattle.bser_named.specs.DueReaders.{tag, items_at, rows_wanted, table_at}
+use Rattle.bser_format.specs.Named.{Answer, Reader, reads, refuses, eof, and_then, ◌>>=◌, next, front, count, many, text_of}
+use Rattle.bser_format.specs.DueReaders.{tag, items_at, rows_wanted, table_at}
 use Rattle.bser_bunser.specs.Refusal.{Fails, ShortOf}
 use Rattle.bser_bunser.specs.Names.{Names}
 use Rattle.bser_deserializer.specs.State.{State}

@@ -11,11 +11,11 @@ use Rattle.bser_format.specs.declared.errors.ReadCause.TheVariants.{Utf8}
 use Rattle.bser_format.proofs.Fronts.{reads_then, count_reads, key_reads, many_all}
 use Rattle.bser_format.specs.Plain as plain
 use Rattle.bser_source.specs.Refs.{RefusesKept}
-use Rattle.bser_named.specs.Named.{refuses, give, and_then, ◌>>=◌, string, utf8, text_of, count, many, complain}
-use Rattle.bser_named.specs.DueReaders.{is_key_tag, rows_wanted}
-use Rattle.bser_named.proofs.Agreement.{forgotten, bind_same, counted_same, many_same, text_of_same}
-use Rattle.bser_named.proofs.Steps.{Passes}
-use Rattle.bser_named.proofs.Heads.{count_passes}
+use Rattle.bser_format.specs.Named.{refuses, give, and_then, ◌>>=◌, string, utf8, text_of, count, many, complain}
+use Rattle.bser_format.specs.DueReaders.{is_key_tag, rows_wanted}
+use Rattle.bser_format.proofs.Agreement.{forgotten, bind_same, counted_same, many_same, text_of_same}
+use Rattle.bser_format.proofs.Steps.{Passes}
+use Rattle.bser_format.proofs.Heads.{count_passes}
 use Rattle.bser_source.specs.Window.{Window, Filled, Took}
 use Rattle.bser_source.proofs.Windows.{took_then}
 use Rattle.bser_bunser.specs.Names.{Names, RefusedAs}

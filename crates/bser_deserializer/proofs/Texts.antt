@@ -11,7 +11,7 @@ use Rattle.bser_format.specs.Grammar.{SpellsString}
 use Rattle.bser_format.specs.Content.{byte_list}
 use Rattle.bser_format.specs.ReadsScalars.{string_bytes_of, utf8_of, reads_slice, reads_string}
 use Rattle.bser_format.specs.Expected.{Due, Fills, FillsNode, nothing_due, node_due, key_due, field_due, name_due, row_due}
-use Rattle.bser_named.specs.DueReaders.{is_key_tag}
+use Rattle.bser_format.specs.DueReaders.{is_key_tag}
 use Rattle.bser_source.specs.Window.{Window, Within, Took}
 use Rattle.bser_source.proofs.Windows.{took_then}
 use Rattle.bser_bunser.specs.Tagged.{TookCounted}

@@ -15,12 +15,12 @@ use Rattle.bser_format.proofs.KeyNames.{slice_key}
 use Rattle.bser_format.specs.declared.errors.Error.{Error}
 use Rattle.bser_format.specs.declared.errors.Error.TheVariants.{DeInvalidStartByte}
 use Rattle.bser_format.specs.declared.errors.Kind.TheVariants.{MapKey}
-use Rattle.bser_named.specs.Named.{Reader, reads, refuses, give, refuse, and_then, string_after, field_of, with_text_keys}
-use Rattle.bser_named.specs.NamedLaws.{HasTextKeys}
-use Rattle.bser_named.specs.DueReaders.{tag, is_key_tag, bytes_at, wrong_type}
-use Rattle.bser_named.specs.Asks.{done, asks_bytes, asks_any}
-use Rattle.bser_named.proofs.Anything.{ignored_passes}
-use Rattle.bser_named.proofs.TextLaws.{reads_text_keys}
+use Rattle.bser_format.specs.Named.{Reader, reads, refuses, give, refuse, and_then, string_after, field_of, with_text_keys}
+use Rattle.bser_format.specs.NamedLaws.{HasTextKeys}
+use Rattle.bser_format.specs.DueReaders.{tag, is_key_tag, bytes_at, wrong_type}
+use Rattle.bser_format.specs.Asks.{done, asks_bytes, asks_any}
+use Rattle.bser_format.proofs.Anything.{ignored_passes}
+use Rattle.bser_format.proofs.TextLaws.{reads_text_keys}
 use Rattle.bser_source.specs.Window.{Window, AreOctets, Filled, Took, consumed}
 use Rattle.bser_source.proofs.Windows.{took_grown}
 use Rattle.bser_bunser.specs.Refusal.{Fails}

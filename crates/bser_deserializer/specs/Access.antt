@@ -6,8 +6,8 @@ use Rattle.bser_source.specs.Device.{one_more}
 use Rattle.bser_source.specs.Window.{Window, Took}
 use Rattle.bser_format.specs.Expected.{nothing_due, WantedItems, nodes, rows_over, WantedPairs, entries_of_object, fields_of_row}
 use Rattle.bser_format.specs.declared.errors.Error.{Error}
-use Rattle.bser_named.specs.DueReaders.{items_at, pairs_at}
-use Rattle.bser_named.specs.Clauses.{left_over, out_of_turn}
+use Rattle.bser_format.specs.DueReaders.{items_at, pairs_at}
+use Rattle.bser_format.specs.Clauses.{left_over, out_of_turn}
 use Rattle.bser_deserializer.specs.State.{State, awaiting, refused}
 use Rattle.bser_deserializer.specs.Reading.{Answers, Asking, Refuses, RefusesFront, NamesDue, bare, owned, only_keys, Needs}
 use Rattle.bser_deserializer.specs.Parts.{BeginsItems, BeginsPairs, items_left, item_due, items_after, pairs_left, pair_key, pair_value, pairs_after}

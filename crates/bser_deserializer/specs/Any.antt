@@ -4,7 +4,7 @@ use Rattle.bser_format.specs.Tree.{Tree, null}
 use Rattle.bser_format.specs.Expand.{expand}
 use Rattle.bser_format.specs.Expected.{Due, nothing_due, key_due, name_due, Fills}
 use Rattle.bser_format.specs.Grammar.{Spells, SpellsField}
-use Rattle.bser_named.specs.NamedLaws.{HasTextKeys}
+use Rattle.bser_format.specs.NamedLaws.{HasTextKeys}
 use Rattle.bser_source.specs.Window.{Window, Took}
 use Rattle.bser_events.specs.Events.{Event, key, TakesAll, events}
 use Rattle.bser_deserializer.specs.State.{State, past}

@@ -2,11 +2,11 @@
 use Rattle.std.specs.Prelude.{ℤ, Bool}
 use Rattle.bser_format.specs.ReadsScalars.{reads_bool, reads_real, reads_unit, reads_integer, reads_slice, reads_string, reads_char}
 use Rattle.bser_format.specs.ReadsAny.{reads_value, reads_ignored}
-use Rattle.bser_named.specs.Asks.{asks_bool, asks_real, asks_unit, asks_integer, asks_bytes, asks_string, asks_char, asks_any}
-use Rattle.bser_named.proofs.Anything.{ignored_passes, value_passes}
-use Rattle.bser_named.proofs.Scalars.{bool_passes, real_passes, unit_passes}
-use Rattle.bser_named.proofs.Integers.{integer_passes}
-use Rattle.bser_named.proofs.Strings.{bytes_passes, string_passes, char_passes}
+use Rattle.bser_format.specs.Asks.{asks_bool, asks_real, asks_unit, asks_integer, asks_bytes, asks_string, asks_char, asks_any}
+use Rattle.bser_format.proofs.Anything.{ignored_passes, value_passes}
+use Rattle.bser_format.proofs.Scalars.{bool_passes, real_passes, unit_passes}
+use Rattle.bser_format.proofs.Integers.{integer_passes}
+use Rattle.bser_format.proofs.Strings.{bytes_passes, string_passes, char_passes}
 use Rattle.bser_deserializer.specs.Reading.{Asking}
 
 -- a truth value

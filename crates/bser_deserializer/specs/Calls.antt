@@ -8,10 +8,10 @@ use Rattle.bser_format.specs.declared.errors.Complaint.{Complaint}
 use Rattle.bser_format.specs.declared.errors.Error.{Error}
 use Rattle.bser_format.specs.declared.errors.Error.TheVariants.{OutOfMemory}
 use Rattle.bser_format.specs.declared.errors.ReadCause.TheVariants.{Failed}
-use Rattle.bser_named.specs.Named as named
-use Rattle.bser_named.specs.Named.{complain, field_of, with_text_keys}
-use Rattle.bser_named.specs.DueReaders.{seen, nothing_here, items_at}
-use Rattle.bser_named.specs.Clauses.{after_a_refusal}
+use Rattle.bser_format.specs.Named as named
+use Rattle.bser_format.specs.Named.{complain, field_of, with_text_keys}
+use Rattle.bser_format.specs.DueReaders.{seen, nothing_here, items_at}
+use Rattle.bser_format.specs.Clauses.{after_a_refusal}
 use Rattle.bser_source.specs.Window.{Window}
 use Rattle.bser_bunser.specs.Names.{Names}
 use Rattle.bser_bunser.specs.Refusal.{Fails}

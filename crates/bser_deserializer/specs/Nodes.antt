@@ -3,7 +3,7 @@ use Rattle.std.specs.Prelude.{◌≡◌, ◌≢◌, ℕ, zero, suc, false, List,
 use Rattle.bser_format.specs.Grammar.{Format}
 use Rattle.bser_format.specs.Tree.{null}
 use Rattle.bser_format.specs.Expected.{Due, Fills, nothing_due, node_due, key_due, field_due, name_due, row_due}
-use Rattle.bser_named.specs.DueReaders.{Seen, tag, name, row}
+use Rattle.bser_format.specs.DueReaders.{Seen, tag, name, row}
 use Rattle.bser_source.specs.Window.{Window, Peeks, Took}
 use Rattle.bser_deserializer.specs.Dues.{IsTagged}
 use Rattle.bser_deserializer.specs.State.{State, past, with_source}

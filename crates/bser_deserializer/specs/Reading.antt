@@ -9,11 +9,11 @@ use Rattle.bser_format.specs.declared.errors.Error.TheVariants.{DeCustom, DeRead
 use Rattle.bser_format.specs.declared.errors.Message.TheVariants.{Fixed}
 use Rattle.bser_format.specs.declared.errors.Complaint.TheVariants.{BorrowedFromCopying}
 use Rattle.bser_format.specs.declared.errors.ReadCause.TheVariants.{Reader, Memory}
-use Rattle.bser_named.specs.Named as named
-use Rattle.bser_named.specs.Named.{refuses}
-use Rattle.bser_named.specs.DueReaders.{Seen, asked}
-use Rattle.bser_named.specs.Asks.{Asks}
-use Rattle.bser_named.specs.TypeLaws.{Passes}
+use Rattle.bser_format.specs.Named as named
+use Rattle.bser_format.specs.Named.{refuses}
+use Rattle.bser_format.specs.DueReaders.{Seen, asked}
+use Rattle.bser_format.specs.Asks.{Asks}
+use Rattle.bser_format.specs.TypeLaws.{Passes}
 use Rattle.bser_source.specs.Window.{Window, Took, left}
 use Rattle.bser_bunser.specs.Refusal.{Fails}
 use Rattle.bser_bunser.specs.Names.{Blame, Excused, MayBeLeft, Outside, RefusedAs}

@@ -3,7 +3,7 @@ use Rattle.std.specs.Prelude.{◌≡◌, ◌⊎◌, false, Option}
 use Rattle.bser_format.specs.Content.{Meaning}
 use Rattle.bser_format.specs.declared.errors.Error.{Error}
 use Rattle.bser_format.specs.declared.errors.Complaint.TheVariants.{TooFewItems}
-use Rattle.bser_named.specs.Named.{complain}
+use Rattle.bser_format.specs.Named.{complain}
 use Rattle.bser_deserializer.specs.State.{State, refused}
 use Rattle.bser_deserializer.specs.Reading.{Asking, Needs}
 use Rattle.bser_deserializer.specs.Parts.{items_left}

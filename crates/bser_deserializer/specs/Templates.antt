@@ -3,8 +3,8 @@ use Rattle.std.specs.Prelude.{◌≡◌, ℕ, List, [], length}
 use Rattle.bser_format.specs.Grammar.{Format, Given, ◌then◌, Each, SpellsCount, SpellsKey}
 use Rattle.bser_format.specs.Expected.{WantedItems}
 use Rattle.bser_format.specs.declared.errors.Kind.TheVariants.{TemplateKey}
-use Rattle.bser_named.specs.Named.{Reader, ◌>>=◌, count, many, text_of}
-use Rattle.bser_named.specs.DueReaders.{rows_wanted}
+use Rattle.bser_format.specs.Named.{Reader, ◌>>=◌, count, many, text_of}
+use Rattle.bser_format.specs.DueReaders.{rows_wanted}
 use Rattle.bser_source.specs.Window.{Window, Took}
 use Rattle.bser_bunser.specs.Seen.{Seen}
 use Rattle.bser_deserializer.specs.Reading.{NamesBy, owned}

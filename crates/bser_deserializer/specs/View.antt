@@ -4,10 +4,10 @@ use Rattle.bser_format.specs.declared.errors.Error.{Error}
 use Rattle.bser_source.specs.Window.{Peeks}
 use Rattle.bser_format.specs.Expected.{node_due, field_due, name_due}
 use Rattle.bser_format.specs.Expected as expected
-use Rattle.bser_named.specs.Named.{Reader, ◌>>=◌, next}
-use Rattle.bser_named.specs.DueReaders.{asked, nothing_at}
-use Rattle.bser_named.specs.Asks.{done}
-use Rattle.bser_named.specs.Clauses.{after_a_refusal, still_open}
+use Rattle.bser_format.specs.Named.{Reader, ◌>>=◌, next}
+use Rattle.bser_format.specs.DueReaders.{asked, nothing_at}
+use Rattle.bser_format.specs.Asks.{done}
+use Rattle.bser_format.specs.Clauses.{after_a_refusal, still_open}
 use Rattle.bser_bunser.specs.Refusal.{end_refusal}
 use Rattle.bser_deserializer.specs.Access.{OpenItems, OpenPairs}
 use Rattle.bser_deserializer.specs.Dues.{IsValueDue, due_of}

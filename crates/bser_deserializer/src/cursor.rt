@@ -1,8 +1,8 @@
 //! What is expected.
 ghost use Rattle.std.specs.Prelude.{◌≡◌, ◌≢◌, ◌<◌, ◌^◌, true, false, length, Some, IfOk, OnErr, IfSome, IfNone, if◌then◌else◌, OnOk};
 ghost use Rattle.bser_format.specs.Expected.{nothing_due, node_due, key_due, field_due, row_due};
-ghost use Rattle.bser_named.specs.DueReaders as due_readers;
-ghost use Rattle.bser_named.specs.DueReaders.{nothing_at, stray_at, wrong_type};
+ghost use Rattle.bser_format.specs.DueReaders as due_readers;
+ghost use Rattle.bser_format.specs.DueReaders.{nothing_at, stray_at, wrong_type};
 ghost use Rattle.bser_deserializer.specs.Calls.{Keeps, HasFailed, NamesTag, nothing_due_in};
 ghost use Rattle.bser_deserializer.specs.Dues.{IsValueDue, name_at};
 ghost use Rattle.bser_deserializer.specs.Kept.{kept_key, kept_keys};

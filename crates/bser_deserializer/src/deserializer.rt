@@ -2,7 +2,7 @@
 ghost use Rattle.std.specs.Prelude.{IsTrue, ◌≡◌, ◌≢◌, ◌≤◌, ◌-◌, ◌^◌, min, pos, true, false, IfOk, IfErr, OnOk, OnErr};
 ghost use Rattle.bser_format.specs.Errors.{error_of};
 ghost use Rattle.bser_format.specs.Expected.{nothing_due};
-ghost use Rattle.bser_named.specs.Named as named;
+ghost use Rattle.bser_format.specs.Named as named;
 ghost use Rattle.bser_bunser.specs.Names.{Names};
 ghost use Rattle.bser_deserializer.specs.Calls.{Keeps, HasFailed, RefusesBegin, complained};
 ghost use Rattle.bser_deserializer.specs.State.{Begins, IsAtEnd, IsUnread, refused};

@@ -1,6 +1,6 @@
 //! The kinds of values.
 ghost use Rattle.std.specs.Prelude.{◌≡◌, ℕ, List};
-ghost use Rattle.bser_named.specs.DueReaders.{tag};
+ghost use Rattle.bser_format.specs.DueReaders.{tag};
 ghost use Rattle.bser_deserializer.specs.Nodes.{node_at, tag_node};
 ghost use Rattle.bser_deserializer.specs.Dues.{due_of};
 

@@ -1,7 +1,7 @@
 //! A template's keys.
 ghost use Rattle.std.specs.Prelude.{◌≡◌, IfOk, OnOk, OnErr};
 ghost use Rattle.bser_format.specs.declared.errors.Kind.TheVariants.{TemplateKey};
-ghost use Rattle.bser_named.specs.Named.{text_of};
+ghost use Rattle.bser_format.specs.Named.{text_of};
 ghost use Rattle.bser_bunser.specs.Calls.{HasFailed};
 ghost use Rattle.bser_deserializer.specs.Kept.{TakesKey, TakesKeys, TakesKeysAndRows};
 ghost use Rattle.bser_deserializer.specs.Templates.{NamesPart, keys_after_number, keys_and_rows};

@@ -8,7 +8,7 @@ use Rattle.bser_format.specs.declared.errors.Error.{Error}
 use Rattle.bser_format.specs.declared.errors.Error.TheVariants.{DeRecursionLimitExceeded}
 use Rattle.bser_format.specs.declared.errors.Kind.{Kind}
 use Rattle.bser_format.specs.declared.errors.Kind.TheVariants as kinds
-use Rattle.bser_named.specs.Named.{Answer, reads, refuses, Reader, eof, give, and_then, front, text_of, field_of, value, with_text_keys}
+use Rattle.bser_format.specs.Named.{Answer, reads, refuses, Reader, eof, give, and_then, front, text_of, field_of, value, with_text_keys}
 use Rattle.bser_source.specs.Window.{Window, Filled}
 use Rattle.bser_source.proofs.Windows.{took_grown}
 use Rattle.bser_bunser.specs.declared.refusal.Refused.{Refused}

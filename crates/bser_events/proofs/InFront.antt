@@ -6,7 +6,7 @@ use Rattle.bser_format.specs.Tree as trees
 use Rattle.bser_format.specs.Tree.{Tree}
 use Rattle.bser_format.specs.Grammar.{SpellsCount}
 use Rattle.bser_format.specs.declared.errors.Kind.TheVariants.{MapKey}
-use Rattle.bser_named.specs.Named.{Reader, reads, and_then, give, front, string, utf8, text_of, field_of, with_text_keys}
+use Rattle.bser_format.specs.Named.{Reader, reads, and_then, give, front, string, utf8, text_of, field_of, with_text_keys}
 use Rattle.bser_source.specs.Window.{Window}
 use Rattle.bser_bunser.specs.declared.prefix.Prefix.TheVariants as prefixes
 use Rattle.bser_bunser.specs.declared.prefix.Token.{Token}

@@ -2,7 +2,7 @@
 use Rattle.std.proofs.Common.{◌≡◌, ℕ, zero, suc, List, [], ◌∷◌, ◌++◌, length, append_assoc, append-nil, refl, sym, ap, subst, ◌∙◌, inl, inr}
 use Rattle.bser_format.specs.Tree.{Tree, null, items_of, rows_of}
 use Rattle.bser_format.specs.declared.errors.Kind.TheVariants.{MapKey}
-use Rattle.bser_named.specs.Named.{Answer, reads, refuses, Reader, give, and_then, ◌>>=◌, many, entry_of, field_of, text_of, with_text_keys}
+use Rattle.bser_format.specs.Named.{Answer, reads, refuses, Reader, give, and_then, ◌>>=◌, many, entry_of, field_of, text_of, with_text_keys}
 use Rattle.std.specs.Prelude.{Option, Some, None}
 use Rattle.bser_events.specs.Events.{Event, key, close, events, part_events, item_events, row_events}
 use Rattle.bser_events.specs.Frames.{Left, parts_of, Fits, left_events, Takes, IsDone}

@@ -5,8 +5,8 @@ use Rattle.std.specs.Prelude.{◌⊎◌, Option, Some, None}
 use Rattle.bser_format.specs.Tree.{Tree}
 use Rattle.bser_format.specs.declared.errors.Error.{Error}
 use Rattle.bser_format.specs.declared.errors.Kind.TheVariants.{MapKey}
-use Rattle.bser_named.specs.Named.{Reader, refuses, and_then, ◌>>=◌, text_of, field_of, with_text_keys}
-use Rattle.bser_named.proofs.Steps.{Continues}
+use Rattle.bser_format.specs.Named.{Reader, refuses, and_then, ◌>>=◌, text_of, field_of, with_text_keys}
+use Rattle.bser_format.proofs.Steps.{Continues}
 use Rattle.bser_source.specs.Window.{Window, Within, Took}
 use Rattle.bser_source.proofs.Windows.{took_then}
 use Rattle.bser_bunser.specs.Refusal.{Fails}

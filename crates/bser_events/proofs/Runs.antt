@@ -4,7 +4,7 @@ use Rattle.std.specs.Prelude.{Option, Some, None}
 use Rattle.bser_format.specs.declared.errors.Error.{Error}
 use Rattle.bser_format.specs.declared.errors.Error.TheVariants.{OutOfMemory}
 use Rattle.bser_format.specs.declared.errors.Kind.TheVariants.{MapKey}
-use Rattle.bser_named.specs.Named.{Reader, text_of, field_of, with_text_keys}
+use Rattle.bser_format.specs.Named.{Reader, text_of, field_of, with_text_keys}
 use Rattle.bser_source.specs.Window.{Window, AreOctets, Took, consumed, closed}
 use Rattle.bser_source.proofs.Windows.{taken, octets_rest}
 use Rattle.bser_events.specs.Events.{Event, TakesAll, key, events, part_events}

@@ -7,7 +7,7 @@ use Rattle.bser_format.specs.declared.errors.Error.{Error}
 use Rattle.bser_format.specs.declared.errors.Error.TheVariants.{DeInvalidStartByte, DeRecursionLimitExceeded}
 use Rattle.bser_format.specs.declared.errors.Kind.TheVariants as kinds
 use Rattle.bser_format.specs.declared.errors.Complaint.TheVariants.{NegativeCount, RowsWithoutKeys}
-use Rattle.bser_named.specs.Named.{Answer, Reader, reads, refuses, and_then, ◌>>=◌, give, count, many, complain, text_of, field_of, with_text_keys, rows_body, template_body}
+use Rattle.bser_format.specs.Named.{Answer, Reader, reads, refuses, and_then, ◌>>=◌, give, count, many, complain, text_of, field_of, with_text_keys, rows_body, template_body}
 use Rattle.bser_source.specs.Window.{Window, Filled, Took, consumed, closed}
 use Rattle.bser_source.proofs.Windows.{took_then, took_filled}
 use Rattle.bser_bunser.specs.Refusal.{failures_by, Fails}
@@ -26,7 +26,7 @@ use Rattle.bser_events.specs.declared.frame.Parts.TheVariants as parts
 use Rattle.bser_events.proofs.Takings.{takes_one, takes_then}
 use Rattle.bser_events.proofs.Leads.{map_then, two_steps, Awaits, frame_of}
 use Rattle.bser_events.proofs.Midways.{Midway, took_none, midway_at, midway_seen, midway_refused}
-use Rattle.bser_named.proofs.Sifting.{Anything, always, many_always}
+use Rattle.bser_format.proofs.Sifting.{Anything, always, many_always}
 
 -- ---- counts of what a list gives
 

@@ -3,11 +3,11 @@ use Rattle.std.proofs.Common.{◌≡◌, ◌⊎◌, ◌||◌, ℕ, Bool, true, f
 use Rattle.std.specs.Str.{is_utf8}
 use Rattle.std.proofs.lemmas.Str.{IsUtf8-from_is_utf8, is_utf8-from_IsUtf8}
 use Rattle.std.proofs.lemmas.Bool.{ne_eqb, eqb-true}
-use Rattle.bser_named.specs.DueReaders.{is_key_tag}
+use Rattle.bser_format.specs.DueReaders.{is_key_tag}
 use Rattle.bser_format.specs.declared.errors.Error.{Error}
 use Rattle.bser_format.specs.declared.errors.Error.TheVariants.{DeInvalidStartByte}
 use Rattle.bser_format.specs.declared.errors.Kind.{Kind}
-use Rattle.bser_named.specs.Named.{Answer, reads, refuses, and_then, give, refuse, front, string, utf8, utf8_wanted, text_of}
+use Rattle.bser_format.specs.Named.{Answer, reads, refuses, and_then, give, refuse, front, string, utf8, utf8_wanted, text_of}
 use Rattle.bser_source.specs.Window.{Window, Filled, Took, consumed, closed}
 use Rattle.bser_source.proofs.Windows.{took_then, took_filled}
 use Rattle.bser_bunser.specs.Refusal.{Fails}

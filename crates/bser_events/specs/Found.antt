@@ -5,8 +5,8 @@ use Rattle.bser_format.specs.declared.errors.Error.{Error}
 use Rattle.bser_format.specs.declared.errors.Error.TheVariants.{OutOfMemory, DeRecursionLimitExceeded}
 use Rattle.bser_format.specs.declared.errors.Kind.{Kind}
 use Rattle.bser_format.specs.declared.errors.Kind.TheVariants as kinds
-use Rattle.bser_named.specs.Named.{Reader, reads, refuse, and_then, give, ◌>>=◌, next, front, utf8, text_of, many, with_text_keys}
-use Rattle.bser_named.specs.DueReaders.{less_one}
+use Rattle.bser_format.specs.Named.{Reader, reads, refuse, and_then, give, ◌>>=◌, next, front, utf8, text_of, many, with_text_keys}
+use Rattle.bser_format.specs.DueReaders.{less_one}
 use Rattle.bser_source.specs.Window.{Window, Filled, Took}
 use Rattle.bser_bunser.specs.Refusal.{Fails}
 use Rattle.bser_bunser.specs.Names.{Names, RefusesBy}

@@ -2,7 +2,7 @@
 use Rattle.std.specs.Prelude.{◌≡◌, ◌⊎◌, ◌<◌, ◌^◌, ℕ, suc, List, ◌++◌, length, Option, Some, None}
 use Rattle.bser_format.specs.Tree.{Tree, items_of, entries_of, fields_of, rows_of}
 use Rattle.bser_format.specs.declared.errors.Kind.TheVariants.{MapKey}
-use Rattle.bser_named.specs.Named.{Reader, give, ◌>>=◌, many, entry_of, field_of, text_of, with_text_keys}
+use Rattle.bser_format.specs.Named.{Reader, give, ◌>>=◌, many, entry_of, field_of, text_of, with_text_keys}
 use Rattle.bser_events.specs.Events.{Event, item_events, entry_events, field_events, row_events}
 use Rattle.bser_events.specs.declared.frame.Parts.{Parts}
 use Rattle.bser_events.specs.declared.frame.Parts.TheVariants.{Items, Entries, Rows}

@@ -1,7 +1,7 @@
 -- Pieces of a value that are at the start of some bytes: keys, scalars, strings and skips.
 use Rattle.std.specs.Prelude.{◌≡◌, ◌⊎◌, ℕ, ◌≤◌, Bool, true, false, List, [], ◌∷◌, ◌++◌, length, take, IsUtf8}
 use Rattle.bser_format.specs.declared.errors.Kind.TheVariants.{MapKey}
-use Rattle.bser_named.specs.Named.{Reader, reads, text_of, field_of, with_text_keys}
+use Rattle.bser_format.specs.Named.{Reader, reads, text_of, field_of, with_text_keys}
 use Rattle.bser_bunser.specs.declared.prefix.Token.{Token}
 use Rattle.bser_bunser.specs.declared.prefix.Token.TheVariants as tokens
 use Rattle.bser_events.specs.Events as told

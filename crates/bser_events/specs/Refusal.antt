@@ -2,7 +2,7 @@
 use Rattle.bser_format.specs.declared.errors.Error.{Error}
 use Rattle.bser_format.specs.declared.errors.Error.TheVariants.{OutOfMemory, DeRecursionLimitExceeded, DeInvalidStartByte}
 use Rattle.bser_format.specs.declared.errors.Complaint.TheVariants.{RowsWithoutKeys}
-use Rattle.bser_named.specs.Named.{complain, utf8_wanted}
+use Rattle.bser_format.specs.Named.{complain, utf8_wanted}
 use Rattle.bser_events.specs.declared.refusal.Fault.{Fault}
 use Rattle.bser_events.specs.declared.refusal.Fault.TheVariants.{Level, Tag, Text, Rows, Memory}
 

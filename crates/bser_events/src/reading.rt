@@ -2,7 +2,7 @@
 //! where that ends.
 ghost use Rattle.std.specs.Prelude.{◌≡◌, ◌≤◌, ◌++◌, ◌∷◌, [], length, vec_capacity, OnOk, OnErr};
 ghost use Rattle.bser_format.specs.declared.errors.Kind.TheVariants as kinds;
-ghost use Rattle.bser_named.specs.Named.{text_of};
+ghost use Rattle.bser_format.specs.Named.{text_of};
 ghost use Rattle.bser_format.specs.declared.errors.Error.TheVariants.{OutOfMemory};
 ghost use Rattle.bser_bunser.specs.Calls.{Keeps, Closes};
 ghost use Rattle.bser_events.specs.Found.{TellsValue, TellsDueKey, RefusesValue, RefusesTelling};

@@ -1,6 +1,6 @@
 //! Strings and keys, read and reported.
 ghost use Rattle.std.specs.Prelude.{◌≡◌, ◌<◌, ◌^◌, OnOk, OnErr};
-ghost use Rattle.bser_named.specs.Named.{front, text_of};
+ghost use Rattle.bser_format.specs.Named.{front, text_of};
 ghost use Rattle.bser_bunser.specs.Calls.{Keeps};
 ghost use Rattle.bser_events.specs.Found.{TellsText, TellsBytes, TellsKey, RefusesTelling, text_bytes};
 

@@ -7,9 +7,9 @@ use Rattle.bser_format.specs.Content.{Content, byte_list, Meaning}
 use Rattle.bser_format.specs.ReadsScalars.{reads_string, utf8_of}
 use Rattle.bser_format.specs.Expected.{FillsPairs, WantedPairs, entries_of_object, fields_of_row}
 use Rattle.bser_format.specs.declared.errors.Error.{Error}
-use Rattle.bser_named.specs.Clauses.{after_a_refusal}
-use Rattle.bser_named.specs.Named.{give}
-use Rattle.bser_named.proofs.Options.{chained, when_some}
+use Rattle.bser_format.specs.Clauses.{after_a_refusal}
+use Rattle.bser_format.specs.Named.{give}
+use Rattle.bser_format.proofs.Options.{chained, when_some}
 use Rattle.bser_source.specs.Window.{closed}
 use Rattle.bser_deserializer.specs.Askings.{asking_string}
 use Rattle.bser_deserializer.specs.State.{State, refused}

@@ -13,16 +13,16 @@ use Rattle.bser_format.specs.declared.errors.Error.{Error}
 use Rattle.bser_format.specs.declared.errors.Kind.TheVariants.{MapKey}
 use Rattle.bser_format.specs.declared.errors.Complaint.TheVariants.{ItemsLeft, TooFewItems}
 use Rattle.bser_source.specs.Device.{one_more}
-use Rattle.bser_named.specs.Named.{Answer, Reader, reads, refuses, refuse, give, and_then, ◌>>=◌, complain, text_of}
-use Rattle.bser_named.specs.DueReaders.{asked, text_at}
-use Rattle.bser_named.specs.Asks.{Asks, done, asks_any, asks_string, inside, place_of, complete, value_at, value_by, entries_asked, fields_asked, struct_asked}
-use Rattle.bser_named.specs.Asks as asks
-use Rattle.bser_named.specs.TypeLaws.{PassEach}
-use Rattle.bser_named.proofs.Anything.{ignored_passes}
-use Rattle.bser_named.proofs.Enums.{key_there}
-use Rattle.bser_named.proofs.Options.{made}
-use Rattle.bser_named.proofs.Steps as steps
-use Rattle.bser_named.proofs.Steps.{Continues, first_read}
+use Rattle.bser_format.specs.Named.{Answer, Reader, reads, refuses, refuse, give, and_then, ◌>>=◌, complain, text_of}
+use Rattle.bser_format.specs.DueReaders.{asked, text_at}
+use Rattle.bser_format.specs.Asks.{Asks, done, asks_any, asks_string, inside, place_of, complete, value_at, value_by, entries_asked, fields_asked, struct_asked}
+use Rattle.bser_format.specs.Asks as asks
+use Rattle.bser_format.specs.TypeLaws.{PassEach}
+use Rattle.bser_format.proofs.Anything.{ignored_passes}
+use Rattle.bser_format.proofs.Enums.{key_there}
+use Rattle.bser_format.proofs.Options.{made}
+use Rattle.bser_format.proofs.Steps as steps
+use Rattle.bser_format.proofs.Steps.{Continues, first_read}
 use Rattle.bser_deserializer.specs.Fields.{field_of}
 use Rattle.bser_deserializer.specs.Parts.{pairs_left, pair_key, pair_value, pairs_after}
 use Rattle.bser_deserializer.specs.declared.field.Field.{Field}

@@ -10,10 +10,10 @@ use Rattle.bser_format.specs.declared.errors.Error.{Error}
 use Rattle.bser_format.specs.declared.errors.Error.TheVariants.{DeReaderError}
 use Rattle.bser_format.specs.declared.errors.Complaint.TheVariants.{ItemsLeft}
 use Rattle.bser_format.specs.declared.errors.ReadCause.TheVariants.{Failed}
-use Rattle.bser_named.specs.Named.{Answer, reads, refuses, refuse, give, and_then, ◌>>=◌, complain}
-use Rattle.bser_named.specs.Asks.{Asks, value_at, value_by, asks_any}
-use Rattle.bser_named.specs.Asks as asks
-use Rattle.bser_named.specs.Clauses.{after_a_refusal}
+use Rattle.bser_format.specs.Named.{Answer, reads, refuses, refuse, give, and_then, ◌>>=◌, complain}
+use Rattle.bser_format.specs.Asks.{Asks, value_at, value_by, asks_any}
+use Rattle.bser_format.specs.Asks as asks
+use Rattle.bser_format.specs.Clauses.{after_a_refusal}
 use Rattle.bser_deserializer.specs.Askings.{asking_ignored}
 use Rattle.bser_deserializer.specs.Reading.{Answers, Asking, FillsReadably, IsRefusal, NamesAsked, NamesBy, Refuses, owned, Needs}
 use Rattle.bser_deserializer.specs.Seen.{Seen}

@@ -11,12 +11,12 @@ use Rattle.bser_format.specs.Expected.{Fills, FillsPairs, WantedPairs, entries_o
 use Rattle.bser_format.specs.declared.errors.Error.{Error}
 use Rattle.bser_format.specs.declared.errors.Complaint.TheVariants.{TooFewItems}
 use Rattle.bser_source.specs.Device.{one_more}
-use Rattle.bser_named.specs.Named.{Reader, refuses, and_then, give, complain}
-use Rattle.bser_named.specs.DueReaders.{asked, pairs_at}
-use Rattle.bser_named.specs.Asks.{Asks, Field, inside, value_by, struct_asked}
-use Rattle.bser_named.specs.Clauses.{after_a_refusal}
-use Rattle.bser_named.specs.TypeLaws.{PassEach}
-use Rattle.bser_named.proofs.Steps.{Continues, first_read}
+use Rattle.bser_format.specs.Named.{Reader, refuses, and_then, give, complain}
+use Rattle.bser_format.specs.DueReaders.{asked, pairs_at}
+use Rattle.bser_format.specs.Asks.{Asks, Field, inside, value_by, struct_asked}
+use Rattle.bser_format.specs.Clauses.{after_a_refusal}
+use Rattle.bser_format.specs.TypeLaws.{PassEach}
+use Rattle.bser_format.proofs.Steps.{Continues, first_read}
 use Rattle.bser_source.specs.Window.{Took}
 use Rattle.bser_deserializer.specs.Askings.{asking_string}
 use Rattle.bser_deserializer.specs.State.{State, awaiting, past, refused}
@@ -28,7 +28,7 @@ use Rattle.bser_deserializer.specs.declared.field.Field as field
 use Rattle.bser_deserializer.proofs.Refusals.{names_by_untaken, unfit_here}
 use Rattle.bser_deserializer.proofs.Containers.{pairs_pass}
 use Rattle.bser_deserializer.proofs.Texts.{took_nothing}
-use Rattle.bser_named.proofs.Options.{chained, when_some}
+use Rattle.bser_format.proofs.Options.{chained, when_some}
 use Rattle.bser_types.specs.Askings.{counted}
 use Rattle.bser_types.specs.Fold.{folds, comes_to, step_by_name}
 use Rattle.bser_types.specs.Slots.{StructField, fill_field, field_at_end, all_at_end, reads_struct, FillsStep}

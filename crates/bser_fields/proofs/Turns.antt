@@ -7,8 +7,8 @@ use Rattle.bser_format.specs.ReadsHolders.{list_of}
 use Rattle.bser_format.specs.Expected.{Due, WantedPairs, node_due, key_due, field_due, entries_of_object}
 use Rattle.bser_format.specs.declared.errors.Error.{Error}
 use Rattle.bser_format.specs.declared.errors.Complaint.TheVariants.{TooFewItems}
-use Rattle.bser_named.specs.Named.{complain}
-use Rattle.bser_named.specs.Clauses.{after_a_refusal}
+use Rattle.bser_format.specs.Named.{complain}
+use Rattle.bser_format.specs.Clauses.{after_a_refusal}
 use Rattle.bser_deserializer.specs.Access.{OpenPairs, IsKey, after_closing, pairs_in}
 use Rattle.bser_deserializer.specs.Askings.{asking_string}
 use Rattle.bser_deserializer.specs.Fields.{HoldsField}

@@ -1,8 +1,8 @@
 -- The fields of a struct, as they are asked for.
 use Rattle.std.specs.Prelude.{ℕ, List, [], ◌∷◌, Option, Some, None}
 use Rattle.std.specs.Option.{is_some}
-use Rattle.bser_named.specs.Asks.{Asks}
-use Rattle.bser_named.specs.Asks as asks
+use Rattle.bser_format.specs.Asks.{Asks}
+use Rattle.bser_format.specs.Asks as asks
 use Rattle.bser_deserializer.specs.declared.field.Field.{Field}
 use Rattle.bser_deserializer.specs.declared.field.Field.TheVariants.{Known, Unknown}
 use Rattle.bser_types.specs.Slots.{StructField}

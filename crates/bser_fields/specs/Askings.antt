@@ -1,7 +1,7 @@
 -- Which reader gives the errors of a struct, by what its fields ask for.
 use Rattle.std.specs.Prelude.{ℕ, List, [], ◌∷◌, map, Option, Some, None, option_map}
-use Rattle.bser_named.specs.Asks.{Asks, asks_struct}
-use Rattle.bser_named.specs.TypeLaws.{PassEach}
+use Rattle.bser_format.specs.Asks.{Asks, asks_struct}
+use Rattle.bser_format.specs.TypeLaws.{PassEach}
 use Rattle.bser_deserializer.specs.Reading.{Asking}
 use Rattle.bser_types.specs.Askings.{counted}
 use Rattle.bser_types.specs.Slots.{StructField, reads_struct}

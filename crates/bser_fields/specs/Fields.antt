@@ -5,11 +5,11 @@ use Rattle.bser_format.specs.Tree.{Tree}
 use Rattle.bser_format.specs.Content.{Content, Meaning}
 use Rattle.bser_format.specs.Expected.{Fills, name_due}
 use Rattle.bser_format.specs.declared.errors.Error.{Error}
-use Rattle.bser_named.specs.Asks.{value_at, value_by}
+use Rattle.bser_format.specs.Asks.{value_at, value_by}
 use Rattle.bser_format.specs.declared.errors.Complaint.{Complaint}
 use Rattle.bser_format.specs.declared.errors.Complaint.TheVariants.{ItemsLeft}
-use Rattle.bser_named.specs.Clauses.{after_a_refusal}
-use Rattle.bser_named.specs.Named.{complain}
+use Rattle.bser_format.specs.Clauses.{after_a_refusal}
+use Rattle.bser_format.specs.Named.{complain}
 use Rattle.bser_source.specs.Window.{Took}
 use Rattle.bser_deserializer.specs.Dues.{name_at}
 use Rattle.bser_deserializer.specs.Fields.{field_of}

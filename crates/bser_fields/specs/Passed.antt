@@ -5,11 +5,11 @@ use Rattle.bser_format.specs.Tree.{Tree, null, boolean, integer, real, bytes, te
 use Rattle.bser_format.specs.Content.{Content, Meaning, each_some}
 use Rattle.bser_format.specs.ReadsAny.{reads_ignored}
 use Rattle.bser_format.specs.ReadsHolders.{list_of}
-use Rattle.bser_named.specs.Asks.{Asks, asks_struct, place_of}
-use Rattle.bser_named.specs.TypeLaws.{Passes, PassEach}
-use Rattle.bser_named.specs.Structs as plain
-use Rattle.bser_named.specs.Structs.{Slot, PassFields}
-use Rattle.bser_named.proofs.Structs.{struct_passes}
+use Rattle.bser_format.specs.Asks.{Asks, asks_struct, place_of}
+use Rattle.bser_format.specs.TypeLaws.{Passes, PassEach}
+use Rattle.bser_format.specs.Structs as plain
+use Rattle.bser_format.specs.Structs.{Slot, PassFields}
+use Rattle.bser_format.proofs.Structs.{struct_passes}
 use Rattle.bser_deserializer.specs.Fields.{field_from, field_of}
 use Rattle.bser_deserializer.specs.declared.field.Field.{Field}
 use Rattle.bser_deserializer.specs.declared.field.Field.TheVariants.{Known, Unknown}

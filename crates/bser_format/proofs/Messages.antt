@@ -10,7 +10,7 @@ use Rattle.bser_format.specs.Grammar.{Format, Bytes, Given, SpellsCount, Spells,
 use Rattle.bser_format.specs.Message.{IsMessage}
 use Rattle.bser_format.specs.Plain.{give, fail, ◌>>=◌, front, check, string, value, magic, parts, at_end, framed, message}
 use Rattle.bser_format.proofs.Fronts.{value_reads}
-use Rattle.bser_format.proofs.Laws.{Frame, parts_reads}
+use Rattle.bser_format.proofs.GrammarLaws.{Frame, parts_reads}
 use Rattle.bser_format.proofs.Sound.{IsBytes, Sound, Exactly, then_some, bytes_parts, le_bytes_back, byte_at, front_sound, string_sound, value_sound, bind_sound, map_sound, only, if_sound, give_sound, fail_sound}
 
 pub value_exact : (n : ℕ) (b y : List ℕ) (t : Tree) → IsBytes b → (value n b ≡ Some (t, y)) ↔ ((a : List ℕ) × (b ≡ a ++ y) × Spells n t a)

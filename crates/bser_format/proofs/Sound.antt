@@ -15,7 +15,7 @@ use Rattle.bser_format.specs.Tree.{Tree, null, boolean, integer, real, bytes, te
 use Rattle.bser_format.specs.Grammar.{Format, Bytes, Given, Each, SpellsInteger, SpellsCount, SpellsString, SpellsKey, SpellsEntry, SpellsField, IsTemplate, Spells, IntSize, int8, int16, int32, int64, width_of, tag_of, ◌then◌}
 use Rattle.bser_format.specs.Plain.{Reader, give, fail, ◌>>=◌, next, front, many, number, int_after, int, natural, count, string, check, utf8, key_after, any_string, key, entry_of, prefer, or_else, skipped, field_after, array_body, object_body, rows_body, template_body, leaf, branch, is_positive, value}
 use Rattle.bser_format.proofs.Canon.{joined, tagged}
-use Rattle.bser_format.proofs.Laws.{more_levels}
+use Rattle.bser_format.proofs.GrammarLaws.{more_levels}
 
 abbrev pub IsBytes : List ℕ → Type 0
 IsBytes b = AllByRecursion (λ x. x < 256) b

@@ -6,7 +6,7 @@ use Rattle.bser_format.specs.declared.errors.Error.TheVariants.{DeCustom, DeRead
 use Rattle.bser_format.specs.declared.errors.Message.TheVariants.{Fixed}
 use Rattle.bser_format.specs.declared.errors.Complaint.TheVariants as complaints
 use Rattle.bser_format.specs.declared.errors.ReadCause.TheVariants.{Reader, Failed}
-use Rattle.bser_named.specs.Named as named
+use Rattle.bser_format.specs.Named as named
 use Rattle.bser_source.specs.Window.{Window, with_limit}
 use Rattle.bser_bunser.specs.Refusal.{Fails}
 use Rattle.bser_bunser.specs.Names.{Blame, MayBeLeft, RefusedAs}

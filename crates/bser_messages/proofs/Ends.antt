@@ -7,9 +7,9 @@ use Rattle.bser_format.specs.Message.{Head}
 use Rattle.bser_format.specs.declared.errors.Error.{Error}
 use Rattle.bser_format.specs.declared.errors.Error.TheVariants.{DeEof}
 use Rattle.bser_format.specs.declared.errors.Complaint.TheVariants.{CountTooGreat}
-use Rattle.bser_named.specs.Named as named
-use Rattle.bser_named.specs.Named.{Reader, reads, refuses, give, refuse, complain, and_then, ends, ends_at}
-use Rattle.bser_named.proofs.Steps.{Passes}
+use Rattle.bser_format.specs.Named as named
+use Rattle.bser_format.specs.Named.{Reader, reads, refuses, give, refuse, complain, and_then, ends, ends_at}
+use Rattle.bser_format.proofs.Steps.{Passes}
 use Rattle.bser_bunser.specs.Refusal.{end_refusal}
 use Rattle.bser_deserializer.specs.Reading.{IsRefusal}
 

@@ -12,9 +12,9 @@ use Rattle.bser_format.specs.declared.errors.Error.{Error}
 use Rattle.bser_format.proofs.Frames.{framed, parts}
 use Rattle.bser_format.proofs.Fronts.{one_value}
 use Rattle.bser_format.proofs.OneHead.{one_head}
-use Rattle.bser_named.specs.Named as named
-use Rattle.bser_named.specs.Named.{refuses}
-use Rattle.bser_named.specs.Clauses.{after_a_refusal, still_open}
+use Rattle.bser_format.specs.Named as named
+use Rattle.bser_format.specs.Named.{refuses}
+use Rattle.bser_format.specs.Clauses.{after_a_refusal, still_open}
 use Rattle.bser_source.specs.Window.{Window, Within, Took, left, with_limit}
 use Rattle.bser_source.proofs.Windows.{left_took, octets_then}
 use Rattle.bser_bunser.specs.Tagged.{IsHead}

@@ -12,7 +12,7 @@ use Rattle.bser_format.specs.declared.errors.Message.TheVariants.{Fixed}
 use Rattle.bser_format.specs.declared.errors.Complaint.TheVariants as complaints
 use Rattle.bser_format.specs.declared.errors.ReadCause.TheVariants.{Reader, Failed}
 use Rattle.bser_source.specs.Device.{one_more, Blamed}
-use Rattle.bser_named.specs.Named as named
+use Rattle.bser_format.specs.Named as named
 use Rattle.bser_source.specs.Window.{Window, left}
 use Rattle.bser_source.specs.Slice.{slice_fresh}
 use Rattle.bser_bunser.specs.Refusal.{failures_by}

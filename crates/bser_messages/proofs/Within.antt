@@ -7,7 +7,7 @@ use Rattle.bser_format.specs.declared.errors.Error.{Error}
 use Rattle.bser_format.specs.Message.{Head}
 use Rattle.bser_format.specs.Grammar.{IntSize, int8, int16, int32, int64, width_of}
 use Rattle.bser_format.proofs.OneHead.{one_head}
-use Rattle.bser_named.specs.Named as named
+use Rattle.bser_format.specs.Named as named
 use Rattle.bser_source.specs.Window.{Window, Grown, Took, left, with_limit}
 use Rattle.bser_source.proofs.Windows.{left_took, left_grown, took_grown}
 use Rattle.bser_bunser.specs.Names.{Names}

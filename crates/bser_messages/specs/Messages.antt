@@ -12,7 +12,7 @@ use Rattle.bser_format.specs.declared.errors.Error.TheVariants.{DeReaderError, O
 use Rattle.bser_format.specs.declared.errors.ReadCause.TheVariants.{Reader, Failed}
 use Rattle.bser_source.specs.Device.{Blamed}
 use Rattle.bser_source.specs.declared.device.Source as source
-use Rattle.bser_named.specs.Named as named
+use Rattle.bser_format.specs.Named as named
 use Rattle.bser_source.specs.Window.{Window, Took, left, with_limit}
 use Rattle.bser_bunser.specs.Refusal.{failures_by}
 use Rattle.bser_bunser.specs.Tagged.{IsHead}

@@ -9,8 +9,8 @@ use Rattle.bser_format.specs.Expand.{expand}
 use Rattle.bser_format.specs.Expected.{node_due}
 use Rattle.bser_format.specs.declared.errors.Error.{Error}
 use Rattle.bser_format.specs.declared.errors.Error.TheVariants.{OutOfMemory}
-use Rattle.bser_format.proofs.Laws.{one_message}
-use Rattle.bser_named.specs.Named as named
+use Rattle.bser_format.proofs.GrammarLaws.{one_message}
+use Rattle.bser_format.specs.Named as named
 use Rattle.serde_bser.specs.Messages.{ReadsMessageAs, BeginsWith, TookMessage, RefusesSlice, RefusesReader, NamesSlice, NamesReader, IsMemory, IsReaderFault, IsOutside}
 use Rattle.serde_bser.specs.Reading.{Asking, Needs}
 use Rattle.bser_promises.specs.Agreement.{ReadAlike, SameName}

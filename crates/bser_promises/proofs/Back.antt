@@ -13,14 +13,14 @@ use Rattle.bser_format.specs.Measures.{depth}
 use Rattle.bser_format.specs.Message.{IsMessage}
 use Rattle.bser_format.specs.Canonical.{canonical_message, IsWritable}
 use Rattle.bser_format.specs.declared.errors.Error.{Error}
-use Rattle.bser_written.specs.Compact.{compact_message, fold_templates}
-use Rattle.bser_written.specs.ValueTree.{IsValueTree}
-use Rattle.bser_written.proofs.Back.{canon_message}
-use Rattle.bser_written.proofs.CompactMessages.{equal_compact}
-use Rattle.bser_written.proofs.Fits.{body_fits, equal_values, value_reads_as_itself}
-use Rattle.bser_written.proofs.Folded.{folded_reads}
-use Rattle.bser_written.proofs.FoldedFits.{short_writable}
-use Rattle.bser_format.proofs.Laws.{one_message, more_levels}
+use Rattle.bser_format.specs.Compact.{compact_message, fold_templates}
+use Rattle.bser_format.specs.ValueTree.{IsValueTree}
+use Rattle.bser_format.proofs.Back.{canon_message}
+use Rattle.bser_format.proofs.CompactMessages.{equal_compact}
+use Rattle.bser_format.proofs.Fits.{body_fits, equal_values, value_reads_as_itself}
+use Rattle.bser_format.proofs.Folded.{folded_reads}
+use Rattle.bser_format.proofs.FoldedFits.{short_writable}
+use Rattle.bser_format.proofs.GrammarLaws.{one_message, more_levels}
 use Rattle.bser_ser.proofs.Messages.{same_message}
 use Rattle.bser_ser.specs.Message.{message_of}
 use Rattle.bser_value.specs.declared.value.Value.{Value}

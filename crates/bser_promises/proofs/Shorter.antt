@@ -3,14 +3,14 @@ use Rattle.std.proofs.Common.{◌≡◌, ℕ, ◌≤◌, List, ◌++◌, length,
 use Rattle.std.specs.Prelude.{option_map, IfOk, IfErr}
 use Rattle.bser_format.specs.Tree.{Tree}
 use Rattle.bser_format.specs.Canonical.{canonical_message}
-use Rattle.bser_written.specs.Compact.{compact_message}
+use Rattle.bser_format.specs.Compact.{compact_message}
 use Rattle.bser_format.specs.declared.errors.Error.{Error}
 use Rattle.bser_format.specs.Expand.{expand, IsTemplateFree}
 use Rattle.bser_format.specs.Content.{Content, value}
 use Rattle.bser_format.specs.Normal.{normal}
 use Rattle.bser_format.specs.ReadsAny.{reads_value}
-use Rattle.bser_written.proofs.Bounds.{least_message, value_nodes, value_depth, value_body, value_fits}
-use Rattle.bser_written.proofs.LeastCompact.{least_compact}
+use Rattle.bser_format.proofs.Bounds.{least_message, value_nodes, value_depth, value_body, value_fits}
+use Rattle.bser_format.proofs.LeastCompact.{least_compact}
 use Rattle.bser_ser.proofs.Messages.{same_message}
 use Rattle.bser_ser.specs.Message.{message_of, IsUnmeasured}
 use Rattle.bser_value.specs.declared.value.Value.{Value}

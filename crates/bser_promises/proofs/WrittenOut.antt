@@ -5,10 +5,10 @@ use Rattle.bser_format.specs.Tree.{Tree}
 use Rattle.bser_format.specs.Expand.{expand}
 use Rattle.bser_format.specs.Content.{Content, Meaning}
 use Rattle.bser_format.specs.Message.{IsMessage}
-use Rattle.bser_written.specs.WrittenOut.{row_objects}
+use Rattle.bser_format.specs.WrittenOut.{row_objects}
 use Rattle.bser_format.specs.declared.errors.Error.{Error}
-use Rattle.bser_format.proofs.Laws.{one_message}
-use Rattle.bser_written.proofs.Written.{written_out_spelled, same_expansion}
+use Rattle.bser_format.proofs.GrammarLaws.{one_message}
+use Rattle.bser_format.proofs.Written.{written_out_spelled, same_expansion}
 use Rattle.std.proofs.lemmas.Option.{same_Some}
 use Rattle.serde_bser.specs.Messages.{ReadsMessageAs, BeginsWith, TookMessage, RefusesSlice, RefusesReader, IsMemory, IsReaderFault}
 use Rattle.serde_bser.specs.Reading.{Asking, Needs}

@@ -4,7 +4,7 @@ use Rattle.bser_format.specs.Content.{Content, Meaning}
 use Rattle.bser_format.specs.Expected.{node_due}
 use Rattle.bser_format.specs.declared.errors.Error.{Error}
 use Rattle.bser_format.specs.declared.errors.Error.TheVariants.{OutOfMemory}
-use Rattle.bser_named.specs.Named as named
+use Rattle.bser_format.specs.Named as named
 use Rattle.serde_bser.specs.Messages.{ReadsMessageAs, IsOutside}
 use Rattle.serde_bser.specs.Reading.{Asking}
 

@@ -6,7 +6,7 @@ use Rattle.bser_format.specs.Grammar.{Bytes, SpellsCount, ◌then◌}
 use Rattle.bser_format.specs.Message.{IsMessage}
 use Rattle.bser_format.specs.Content.{Content, Meaning}
 use Rattle.bser_format.specs.Expand.{expand}
-use Rattle.bser_written.specs.WrittenOut.{written_out}
+use Rattle.bser_format.specs.WrittenOut.{written_out}
 
 -- a message's frame with these capabilities, round this body
 pub record IsFrameOf (capabilities : ℕ) (body b : List ℕ) : Type 0 where

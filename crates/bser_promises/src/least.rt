@@ -1,7 +1,7 @@
 //! Messages than which no other is shorter.
 ghost use Rattle.std.specs.Prelude.{◌≡◌, Ok, IfOk, IfErr};
 ghost use Rattle.bser_format.specs.Canonical.{canonical_message};
-ghost use Rattle.bser_written.specs.Compact.{compact_message, fold_templates};
+ghost use Rattle.bser_format.specs.Compact.{compact_message, fold_templates};
 ghost use Rattle.bser_format.specs.Expand.{IsTemplateFree};
 ghost use Rattle.bser_ser.specs.Message.{IsUnmeasured};
 ghost use Rattle.serde_bser.specs.ValueView.{tree_of};

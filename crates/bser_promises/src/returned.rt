@@ -1,7 +1,7 @@
 //! Values that are written and read back.
 ghost use Rattle.std.specs.Prelude.{◌≡◌, ◌≤◌, ◌++◌, Ok, IfOk, IfErr};
 ghost use Rattle.bser_format.specs.Canonical.{canonical_message};
-ghost use Rattle.bser_written.specs.Compact.{fold_templates};
+ghost use Rattle.bser_format.specs.Compact.{fold_templates};
 ghost use Rattle.bser_ser.specs.Message.{IsUnmeasured};
 ghost use Rattle.serde_bser.specs.ValueView.{tree_of};
 ghost use Rattle.bser_promises.specs.Returned.{IsNotReturned, IsNotReturnedByReader, IsWrittenFor, IsUnread, TookOne};

@@ -2,7 +2,7 @@
 use Rattle.std.specs.Prelude.{◌≡◌, ℕ, List, [], ◌∷◌, map, Option, Some, None, Bool, String, string_bytes, codes, bytes_eq, unwrap_or, if◌then◌else◌}
 use Rattle.std.specs.declared.alloc.Global.{Global}
 use Rattle.bser_format.specs.Tree.{Tree}
-use Rattle.bser_written.specs.Compact.{fold_templates}
+use Rattle.bser_format.specs.Compact.{fold_templates}
 use Rattle.bser_rewriting.specs.Canon.{canonical}
 use Rattle.bser_rewriting.specs.declared.program.Form.{Form}
 use Rattle.bser_rewriting.specs.declared.program.Form.TheVariants.{Canonical, Compact}

@@ -1,6 +1,6 @@
 //! One message in, and its canonical or its compact message out.
 ghost use Rattle.std.specs.Prelude.{OnOk, IfErr};
-ghost use Rattle.bser_written.specs.Compact.{fold_templates};
+ghost use Rattle.bser_format.specs.Compact.{fold_templates};
 ghost use Rattle.bser_rewriting.specs.Canon.{Rewrote, RefusesRewriting, canonical};
 
 use bser_compact::message::serialize_compact;

@@ -2,8 +2,8 @@
 use Rattle.std.proofs.Common.{◌≡◌, ℕ, List, [], ◌∷◌, ◌++◌, length, Result, Ok, Err, append-nil, sym, ap, ◌∙◌, refl, subst}
 use Rattle.bser_format.specs.Tree.{Tree}
 use Rattle.bser_format.specs.Canonical.{canonical_body, canonical_key, least_integer}
-use Rattle.bser_written.specs.Pieces.{array_head, object_head, newtype_variant_head, tuple_variant_head, struct_variant_head}
-use Rattle.bser_written.specs.Written.{part_tree, plain_bytes, tuple_tree, struct_tree, variant_tree}
+use Rattle.bser_format.specs.Pieces.{array_head, object_head, newtype_variant_head, tuple_variant_head, struct_variant_head}
+use Rattle.bser_format.specs.Written.{part_tree, plain_bytes, tuple_tree, struct_tree, variant_tree}
 use Rattle.bser_format.specs.declared.errors.Error.{Error}
 use Rattle.bser_ser.specs.Sent.{Sent, Refused, IsExcuse}
 use Rattle.bser_ser.specs.Ends.{Ends, Stops, text_of, then}

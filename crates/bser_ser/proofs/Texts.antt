@@ -2,8 +2,8 @@
 use Rattle.std.proofs.Common.{◌≡◌, ℕ, suc, ◌<◌, ◌^◌, List, [], ◌∷◌, ◌++◌, length, Result, Ok, Err, arith, sym, ap, refl, subst}
 use Rattle.bser_format.specs.Tree.{Tree, Items, Entries, array, object, items, entries}
 use Rattle.bser_format.specs.Canonical.{canonical_body, canonical_items, canonical_entries, canonical_key}
-use Rattle.bser_written.specs.Pieces.{array_head, object_head}
-use Rattle.bser_written.specs.Written.{map_ok, item_before, entry_before, written_items, written_entries, array_tree, object_tree, slice_tree}
+use Rattle.bser_format.specs.Pieces.{array_head, object_head}
+use Rattle.bser_format.specs.Written.{map_ok, item_before, entry_before, written_items, written_entries, array_tree, object_tree, slice_tree}
 use Rattle.bser_format.specs.declared.errors.Error.{Error}
 use Rattle.bser_ser.specs.Sent.{Sent}
 use Rattle.bser_ser.specs.Ends.{Ends, Stops, text_of, then, CanBeWritten}

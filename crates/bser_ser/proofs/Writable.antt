@@ -3,7 +3,7 @@ use Rattle.std.proofs.Common.{rules, arith, ◌≡◌, ℕ, Bool, true, false, n
 use Rattle.std.specs.List.{AllByRecursion}
 use Rattle.bser_format.specs.Tree.{Tree, Items, Entries, array, object, items, entries}
 use Rattle.bser_format.specs.Canonical.{IsCount, ItemsAreWritable, EntriesAreWritable}
-use Rattle.bser_written.specs.Written.{map_ok, up_to_i64, item_before, entry_before, written_items, written_entries, within_i64, array_tree, object_tree, part_tree, plain_bytes, tuple_tree, struct_tree, variant_tree}
+use Rattle.bser_format.specs.Written.{map_ok, up_to_i64, item_before, entry_before, written_items, written_entries, within_i64, array_tree, object_tree, part_tree, plain_bytes, tuple_tree, struct_tree, variant_tree}
 use Rattle.bser_format.specs.declared.errors.Error.{Error}
 use Rattle.bser_ser.specs.Ends.{CanBeWritten}
 

@@ -3,7 +3,7 @@ use Rattle.std.specs.Prelude.{◌≡◌, ℕ, List, ◌++◌, Result, Ok, Err, I
 use Rattle.bser_format.specs.Tree.{Tree}
 use Rattle.bser_format.specs.Canonical.{canonical_body, canonical_key, IsWritable}
 use Rattle.bser_format.specs.declared.errors.Error.{Error}
-use Rattle.bser_written.specs.Written.{map_ok}
+use Rattle.bser_format.specs.Written.{map_ok}
 use Rattle.bser_ser.specs.Sent.{Sent, Refused, IsExcuse, refusal_of}
 use Rattle.bser_ser.specs.Stopped.{Tells}
 use Rattle.bser_ser.specs.declared.serializer.Serializer.{Serializer}

@@ -5,7 +5,7 @@ use Rattle.bser_format.specs.Tree.{Tree}
 use Rattle.bser_format.specs.Canonical.{least_integer, canonical_body, canonical_message, IsWritable}
 use Rattle.bser_format.specs.declared.errors.Error.{Error}
 use Rattle.bser_format.specs.declared.errors.Error.TheVariants.{OutOfMemory, Io}
-use Rattle.bser_written.specs.Written.{map_ok}
+use Rattle.bser_format.specs.Written.{map_ok}
 use Rattle.bser_ser.specs.Ends.{Ends, Stops}
 use Rattle.bser_ser.specs.Sent.{IsExcuse, IsFlushed, IsTooMany}
 use Rattle.bser_ser.specs.Stopped.{Tells, Takes, Accounts}

@@ -1,7 +1,7 @@
 -- What a serializer's writer took, and what is still pending.
 use Rattle.std.specs.Prelude.{◌≡◌, ℕ, ℤ, ◌+◌, ◌<◌, ◌≤◌, ◌^◌, List, [], ◌∷◌, ◌++◌, length, Option, Some, None, ⊤, Result, MatchResult, ◌⊎◌}
 use Rattle.bser_format.specs.Canonical.{least_integer, least_count}
-use Rattle.bser_written.specs.Pieces.{newtype_variant_head}
+use Rattle.bser_format.specs.Pieces.{newtype_variant_head}
 use Rattle.bser_format.specs.declared.errors.Collection.{Collection}
 use Rattle.bser_format.specs.declared.errors.Complaint.TheVariants.{CountTooGreat}
 use Rattle.bser_format.specs.declared.errors.Error.{Error}

@@ -1,7 +1,7 @@
 //! The puts of a serializer that keep the error in it.
 ghost use Rattle.std.specs.Prelude.{◌≡◌, ◌<◌, ◌≤◌, ◌^◌, ◌∷◌, ◌++◌, [], length, take};
 ghost use Rattle.bser_format.specs.Canonical.{least_integer, least_count};
-ghost use Rattle.bser_written.specs.Pieces.{null_piece, bool_piece, integer_piece, real_piece, text_piece, bytes_piece, key_piece, array_head, object_head, template_tag, newtype_variant_head};
+ghost use Rattle.bser_format.specs.Pieces.{null_piece, bool_piece, integer_piece, real_piece, text_piece, bytes_piece, key_piece, array_head, object_head, template_tag, newtype_variant_head};
 ghost use Rattle.bser_ser.specs.Message.{front_of};
 ghost use Rattle.bser_ser.specs.Sent.{Adds, payload_head, string_piece, refusal_of};
 

@@ -1,5 +1,5 @@
 //! Values that hold others.
-ghost use Rattle.bser_written.specs.Written.{option_tree, array_tree, slice_tree};
+ghost use Rattle.bser_format.specs.Written.{option_tree, array_tree, slice_tree};
 
 use crate::Serialize;
 use crate::serializer::Serializer;

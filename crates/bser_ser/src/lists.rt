@@ -1,5 +1,5 @@
 //! Arrays of a fixed length, queues and sets, which are arrays of their items.
-ghost use Rattle.bser_written.specs.Written.{array_tree, slice_tree};
+ghost use Rattle.bser_format.specs.Written.{array_tree, slice_tree};
 
 use crate::Serialize;
 use crate::serializer::Serializer;

@@ -1,6 +1,6 @@
 //! Maps, whose entries are written in rising byte order of their keys.
 ghost use Rattle.std.specs.Prelude.{string_bytes};
-ghost use Rattle.bser_written.specs.Written.{object_tree, plain_bytes};
+ghost use Rattle.bser_format.specs.Written.{object_tree, plain_bytes};
 
 use crate::Serialize;
 use crate::serializer::Serializer;

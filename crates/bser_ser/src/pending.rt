@@ -4,7 +4,7 @@ ghost use Rattle.bser_format.specs.Canonical.{least_integer};
 ghost use Rattle.bser_format.specs.declared.errors.Error.TheVariants.{Io};
 ghost use Rattle.bser_ser.specs.Sent.{Appends, payload_head};
 ghost use Rattle.bser_ser.specs.Stopped.{Accounts, TookAllBut};
-ghost use Rattle.bser_written.specs.Pieces.{newtype_variant_head};
+ghost use Rattle.bser_format.specs.Pieces.{newtype_variant_head};
 
 use crate::integer::{LONGEST, spell};
 use bser_format::header::{BSER_INT8, BSER_OBJECT, BSER_UTF8STRING};

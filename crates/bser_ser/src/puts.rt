@@ -1,7 +1,7 @@
 //! The puts of a serializer.
 ghost use Rattle.std.specs.Prelude.{◌≡◌, pos, ◌<◌, ◌^◌, OnOk, IfOk, IfErr, encode_utf8};
 ghost use Rattle.bser_format.specs.Canonical.{IsWritableText};
-ghost use Rattle.bser_written.specs.Pieces.{null_piece, bool_piece, integer_piece, real_piece, text_piece, bytes_piece, key_piece, array_head, object_head, template_tag, newtype_variant_head, tuple_variant_head, struct_variant_head};
+ghost use Rattle.bser_format.specs.Pieces.{null_piece, bool_piece, integer_piece, real_piece, text_piece, bytes_piece, key_piece, array_head, object_head, template_tag, newtype_variant_head, tuple_variant_head, struct_variant_head};
 ghost use Rattle.bser_format.specs.declared.errors.Collection.TheVariants.{Sequence, Map};
 ghost use Rattle.bser_ser.specs.Message.{front_of};
 ghost use Rattle.bser_ser.specs.Sent.{Puts, PutsOr, PutsHead, IsTooBig, IsTooMany, IsCounted, payload_head};

@@ -2,7 +2,7 @@
 ghost use Rattle.std.specs.Prelude.{Ok, pos, string_bytes, encode_utf8};
 ghost use Rattle.std.specs.Cow.{cow_str_bytes};
 ghost use Rattle.bser_format.specs.Tree.{null, boolean, integer, bytes, text};
-ghost use Rattle.bser_written.specs.Written.{unsigned_tree};
+ghost use Rattle.bser_format.specs.Written.{unsigned_tree};
 
 use crate::Serialize;
 use crate::serializer::Serializer;

@@ -1,6 +1,6 @@
 //! Tuples, which are arrays of their parts.
 ghost use Rattle.std.specs.Prelude.{[], ◌∷◌};
-ghost use Rattle.bser_written.specs.Written.{tuple_tree};
+ghost use Rattle.bser_format.specs.Written.{tuple_tree};
 
 use crate::Serialize;
 use crate::serializer::Serializer;

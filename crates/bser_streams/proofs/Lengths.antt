@@ -4,7 +4,7 @@ use Rattle.std.specs.Prelude.{ℤ, pos, ◌+ℤ◌, ◌≤◌}
 use Rattle.std.proofs.lemmas.Int.{ints}
 use Rattle.bser_format.specs.declared.errors.Error.{Error}
 use Rattle.bser_format.specs.declared.errors.Complaint.TheVariants.{CountTooGreat}
-use Rattle.bser_named.specs.Named as named
+use Rattle.bser_format.specs.Named as named
 use Rattle.bser_source.specs.Window.{Window, with_limit}
 use Rattle.bser_source.specs.Slice.{slice_fresh}
 use Rattle.bser_source.proofs.Windows.{left_took}

@@ -4,7 +4,7 @@ use Rattle.bser_format.specs.Tree.{Tree}
 use Rattle.bser_format.specs.Message.{Head, IsMessage}
 use Rattle.bser_format.specs.declared.errors.Error.{Error}
 use Rattle.bser_format.specs.declared.errors.Complaint.TheVariants.{CountTooGreat}
-use Rattle.bser_named.specs.Named as named
+use Rattle.bser_format.specs.Named as named
 use Rattle.bser_bunser.specs.Names.{Agree}
 
 -- a header is at the start, and it has n bytes together with the body that it announces

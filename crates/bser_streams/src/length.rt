@@ -1,6 +1,6 @@
 //! How long a message is, by its first bytes.
 ghost use Rattle.std.specs.Prelude.{◌≡◌, ◌≤◌, ◌<◌, ◌^◌, IfOk, IfErr, IfSome, IfNone};
-ghost use Rattle.bser_named.specs.Named.{head, refuses, eof};
+ghost use Rattle.bser_format.specs.Named.{head, refuses, eof};
 ghost use Rattle.bser_streams.specs.Lengths.{HasLength, IsLengthOfEach, RefusesLength};
 
 use bser_bunser::bunser::Bunser;

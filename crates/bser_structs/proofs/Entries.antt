@@ -2,8 +2,8 @@
 use Rattle.std.proofs.Common.{◌≡◌, ℕ, ◌<◌, ◌^◌, List, [], ◌∷◌, ◌++◌, length, Result, Ok, sym, ap, ◌∙◌, refl, subst, arith, inl, inr}
 use Rattle.bser_format.specs.Tree.{Tree}
 use Rattle.bser_format.specs.Canonical.{canonical_key}
-use Rattle.bser_written.specs.Pieces.{object_head}
-use Rattle.bser_written.specs.Written.{part_tree, plain_bytes, struct_tree}
+use Rattle.bser_format.specs.Pieces.{object_head}
+use Rattle.bser_format.specs.Written.{part_tree, plain_bytes, struct_tree}
 use Rattle.bser_format.specs.declared.errors.Error.{Error}
 use Rattle.bser_ser.specs.Sent.{Sent}
 use Rattle.bser_ser.specs.Ends.{Ends, Stops, text_of, then, field_text, CanBeWritten}

@@ -1,9 +1,9 @@
 -- What the type of an object refuses, and the other type of anything else, is refused by its name.
 use Rattle.std.proofs.Common.{◌≡◌, true, false, Option, Some, None, ap, ◌∙◌}
 use Rattle.bser_format.specs.Content.{Meaning}
-use Rattle.bser_named.specs.DueReaders.{Seen, seen}
-use Rattle.bser_named.specs.Asks.{by_sight}
-use Rattle.bser_named.proofs.Sights.{way}
+use Rattle.bser_format.specs.DueReaders.{Seen, seen}
+use Rattle.bser_format.specs.Asks.{by_sight}
+use Rattle.bser_format.proofs.Sights.{way}
 use Rattle.bser_deserializer.specs.Reading.{Asking}
 use Rattle.bser_deserializer.specs.State.{State}
 use Rattle.bser_types.specs.Choices.{is_pairs}

@@ -3,7 +3,7 @@ use Rattle.std.specs.Prelude.{◌≡◌, ℕ, ◌<◌, ◌≤◌, ◌^◌, List,
 use Rattle.std.specs.List.{AllByRecursion}
 use Rattle.bser_format.specs.Tree.{Tree}
 use Rattle.bser_format.specs.declared.errors.Error.{Error}
-use Rattle.bser_written.specs.Written.{struct_tree, variant_tree, within_i64}
+use Rattle.bser_format.specs.Written.{struct_tree, variant_tree, within_i64}
 use Rattle.bser_ser.specs.Ends.{field_text, then, CanBeWritten, Ends, Stops, text_of}
 use Rattle.bser_ser.specs.Stopped.{Tells}
 use Rattle.bser_ser.specs.declared.serializer.Serializer.{Serializer}

@@ -1,7 +1,7 @@
 -- The fields of a struct, in one list: its name, the part of the struct that it is, and its type.
 use Rattle.std.specs.Prelude.{◌≡◌, refl, false, ◌||◌, Bool, ℕ, List, [], ◌∷◌, ◌++◌, map, Option, None, option_map, Result, Err}
 use Rattle.bser_format.specs.Tree.{Tree}
-use Rattle.bser_written.specs.Written.{option_tree}
+use Rattle.bser_format.specs.Written.{option_tree}
 use Rattle.bser_format.specs.Content.{Content, Meaning}
 use Rattle.bser_format.specs.declared.errors.Complaint.TheVariants.{WrongType}
 use Rattle.bser_format.specs.declared.errors.Error.{Error}

@@ -2,7 +2,7 @@
 use Rattle.std.specs.Prelude.{◌≡◌, ℕ, suc, Bool, true, false, List, [], ◌∷◌, map, Option, Some, None, Result, Ok, Err, if◌then◌else◌}
 use Rattle.std.specs.Option.{is_some}
 use Rattle.bser_format.specs.Tree.{Tree, text}
-use Rattle.bser_written.specs.Written.{variant_tree}
+use Rattle.bser_format.specs.Written.{variant_tree}
 use Rattle.bser_format.specs.Content.{Content, one, Meaning}
 use Rattle.bser_format.specs.Enums.{Payload, holds, reads_enum}
 use Rattle.bser_format.specs.Enums as enums

@@ -1,6 +1,6 @@
 //! Writing an enum by its variants.
 ghost use Rattle.std.specs.Prelude.{OnOk, IfErr};
-ghost use Rattle.bser_written.specs.Written.{variant_tree};
+ghost use Rattle.bser_format.specs.Written.{variant_tree};
 ghost use Rattle.bser_ser.specs.Ends.{CanBeWritten};
 ghost use Rattle.bser_structs.specs.Entries.{fields_variant, VariantEnds, VariantStops, FieldsEnd, FieldsStop};
 

@@ -12,9 +12,9 @@ use Rattle.bser_format.specs.ReadsScalars.{reads_signed, reads_string, is_signed
 use Rattle.bser_format.specs.Expand.{ItemsAreTemplateFree}
 use Rattle.bser_format.specs.Canonical.{canonical_message, IsWritable, ItemsAreWritable}
 use Rattle.bser_format.specs.Measures.{items_depth}
-use Rattle.bser_written.specs.Written.{written_items}
+use Rattle.bser_format.specs.Written.{written_items}
 use Rattle.bser_format.specs.declared.errors.Error.{Error}
-use Rattle.bser_written.proofs.RoundTrip.{meaning_stays}
+use Rattle.bser_format.proofs.RoundTrip.{meaning_stays}
 use Rattle.serde_bser.specs.Holds.{HoldsNumber}
 use Rattle.serde_bser.specs.HoldsTexts.{HoldsBytes}
 use Rattle.serde_bser.specs.HoldsLists.{HoldsAll, HoldsList}

@@ -8,9 +8,9 @@ use Rattle.bser_format.specs.Expected.{Fills, FillsItems, WantedItems, nodes, ro
 use Rattle.bser_format.specs.declared.errors.Error.{Error}
 use Rattle.bser_format.specs.declared.errors.Complaint.TheVariants as complaints
 use Rattle.bser_source.specs.Device.{one_more}
-use Rattle.bser_named.specs.Named.{Reader, complain}
-use Rattle.bser_named.specs.DueReaders.{asked, items_at, less_one}
-use Rattle.bser_named.specs.Clauses.{left_over}
+use Rattle.bser_format.specs.Named.{Reader, complain}
+use Rattle.bser_format.specs.DueReaders.{asked, items_at, less_one}
+use Rattle.bser_format.specs.Clauses.{left_over}
 use Rattle.bser_source.specs.Window.{Window, Took}
 use Rattle.bser_source.proofs.Windows.{took_then, left_took}
 use Rattle.bser_deserializer.specs.State.{State, past, refused, awaiting}

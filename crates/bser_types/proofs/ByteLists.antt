@@ -8,10 +8,10 @@ use Rattle.bser_format.specs.ReadsScalars.{byte_of, is_unsigned, reads_unsigned,
 use Rattle.bser_format.specs.ReadsHolders.{list_of, reads_vec}
 use Rattle.bser_format.specs.Expected.{Due, WantedItems, nodes, rows_over}
 use Rattle.bser_format.specs.declared.errors.Error.{Error}
-use Rattle.bser_named.specs.Named.{Answer, Reader, reads, refuses, and_then}
-use Rattle.bser_named.specs.DueReaders.{Seen, seen, asked, items_at, less_one}
-use Rattle.bser_named.specs.Asks.{is_sequence, by_sight, asks_integer, asks_bytes, asks_vec, items_asked}
-use Rattle.bser_named.proofs.Sights.{array_tree, way}
+use Rattle.bser_format.specs.Named.{Answer, Reader, reads, refuses, and_then}
+use Rattle.bser_format.specs.DueReaders.{Seen, seen, asked, items_at, less_one}
+use Rattle.bser_format.specs.Asks.{is_sequence, by_sight, asks_integer, asks_bytes, asks_vec, items_asked}
+use Rattle.bser_format.proofs.Sights.{array_tree, way}
 use Rattle.bser_deserializer.specs.Askings.{asking_integer, asking_bytes}
 use Rattle.bser_deserializer.specs.Nodes.{SeesNode, BeginsNode}
 use Rattle.bser_deserializer.specs.State.{State}

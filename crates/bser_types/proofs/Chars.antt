@@ -7,14 +7,14 @@ use Rattle.bser_format.specs.Content.{Content, Meaning, byte_list, number, one}
 use Rattle.bser_format.specs.Expected.{Due}
 use Rattle.bser_format.specs.ReadsScalars.{utf8_of, reads_string, reads_char, one_char}
 use Rattle.bser_format.specs.declared.errors.Error.{Error}
-use Rattle.bser_named.specs.Named.{Answer, Reader, reads, refuses, and_then, ◌>>=◌, give, refuse}
-use Rattle.bser_named.specs.DueReaders.{asked, text_at, wrong_type}
-use Rattle.bser_named.specs.Clauses.{after_a_refusal}
-use Rattle.bser_named.specs.Asks as asks
-use Rattle.bser_named.specs.Asks.{done, asks_string, asks_char}
-use Rattle.bser_named.specs.TypeLaws.{Passes}
-use Rattle.bser_named.proofs.Dues.{passes_by}
-use Rattle.bser_named.proofs.Strings.{texts_handled}
+use Rattle.bser_format.specs.Named.{Answer, Reader, reads, refuses, and_then, ◌>>=◌, give, refuse}
+use Rattle.bser_format.specs.DueReaders.{asked, text_at, wrong_type}
+use Rattle.bser_format.specs.Clauses.{after_a_refusal}
+use Rattle.bser_format.specs.Asks as asks
+use Rattle.bser_format.specs.Asks.{done, asks_string, asks_char}
+use Rattle.bser_format.specs.TypeLaws.{Passes}
+use Rattle.bser_format.proofs.Dues.{passes_by}
+use Rattle.bser_format.proofs.Strings.{texts_handled}
 use Rattle.bser_deserializer.specs.State.{State, refused}
 use Rattle.bser_deserializer.specs.Reading.{Answers, Refuses, IsRefusal, bare, copying}
 use Rattle.bser_deserializer.specs.Askings.{asking_string, asking_char}

@@ -8,11 +8,11 @@ use Rattle.bser_format.specs.Grammar.{Spells, SpellsString, int8, int16, int32, 
 use Rattle.bser_format.specs.Content.{Content, Meaning}
 use Rattle.bser_format.specs.Expected.{Due, Fills, nothing_due, node_due, key_due, field_due, name_due, row_due}
 use Rattle.bser_format.specs.declared.errors.Error.{Error}
-use Rattle.bser_named.specs.Named.{Reader, reads, and_then, next}
-use Rattle.bser_named.specs.DueReaders.{Seen, tag, name, row, value_tag, key_tag, seen}
-use Rattle.bser_named.specs.Asks.{Asks}
-use Rattle.bser_named.specs.TypeLaws.{Passes}
-use Rattle.bser_named.proofs.Sights.{way}
+use Rattle.bser_format.specs.Named.{Reader, reads, and_then, next}
+use Rattle.bser_format.specs.DueReaders.{Seen, tag, name, row, value_tag, key_tag, seen}
+use Rattle.bser_format.specs.Asks.{Asks}
+use Rattle.bser_format.specs.TypeLaws.{Passes}
+use Rattle.bser_format.proofs.Sights.{way}
 use Rattle.bser_deserializer.specs.State.{State}
 use Rattle.bser_deserializer.specs.Nodes.{BeginsNode, SeesNode}
 use Rattle.bser_deserializer.specs.Reading.{Answers, Asking, RefusesFront, Refuses, NamesBy, bare, Needs}

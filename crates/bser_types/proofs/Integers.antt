@@ -8,11 +8,11 @@ use Rattle.bser_format.specs.Content.{Content, number}
 use Rattle.bser_format.specs.ReadsScalars.{reads_signed, reads_integer, is_signed, is_unsigned}
 use Rattle.bser_format.specs.declared.errors.Error.{Error}
 use Rattle.bser_format.specs.declared.errors.Complaint.TheVariants.{IntegerOutOfRange}
-use Rattle.bser_named.specs.Named.{Answer, reads, refuses, and_then, give, refuse, complain}
-use Rattle.bser_named.specs.DueReaders.{asked, integer_at}
-use Rattle.bser_named.specs.Clauses.{after_a_refusal}
-use Rattle.bser_named.specs.Asks.{in_range}
-use Rattle.bser_named.proofs.Integers.{integer_passes}
+use Rattle.bser_format.specs.Named.{Answer, reads, refuses, and_then, give, refuse, complain}
+use Rattle.bser_format.specs.DueReaders.{asked, integer_at}
+use Rattle.bser_format.specs.Clauses.{after_a_refusal}
+use Rattle.bser_format.specs.Asks.{in_range}
+use Rattle.bser_format.proofs.Integers.{integer_passes}
 use Rattle.bser_deserializer.specs.State.{State, refused}
 use Rattle.bser_deserializer.specs.Reading.{Answers, Refuses, bare}
 use Rattle.bser_deserializer.specs.Holds.{HoldsNumber}

@@ -7,11 +7,11 @@ use Rattle.bser_format.specs.Content.{Content, Meaning, each_some}
 use Rattle.bser_format.specs.Expected.{Fills, node_due, row_due, WantedItems, nodes, rows_over}
 use Rattle.bser_format.specs.ReadsHolders.{list_of, reads_vec}
 use Rattle.bser_format.specs.declared.errors.Error.{Error}
-use Rattle.bser_named.specs.Named.{Reader, refuses, and_then, give}
-use Rattle.bser_named.specs.DueReaders.{asked, items_at, less_one}
-use Rattle.bser_named.specs.Asks.{Asks, all, items_asked}
-use Rattle.bser_named.proofs.Steps as steps
-use Rattle.bser_named.proofs.Steps.{Continues, first_read, part_read}
+use Rattle.bser_format.specs.Named.{Reader, refuses, and_then, give}
+use Rattle.bser_format.specs.DueReaders.{asked, items_at, less_one}
+use Rattle.bser_format.specs.Asks.{Asks, all, items_asked}
+use Rattle.bser_format.proofs.Steps as steps
+use Rattle.bser_format.proofs.Steps.{Continues, first_read, part_read}
 use Rattle.bser_deserializer.specs.State.{State, awaiting}
 use Rattle.bser_deserializer.specs.Reading.{Answers, Asking, Refuses, Needs}
 use Rattle.bser_deserializer.specs.Required.{RefusesRequired}

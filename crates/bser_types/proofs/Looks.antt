@@ -6,10 +6,10 @@ use Rattle.bser_format.specs.Expected.{Due, Fills, nothing_due, node_due, key_du
 use Rattle.bser_format.specs.declared.errors.Error.{Error}
 use Rattle.bser_format.specs.declared.errors.Error.TheVariants.{DeInvalidStartByte}
 use Rattle.bser_format.specs.declared.errors.Kind.TheVariants.{NextItem, MapKey}
-use Rattle.bser_named.specs.Named.{reads, refuses, give, refuse}
-use Rattle.bser_named.specs.DueReaders.{Seen, tag, name, row, seen, is_tag, is_key_tag}
-use Rattle.bser_named.specs.Asks.{is_null, is_sequence}
-use Rattle.bser_named.proofs.Sights.{sight, null_tree, array_tree}
+use Rattle.bser_format.specs.Named.{reads, refuses, give, refuse}
+use Rattle.bser_format.specs.DueReaders.{Seen, tag, name, row, seen, is_tag, is_key_tag}
+use Rattle.bser_format.specs.Asks.{is_null, is_sequence}
+use Rattle.bser_format.proofs.Sights.{sight, null_tree, array_tree}
 use Rattle.bser_source.specs.Window.{Window, Grown, Took, left}
 use Rattle.bser_source.proofs.Windows.{grown_none, grown_later, took_grown, left_grown, hand_first}
 use Rattle.bser_deserializer.specs.Dues.{IsTagged}

@@ -14,11 +14,11 @@ use Rattle.bser_format.specs.ReadsHolders.{reads_map, reads_entry, list_of}
 use Rattle.bser_format.specs.declared.errors.Error.{Error}
 use Rattle.bser_format.specs.declared.errors.Error.TheVariants.{OutOfMemory}
 use Rattle.bser_source.specs.Device.{one_more}
-use Rattle.bser_named.specs.Named.{Reader, refuses, and_then, ◌>>=◌, give}
-use Rattle.bser_named.specs.DueReaders.{asked, pairs_at}
-use Rattle.bser_named.specs.Asks.{Asks, all, each_name, map_asked, inside}
-use Rattle.bser_named.proofs.Steps as steps
-use Rattle.bser_named.proofs.Steps.{Continues, first_read}
+use Rattle.bser_format.specs.Named.{Reader, refuses, and_then, ◌>>=◌, give}
+use Rattle.bser_format.specs.DueReaders.{asked, pairs_at}
+use Rattle.bser_format.specs.Asks.{Asks, all, each_name, map_asked, inside}
+use Rattle.bser_format.proofs.Steps as steps
+use Rattle.bser_format.proofs.Steps.{Continues, first_read}
 use Rattle.bser_source.specs.Window.{closed}
 use Rattle.bser_deserializer.specs.State.{State, awaiting}
 use Rattle.bser_deserializer.specs.Reading.{Answers, Asking, Refuses, Needs}

@@ -5,10 +5,10 @@ use Rattle.bser_format.specs.Content.{Content, Meaning}
 use Rattle.bser_format.specs.Expected.{Due, Fills}
 use Rattle.bser_format.specs.declared.errors.Error.{Error}
 use Rattle.bser_source.specs.Device.{one_more}
-use Rattle.bser_named.specs.Named.{Reader, refuses}
-use Rattle.bser_named.specs.Asks.{Asks}
-use Rattle.bser_named.proofs.Steps as steps
-use Rattle.bser_named.proofs.Steps.{Continues, goes_on}
+use Rattle.bser_format.specs.Named.{Reader, refuses}
+use Rattle.bser_format.specs.Asks.{Asks}
+use Rattle.bser_format.proofs.Steps as steps
+use Rattle.bser_format.proofs.Steps.{Continues, goes_on}
 use Rattle.bser_source.specs.Window.{Window, Took}
 use Rattle.bser_bunser.specs.Names.{RefusedAs}
 use Rattle.bser_bunser.proofs.Names.{left_now, left_untaken, known_rest}

@@ -2,8 +2,8 @@
 use Rattle.std.proofs.Common.{◌≡◌, ◌≤◌, ℕ, zero, suc, Bool, true, false, cond, nat_eq, List, Option, Some, None, refl, sym, ap, subst, ◌∙◌, arith, inl, inr}
 use Rattle.std.proofs.lemmas.Bool.{eqb-true, ne_eqb}
 use Rattle.bser_format.specs.Expected.{Due, nothing_due, node_due, key_due, field_due, name_due, row_due}
-use Rattle.bser_named.specs.DueReaders.{Seen, tag, name, row, is_key_tag}
-use Rattle.bser_named.specs.Asks.{is_sequence}
+use Rattle.bser_format.specs.DueReaders.{Seen, tag, name, row, is_key_tag}
+use Rattle.bser_format.specs.Asks.{is_sequence}
 use Rattle.bser_deserializer.specs.Nodes.{node_at, tag_node}
 use Rattle.bser_deserializer.specs.declared.node.Node.{Node}
 use Rattle.bser_deserializer.specs.declared.node.Node.TheVariants as kinds

@@ -9,7 +9,7 @@ use Rattle.bser_format.specs.Grammar.{Format, Bytes, Each, SpellsCount, SpellsEn
 use Rattle.bser_format.specs.Expand.{expand, expand_entries, expand_fields, key_tree}
 use Rattle.bser_format.specs.Expected.{Due, Fills, FillsNode, FillsRow, FillsPair, FillsPairs, WantedPairs, entries_of_object, fields_of_row, nothing_due, node_due, key_due, field_due, name_due, row_due}
 use Rattle.bser_format.specs.ReadsScalars.{string_bytes_of}
-use Rattle.bser_format.proofs.Laws.{one_int}
+use Rattle.bser_format.proofs.GrammarLaws.{one_int}
 use Rattle.bser_deserializer.specs.Parts.{BeginsPairs, ObjectHead}
 
 -- ---- lists of forms

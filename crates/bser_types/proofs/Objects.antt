@@ -9,9 +9,9 @@ use Rattle.bser_format.specs.Expected.{Due, Fills, FillsPairs, WantedPairs, entr
 use Rattle.bser_format.specs.declared.errors.Error.{Error}
 use Rattle.bser_format.specs.declared.errors.Error.TheVariants.{OutOfMemory}
 use Rattle.bser_source.specs.Device.{one_more}
-use Rattle.bser_named.specs.Named.{Reader}
-use Rattle.bser_named.specs.DueReaders.{asked, pairs_at}
-use Rattle.bser_named.specs.Asks.{inside}
+use Rattle.bser_format.specs.Named.{Reader}
+use Rattle.bser_format.specs.DueReaders.{asked, pairs_at}
+use Rattle.bser_format.specs.Asks.{inside}
 use Rattle.bser_source.specs.Window.{Window, Took, closed}
 use Rattle.bser_source.proofs.Windows.{took_then}
 use Rattle.bser_deserializer.specs.State.{State, past, awaiting}

@@ -7,9 +7,9 @@ use Rattle.bser_format.specs.Content.{Content, just, Meaning}
 use Rattle.bser_format.specs.Expected.{Due, nothing_due, node_due, key_due, field_due, name_due, row_due}
 use Rattle.bser_format.specs.ReadsHolders.{reads_option}
 use Rattle.bser_format.specs.declared.errors.Error.{Error}
-use Rattle.bser_named.specs.DueReaders.{Seen, tag, name, row, seen}
-use Rattle.bser_named.specs.Asks.{is_null, by_sight, asks_unit}
-use Rattle.bser_named.proofs.Sights.{null_tree, way}
+use Rattle.bser_format.specs.DueReaders.{Seen, tag, name, row, seen}
+use Rattle.bser_format.specs.Asks.{is_null, by_sight, asks_unit}
+use Rattle.bser_format.proofs.Sights.{null_tree, way}
 use Rattle.bser_deserializer.specs.State.{State}
 use Rattle.bser_deserializer.specs.Nodes.{node_at, tag_node, key_node, field_node, BeginsNode, IsOther}
 use Rattle.bser_deserializer.specs.Reading.{Answers, Asking, RefusesFront, Refuses, NamesBy, bare, Needs}

@@ -5,7 +5,7 @@ use Rattle.bser_format.specs.Expected.{fields_of_row, node_due, key_due, field_d
 use Rattle.bser_format.specs.Expected as expected
 use Rattle.bser_format.specs.declared.errors.Error.{Error}
 use Rattle.bser_format.specs.declared.errors.Complaint.TheVariants.{ValueOpen}
-use Rattle.bser_named.specs.Named.{complain}
+use Rattle.bser_format.specs.Named.{complain}
 use Rattle.bser_deserializer.specs.State.{State, awaiting}
 use Rattle.bser_deserializer.specs.Parts.{wanted_pairs, pairs_left, pair_key, pair_value, pairs_after}
 use Rattle.bser_deserializer.specs.Dues.{name_at}

@@ -7,8 +7,8 @@ use Rattle.bser_format.specs.declared.errors.Error.TheVariants.{DeReaderError, D
 use Rattle.bser_format.specs.declared.errors.Message.TheVariants.{Fixed}
 use Rattle.bser_format.specs.declared.errors.Complaint.TheVariants.{BorrowedFromCopying}
 use Rattle.bser_format.specs.declared.errors.ReadCause.TheVariants.{Failed}
-use Rattle.bser_named.specs.Named.{refuses}
-use Rattle.bser_named.specs.Clauses.{after_a_refusal}
+use Rattle.bser_format.specs.Named.{refuses}
+use Rattle.bser_format.specs.Clauses.{after_a_refusal}
 use Rattle.bser_source.specs.Window.{Window, Took, closed}
 use Rattle.bser_bunser.specs.Refusal.{Fails, failures_by}
 use Rattle.bser_bunser.proofs.Names.{known_rest, left_now, left_untaken}

@@ -10,11 +10,11 @@ use Rattle.bser_format.specs.Expected.{Fills, node_due, row_due, WantedItems, no
 use Rattle.bser_format.specs.ReadsHolders.{list_of, reads_each, reads_tuple}
 use Rattle.bser_format.specs.declared.errors.Error.{Error}
 use Rattle.bser_format.specs.declared.errors.Complaint.TheVariants as complaints
-use Rattle.bser_named.specs.Named.{Reader, refuses, and_then, give, complain}
-use Rattle.bser_named.specs.DueReaders.{asked, items_at, less_one}
-use Rattle.bser_named.specs.Asks.{Asks, parts_asked, tuple_asked}
-use Rattle.bser_named.proofs.Steps as steps
-use Rattle.bser_named.proofs.Steps.{Continues, first_read}
+use Rattle.bser_format.specs.Named.{Reader, refuses, and_then, give, complain}
+use Rattle.bser_format.specs.DueReaders.{asked, items_at, less_one}
+use Rattle.bser_format.specs.Asks.{Asks, parts_asked, tuple_asked}
+use Rattle.bser_format.proofs.Steps as steps
+use Rattle.bser_format.proofs.Steps.{Continues, first_read}
 use Rattle.bser_deserializer.specs.State.{State, awaiting}
 use Rattle.bser_deserializer.specs.Reading.{Answers, Asking, Refuses, FillsReadably, only_keys, Needs}
 use Rattle.bser_deserializer.specs.Required.{RefusesRequired}

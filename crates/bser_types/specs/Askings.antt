@@ -4,11 +4,11 @@ use Rattle.bser_format.specs.Content.{Meaning}
 use Rattle.bser_format.specs.ReadsScalars.{reads_byte_string}
 use Rattle.bser_format.specs.ReadsHolders.{reads_option, reads_vec, reads_tuple, reads_map}
 use Rattle.bser_source.specs.Device.{one_more}
-use Rattle.bser_named.specs.Asks.{Asks, asks_option, asks_vec, asks_byte_string, asks_tuple, asks_map}
-use Rattle.bser_named.specs.TypeLaws.{Passes, PassEach}
-use Rattle.bser_named.proofs.Choices.{option_passes, byte_string_passes}
-use Rattle.bser_named.proofs.Lists.{vec_passes, tuple_passes}
-use Rattle.bser_named.proofs.Maps.{map_passes}
+use Rattle.bser_format.specs.Asks.{Asks, asks_option, asks_vec, asks_byte_string, asks_tuple, asks_map}
+use Rattle.bser_format.specs.TypeLaws.{Passes, PassEach}
+use Rattle.bser_format.proofs.Choices.{option_passes, byte_string_passes}
+use Rattle.bser_format.proofs.Lists.{vec_passes, tuple_passes}
+use Rattle.bser_format.proofs.Maps.{map_passes}
 use Rattle.bser_deserializer.specs.Reading.{Asking}
 
 -- ---- inside a container

@@ -2,8 +2,8 @@
 use Rattle.std.specs.Prelude.{Bool, true, false, ◌==◌}
 use Rattle.bser_format.specs.Tree.{object}
 use Rattle.bser_format.specs.Content.{Meaning}
-use Rattle.bser_named.specs.DueReaders.{Seen, tag, name, row, seen}
-use Rattle.bser_named.specs.Asks.{Asks, by_sight}
+use Rattle.bser_format.specs.DueReaders.{Seen, tag, name, row, seen}
+use Rattle.bser_format.specs.Asks.{Asks, by_sight}
 
 -- an object by the first type, anything else by the second
 abbrev pub reads_object_or : Meaning → Meaning → Meaning

@@ -3,7 +3,7 @@ use Rattle.std.specs.Prelude.{ℕ, true, List, [], ◌∷◌, Option, Some, None
 use Rattle.std.specs.Str.{is_utf8}
 use Rattle.bser_format.specs.Tree.{Tree, object, entries}
 use Rattle.bser_format.specs.Content.{Content, Meaning}
-pub use Rattle.bser_named.specs.Structs.{read_once}
+pub use Rattle.bser_format.specs.Structs.{read_once}
 use Rattle.bser_deserializer.specs.Reading.{Needs}
 use Rattle.bser_deserializer.specs.Fields.{field_of}
 use Rattle.bser_deserializer.specs.declared.field.Field.{Field}

@@ -3,8 +3,8 @@ use Rattle.std.specs.Prelude.{◌≡◌, ◌≤ℤ◌, ℤ, Bool, true, FitsSign
 use Rattle.std.specs.Int.{w64}
 use Rattle.bser_format.specs.declared.errors.Error.{Error}
 use Rattle.bser_format.specs.declared.errors.Complaint.TheVariants.{IntegerOutOfRange}
-use Rattle.bser_named.specs.Clauses.{after_a_refusal}
-use Rattle.bser_named.specs.Named.{complain}
+use Rattle.bser_format.specs.Clauses.{after_a_refusal}
+use Rattle.bser_format.specs.Named.{complain}
 use Rattle.bser_deserializer.specs.State.{State}
 
 -- what a range holds of 64 bits lies between these two

@@ -7,7 +7,7 @@ use Rattle.bser_format.specs.ReadsAny.{reads_ignored}
 use Rattle.bser_format.specs.Expected.{Fills}
 use Rattle.bser_deserializer.specs.State.{State}
 use Rattle.bser_deserializer.specs.Reading.{Needs}
-pub use Rattle.bser_named.specs.Structs.{Slot as StructField, required, optional, fill, fill_at, or_absent, slot_at_end as field_at_end, all_at_end}
+pub use Rattle.bser_format.specs.Structs.{Slot as StructField, required, optional, fill, fill_at, or_absent, slot_at_end as field_at_end, all_at_end}
 use Rattle.bser_types.specs.Fold.{struct_of}
 use Rattle.bser_deserializer.specs.HoldsLists.{HoldsEach}
 use Rattle.bser_deserializer.specs.declared.field.Field.{Field}

@@ -5,7 +5,7 @@ use Rattle.std.specs.Prelude.{cond}
 use Rattle.std.specs.Cmp.Lexicographic.{slice_cmp}
 use Rattle.std.specs.BTreeMap.{is_at}
 use Rattle.std.specs.Map.{lookup}
-use Rattle.bser_written.specs.SameTree.{same_bytes}
+use Rattle.bser_format.specs.SameTree.{same_bytes}
 use Rattle.bser_format.specs.Tree.{Tree}
 use Rattle.bser_value.specs.declared.value.Value.{Value}
 use Rattle.bser_value.specs.ValueView.{tree_of, entries_view}

@@ -8,7 +8,7 @@ use Rattle.bser_format.specs.Tree.{Tree, null, boolean, integer, real, bytes, te
 use Rattle.bser_format.specs.Expand.{expand, expand_items, expand_entries, expand_rows, expand_fields}
 use Rattle.bser_format.specs.Normal.{normal, normal_items, normal_entries, last_entries}
 use Rattle.bser_format.proofs.Fronts.{items_back}
-use Rattle.bser_written.proofs.Least.{map_some, then_some, guard_some, put_all}
+use Rattle.bser_format.proofs.Least.{map_some, then_some, guard_some, put_all}
 use Rattle.bser_events.specs.Events as events
 use Rattle.bser_events.specs.Events.{Event, item_events, entry_events, row_events, field_events, key_events}
 use Rattle.bser_deserializer.specs.WholeRows.{HasWholeRows, ItemsHaveWholeRows, EntriesHaveWholeRows, RowsHaveWholeRows, FieldsHaveWholeRows}

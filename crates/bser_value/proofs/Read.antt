@@ -8,10 +8,10 @@ use Rattle.bser_format.specs.Normal.{normal, normal_items, normal_entries, last_
 use Rattle.bser_format.specs.Content.{value}
 use Rattle.bser_format.specs.ReadsAny.{has_utf8_keys, items_have_utf8_keys, entries_have_utf8_keys, reads_value, reads_ignored}
 use Rattle.bser_format.specs.declared.errors.Error.{Error}
-use Rattle.bser_written.proofs.Settled.{filled_settles}
+use Rattle.bser_format.proofs.Settled.{filled_settles}
 use Rattle.bser_events.specs.Events.{events}
-use Rattle.bser_named.specs.Asks.{asks_any}
-use Rattle.bser_named.proofs.Anything.{value_passes}
+use Rattle.bser_format.specs.Asks.{asks_any}
+use Rattle.bser_format.proofs.Anything.{value_passes}
 use Rattle.bser_deserializer.specs.State.{State}
 use Rattle.bser_deserializer.specs.Reading.{Answers, Refuses, FillsReadably, owned}
 use Rattle.bser_deserializer.specs.Askings.{asking_ignored, asking_value}

@@ -5,7 +5,7 @@ use Rattle.std.proofs.lemmas.List.{reverse-append}
 use Rattle.std.specs.List.{AllZip, zip}
 use Rattle.bser_format.specs.Tree.{Tree}
 use Rattle.bser_format.specs.Normal.{last_entries}
-use Rattle.bser_written.proofs.Least.{map_some, then_some}
+use Rattle.bser_format.proofs.Least.{map_some, then_some}
 use Rattle.bser_events.specs.Events as events
 use Rattle.bser_events.specs.Events.{Event, TakesAll, none, more}
 use Rattle.bser_value.specs.Made.{Open, whole, in_array, in_object, in_keys, in_rows, Stack, begun, built, inside, give, closed, make, makes}

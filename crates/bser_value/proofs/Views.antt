@@ -11,10 +11,10 @@ use Rattle.std.specs.BTreeMap.{insert_entry}
 use Rattle.std.specs.Map.{keys_of}
 use Rattle.std.specs.String.{string_cmp}
 use Rattle.bser_format.specs.Tree.{Tree, null, boolean, real, bytes, integer, text, array, object, items, entry, entries, entries_of, items_of}
-use Rattle.bser_written.specs.Compact.{keys}
+use Rattle.bser_format.specs.Compact.{keys}
 use Rattle.bser_format.specs.declared.bytestring.ByteString.{ByteString}
 use Rattle.std.specs.Prelude.{ℤ, Ok}
-use Rattle.bser_written.specs.Written.{map_ok, item_before, entry_before, written_items, written_entries, array_tree, object_tree}
+use Rattle.bser_format.specs.Written.{map_ok, item_before, entry_before, written_items, written_entries, array_tree, object_tree}
 use Rattle.bser_value.specs.declared.value.Value as value
 use Rattle.bser_value.specs.declared.value.Value.{Value, Array, Object, Integer, Null, Utf8String, the_lemmas}
 use Rattle.bser_value.specs.ValueView.{tree_of, items_view, entries_view}

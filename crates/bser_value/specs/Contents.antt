@@ -2,8 +2,8 @@
 use Rattle.std.specs.Prelude.{ℕ, ℤ, Bool, List, Option, Some, None, Float, if◌then◌else◌}
 use Rattle.std.specs.Float.{binary64}
 use Rattle.std.specs.Float.Ieee.{of_int}
-use Rattle.bser_text.specs.RealText.{float_of}
-use Rattle.bser_written.specs.SameTree.{same_bytes}
+use Rattle.bser_format.specs.RealText.{float_of}
+use Rattle.bser_format.specs.SameTree.{same_bytes}
 use Rattle.bser_format.specs.Tree.{Tree, boolean, integer, real, bytes, text, array, object, Items, Entries, no_entries, entry}
 
 -- the value of the first entry with this key

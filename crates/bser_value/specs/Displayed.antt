@@ -2,9 +2,9 @@
 use Rattle.std.specs.Prelude.{ℕ, List, [], Option, Some, String, codes, string_bytes, if◌then◌else◌}
 use Rattle.std.specs.Fmt.{◌++?◌, debug_items, signed_decimal}
 use Rattle.std.specs.declared.alloc.Global.{Global}
-use Rattle.bser_text.specs.MarkedText.{bytes_text}
-use Rattle.bser_text.specs.QuotedText.{quoted_text, quoted_key}
-use Rattle.bser_text.specs.RealText.{real_text}
+use Rattle.bser_format.specs.MarkedText.{bytes_text}
+use Rattle.bser_format.specs.QuotedText.{quoted_text, quoted_key}
+use Rattle.bser_format.specs.RealText.{real_text}
 use Rattle.bser_value.specs.declared.value.Value.{Value, fold-Value}
 use Rattle.bser_value.specs.declared.value.Value.TheOpen.{Value-F}
 

@@ -4,8 +4,8 @@ use Rattle.std.specs.declared.alloc.Global.{Global}
 use Rattle.bser_format.specs.Tree.{Tree, null, boolean, integer, real, bytes, text, array, object, Items, Entries, no_entries, entry, items_of}
 use Rattle.bser_format.specs.Content.{Content, value}
 use Rattle.bser_format.specs.declared.errors.Error.{Error}
-use Rattle.bser_written.specs.Written.{array_tree, object_tree}
-use Rattle.bser_written.specs.ValueTree.{IsValueTree}
+use Rattle.bser_format.specs.Written.{array_tree, object_tree}
+use Rattle.bser_format.specs.ValueTree.{IsValueTree}
 use Rattle.bser_value.specs.declared.value.Value.{Value, fold-Value}
 use Rattle.bser_value.specs.declared.value.Value.TheOpen.{Value-F}
 

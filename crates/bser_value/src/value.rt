@@ -3,9 +3,9 @@ ghost use Rattle.std.specs.Prelude.{◌≡◌, ◌↔◌, ◌<◌, ◌^◌, pos,
 ghost use Rattle.std.specs.Cmp.{on_per, on_equiv};
 ghost use Rattle.bser_format.specs.Tree.{boolean, integer, text};
 ghost use Rattle.bser_format.specs.Canonical.{IsWritable};
-ghost use Rattle.bser_written.specs.SameTree.{same_tree, same_items, same_entries};
-ghost use Rattle.bser_written.specs.ValueTree.{IsValueTree};
-ghost use Rattle.bser_written.proofs.Same.{same_tree_equiv, same_tree_partial_equiv};
+ghost use Rattle.bser_format.specs.SameTree.{same_tree, same_items, same_entries};
+ghost use Rattle.bser_format.specs.ValueTree.{IsValueTree};
+ghost use Rattle.bser_format.proofs.Same.{same_tree_equiv, same_tree_partial_equiv};
 ghost use Rattle.bser_value.specs.ValueView.{tree_of, items_view, entries_view, items_tree, entries_tree};
 
 mod access;

@@ -8,9 +8,9 @@ use Rattle.bser_format.specs.Expected.{WantedPairs, entries_of_object, fields_of
 use Rattle.bser_format.specs.ReadsScalars.{reads_unit}
 use Rattle.bser_format.specs.declared.errors.Error.{Error}
 use Rattle.bser_format.specs.declared.errors.name.EnumName.{EnumName}
-use Rattle.bser_named.specs.DueReaders.{variant_due}
-use Rattle.bser_named.specs.Asks.{Asks, Payloads, labels, payload, payload_asked, asks_unit}
-use Rattle.bser_named.specs.TypeLaws.{PassVariants}
+use Rattle.bser_format.specs.DueReaders.{variant_due}
+use Rattle.bser_format.specs.Asks.{Asks, Payloads, labels, payload, payload_asked, asks_unit}
+use Rattle.bser_format.specs.TypeLaws.{PassVariants}
 use Rattle.bser_source.specs.Device.{one_more}
 use Rattle.bser_source.specs.Window.{Window}
 use Rattle.bser_deserializer.specs.Access.{inside_pairs}

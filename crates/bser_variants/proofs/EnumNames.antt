@@ -6,9 +6,9 @@ use Rattle.bser_format.specs.Content.{Content, number}
 use Rattle.bser_format.specs.Expected.{Due, Fills, nothing_due, node_due, key_due, field_due, name_due, row_due, WantedPairs, entries_of_object, fields_of_row}
 use Rattle.bser_format.specs.declared.errors.Error.{Error}
 use Rattle.bser_format.specs.declared.errors.name.EnumName.{EnumName}
-use Rattle.bser_named.specs.Named.{Reader, refuses, refuse, and_then, ◌>>=◌}
-use Rattle.bser_named.specs.DueReaders.{is_key_tag, seen, less_one, variant_due, wrong_type}
-use Rattle.bser_named.specs.Asks.{Asks, Payloads, done, labels, payload, alone, payload_asked, is_object, asks_enum, inside}
+use Rattle.bser_format.specs.Named.{Reader, refuses, refuse, and_then, ◌>>=◌}
+use Rattle.bser_format.specs.DueReaders.{is_key_tag, seen, less_one, variant_due, wrong_type}
+use Rattle.bser_format.specs.Asks.{Asks, Payloads, done, labels, payload, alone, payload_asked, is_object, asks_enum, inside}
 use Rattle.bser_source.specs.Window.{Window}
 use Rattle.bser_source.proofs.Windows.{took_then}
 use Rattle.bser_deserializer.specs.Access.{OpenPairs, inside_pairs}

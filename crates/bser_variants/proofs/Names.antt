@@ -13,11 +13,11 @@ use Rattle.bser_format.specs.ReadsScalars.{utf8_of}
 use Rattle.bser_format.specs.declared.errors.Complaint.TheVariants.{UnknownVariant, EnumObjectEntries}
 use Rattle.bser_format.specs.declared.errors.Kind.TheVariants.{MapKey}
 use Rattle.bser_format.specs.declared.errors.name.EnumName.{EnumName}
-use Rattle.bser_named.specs.Named.{Answer, reads, refuses, give, and_then, complain, next, string, utf8, text_of}
-use Rattle.bser_named.specs.DueReaders.{Seen, is_key_tag, value_tag, key_tag, asked, bytes_at, text_at, place_from, variant_of_row, variant_due}
-use Rattle.bser_named.proofs.Heads.{count_passes}
-use Rattle.bser_named.proofs.Steps.{Passes}
-use Rattle.bser_named.proofs.Strings.{kept, looked}
+use Rattle.bser_format.specs.Named.{Answer, reads, refuses, give, and_then, complain, next, string, utf8, text_of}
+use Rattle.bser_format.specs.DueReaders.{Seen, is_key_tag, value_tag, key_tag, asked, bytes_at, text_at, place_from, variant_of_row, variant_due}
+use Rattle.bser_format.proofs.Heads.{count_passes}
+use Rattle.bser_format.proofs.Steps.{Passes}
+use Rattle.bser_format.proofs.Strings.{kept, looked}
 use Rattle.bser_deserializer.specs.Dues.{IsValueDue}
 use Rattle.bser_deserializer.specs.Fields.{field_from, field_of}
 use Rattle.bser_deserializer.specs.Parts.{BeginsPairs, ObjectHead, pairs_left, pair_key}

@@ -6,8 +6,8 @@ use Rattle.bser_format.specs.Expected.{Due, Fills}
 use Rattle.bser_format.specs.ReadsScalars.{utf8_of, reads_string}
 use Rattle.bser_format.specs.declared.errors.Error.{Error}
 use Rattle.bser_format.specs.declared.errors.Complaint.TheVariants.{UnknownVariant}
-use Rattle.bser_named.specs.Named.{refuse, complain}
-use Rattle.bser_named.specs.Clauses.{after_a_refusal}
+use Rattle.bser_format.specs.Named.{refuse, complain}
+use Rattle.bser_format.specs.Clauses.{after_a_refusal}
 use Rattle.bser_deserializer.specs.Dues.{IsValueDue}
 use Rattle.bser_deserializer.specs.Fields.{HoldsField}
 use Rattle.bser_deserializer.specs.Reading.{Answers, NamesBy, bare}

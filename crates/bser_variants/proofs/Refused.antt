@@ -15,9 +15,9 @@ use Rattle.bser_format.specs.declared.errors.Kind.TheVariants.{MapKey}
 use Rattle.bser_format.specs.declared.errors.Complaint.TheVariants.{UnknownVariant, EnumObjectEntries}
 use Rattle.bser_format.specs.declared.errors.name.EnumName.{EnumName}
 use Rattle.bser_format.proofs.EnumNames.{whole_known}
-use Rattle.bser_named.specs.Named.{Answer, Reader, reads, refuses, give, and_then, ◌>>=◌, complain, eof, next, count, string, utf8, text_of}
-use Rattle.bser_named.specs.DueReaders.{tag, is_key_tag, asked, pairs_at, text_at, place_from, variant_after, variant_of_row, variant_due}
-use Rattle.bser_named.specs.Asks.{done, asks_string}
+use Rattle.bser_format.specs.Named.{Answer, Reader, reads, refuses, give, and_then, ◌>>=◌, complain, eof, next, count, string, utf8, text_of}
+use Rattle.bser_format.specs.DueReaders.{tag, is_key_tag, asked, pairs_at, text_at, place_from, variant_after, variant_of_row, variant_due}
+use Rattle.bser_format.specs.Asks.{done, asks_string}
 use Rattle.bser_source.specs.Window.{Window}
 use Rattle.bser_source.proofs.Windows.{grown_none}
 use Rattle.bser_bunser.specs.Refusal.{Fails}

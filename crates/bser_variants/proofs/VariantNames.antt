@@ -10,8 +10,8 @@ use Rattle.bser_format.specs.Expand.{key_tree}
 use Rattle.bser_format.specs.ReadsScalars.{utf8_of}
 use Rattle.bser_format.specs.declared.errors.Error.{Error}
 use Rattle.bser_deserializer.specs.State.{State}
-use Rattle.bser_named.specs.Clauses.{after_a_refusal}
-use Rattle.bser_named.specs.DueReaders.{wrong_type}
+use Rattle.bser_format.specs.Clauses.{after_a_refusal}
+use Rattle.bser_format.specs.DueReaders.{wrong_type}
 use Rattle.bser_deserializer.specs.Reading.{Answers, Asking, NamesAsked, Refuses, FillsReadably, IsRefusal, Needs}
 use Rattle.bser_deserializer.specs.Fields.{field_from, field_of}
 use Rattle.bser_variants.specs.Variants.{known_place, reads_place, HoldsPlace, LacksPayload}

@@ -10,8 +10,8 @@ use Rattle.bser_format.specs.Enums.{Payload, unit, holds, named, by_name, by_ent
 use Rattle.bser_format.specs.Expand.{key_tree}
 use Rattle.bser_format.specs.Expected.{Due, Fills, FillsPairs, nothing_due, node_due, key_due, field_due, name_due, row_due, WantedPairs, entries_of_object, fields_of_row}
 use Rattle.bser_format.specs.declared.errors.Error.{Error}
-use Rattle.bser_named.specs.Named.{give}
-use Rattle.bser_named.specs.DueReaders.{is_key_tag}
+use Rattle.bser_format.specs.Named.{give}
+use Rattle.bser_format.specs.DueReaders.{is_key_tag}
 use Rattle.bser_source.specs.Window.{left}
 use Rattle.bser_source.proofs.Windows.{left_took}
 use Rattle.bser_deserializer.specs.Dues.{IsValueDue}

@@ -3,9 +3,9 @@ use Rattle.std.specs.Prelude.{refl, ℕ, List, [], ◌∷◌, Option, Some, None
 use Rattle.bser_format.specs.EnumName.{kept_whole}
 use Rattle.bser_format.specs.Enums.{Payload, unit, holds, reads_enum}
 use Rattle.bser_format.specs.declared.errors.name.EnumName.{EnumName}
-use Rattle.bser_named.specs.Asks.{Asks, Payloads, asks_enum}
-use Rattle.bser_named.specs.TypeLaws.{PassPayload, PassVariants}
-use Rattle.bser_named.proofs.Enums.{enum_passes}
+use Rattle.bser_format.specs.Asks.{Asks, Payloads, asks_enum}
+use Rattle.bser_format.specs.TypeLaws.{PassPayload, PassVariants}
+use Rattle.bser_format.proofs.Enums.{enum_passes}
 use Rattle.bser_deserializer.specs.Reading.{Asking}
 use Rattle.bser_types.specs.Askings.{counted, counted_passes}
 

@@ -7,7 +7,7 @@ use Rattle.bser_format.specs.declared.errors.Error.{Error}
 use Rattle.bser_format.specs.declared.errors.Error.TheVariants.{DeInvalidStartByte, DeRecursionLimitExceeded}
 use Rattle.bser_format.specs.declared.errors.Kind.TheVariants as kind
 use Rattle.bser_format.specs.declared.errors.name.EnumName.{EnumName}
-use Rattle.bser_named.specs.DueReaders.{variant_of_row}
+use Rattle.bser_format.specs.DueReaders.{variant_of_row}
 use Rattle.bser_bunser.specs.Refusal.{Fails}
 use Rattle.bser_deserializer.specs.Access.{RefusesItems, RefusesPairs}
 use Rattle.bser_deserializer.specs.Askings.{asking_unit}

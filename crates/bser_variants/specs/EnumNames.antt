@@ -2,8 +2,8 @@
 use Rattle.std.specs.Prelude.{◌≡◌, ℕ, suc, Some}
 use Rattle.bser_format.specs.declared.errors.Error.{Error}
 use Rattle.bser_format.specs.declared.errors.name.EnumName.{EnumName}
-use Rattle.bser_named.specs.DueReaders.{variant_due}
-use Rattle.bser_named.specs.Asks.{Asks, Payloads, labels, payload, payload_asked, asks_enum}
+use Rattle.bser_format.specs.DueReaders.{variant_due}
+use Rattle.bser_format.specs.Asks.{Asks, Payloads, labels, payload, payload_asked, asks_enum}
 use Rattle.bser_deserializer.specs.Reading.{Answers, NamesBy, Needs}
 use Rattle.bser_deserializer.specs.State.{State}
 use Rattle.bser_variants.specs.Variants.{reads_place, HoldsPlace, LacksPayload, OpenVariant, OpensEntry}

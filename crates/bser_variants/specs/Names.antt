@@ -6,8 +6,8 @@ use Rattle.bser_format.specs.declared.errors.Error.{Error}
 use Rattle.bser_format.specs.declared.errors.Kind.TheVariants.{MapKey}
 use Rattle.bser_format.specs.declared.errors.Complaint.TheVariants.{EnumObjectEntries}
 use Rattle.bser_format.specs.declared.errors.name.EnumName.{EnumName}
-use Rattle.bser_named.specs.Named.{Reader, refuse, ◌>>=◌, complain, text_of}
-use Rattle.bser_named.specs.DueReaders.{asked, text_at, place_from, variant_of_row, variant_due}
+use Rattle.bser_format.specs.Named.{Reader, refuse, ◌>>=◌, complain, text_of}
+use Rattle.bser_format.specs.DueReaders.{asked, text_at, place_from, variant_of_row, variant_due}
 use Rattle.bser_deserializer.specs.Reading.{NamesBy, bare}
 use Rattle.bser_deserializer.specs.State.{State}
 

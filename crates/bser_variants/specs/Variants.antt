@@ -5,8 +5,8 @@ use Rattle.bser_format.specs.Content.{Content, one, number, variant, Meaning}
 use Rattle.bser_format.specs.Expected.{Due, node_due, field_due, WantedPairs}
 use Rattle.bser_format.specs.ReadsScalars.{utf8_of, reads_unit}
 use Rattle.bser_format.specs.declared.errors.Error.{Error}
-use Rattle.bser_named.specs.Clauses.{after_a_refusal}
-use Rattle.bser_named.specs.DueReaders.{wrong_type}
+use Rattle.bser_format.specs.Clauses.{after_a_refusal}
+use Rattle.bser_format.specs.DueReaders.{wrong_type}
 use Rattle.bser_deserializer.specs.Access.{OpenItems, OpensItems, RefusesItems, OpenPairs, OpensPairs, RefusesPairs, after_closing}
 use Rattle.bser_deserializer.specs.Askings.{asking_unit}
 use Rattle.bser_deserializer.specs.Fields.{field_of}

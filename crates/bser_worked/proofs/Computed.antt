@@ -12,7 +12,7 @@ use Rattle.bser_format.specs.Normal.{normal}
 use Rattle.bser_format.specs.Measures.{depth}
 use Rattle.bser_format.specs.Canonical.{canonical_message}
 use Rattle.bser_format.proofs.Messages.{message_sound, message_reads, value_exact}
-use Rattle.bser_written.proofs.Settled.{settles, message_settles}
+use Rattle.bser_format.proofs.Settled.{settles, message_settles}
 use Rattle.bser_worked.specs.Reading.{IsBody, IsRead, IsReadBack, IsRefused, IsValueOf}
 
 abbrev pub are_bytes : List ℕ → Bool

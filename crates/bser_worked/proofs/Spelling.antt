@@ -7,7 +7,7 @@ use Rattle.std.specs.Str.{is_utf8, chars}
 use Rattle.bser_format.specs.Tree.{template, no_rows}
 use Rattle.bser_format.specs.Grammar.{Format, Spells, SpellsKey, ◌then◌}
 use Rattle.bser_format.specs.Canonical.{least_integer}
-use Rattle.bser_written.specs.WrittenOut.{written_out}
+use Rattle.bser_format.specs.WrittenOut.{written_out}
 use Rattle.bser_format.proofs.Canon.{bytes_spelled, count_spelled, least_integer_spelled, within_fits}
 use Rattle.bser_worked.specs.Templates.{no_keys, people_body, people_keys, people_rows}
 use Rattle.bser_worked.specs.Spelled.{people_out}

@@ -2,8 +2,8 @@
 use Rattle.std.specs.Prelude.{ℕ, zero, suc, List, [], ◌∷◌, Some, None, map}
 use Rattle.bser_format.specs.ReadsScalars.{is_signed}
 use Rattle.bser_format.specs.Tree.{Tree}
-use Rattle.bser_named.specs.Asks.{Asks, Payloads, asks_integer, asks_string, asks_struct, required_field, optional_field}
-use Rattle.bser_named.specs.Named.{Answer, message, with_text_keys}
+use Rattle.bser_format.specs.Asks.{Asks, Payloads, asks_integer, asks_string, asks_struct, required_field, optional_field}
+use Rattle.bser_format.specs.Named.{Answer, message, with_text_keys}
 use Rattle.bser_worked.specs.Samples.{empty_array}
 
 -- what a message is read as with n levels, the keys of objects being UTF-8

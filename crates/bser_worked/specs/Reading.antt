@@ -8,7 +8,7 @@ use Rattle.bser_format.specs.Plain.{message, value}
 use Rattle.bser_format.specs.Expand.{expand}
 use Rattle.bser_format.specs.Normal.{normal}
 use Rattle.bser_format.specs.Measures.{depth, nodes}
-use Rattle.bser_written.specs.ValueTree.{IsValueTree}
+use Rattle.bser_format.specs.ValueTree.{IsValueTree}
 
 -- the whole list is a message of tree t, without capabilities and with at most n levels, and the plain reader gives it
 abbrev pub IsRead : ℕ → List ℕ → Tree → Type 0

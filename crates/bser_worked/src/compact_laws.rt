@@ -4,7 +4,7 @@
 
 ghost use Rattle.std.specs.Prelude.{◌≡◌, ◌≢◌, length};
 ghost use Rattle.bser_format.specs.Canonical.{canonical_message};
-ghost use Rattle.bser_written.specs.Compact.{fold_templates, compact_message};
+ghost use Rattle.bser_format.specs.Compact.{fold_templates, compact_message};
 ghost use Rattle.bser_format.specs.Expand.{expand};
 ghost use Rattle.bser_format.specs.Measures.{depth};
 ghost use Rattle.bser_worked.specs.Reading.{HasSize, IsRead, IsValueOf};

@@ -7,7 +7,7 @@ ghost use Rattle.bser_format.specs.Canonical.{canonical_message, canonical_body}
 ghost use Rattle.bser_format.specs.Measures.{depth, nodes};
 ghost use Rattle.bser_format.specs.Expand.{expand};
 ghost use Rattle.bser_format.specs.Normal.{normal};
-ghost use Rattle.bser_written.specs.Compact.{compact_body};
+ghost use Rattle.bser_format.specs.Compact.{compact_body};
 ghost use Rattle.bser_format.specs.Plain.{message};
 ghost use Rattle.bser_format.specs.Content.{number, byte_list, list, pair, variant, content, no_contents};
 ghost use Rattle.bser_format.specs.Content as contents;

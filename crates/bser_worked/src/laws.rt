@@ -13,7 +13,7 @@ ghost use Rattle.bser_format.specs.Content.{byte_list, list, pair, number, conte
 ghost use Rattle.bser_format.specs.Content as contents;
 ghost use Rattle.bser_format.specs.ReadsScalars.{reads_signed, reads_unit, reads_byte_string};
 ghost use Rattle.bser_format.specs.ReadsHolders.{reads_map, reads_tuple};
-ghost use Rattle.bser_written.specs.WrittenOut.{written_out as bytes_written_out, row_objects};
+ghost use Rattle.bser_format.specs.WrittenOut.{written_out as bytes_written_out, row_objects};
 ghost use Rattle.bser_worked.specs.Reading.{HasSize, IsBody, IsRead, IsReadBack, IsRefused, IsValueOf};
 ghost use Rattle.bser_worked.specs.Samples.{short_message, empty_array, key_a, one, two, single, double, same_key_twice, numbers, three_numbers};
 ghost use Rattle.bser_worked.specs.Templates.{no_keys, people_body, people_message, people, people_keys, people_rows, people_value, templates, nested_templates, hundred_nulls, hundred_rows, hundred_objects};

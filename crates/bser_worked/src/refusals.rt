@@ -13,7 +13,7 @@ ghost use Rattle.bser_format.specs.declared.errors.Error.TheVariants.{DeEof, DeI
 ghost use Rattle.bser_format.specs.declared.errors.Kind.TheVariants.{NextItem, Integer, MapKey};
 ghost use Rattle.bser_format.specs.declared.errors.Kind.TheVariants.{TemplateKeys, TemplateKey};
 ghost use Rattle.bser_format.specs.declared.errors.Kind.TheVariants.{Array, Object, Template};
-ghost use Rattle.bser_named.specs.Named.{any, reads, refuses, eof, utf8_wanted, complain};
+ghost use Rattle.bser_format.specs.Named.{any, reads, refuses, eof, utf8_wanted, complain};
 ghost use Rattle.bser_worked.specs.Samples.{header, short_message, long_message};
 ghost use Rattle.bser_worked.specs.Samples.{empty_array, arrays_around};
 ghost use Rattle.bser_worked.specs.Templates.{no_keys, one_row, templates, people_message};

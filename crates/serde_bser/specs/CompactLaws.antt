@@ -6,8 +6,8 @@ use Rattle.bser_format.specs.Expand.{expand}
 use Rattle.bser_format.specs.Content.{Content, Meaning}
 use Rattle.bser_format.specs.Measures.{depth}
 use Rattle.bser_format.specs.Canonical.{canonical_message, IsWritable}
-use Rattle.bser_written.specs.Compact.{fold_templates, compact_body, compact_message}
-use Rattle.bser_written.specs.ValueTree.{IsValueTree}
+use Rattle.bser_format.specs.Compact.{fold_templates, compact_body, compact_message}
+use Rattle.bser_format.specs.ValueTree.{IsValueTree}
 use Rattle.serde_bser.specs.Laws.{ReadsAs}
 
 -- the compact body is at most i64::MAX bytes

@@ -8,8 +8,8 @@ use Rattle.bser_format.specs.Content.{Content, Meaning}
 use Rattle.bser_format.specs.Normal.{normal}
 use Rattle.bser_format.specs.Measures.{depth, nodes}
 use Rattle.bser_format.specs.Canonical.{canonical_body, canonical_message, IsWritable}
-use Rattle.bser_written.specs.ValueTree.{IsValueTree}
-use Rattle.bser_written.specs.WrittenOut.{written_out, row_objects}
+use Rattle.bser_format.specs.ValueTree.{IsValueTree}
+use Rattle.bser_format.specs.WrittenOut.{written_out, row_objects}
 
 -- the body is at most i64::MAX bytes
 abbrev pub BodyFits : Tree → Type 0

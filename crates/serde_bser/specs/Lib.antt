@@ -16,7 +16,7 @@ pub use Rattle.bser_format.specs.Expected
 pub use Rattle.bser_format.specs.Escaped
 pub use Rattle.bser_format.specs.EnumName
 pub use Rattle.bser_format.specs.HeaderBytes
-pub use Rattle.bser_named.specs.Named
+pub use Rattle.bser_format.specs.Named
 pub use Rattle.bser_source.specs.Device
 pub use Rattle.bser_source.specs.Watched
 pub use Rattle.bser_source.specs.Window
@@ -64,11 +64,11 @@ pub use Rattle.bser_streams.specs.Streams
 pub use Rattle.bser_streams.specs.Readers
 pub use Rattle.bser_streams.specs.Slices
 pub use Rattle.bser_describe.specs.Descriptions
-pub use Rattle.bser_written.specs.Written
-pub use Rattle.bser_written.specs.Pieces
-pub use Rattle.bser_written.specs.Compact
-pub use Rattle.bser_written.specs.ValueTree
-pub use Rattle.bser_written.specs.WrittenOut
+pub use Rattle.bser_format.specs.Written
+pub use Rattle.bser_format.specs.Pieces
+pub use Rattle.bser_format.specs.Compact
+pub use Rattle.bser_format.specs.ValueTree
+pub use Rattle.bser_format.specs.WrittenOut
 pub use Rattle.bser_ser.specs.Stopped
 pub use Rattle.bser_ser.specs.Sent
 pub use Rattle.bser_ser.specs.Ends

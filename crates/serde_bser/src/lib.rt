@@ -22,4 +22,4 @@ pub mod value {
 pub use bser_format::{bytestring, errors, header};
 pub use bser_messages::message::{from_reader, from_slice};
 pub use bser_source::device;
-pub use bser_text::escaped;
+pub use bser_format::escaped;

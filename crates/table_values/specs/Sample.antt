@@ -7,7 +7,7 @@ use Rattle.hex.specs.Hex.{encode_lower, decode_of}
 use Rattle.sha2.specs.Sha256.{sha256}
 use Rattle.bser_format.specs.Tree.{Tree}
 use Rattle.bser_format.specs.Canonical.{canonical_message}
-use Rattle.bser_written.specs.Compact.{compact_message}
+use Rattle.bser_format.specs.Compact.{compact_message}
 use Rattle.bser_format.specs.Content.{Meaning}
 use Rattle.serde_bser.specs.Reading.{Asking, Needs}
 use Rattle.serde_bser.specs.ValueView.{tree_of}

@@ -1,7 +1,7 @@
 //! One line of the list of messages.
 ghost use Rattle.std.specs.Prelude.{◌≡◌, ◌∷◌, IfOk, IfNone, IsTrue};
 ghost use Rattle.bser_format.specs.Canonical.{canonical_message};
-ghost use Rattle.bser_written.specs.Compact.{compact_message};
+ghost use Rattle.bser_format.specs.Compact.{compact_message};
 ghost use Rattle.bser_vectors.specs.Ways.{Agrees};
 ghost use Rattle.table_values.specs.Sample.{columns_of, HasColumns, Holds, IsShown, IsWritten};
 

@@ -1,6 +1,6 @@
 //! Integers of any width.
 ghost use Rattle.std.specs.Prelude.{◌≡◌, ◌≢◌, IfOk, IfErr, IfSome, IfNone, OnErr, OnOk};
-ghost use Rattle.bser_named.specs.Named.{int};
+ghost use Rattle.bser_format.specs.Named.{int};
 ghost use Rattle.bser_bunser.specs.Calls.{TakesInt, LooksFor, Keeps, HasFailed, IsCutShort, FailsBy, AnswersBy};
 
 use crate::bunser::Bunser;

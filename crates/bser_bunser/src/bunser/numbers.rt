@@ -1,7 +1,7 @@
 //! Numbers of a width that the caller knows.
 ghost use Rattle.std.specs.Prelude.{◌<◌, length, IfOk, IfErr, OnErr, OnOk};
 ghost use Rattle.std.specs.Int.{w8, w16, w32, w64};
-ghost use Rattle.bser_named.specs.Named.{front};
+ghost use Rattle.bser_format.specs.Named.{front};
 ghost use Rattle.bser_bunser.specs.Calls.{TakesNumber, TakesBits, Keeps, FailsShort, AnswersShort};
 
 use crate::bunser::Bunser;

@@ -1,8 +1,8 @@
 //! The header of a message, and where its body ends.
 ghost use Rattle.std.specs.Prelude.{◌≡◌, ◌-◌, ◌∷◌, [], false, IfOk, IfErr, OnOk, OnErr};
 ghost use Rattle.std.specs.Int.{w32, to_le_bytes};
-ghost use Rattle.bser_named.specs.Clauses.{after_a_refusal};
-ghost use Rattle.bser_named.specs.Named.{front, magic, head};
+ghost use Rattle.bser_format.specs.Clauses.{after_a_refusal};
+ghost use Rattle.bser_format.specs.Named.{front, magic, head};
 ghost use Rattle.bser_source.specs.Window.{Expects};
 ghost use Rattle.bser_bunser.specs.Calls.{bytes_taken, Takes, TakesHead, Keeps, FailsShort, FailsBy, AnswersBy};
 ghost use Rattle.bser_bunser.specs.Refusal.{end_refusal};

@@ -1,8 +1,8 @@
 //! Lengths, and as many bytes.
 ghost use Rattle.std.specs.Prelude.{◌≡◌, ◌<◌, ◌^◌, pos, length, IfOk, IfErr, IfSome, IfNone, OnOk, OnErr};
 ghost use Rattle.bser_source.specs.Refs.{bytes_of, is_lent};
-ghost use Rattle.bser_named.specs.Clauses.{after_a_refusal};
-ghost use Rattle.bser_named.specs.Named.{complain, front, size, count, string};
+ghost use Rattle.bser_format.specs.Clauses.{after_a_refusal};
+ghost use Rattle.bser_format.specs.Named.{complain, front, size, count, string};
 ghost use Rattle.bser_bunser.specs.Calls.{Takes, TakesSome, TakesInt, TakesLent, HasLength, TakesCounted, Keeps, Closes, HasFailed, LacksBytes, LacksCopy, NamedBy, NamesCopy, NamedOrMemory, FailsShort, FailsBy};
 ghost use Rattle.bser_bunser.specs.Names.{Names, natural_of, bytes_after};
 ghost use Rattle.bser_bunser.specs.Refusal.{BytesRefused};

@@ -5,7 +5,7 @@ ghost use Rattle.bser_deserializer.specs.Askings.{asking_bool, asking_real, aski
 ghost use Rattle.bser_deserializer.specs.Reading.{bare};
 ghost use Rattle.bser_deserializer.specs.Holds.{HoldsTruth, HoldsOne};
 ghost use Rattle.bser_format.specs.Tree.{real};
-ghost use Rattle.bser_text.specs.RealText.{float_of, bits_of};
+ghost use Rattle.bser_format.specs.RealText.{float_of, bits_of};
 ghost use Rattle.bser_types.specs.HoldsReals.{HoldsReal};
 
 use crate::deserialize::{Deserialize, OwnedShape, Shape};
@@ -16,7 +16,7 @@ use bser_ser::{Serialize, Serializer};
 use bser_source::device::Sink;
 use bser_source::read::DeRead;
 use bser_source::reference::LendsText;
-use bser_text::real::{bits_of, float_of};
+use bser_format::real::{bits_of, float_of};
 use std::alloc::Global;
 
 /// The 64 bits of a real.

@@ -5,7 +5,7 @@ ghost use Rattle.bser_value.specs.Contents.{get, as_str, as_bytes, as_i64, as_f6
 ghost use Rattle.bser_value.specs.ValueView.{tree_of, items_view, entries_view};
 
 use crate::value::Value;
-use bser_text::real::float_of;
+use bser_format::real::float_of;
 use std::collections::BTreeMap;
 use std::num::nearest_i64_to_f64;
 

@@ -3,9 +3,9 @@ ghost use Rattle.std.specs.Fmt.{DisplaysOnOk};
 ghost use Rattle.bser_value.specs.Displayed.{displayed, items_text, entries_text};
 
 use crate::value::Value;
-use bser_text::bytes::write_bytes;
-use bser_text::quoted::{write_key, write_quoted};
-use bser_text::real::write_real;
+use bser_format::bytes::write_bytes;
+use bser_format::quoted::{write_key, write_quoted};
+use bser_format::real::write_real;
 use std::collections::BTreeMap;
 use std::fmt;
 

@@ -1,5 +1,5 @@
 use Rattle.bser_format.specs.declared.errors.Complaint.TheVariants.{NegativeLength}
-use Rattle.bser_named.specs.Named as named
+use Rattle.bser_format.specs.Named as named
 use Rattle.bser_bunser.specs.Tagged.{IsInteger, IsLength, IsToken, IsString, IsHead}
 use Rattle.bser_bunser.specs.Tokens.{token}
 use Rattle.bser_bunser.proofs.Names.{excuses}

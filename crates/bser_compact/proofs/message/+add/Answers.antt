@@ -3,9 +3,9 @@ use Rattle.std.proofs.Common.{rules, arith, ◌≡◌, ◌<◌, ◌^◌, length,
 use Rattle.std.proofs.lemmas.Result.{err_from_is_err_and, on_ok_weaker, MatchResult-weaker}
 use Rattle.std.specs.List.{AllByRecursion}
 use Rattle.bser_format.specs.Canonical.{canonical_key, canonical_items, canonical_entries, canonical_fields, IsCount, ItemsAreWritable, EntriesAreWritable, FieldsAreWritable}
-use Rattle.bser_written.specs.Compact.{values, fold_items, fold_entries}
-use Rattle.bser_written.specs.Pieces.{array_head, object_head}
-use Rattle.bser_written.proofs.FoldedFits.{items_stay, entries_stay}
+use Rattle.bser_format.specs.Compact.{values, fold_items, fold_entries}
+use Rattle.bser_format.specs.Pieces.{array_head, object_head}
+use Rattle.bser_format.proofs.FoldedFits.{items_stay, entries_stay}
 use Rattle.bser_source.proofs.Lists.{item_here}
 use Rattle.bser_ser.specs.Sent.{refusal_of}
 use Rattle.bser_ser.proofs.Sends.{Sent-both, Sent-none}

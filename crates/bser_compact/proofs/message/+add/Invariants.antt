@@ -2,7 +2,7 @@ use Rattle.std.proofs.Common.{drop}
 use Rattle.std.specs.List.{AllByRecursion}
 use Rattle.bser_format.specs.Tree.{array, object}
 use Rattle.bser_format.specs.Canonical.{canonical_items, canonical_entries, canonical_fields, IsWritable, ItemsAreWritable, EntriesAreWritable, FieldsAreWritable}
-use Rattle.bser_written.specs.Compact.{values, fold_items, fold_entries}
+use Rattle.bser_format.specs.Compact.{values, fold_items, fold_entries}
 use Rattle.bser_ser.proofs.AllBut.{AllBut}
 use Rattle.bser_value.specs.ValueView.{items_view, entries_view}
 use Rattle.bser_compact.specs.Texts.{items_text, entries_text, row_text, rows_text, RowIsWritable}

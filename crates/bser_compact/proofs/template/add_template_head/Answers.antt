@@ -5,7 +5,7 @@ use Rattle.std.specs.Int.{w64}
 use Rattle.std.proofs.lemmas.Int.{to_z_pos}
 use Rattle.std.proofs.lemmas.Result.{err_from_is_err_and}
 use Rattle.bser_format.specs.Canonical.{least_integer, least_count, canonical_text, IsWritableText}
-use Rattle.bser_written.specs.Pieces.{array_head, template_tag}
+use Rattle.bser_format.specs.Pieces.{array_head, template_tag}
 use Rattle.bser_ser.specs.Sent.{Sent, refusal_of}
 use Rattle.bser_ser.proofs.Ends.{Stops-none}
 use Rattle.bser_ser.proofs.AllBut.{AllBut, AllBut-start, AllBut-all, AllBut-more, AllBut-stops}

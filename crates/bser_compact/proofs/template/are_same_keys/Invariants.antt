@@ -1,5 +1,5 @@
 use Rattle.std.proofs.Common.{◌≡◌}
-use Rattle.bser_written.specs.Compact.{same_keys}
+use Rattle.bser_format.specs.Compact.{same_keys}
 use Rattle.bser_compact.specs.Texts.{names_of}
 use Rattle.bser_compact.proofs.template.are_same_keys.Given as goal
 

@@ -1,7 +1,7 @@
 -- The keys, and then the number of rows.
 use Rattle.std.proofs.Common.{◌≡◌, ap, arith, [], length, map, ◌<◌, vec_len, inl, inr, rules}
 use Rattle.std.proofs.lemmas.Result.{err_from_is_err_and}
-use Rattle.bser_named.specs.Named.{and_then}
+use Rattle.bser_format.specs.Named.{and_then}
 use Rattle.bser_deserializer.specs.Reading.{owned}
 use Rattle.bser_deserializer.specs.Templates.{keys_after_number, keys_and_rows}
 use Rattle.bser_deserializer.proofs.Templates.{rows_refused, rows_without_keys, took_keys_and_rows, took_count, no_keys, some_keys}

@@ -1,6 +1,6 @@
 use Rattle.std.proofs.Common.{refl}
 use Rattle.bser_format.specs.Tree as trees
-use Rattle.bser_named.specs.Named.{front}
+use Rattle.bser_format.specs.Named.{front}
 use Rattle.bser_events.specs.Events as events
 use Rattle.bser_events.specs.Found.{text_bytes}
 use Rattle.bser_events.proofs.Tables.{array_at, object_at, string_tree, skip_refused}

@@ -1,7 +1,7 @@
 use Rattle.std.proofs.Common.{◌≡◌, ◌+◌, ◌-◌, suc, [], ◌∷◌, arith, refl, ◌∙◌}
 use Rattle.std.proofs.lemmas.Result.{err_from_is_err_and}
 use Rattle.bser_format.specs.declared.errors.Kind.TheVariants.{TemplateKey}
-use Rattle.bser_named.specs.Named.{text_of}
+use Rattle.bser_format.specs.Named.{text_of}
 use Rattle.bser_events.specs.Found.{keys_at}
 use Rattle.bser_events.specs.Events.{key}
 use Rattle.bser_events.proofs.Midways.{midway_begins, midway_found, midway_refused}

@@ -3,7 +3,7 @@ use Rattle.std.proofs.lemmas.Result.{err_from_is_err_and}
 use Rattle.bser_format.specs.declared.errors.Error.TheVariants.{DeInvalidStartByte, DeRecursionLimitExceeded}
 use Rattle.bser_format.specs.declared.errors.Kind.TheVariants as kinds
 use Rattle.bser_format.specs.declared.errors.Complaint.TheVariants.{RowsWithoutKeys}
-use Rattle.bser_named.specs.Named.{complain, count, rows_body, with_text_keys}
+use Rattle.bser_format.specs.Named.{complain, count, rows_body, with_text_keys}
 use Rattle.bser_events.specs.Events.{key_events, open_template, open_rows}
 use Rattle.bser_events.specs.Found.{keys_at, table_at}
 use Rattle.bser_events.proofs.Outcomes.{first_is, same_window}

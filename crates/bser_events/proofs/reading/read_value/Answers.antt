@@ -4,7 +4,7 @@ use Rattle.std.proofs.lemmas.Result.{err_from_is_err_and}
 use Rattle.std.proofs.Math.Facts.{Fits-lt-pow}
 use Rattle.bser_source.proofs.Windows.{octets_each}
 use Rattle.bser_bunser.specs.Seen.{Seen}
-use Rattle.bser_named.specs.Named.{with_text_keys}
+use Rattle.bser_format.specs.Named.{with_text_keys}
 use Rattle.bser_events.specs.Found.{value_rest}
 use Rattle.bser_events.specs.Events.{events}
 use Rattle.bser_events.proofs.Leads.{Leads, leads_begins}

@@ -1,7 +1,7 @@
 use Rattle.std.proofs.Common.{◌≡◌, ◌≤◌, ◌∷◌, length, vec_capacity}
 use Rattle.std.specs.Prelude.{reverse}
 use Rattle.bser_source.specs.Window.{Window, AreOctets, consumed}
-use Rattle.bser_named.specs.Named.{with_text_keys}
+use Rattle.bser_format.specs.Named.{with_text_keys}
 use Rattle.bser_events.specs.Events.{events}
 use Rattle.bser_events.specs.Frames.{IsSmall}
 use Rattle.bser_events.specs.declared.frame.Parts.{Parts}

@@ -1,7 +1,7 @@
 use Rattle.std.proofs.Common.{get_or, refl, sym, ap, ◌∙◌}
 use Rattle.std.proofs.lemmas.Result.{err_from_is_err_and}
 use Rattle.bser_format.specs.declared.errors.Error.TheVariants.{DeInvalidStartByte}
-use Rattle.bser_named.specs.Named.{text_of}
+use Rattle.bser_format.specs.Named.{text_of}
 use Rattle.bser_events.proofs.Outcomes.{both_ok, first_is, same_window}
 use Rattle.bser_events.proofs.Tables.{look_fails, refused_as}
 use Rattle.bser_events.proofs.Texts.{tag_taken, tag_names, key_found, string_refused, bytes_refused}

@@ -1,4 +1,4 @@
-use Rattle.bser_format.proofs.Laws.{one_message}
+use Rattle.bser_format.proofs.GrammarLaws.{one_message}
 use Rattle.bser_format.proofs.grammar.one_front.Goals as goal
 
 pub returns : goal.returns

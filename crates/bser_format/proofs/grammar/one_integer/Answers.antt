@@ -1,4 +1,4 @@
-use Rattle.bser_format.proofs.Laws.{one_int}
+use Rattle.bser_format.proofs.GrammarLaws.{one_int}
 use Rattle.bser_format.proofs.grammar.one_integer.Goals as goal
 
 pub returns : goal.returns

@@ -1,4 +1,4 @@
-use Rattle.bser_written.specs.Compact.{compact_message, fold_templates}
+use Rattle.bser_format.specs.Compact.{compact_message, fold_templates}
 use Rattle.bser_promises.specs.Least.{IsAny}
 use Rattle.bser_promises.proofs.Shorter.{rewritten, not_rewritten}
 use Rattle.bser_promises.proofs.least.compactly_rewritten.Goals as goal

@@ -1,4 +1,4 @@
-use Rattle.bser_written.specs.Compact.{fold_templates}
+use Rattle.bser_format.specs.Compact.{fold_templates}
 use Rattle.std.proofs.Common.{◌∙◌}
 use Rattle.serde_bser.specs.ValueView.{tree_of, HoldsValue}
 use Rattle.bser_promises.proofs.Back.{slice_back, slice_refused}

@@ -1,7 +1,7 @@
 //! An enum and structs, written part by part.
 ghost use Rattle.std.specs.Prelude.{Ok, [], ◌∷◌, codes};
 ghost use Rattle.bser_format.specs.Tree.{text, bytes};
-ghost use Rattle.bser_written.specs.Written.{tuple_tree, struct_tree, variant_tree};
+ghost use Rattle.bser_format.specs.Written.{tuple_tree, struct_tree, variant_tree};
 ghost use Rattle.std.specs.Prelude.{OnOk, IfErr};
 ghost use Rattle.bser_ser.specs.Ends.{Ends, Stops, field_text, CanBeWritten};
 
@@ -24,7 +24,7 @@ impl Serialize for TestEnum {
     ghost use Rattle.bser_ser_tests.specs.declared.tests.writing.types.TestEnum.TheVariants.{TestUnit, TestNewtype, TestTuple, TestStruct};
     ghost use Rattle.std.specs.Prelude.{pos, encode_utf8};
     ghost use Rattle.bser_format.specs.Tree.{null, integer};
-    ghost use Rattle.bser_written.specs.Written.{unsigned_tree};
+    ghost use Rattle.bser_format.specs.Written.{unsigned_tree};
 
     ghost meaning = { λ v. elim v [
       | TestUnit ↦ Ok (text (codes "TestUnit"))
@@ -103,7 +103,7 @@ pub struct TestStruct<E> {
 
 impl<E: Serialize> Serialize for TestStruct<E> {
     ghost use Rattle.bser_format.specs.Tree.{integer, real};
-    ghost use Rattle.bser_written.specs.Written.{array_tree, option_tree};
+    ghost use Rattle.bser_format.specs.Written.{array_tree, option_tree};
 
     ghost meaning = { λ v. struct_tree ((codes "test_list", array_tree (λ n. Ok (integer n)) v.test_list.items) ∷ (codes "test_tuple", tuple_tree (Ok (text v.test_tuple.0.now) ∷ option_tree (λ r. Ok (real r.0)) v.test_tuple.1 ∷ [])) ∷ (codes "test_enum", E.meaning v.test_enum) ∷ (codes "test_enum_list", array_tree E.meaning v.test_enum_list.items) ∷ []) };
 

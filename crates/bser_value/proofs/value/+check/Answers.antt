@@ -1,5 +1,5 @@
 use Rattle.std.proofs.Common.{◌<◌, ◌^◌, length, arith, sym, subst, ◌∙◌}
-use Rattle.bser_written.specs.ValueTree.{ItemsAreValueTrees, EntriesAreValueTrees}
+use Rattle.bser_format.specs.ValueTree.{ItemsAreValueTrees, EntriesAreValueTrees}
 use Rattle.bser_format.specs.Canonical.{ItemsAreWritable, EntriesAreWritable, IsCount}
 use Rattle.bser_value.specs.ValueView.{entries_view, items_view}
 use Rattle.bser_value.proofs.Views.{keys_rise, length-entries, length-items}

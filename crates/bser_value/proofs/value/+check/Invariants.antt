@@ -1,6 +1,6 @@
 use Rattle.std.proofs.Common.{drop}
 use Rattle.bser_format.specs.Tree.{array, object}
-use Rattle.bser_written.specs.ValueTree.{IsValueTree, ItemsAreValueTrees, EntriesAreValueTrees}
+use Rattle.bser_format.specs.ValueTree.{IsValueTree, ItemsAreValueTrees, EntriesAreValueTrees}
 use Rattle.bser_format.specs.Canonical.{IsWritable, ItemsAreWritable, EntriesAreWritable}
 use Rattle.bser_value.specs.ValueView.{items_view, entries_view}
 use Rattle.bser_value.proofs.value.+check.Given as goal

@@ -1,6 +1,6 @@
 use Rattle.std.proofs.Common.{◌≡◌, drop}
 use Rattle.std.specs.Slice.Iter.{iter_rest}
-use Rattle.bser_written.specs.SameTree.{same_items, same_entries}
+use Rattle.bser_format.specs.SameTree.{same_items, same_entries}
 use Rattle.bser_value.specs.ValueView.{items_view, entries_view}
 use Rattle.bser_value.proofs.value.+same.Given as goal
 

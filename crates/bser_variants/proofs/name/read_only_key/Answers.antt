@@ -2,7 +2,7 @@
 use Rattle.std.proofs.Common.{◌≡◌, ◌∙◌, List, ℕ, map, sym, subst}
 use Rattle.bser_format.specs.Expected.{WantedPairs}
 use Rattle.bser_format.specs.declared.errors.Complaint.TheVariants.{EnumObjectEntries}
-use Rattle.bser_named.specs.Named.{complain}
+use Rattle.bser_format.specs.Named.{complain}
 use Rattle.bser_deserializer.specs.Parts.{pairs_left, pair_key}
 use Rattle.bser_deserializer.specs.Reading.{NamesBy, bare}
 use Rattle.bser_deserializer.specs.State.{State, awaiting}

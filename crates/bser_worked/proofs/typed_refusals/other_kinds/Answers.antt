@@ -1,6 +1,6 @@
 use Rattle.std.proofs.Common.{refl}
 use Rattle.std.specs.Str.{is_utf8, chars}
-use Rattle.bser_named.specs.Named.{value}
+use Rattle.bser_format.specs.Named.{value}
 use Rattle.bser_worked.proofs.typed_refusals.other_kinds.Goals as goal
 
 pub returns-clause-text : goal.returns-clause-text

@@ -1,5 +1,5 @@
-use Rattle.bser_written.proofs.Folded.{folded_reads}
-use Rattle.bser_written.proofs.CompactMessages.{compact_is_message, compact_front, compact_meaning}
+use Rattle.bser_format.proofs.Folded.{folded_reads}
+use Rattle.bser_format.proofs.CompactMessages.{compact_is_message, compact_front, compact_meaning}
 use Rattle.serde_bser.proofs.laws.compact_reads_back.Goals as goal
 
 pub returns : goal.returns

@@ -1,5 +1,5 @@
-use Rattle.bser_written.proofs.Folded.{folded_stands, folded_depth}
-use Rattle.bser_written.proofs.FoldedFits.{folded_writable, short_writable}
+use Rattle.bser_format.proofs.Folded.{folded_stands, folded_depth}
+use Rattle.bser_format.proofs.FoldedFits.{folded_writable, short_writable}
 use Rattle.serde_bser.proofs.laws.compact_tree.Goals as goal
 
 pub returns : goal.returns

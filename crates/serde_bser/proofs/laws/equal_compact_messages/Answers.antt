@@ -1,6 +1,6 @@
 use Rattle.std.proofs.Common.{ap}
-use Rattle.bser_written.specs.Compact.{compact_message}
-use Rattle.bser_written.proofs.CompactMessages.{equal_compact}
+use Rattle.bser_format.specs.Compact.{compact_message}
+use Rattle.bser_format.proofs.CompactMessages.{equal_compact}
 use Rattle.serde_bser.proofs.laws.equal_compact_messages.Goals as goal
 
 pub returns : goal.returns

@@ -1,6 +1,6 @@
 use Rattle.std.proofs.Common.{ap}
 use Rattle.bser_format.specs.Canonical.{canonical_message}
-use Rattle.bser_written.proofs.Fits.{equal_values}
+use Rattle.bser_format.proofs.Fits.{equal_values}
 use Rattle.serde_bser.proofs.laws.equal_messages.Goals as goal
 
 pub returns : goal.returns

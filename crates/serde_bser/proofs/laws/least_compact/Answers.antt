@@ -1,4 +1,4 @@
-use Rattle.bser_written.proofs.LeastCompact.{least_compact, compact_no_longer}
+use Rattle.bser_format.proofs.LeastCompact.{least_compact, compact_no_longer}
 use Rattle.serde_bser.proofs.laws.least_compact.Goals as goal
 
 pub returns : goal.returns

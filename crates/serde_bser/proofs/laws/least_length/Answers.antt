@@ -1,4 +1,4 @@
-use Rattle.bser_written.proofs.Bounds.{least_message}
+use Rattle.bser_format.proofs.Bounds.{least_message}
 use Rattle.serde_bser.proofs.laws.least_length.Goals as goal
 
 pub returns : goal.returns

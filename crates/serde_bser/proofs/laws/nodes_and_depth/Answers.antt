@@ -1,4 +1,4 @@
-use Rattle.bser_written.proofs.Bounds.{value_nodes, value_depth, value_body, value_fits}
+use Rattle.bser_format.proofs.Bounds.{value_nodes, value_depth, value_body, value_fits}
 use Rattle.serde_bser.proofs.laws.nodes_and_depth.Goals as goal
 
 pub returns : goal.returns

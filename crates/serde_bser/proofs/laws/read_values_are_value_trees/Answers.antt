@@ -1,4 +1,4 @@
-use Rattle.bser_written.proofs.Settled.{message_settles}
+use Rattle.bser_format.proofs.Settled.{message_settles}
 use Rattle.serde_bser.proofs.laws.read_values_are_value_trees.Goals as goal
 
 pub returns : goal.returns

@@ -1,4 +1,4 @@
-use Rattle.bser_written.proofs.Fits.{value_message, value_front, value_reads_as_itself}
+use Rattle.bser_format.proofs.Fits.{value_message, value_front, value_reads_as_itself}
 use Rattle.serde_bser.proofs.laws.reads_back.Goals as goal
 
 pub returns : goal.returns

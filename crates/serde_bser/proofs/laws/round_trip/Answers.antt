@@ -1,7 +1,7 @@
-use Rattle.bser_written.proofs.Back.{canon_message}
-use Rattle.bser_written.proofs.Fits.{body_fits, writable}
-use Rattle.bser_written.proofs.RoundTrip.{meaning_stays, value_free, written_front}
-use Rattle.bser_written.proofs.Values.{expand_free}
+use Rattle.bser_format.proofs.Back.{canon_message}
+use Rattle.bser_format.proofs.Fits.{body_fits, writable}
+use Rattle.bser_format.proofs.RoundTrip.{meaning_stays, value_free, written_front}
+use Rattle.bser_format.proofs.Values.{expand_free}
 use Rattle.serde_bser.proofs.laws.round_trip.Goals as goal
 
 pub returns : goal.returns

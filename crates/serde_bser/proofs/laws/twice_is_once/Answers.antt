@@ -1,4 +1,4 @@
-use Rattle.bser_written.proofs.Fits.{read_again}
+use Rattle.bser_format.proofs.Fits.{read_again}
 use Rattle.serde_bser.proofs.laws.twice_is_once.Goals as goal
 
 pub returns : goal.returns

@@ -1,5 +1,5 @@
-use Rattle.bser_written.proofs.Written.{written_out_spelled, same_expansion}
-use Rattle.bser_written.proofs.Bounds.{written_out_one_tree}
+use Rattle.bser_format.proofs.Written.{written_out_spelled, same_expansion}
+use Rattle.bser_format.proofs.Bounds.{written_out_one_tree}
 use Rattle.serde_bser.proofs.laws.written_out.Goals as goal
 
 pub returns : goal.returns

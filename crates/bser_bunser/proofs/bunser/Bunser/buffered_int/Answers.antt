@@ -3,7 +3,7 @@ use Rattle.std.proofs.Common.{rules}
 use Rattle.std.specs.Int.{w64}
 use mir.Val.{SFits}
 use Rattle.std.proofs.lemmas.Int.{to_z-of_z}
-use Rattle.bser_named.specs.Named.{int}
+use Rattle.bser_format.specs.Named.{int}
 use Rattle.bser_bunser.proofs.Looks.{look}
 use Rattle.bser_bunser.proofs.Ints.{took_int}
 use Rattle.bser_bunser.proofs.bunser.Bunser.buffered_int.Goals as goal

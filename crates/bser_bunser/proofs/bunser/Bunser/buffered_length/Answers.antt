@@ -1,6 +1,6 @@
 -- A length of one byte, which is buffered, was taken.
 use Rattle.std.proofs.Common.{pos, refl}
-use Rattle.bser_named.specs.Named.{int}
+use Rattle.bser_format.specs.Named.{int}
 use Rattle.bser_bunser.proofs.Looks.{look}
 use Rattle.bser_bunser.proofs.Ints.{took_int}
 use Rattle.bser_bunser.proofs.bunser.Bunser.buffered_length.Goals as goal

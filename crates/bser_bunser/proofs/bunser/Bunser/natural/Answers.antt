@@ -3,7 +3,7 @@ use Rattle.std.specs.Int.{w64}
 use mir.Val.{SFits}
 use Rattle.std.proofs.lemmas.Int.{to_z-of_z}
 use Rattle.std.proofs.lemmas.Result.{err_from_is_err_and}
-use Rattle.bser_named.specs.Named.{int, natural}
+use Rattle.bser_format.specs.Named.{int, natural}
 use Rattle.bser_bunser.proofs.Names.{names_first}
 use Rattle.bser_bunser.proofs.Counted.{below_names}
 use Rattle.bser_bunser.proofs.bunser.Bunser.natural.Goals as goal

@@ -1,6 +1,6 @@
 use Rattle.std.proofs.Common.{inl}
 use Rattle.std.proofs.lemmas.Result.{err_from_is_err_and}
-use Rattle.bser_named.specs.Named.{front, size}
+use Rattle.bser_format.specs.Named.{front, size}
 use Rattle.bser_bunser.proofs.Names.{names_first}
 use Rattle.bser_bunser.proofs.Counted.{string_names_or, took_counted}
 use Rattle.bser_bunser.proofs.bunser.Bunser.next_copy.Goals as goal

@@ -3,7 +3,7 @@ use Rattle.std.specs.Int.{w64}
 use mir.Val.{SFits}
 use Rattle.std.proofs.lemmas.Int.{to_z-of_z}
 use Rattle.std.proofs.lemmas.Result.{err_from_is_err_and}
-use Rattle.bser_named.specs.Named.{int}
+use Rattle.bser_format.specs.Named.{int}
 use Rattle.bser_bunser.proofs.Looks.{look, look_again}
 use Rattle.bser_bunser.proofs.Ints.{took_int, short_int, short_cuts}
 use Rattle.bser_bunser.proofs.bunser.Bunser.next_int_slowly.Goals as goal

@@ -1,5 +1,5 @@
 use Rattle.std.proofs.Common.{◌≡◌, ◌-◌, length}
-use Rattle.bser_named.specs.Named.{int}
+use Rattle.bser_format.specs.Named.{int}
 use Rattle.bser_bunser.proofs.Looks.{Looking}
 use Rattle.bser_bunser.proofs.bunser.Bunser.next_int_slowly.Given as goal
 

@@ -1,5 +1,5 @@
 use Rattle.std.proofs.Common.{refl, map, sym, ap, ◌∙◌}
-use Rattle.bser_named.specs.DueReaders.{tag}
+use Rattle.bser_format.specs.DueReaders.{tag}
 use Rattle.bser_deserializer.specs.State.{State}
 use Rattle.bser_deserializer.specs.Dues.{IsTagged}
 use Rattle.bser_deserializer.specs.View.{seen_of}

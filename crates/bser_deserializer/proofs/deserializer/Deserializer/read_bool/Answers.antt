@@ -1,7 +1,7 @@
 use Rattle.std.proofs.Common.{refl}
 use Rattle.std.proofs.lemmas.Result.{err_from_is_err_and}
 use Rattle.bser_format.specs.ReadsScalars.{reads_bool}
-use Rattle.bser_named.specs.DueReaders.{bool_at}
+use Rattle.bser_format.specs.DueReaders.{bool_at}
 use Rattle.bser_deserializer.specs.Askings.{asking_bool}
 use Rattle.bser_deserializer.specs.State.{State}
 use Rattle.bser_deserializer.specs.View.{seen_of}

@@ -4,7 +4,7 @@ use Rattle.std.specs.Int.{w64}
 use mir.Val.{SFits}
 use Rattle.std.proofs.lemmas.Int.{to_z-of_z}
 use Rattle.bser_format.specs.ReadsScalars.{reads_integer}
-use Rattle.bser_named.specs.DueReaders.{integer_at}
+use Rattle.bser_format.specs.DueReaders.{integer_at}
 use Rattle.bser_deserializer.specs.Askings.{asking_integer}
 use Rattle.bser_deserializer.specs.State.{State}
 use Rattle.bser_deserializer.specs.View.{seen_of}

@@ -4,7 +4,7 @@ use mir.Val.{SFits}
 use Rattle.std.proofs.lemmas.Int.{to_z-of_z}
 use Rattle.std.proofs.lemmas.Result.{err_from_is_err_and}
 use Rattle.bser_format.specs.ReadsScalars.{reads_integer}
-use Rattle.bser_named.specs.DueReaders.{integer_at}
+use Rattle.bser_format.specs.DueReaders.{integer_at}
 use Rattle.bser_source.specs.Window.{Window}
 use Rattle.bser_bunser.specs.Tagged.{LooksForInt}
 use Rattle.bser_bunser.specs.declared.prefix.Look.TheVariants.{Unexpected}

@@ -1,5 +1,5 @@
 use Rattle.std.proofs.Common.{sym, ap, subst, refl, map, ◌∙◌}
-use Rattle.bser_named.specs.DueReaders.{nothing_at, asked, wrong_type, nothing_here}
+use Rattle.bser_format.specs.DueReaders.{nothing_at, asked, wrong_type, nothing_here}
 use Rattle.bser_deserializer.specs.State.{State}
 use Rattle.bser_deserializer.specs.Dues.{due_of, IsTagged}
 use Rattle.bser_deserializer.specs.Reading.{NamesDue, bare}

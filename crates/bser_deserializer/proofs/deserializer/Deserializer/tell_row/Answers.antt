@@ -4,7 +4,7 @@ use Rattle.std.proofs.lemmas.List.{length-map}
 use Rattle.std.proofs.lemmas.Result.{err_from_is_err_and}
 use Rattle.bser_events.proofs.Outcomes.{both_ok, each_ok}
 use Rattle.bser_format.specs.declared.errors.Error.{Error}
-use Rattle.bser_named.specs.Named.{field_of, with_text_keys}
+use Rattle.bser_format.specs.Named.{field_of, with_text_keys}
 use Rattle.bser_bunser.specs.Refusal.{Fails}
 use Rattle.bser_deserializer.specs.Calls.{Keeps}
 use Rattle.bser_deserializer.specs.State.{State, past}

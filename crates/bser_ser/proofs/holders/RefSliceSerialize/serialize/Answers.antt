@@ -1,7 +1,7 @@
 use Rattle.std.proofs.Common.{length, refl}
 use Rattle.std.proofs.lemmas.List.{drop_all}
 use Rattle.std.proofs.lemmas.Result.{err_from_is_err_and}
-use Rattle.bser_written.specs.Written.{array_tree}
+use Rattle.bser_format.specs.Written.{array_tree}
 use Rattle.bser_source.proofs.Lists.{item_here}
 use Rattle.bser_ser.proofs.Writable.{within_writable}
 use Rattle.bser_ser.proofs.Texts.{items_start, items_more, items_put, items_writable, items_stop, Ends-slice, Stops-slice}

@@ -1,6 +1,6 @@
 use Rattle.std.proofs.Common.{arith, subst, ◌∙◌}
 use Rattle.std.proofs.lemmas.Result.{err_from_is_err_and}
-use Rattle.bser_written.specs.Pieces.{array_head}
+use Rattle.bser_format.specs.Pieces.{array_head}
 use Rattle.bser_ser.specs.Sent.{Sent}
 use Rattle.bser_ser.proofs.Texts.{items_start, items_more, items_put, items_writable, items_stop}
 use Rattle.bser_ser.proofs.lists.BTreeSetSerialize.serialize.Goals as goal

@@ -1,6 +1,6 @@
 use Rattle.std.proofs.Common.{◌≡◌, rules, arith, length, Ok}
 use Rattle.std.proofs.lemmas.Result.{err_from_is_err_and}
-use Rattle.bser_written.specs.Written.{plain_bytes}
+use Rattle.bser_format.specs.Written.{plain_bytes}
 use Rattle.bser_format.specs.Canonical.{canonical_key}
 use Rattle.bser_ser.specs.Ends.{text_of}
 use Rattle.bser_ser.proofs.Ends.{Ends-both, Stops-second, Stops-none}

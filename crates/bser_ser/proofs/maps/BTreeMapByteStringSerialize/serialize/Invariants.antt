@@ -1,4 +1,4 @@
-use Rattle.bser_written.specs.Written.{plain_bytes}
+use Rattle.bser_format.specs.Written.{plain_bytes}
 use Rattle.bser_ser.proofs.Texts.{EntriesPut}
 use Rattle.bser_ser.proofs.maps.BTreeMapByteStringSerialize.serialize.Given as goal
 

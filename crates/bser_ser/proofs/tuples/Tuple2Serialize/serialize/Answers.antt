@@ -1,6 +1,6 @@
 use Rattle.std.proofs.Common.{rules, [], ◌∷◌, refl}
 use Rattle.std.proofs.lemmas.Result.{err_from_is_err_and, MatchResult-weaker}
-use Rattle.bser_written.specs.Written.{part_tree}
+use Rattle.bser_format.specs.Written.{part_tree}
 use Rattle.bser_ser.proofs.Texts.{ItemsPut, items_start, items_more, items_done, items_stop}
 use Rattle.bser_ser.proofs.Writable.{tuple_writable}
 use Rattle.bser_ser.proofs.tuples.Tuple2Serialize.serialize.Goals as goal

@@ -1,5 +1,5 @@
 use Rattle.std.proofs.Common.{◌∙◌, sym}
-use Rattle.bser_written.proofs.Same.{same_tree_decides}
+use Rattle.bser_format.proofs.Same.{same_tree_decides}
 use Rattle.bser_value.specs.ValueView.{tree_of}
 use Rattle.bser_value.proofs.value.ValuePartialEq.eq.Goals as goal
 

@@ -2,7 +2,7 @@
 use Rattle.std.proofs.Common.{◌≡◌, [], Some, Ok, codes, string_bytes, refl, sym, ap, ◌∙◌, rules}
 use Rattle.std.proofs.Output.{displays_on_ok_of_eq, has_written_of_eq}
 use Rattle.std.specs.Fmt.{◌++?◌, debug_items}
-use Rattle.bser_text.specs.QuotedText.{quoted_key}
+use Rattle.bser_format.specs.QuotedText.{quoted_key}
 use Rattle.bser_value.specs.Displayed.{displayed, member_text}
 use Rattle.bser_value.proofs.Views.{Entry, drop-item}
 use Rattle.bser_value.proofs.Displays.{shows_then, shows_from, part_more, displayed-Array, displayed-Object}

@@ -4,7 +4,7 @@ use Rattle.std.proofs.lemmas.List.{drop_all}
 use Rattle.std.proofs.lemmas.Result.{err_from_is_err_and}
 use Rattle.bser_format.specs.Tree.{Tree}
 use Rattle.bser_format.specs.declared.errors.Error.{Error}
-use Rattle.bser_written.specs.Pieces.{array_head, object_head}
+use Rattle.bser_format.specs.Pieces.{array_head, object_head}
 use Rattle.bser_format.specs.Canonical.{canonical_key, IsCount, ItemsAreWritable, EntriesAreWritable}
 use Rattle.bser_ser.specs.Ends.{AddsTree, text_of}
 use Rattle.bser_ser.specs.Sent.{Sent, refusal_of}

@@ -1,7 +1,7 @@
 use Rattle.std.proofs.Common.{length, drop, string_bytes, Ok}
 use Rattle.bser_format.specs.Tree.{array, object}
 use Rattle.bser_format.specs.Canonical.{IsWritable, ItemsAreWritable, EntriesAreWritable}
-use Rattle.bser_written.specs.Pieces.{array_head, object_head}
+use Rattle.bser_format.specs.Pieces.{array_head, object_head}
 use Rattle.bser_ser.proofs.Ends.{UpTo}
 use Rattle.bser_ser.proofs.Texts.{item_text, entry_text}
 use Rattle.bser_value.specs.ValueView.{tree_of, items_view, entries_view}

@@ -3,7 +3,7 @@ use Rattle.std.proofs.lemmas.Grind.{common_steps}
 use Rattle.std.proofs.lemmas.Result.{err_from_is_err_and}
 use Rattle.bser_format.specs.Content.{Content, list, content, no_contents}
 use Rattle.bser_deserializer.specs.Reading.{Needs}
-use Rattle.bser_named.specs.DueReaders.{wrong_type}
+use Rattle.bser_format.specs.DueReaders.{wrong_type}
 use Rattle.bser_deserializer.specs.State.{State}
 use Rattle.bser_deserializer.specs.Access.{OpenPairs}
 use Rattle.bser_types.specs.Accesses.{open_pairs}

@@ -2,8 +2,8 @@ use Rattle.std.proofs.Common.{rules, List, ℕ, pos, [], ◌∷◌, Result, Ok, 
 use Rattle.std.proofs.lemmas.Result.{err_from_is_err_and, MatchResult-weaker}
 use Rattle.bser_format.specs.declared.errors.Error.{Error}
 use Rattle.bser_format.specs.Tree.{Tree, bytes, integer}
-use Rattle.bser_written.specs.Pieces.{object_head}
-use Rattle.bser_written.specs.Written.{part_tree, plain_bytes, struct_tree}
+use Rattle.bser_format.specs.Pieces.{object_head}
+use Rattle.bser_format.specs.Written.{part_tree, plain_bytes, struct_tree}
 use Rattle.bser_ser.proofs.Structs.{struct_text, walk_start, walk_more, walk_all, walk_stop, field_ends, field_stops_at_key, field_stops}
 use Rattle.bser_ser.proofs.Texts.{entry_text}
 use Rattle.bser_ser.proofs.Writable.{struct_writable}

@@ -2,8 +2,8 @@ use Rattle.std.proofs.Common.{rules, List, ℕ, [], ◌∷◌, Result, Ok, codes
 use Rattle.std.proofs.lemmas.Result.{err_from_is_err_and, MatchResult-weaker}
 use Rattle.bser_format.specs.declared.errors.Error.{Error}
 use Rattle.bser_format.specs.Tree.{Tree, text, bytes, null, integer}
-use Rattle.bser_written.specs.Pieces.{tuple_variant_head, struct_variant_head}
-use Rattle.bser_written.specs.Written.{part_tree, plain_bytes, tuple_tree, struct_tree, variant_tree, unsigned_tree}
+use Rattle.bser_format.specs.Pieces.{tuple_variant_head, struct_variant_head}
+use Rattle.bser_format.specs.Written.{part_tree, plain_bytes, tuple_tree, struct_tree, variant_tree, unsigned_tree}
 use Rattle.bser_ser.proofs.Structs.{payload_ends, payload_stops, tuple_variant_text, struct_variant_text, walk_start, walk_more, walk_all, walk_stop, field_ends, field_stops_at_key, field_stops}
 use Rattle.bser_ser.proofs.Texts.{item_text, entry_text}
 use Rattle.bser_ser.proofs.Writable.{tuple_writable, struct_writable, variant_writable}

@@ -1,0 +1,5 @@
+use Rattle.bser_format.proofs.NamedMessages.{message_passes}
+use Rattle.bser_format.proofs.laws.messages_are_passed.Goals as goal
+
+pub returns : goal.returns
+returns c = message_passes

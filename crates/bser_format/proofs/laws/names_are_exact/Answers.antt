@@ -1,0 +1,6 @@
+use Rattle.bser_format.proofs.Agreement.{reads_spelled, refuses_rest}
+use Rattle.bser_format.proofs.NamedFrames.{reads_messages}
+use Rattle.bser_format.proofs.laws.names_are_exact.Goals as goal
+
+pub returns : goal.returns
+returns c = record { read = reads_spelled; refused = refuses_rest; messages = reads_messages }

@@ -1,0 +1,27 @@
+-- A real by its 64 bits.
+use Rattle.std.specs.Prelude.{ℕ, ◌^◌, ◌%◌, List, Option, Some, None, Float, codes, from_bits, to_bits, is_nan, ◌==◌, if◌then◌else◌}
+use Rattle.std.specs.Int.{w64, to_be_bytes}
+use Rattle.std.specs.Float.{binary64}
+use Rattle.std.specs.Float.Ieee.{nan_bits}
+use Rattle.bser_format.specs.MarkedText.{marked_text}
+
+-- the number, where the bits are not those of a NaN
+abbrev pub float_of : ℕ → Option Float
+float_of bits = if nan_bits binary64 bits then None else Some (from_bits binary64 bits)
+
+-- the bits of a number that is no NaN
+abbrev pub bits_of : Float → Option ℕ
+bits_of x = if is_nan x then None else Some (to_bits binary64 x)
+
+-- the number, where the bits are neither those of an infinity nor of a NaN
+abbrev pub finite : ℕ → Option Float
+finite bits = if bits % 2 ^ 63 == 0x7ff0000000000000 then None else float_of bits
+
+-- what is printed where there is no number. Of a number nothing is said
+abbrev pub unless_number : List ℕ → Option Float → Option (List ℕ)
+unless_number text (Some x) = None
+unless_number text None = Some text
+
+-- what is printed of an infinity and of a NaN: the bits, the highest byte first
+abbrev pub real_text : ℕ → Option (List ℕ)
+real_text bits = unless_number (marked_text (codes "$real") (to_be_bytes w64 bits)) (finite bits)

@@ -1,5 +1,0 @@
-use Rattle.bser_named.proofs.Integers.{integer_passes}
-use Rattle.bser_named.proofs.laws.integers_are_passed.Goals as goal
-
-pub returns : goal.returns
-returns c = integer_passes

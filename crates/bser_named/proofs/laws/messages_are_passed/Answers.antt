@@ -1,5 +1,0 @@
-use Rattle.bser_named.proofs.Messages.{message_passes}
-use Rattle.bser_named.proofs.laws.messages_are_passed.Goals as goal
-
-pub returns : goal.returns
-returns c = message_passes

@@ -1,3 +1,0 @@
-pub mod MarkedText
-pub mod QuotedText
-pub mod RealText
