@@ -9,10 +9,10 @@ use Rattle.bser_format.specs.declared.errors.Error.{Error}
 use Rattle.bser_format.specs.declared.errors.Error.TheVariants.{DeInvalidMagic}
 use Rattle.bser_format.specs.declared.errors.Complaint.{Complaint}
 use Rattle.bser_format.specs.declared.errors.Complaint.TheVariants.{NegativeLength}
-use Rattle.bser_format.proofs.Fronts.{int_reads, front_reads, from_to_le_bytes}
+use Rattle.bser_format.proofs.Fronts.{int_reads, front_reads, counted_reads}
+use Rattle.bser_format.proofs.Messages.{head_reads}
 use Rattle.bser_format.specs.Named as named
 use Rattle.bser_format.specs.Named.{Reader, eof, refuses, reads, complain, and_then, ◌>>=◌, give, refuse}
-use Rattle.bser_format.proofs.Agreement.{int_same, front_same, forgotten}
 use Rattle.bser_format.proofs.Steps.{Passes}
 use Rattle.bser_bunser.specs.Names.{IsCutInteger}
 use Rattle.bser_bunser.specs.Tagged.{SpellsCounted}
@@ -21,18 +21,16 @@ use Rattle.bser_bunser.specs.Tagged.{SpellsCounted}
 
 -- as many bytes
 pub front_there : (n : ℕ) (s : List ℕ) → length s ≡ n → Passes (named.front n) s s
-front_there n s e x =
-    forgotten (named.front n (s ++ x)) s x (front_same n (s ++ x) ∙ front_reads n s x e)
+front_there n s e x = front_reads n s x e
 
 -- an integer
 pub int_there : (v : ℤ) (text : List ℕ) → SpellsInteger v text → Passes named.int v text
-int_there v text h x =
-    forgotten (named.int (text ++ x)) v x (int_same (text ++ x) ∙ int_reads v text x h)
+int_there v text h x = int_reads v text x h
 
 -- a length or a count
 pub counted_there : (c : Complaint) (n : ℕ) (text : List ℕ) → SpellsInteger (pos n) text
     → Passes (named.int >>= named.natural c) n text
-counted_there c n text h x = ap (and_then (named.natural c)) (int_there (pos n) text h x)
+counted_there c n text h x = counted_reads c n text x h
 
 -- a string after its tag
 pub string_there : (s text : List ℕ) → SpellsCounted s text → Passes named.string s text
@@ -70,14 +68,7 @@ other_magic s x e other =
 
 -- a message's head
 pub head_there : (c k : ℕ) (text : List ℕ) → Head c k text → Passes named.head (c, k) text
-head_there c k text h x =
-    let s = h.1.second in
-    ap (λ l. named.head (l ++ x)) h.1.whole ∙ ap named.head (append_assoc h.1.front h.1.rest x)
-    ∙ ap (λ l. named.head (l ++ (h.1.rest ++ x))) h.1.first ∙ head_after_magic (h.1.rest ++ x)
-    ∙ ap (λ l. after_magic (l ++ x)) s.whole ∙ ap after_magic (append_assoc s.front s.rest x)
-    ∙ ap (λ l. after_magic (l ++ (s.rest ++ x))) s.first ∙ magic_after_four c (s.rest ++ x)
-    ∙ ap (and_then (λ n. give (from_le_bytes w32 (to_le_bytes w32 c), n))) (counted_there NegativeLength k s.rest s.second x)
-    ∙ ap (λ m. reads (m, k) x) (from_to_le_bytes int32 c h.0)
+head_there c k text h x = head_reads c k text x h
 
 -- ---- what is refused
 

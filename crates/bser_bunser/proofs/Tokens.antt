@@ -10,12 +10,10 @@ use Rattle.bser_format.specs.declared.errors.Error.TheVariants.{DeInvalidStartBy
 use Rattle.bser_format.specs.declared.errors.Kind.TheVariants.{Integer, NextItem}
 use Rattle.bser_format.specs.declared.errors.Complaint.{Complaint}
 use Rattle.bser_format.specs.declared.errors.Complaint.TheVariants as complaints
-use Rattle.bser_format.proofs.Fronts.{from_to_le_bytes}
+use Rattle.bser_format.proofs.Fronts.{from_to_le_bytes, number_reads}
 use Rattle.bser_format.specs.Named as named
 use Rattle.bser_format.specs.Named.{eof, refuses, reads, complain, and_then, ◌>>=◌, give}
-use Rattle.bser_format.proofs.Agreement.{number_same, forgotten}
 use Rattle.bser_format.proofs.Steps.{Passes}
-use Rattle.bser_format.proofs.Fronts.{number_reads}
 use Rattle.bser_source.specs.Window.{Window, AreOctets, consumed}
 use Rattle.bser_bunser.specs.Prefixes.{CutInt, BitsPrefix, IsLengthPrefix}
 use Rattle.bser_bunser.specs.Refusal.{unexpected_refusal}
@@ -33,16 +31,12 @@ use Rattle.bser_bunser.proofs.Looks.{Looking, look_took}
 
 -- ---- what is read
 
-number_there : (s : IntSize) (v : ℤ) (x : List ℕ) → FitsSigned (width_of s) v
-    → named.number s (to_le_bytes (width_of s) (cast_unsigned (width_of s) v) ++ x) ≡ reads v x
-number_there s v x h = forgotten _ v x (number_same s _ ∙ number_reads s v x h)
-
 int_token : (s : IntSize) (v : ℤ) (x : List ℕ) → FitsSigned (width_of s) v
     → token (int_bytes s v ++ x) ≡ reads (tokens.Int v) x
-int_token int8 v x h = ap (and_then (λ z. give (tokens.Int z))) (number_there int8 v x h)
-int_token int16 v x h = ap (and_then (λ z. give (tokens.Int z))) (number_there int16 v x h)
-int_token int32 v x h = ap (and_then (λ z. give (tokens.Int z))) (number_there int32 v x h)
-int_token int64 v x h = ap (and_then (λ z. give (tokens.Int z))) (number_there int64 v x h)
+int_token int8 v x h = ap (and_then (λ z. give (tokens.Int z))) (number_reads int8 v x h)
+int_token int16 v x h = ap (and_then (λ z. give (tokens.Int z))) (number_reads int16 v x h)
+int_token int32 v x h = ap (and_then (λ z. give (tokens.Int z))) (number_reads int32 v x h)
+int_token int64 v x h = ap (and_then (λ z. give (tokens.Int z))) (number_reads int64 v x h)
 
 -- the bytes of a token are read as it
 pub token_there : (t : Token) (b : List ℕ) → SpellsToken t b → Passes token t b

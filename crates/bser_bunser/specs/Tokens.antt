@@ -3,11 +3,10 @@ use Rattle.std.specs.Prelude.{◌≡◌, ℕ, suc, ◌≤◌, ◌<◌, ◌^◌, 
 use Rattle.std.specs.Int.{w64, to_le_bytes, from_le_bytes}
 use Rattle.bser_format.specs.Tree.{Tree, null, boolean, integer, real, bytes, text, array, object, items_of, entries_of}
 use Rattle.bser_format.specs.Grammar.{Format, Bytes, Given, Bool_tag, IntSize, tag_of, SpellsInteger, SpellsCount}
-use Rattle.bser_format.specs.Plain.{is_positive}
 use Rattle.bser_format.specs.declared.errors.Error.{Error}
 use Rattle.bser_format.specs.declared.errors.Error.TheVariants.{DeInvalidStartByte}
 use Rattle.bser_format.specs.declared.errors.Kind.TheVariants.{NextItem}
-use Rattle.bser_format.specs.Named.{Reader, refuses, give, refuse, ◌>>=◌, eof, next, front, many, int_after, size, count, utf8, entry_of, template_after, value}
+use Rattle.bser_format.specs.Named.{Reader, refuses, give, refuse, ◌>>=◌, eof, next, front, many, int_after, size, count, utf8, entry_of, template_after, value, is_positive}
 use Rattle.bser_bunser.specs.declared.prefix.Prefix.{Prefix}
 use Rattle.bser_bunser.specs.declared.prefix.Prefix.TheVariants.{Found, Short}
 use Rattle.bser_bunser.specs.declared.prefix.Prefix.TheVariants as prefixes

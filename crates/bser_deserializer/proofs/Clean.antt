@@ -6,13 +6,12 @@ use Rattle.std.specs.Str.{is_utf8}
 use Rattle.bser_format.specs.Tree.{Tree, template, rows_of}
 use Rattle.bser_format.specs.Grammar.{IntSize, int8, int16, int32, int64, width_of}
 use Rattle.bser_format.specs.Expected.{Due, nothing_due, node_due, key_due, field_due, name_due, row_due}
-use Rattle.bser_format.specs.Plain.{is_positive}
 use Rattle.bser_format.specs.declared.errors.Error.{Error}
 use Rattle.bser_format.specs.declared.errors.Complaint.{Complaint}
 use Rattle.bser_format.specs.declared.errors.Complaint.TheVariants.{NegativeLength, NegativeCount}
 use Rattle.bser_format.specs.declared.errors.Kind.{Kind}
 use Rattle.bser_format.specs.declared.errors.Kind.TheVariants.{MapKey, TemplateKey}
-use Rattle.bser_format.specs.Named.{Answer, Reader, reads, refuses, give, refuse, and_then, ◌>>=◌, complain, eof, next, front, many, number, int_after, int, natural, size, count, string, utf8, string_after, string_of, text_of, within, magic, head, entry_of, field_of, array_body, object_body, rows_body, template_body, template_after, value_after, value, with_text_keys}
+use Rattle.bser_format.specs.Named.{Answer, Reader, reads, refuses, give, refuse, and_then, ◌>>=◌, complain, eof, next, front, many, number, int_after, int, natural, size, count, string, utf8, string_after, string_of, text_of, within, magic, head, entry_of, field_of, array_body, object_body, rows_body, template_body, template_after, value_after, value, with_text_keys, is_positive}
 use Rattle.bser_format.specs.DueReaders.{Seen, tag, name, row, is_tag, is_key_tag, seen, asked, nothing_here, bool_at, integer_at, real_at, unit_at, bytes_at, text_at, rows_wanted, table_at, less_one, items_at, pairs_at}
 use Rattle.bser_format.specs.Asks.{done, asks_bool, asks_real, asks_unit, asks_integer, asks_bytes, asks_string, asks_any, in_range}
 use Rattle.bser_deserializer.specs.Reading.{IsRefusal}

@@ -9,13 +9,11 @@ use Rattle.bser_format.specs.Grammar.{Each, Spells, SpellsField}
 use Rattle.bser_format.specs.Expand.{expand, expand_entries, expand_fields}
 use Rattle.bser_format.specs.Expected.{row_due}
 use Rattle.bser_format.specs.ReadsAny.{has_utf8_keys, entries_have_utf8_keys, reads_ignored}
-use Rattle.bser_format.specs.Plain as plain
-use Rattle.bser_format.proofs.Fronts.{value_reads, field_reads}
+use Rattle.bser_format.proofs.Fronts.{field_reads}
 use Rattle.bser_format.specs.declared.errors.Error.{Error}
 use Rattle.bser_format.specs.Named.{Reader, reads, refuses, give, and_then, ◌>>=◌, many, field_of, any, with_text_keys}
 use Rattle.bser_format.specs.NamedLaws.{HasTextKeys}
 use Rattle.bser_format.specs.Asks.{done, asks_any}
-use Rattle.bser_format.proofs.Agreement.{forgotten, value_same, field_same, no_skip}
 use Rattle.bser_format.proofs.TextKeys.{join, KeyedField, field_sifts, text_keys_sift}
 use Rattle.bser_source.specs.Window.{Took}
 use Rattle.bser_source.proofs.Windows.{took_then}
@@ -95,9 +93,7 @@ keyed (Some t) h = h
 
 field_passes : (n : ℕ) (f : Option Tree) (b x : List ℕ) → SpellsField (Spells n) f b → HasTextKeys (told_field f) → field_of (with_text_keys n) (b ++ x) ≡ reads f x
 field_passes n f b x h keys =
-    (field_sifts (any n) (with_text_keys n) (text_keys_sift n) (b ++ x)).kept f x
-    (forgotten (field_of (any n) (b ++ x)) f x (field_same (any n) (plain.value n) (no_skip n) (value_same n) (b ++ x)
-    ∙ field_reads (plain.value n) (Spells n) (value_reads n) ((no_skip n).skip) f b x h)) (keyed f keys)
+    (field_sifts (any n) (with_text_keys n) (text_keys_sift n) (b ++ x)).kept f x (field_reads n f b x h) (keyed f keys)
 
 -- ---- a row, field by field
 

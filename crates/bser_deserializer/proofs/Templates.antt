@@ -9,11 +9,9 @@ use Rattle.bser_format.specs.declared.errors.Complaint.TheVariants.{RowsWithoutK
 use Rattle.bser_format.specs.declared.errors.Kind.TheVariants.{TemplateKey}
 use Rattle.bser_format.specs.declared.errors.ReadCause.TheVariants.{Utf8}
 use Rattle.bser_format.proofs.Fronts.{reads_then, count_reads, key_reads, many_all}
-use Rattle.bser_format.specs.Plain as plain
 use Rattle.bser_source.specs.Refs.{RefusesKept}
 use Rattle.bser_format.specs.Named.{refuses, give, and_then, ◌>>=◌, string, utf8, text_of, count, many, complain}
 use Rattle.bser_format.specs.DueReaders.{is_key_tag, rows_wanted}
-use Rattle.bser_format.proofs.Agreement.{forgotten, bind_same, counted_same, many_same, text_of_same}
 use Rattle.bser_format.proofs.Steps.{Passes}
 use Rattle.bser_format.proofs.Heads.{count_passes}
 use Rattle.bser_source.specs.Window.{Window, Filled, Took}
@@ -118,9 +116,7 @@ next_refused a s ks left n e p same h =
 
 keys_pass : (ks : List (List ℕ)) (b : List ℕ) → SpellsKeys ks b → Passes keys_after_number ks b
 keys_pass ks b h x =
-    forgotten (keys_after_number (b ++ x)) ks x
-    (bind_same count plain.count (many (text_of TemplateKey)) (plain.many plain.key) (counted_same NegativeCount) (many_same (text_of TemplateKey) plain.key (text_of_same TemplateKey)) (b ++ x)
-    ∙ reads_then plain.count (plain.many plain.key) (SpellsCount (length ks)) (Each SpellsKey ks) (length ks) ks (count_reads (length ks)) (many_all plain.key SpellsKey key_reads ks) b x h)
+    reads_then count (many (text_of TemplateKey)) (SpellsCount (length ks)) (Each SpellsKey ks) (length ks) ks (count_reads (length ks)) (many_all (text_of TemplateKey) SpellsKey key_reads ks) b x h
 
 -- after its keys
 rows_after : (ks : List (List ℕ)) (b x : List ℕ) → SpellsKeys ks b → keys_and_rows (b ++ x) ≡ (count >>= rows_wanted ks) x

@@ -9,21 +9,19 @@ use Rattle.bser_format.specs.Grammar.{Each, Spells, SpellsField}
 use Rattle.bser_format.specs.Content.{Content, one, value}
 use Rattle.bser_format.specs.ReadsAny.{has_utf8_keys, items_have_utf8_keys, entries_have_utf8_keys, reads_value, reads_ignored}
 use Rattle.bser_format.specs.Expected.{Due, Fills, nothing_due, node_due, key_due, field_due, name_due, row_due}
-use Rattle.bser_format.specs.Plain as plain
 use Rattle.bser_format.specs.declared.errors.Kind.TheVariants.{MapKey}
-use Rattle.bser_format.proofs.Fronts.{value_reads, any_string_reads, field_reads, many_all, fields_back}
+use Rattle.bser_format.proofs.Fronts.{value_reads, string_of_reads, field_reads, many_all, fields_back}
 use Rattle.bser_format.specs.Named.{reads, and_then, many, string_of, field_of, any, with_text_keys}
 use Rattle.bser_format.specs.NamedLaws.{HasTextKeys}
 use Rattle.bser_format.specs.Asks.{done, asks_any}
 use Rattle.bser_format.specs.TypeLaws.{Passes}
-use Rattle.bser_format.proofs.Agreement.{forgotten, value_same, many_same, field_same, no_skip, string_of_same}
 use Rattle.bser_format.proofs.Sifting.{many_sifts}
 use Rattle.bser_format.proofs.TextKeys.{join, KeyedField, row_from, field_sifts, text_keys_sift}
 use Rattle.bser_format.proofs.Options.{mapped, both_some, when_some}
 
 -- a tree whose keys are UTF-8
 text_there : (n : ℕ) (t : Tree) (b x : List ℕ) → Spells n t b → HasTextKeys t → with_text_keys n (b ++ x) ≡ reads t x
-text_there n t b x h keys = (text_keys_sift n (b ++ x)).kept t x (forgotten (any n (b ++ x)) t x (value_same n (b ++ x) ∙ value_reads n t b x h)) keys
+text_there n t b x h keys = (text_keys_sift n (b ++ x)).kept t x (value_reads n t b x h) keys
 
 -- the fields of a row
 row_there : (n : ℕ) (ks : List (List ℕ)) (fs : Fields) (b x : List ℕ) → length (fields fs) ≡ length ks → Each (SpellsField (Spells n)) (fields fs) b → has_utf8_keys (object (expand_fields ks fs)) ≡ true
@@ -32,9 +30,7 @@ row_there n ks fs b x even h keys =
     let m : ℕ = length (fields fs) in
     let keyed : AllByRecursion KeyedField (fields fs) = row_from ks (fields fs) even (ap (λ l. entries_have_utf8_keys (expand_fields ks l)) (fields_back fs) ∙ keys) in
     let there : many (field_of (any n)) m (b ++ x) ≡ reads (fields fs) x =
-    forgotten (many (field_of (any n)) m (b ++ x)) (fields fs) x
-    (many_same (field_of (any n)) (plain.field_after (plain.value n)) (field_same (any n) (plain.value n) (no_skip n) (value_same n)) m (b ++ x)
-    ∙ many_all (plain.field_after (plain.value n)) (SpellsField (Spells n)) (field_reads (plain.value n) (Spells n) (value_reads n) ((no_skip n).skip)) (fields fs) b x h) in
+    many_all (field_of (any n)) (SpellsField (Spells n)) (field_reads n) (fields fs) b x h in
     ap (λ j. many (field_of (with_text_keys n)) j (b ++ x)) (sym even)
     ∙ (many_sifts KeyedField (field_of (any n)) (field_of (with_text_keys n)) (field_sifts (any n) (with_text_keys n) (text_keys_sift n)) m (b ++ x)).kept (fields fs) x there keyed
 
@@ -42,13 +38,11 @@ row_there n ks fs b x even h keys =
 pub any_passes : (o n : ℕ) (d : Due) (u : Tree) (b x : List ℕ) → Fills n d u b → has_utf8_keys u ≡ true → asks_any o n d (b ++ x) ≡ reads tt x
 any_passes o n nothing_due u b x f keys = absurd f
 any_passes o n node_due u b x f keys = ap (and_then done) (text_there n f.tree b x f.spelled (ap has_utf8_keys (sym f.stands) ∙ keys))
-any_passes o n key_due u b x f keys = ap (and_then done) (forgotten (string_of MapKey (b ++ x)) f.key x (string_of_same MapKey (b ++ x) ∙ any_string_reads f.key b x f.spelled))
+any_passes o n key_due u b x f keys = ap (and_then done) (string_of_reads MapKey f.key b x f.spelled)
 any_passes o n field_due u b x (inl f) keys = ap (λ l. asks_any o n field_due (l ++ x)) f.1
 any_passes o n field_due u b x (inr f) keys =
     let k : HasTextKeys f.tree = ap has_utf8_keys (sym f.stands) ∙ keys in
-    ap (and_then done) ((field_sifts (any n) (with_text_keys n) (text_keys_sift n) (b ++ x)).kept (Some f.tree) x
-    (forgotten (field_of (any n) (b ++ x)) (Some f.tree) x (field_same (any n) (plain.value n) (no_skip n) (value_same n) (b ++ x)
-    ∙ field_reads (plain.value n) (Spells n) (value_reads n) ((no_skip n).skip) (Some f.tree) b x f.spelled)) k)
+    ap (and_then done) ((field_sifts (any n) (with_text_keys n) (text_keys_sift n) (b ++ x)).kept (Some f.tree) x (field_reads n (Some f.tree) b x f.spelled) k)
 any_passes o n (name_due s) u b x f keys = ap (λ l. reads tt (l ++ x)) f.1
 any_passes o n (row_due ks) u b x f keys = ap (and_then done) (row_there n ks f.row b x f.even f.spelled (ap has_utf8_keys (sym f.stands) ∙ keys))
 

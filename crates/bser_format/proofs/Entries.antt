@@ -13,7 +13,7 @@ use Rattle.std.specs.BTreeMap.{insert_entry}
 use Rattle.std.specs.List.{All, AllByRecursion, Contains}
 use Rattle.std.specs.List.Sorted.{IsStrictlySortedBy}
 use Rattle.std.specs.Map.{keys_of, lookup}
-use Rattle.bser_format.specs.Plain.{prefer}
+use Rattle.std.specs.Option.{option_or}
 use Rattle.bser_format.specs.GrammarLaws.{last_value, LastValuesStay, KeysRise, NoOtherKeys}
 
 abbrev pub cmp : List ℕ → List ℕ → Ordering
@@ -109,30 +109,30 @@ module _ {X : Type 0} where
           let t : bytes_eq k e.0 ≡ false = sym (is_eq-slice_cmp k e.0) ∙ ap is_eq l in
           rw t (omega (arith, r))
 
-  lookup_push : (q : List ℕ) (es : List (List ℕ × X)) (e : List ℕ × X) (o : Option X) → prefer (lookup (bytes_eq q) (es ++ e ∷ [])) o ≡ prefer (lookup (bytes_eq q) es) (cond (bytes_eq q e.0) (Some e.1) o)
+  lookup_push : (q : List ℕ) (es : List (List ℕ × X)) (e : List ℕ × X) (o : Option X) → option_or (lookup (bytes_eq q) (es ++ e ∷ [])) o ≡ option_or (lookup (bytes_eq q) es) (cond (bytes_eq q e.0) (Some e.1) o)
   lookup_push q [] e o = alone (bytes_eq q e.0)
     where
-      alone : (b : Bool) → prefer (cond b (Some e.1) None) o ≡ cond b (Some e.1) o
+      alone : (b : Bool) → option_or (cond b (Some e.1) None) o ≡ cond b (Some e.1) o
       alone true = refl
       alone false = refl
   lookup_push q (d ∷ es) e o = go (bytes_eq q d.0) (lookup_push q es e o)
     where
-      go : (b : Bool) → prefer (lookup (bytes_eq q) (es ++ e ∷ [])) o ≡ prefer (lookup (bytes_eq q) es) (cond (bytes_eq q e.0) (Some e.1) o)
-          → prefer (cond b (Some d.1) (lookup (bytes_eq q) (es ++ e ∷ []))) o ≡ prefer (cond b (Some d.1) (lookup (bytes_eq q) es)) (cond (bytes_eq q e.0) (Some e.1) o)
+      go : (b : Bool) → option_or (lookup (bytes_eq q) (es ++ e ∷ [])) o ≡ option_or (lookup (bytes_eq q) es) (cond (bytes_eq q e.0) (Some e.1) o)
+          → option_or (cond b (Some d.1) (lookup (bytes_eq q) (es ++ e ∷ []))) o ≡ option_or (cond b (Some d.1) (lookup (bytes_eq q) es)) (cond (bytes_eq q e.0) (Some e.1) o)
       go true r = refl
       go false r = r
 
-  puts_value : (q : List ℕ) (m es : List (List ℕ × X)) → lookup (bytes_eq q) (put_all m es) ≡ prefer (last_value q es) (lookup (bytes_eq q) m)
+  puts_value : (q : List ℕ) (m es : List (List ℕ × X)) → lookup (bytes_eq q) (put_all m es) ≡ option_or (last_value q es) (lookup (bytes_eq q) m)
   puts_value q m [] = refl
   puts_value q m (e ∷ es) =
       puts_value q (put m e.0 e.1) es
-      ∙ ap (prefer (last_value q es)) (put_value q e.0 e.1 m)
+      ∙ ap (option_or (last_value q es)) (put_value q e.0 e.1 m)
       ∙ sym (lookup_push q (reverse es) e (lookup (bytes_eq q) m))
-      ∙ ap (λ r. prefer (lookup (bytes_eq q) r) (lookup (bytes_eq q) m)) (sym (reverse-append (e ∷ []) es))
+      ∙ ap (λ r. option_or (lookup (bytes_eq q) r) (lookup (bytes_eq q) m)) (sym (reverse-append (e ∷ []) es))
 
-  prefer_none : (o : Option X) → prefer o None ≡ o
-  prefer_none None = refl
-  prefer_none (Some x) = refl
+  option_or_none : (o : Option X) → option_or o None ≡ o
+  option_or_none None = refl
+  option_or_none (Some x) = refl
 
   -- ---- the keys
 
@@ -141,7 +141,7 @@ module _ {X : Type 0} where
   puts_keys P m (e ∷ es) a b = puts_keys P (put m e.0 e.1) es (All-keys-insert_entry cmp e.0 e.1 P m a (All-head P e.0 (keys_of es) b)) (All-tail P e.0 (keys_of es) b)
 
 pub last_values : {X : Type 0} → LastValuesStay X
-last_values k es = puts_value k [] es ∙ prefer_none (last_value k es)
+last_values k es = puts_value k [] es ∙ option_or_none (last_value k es)
 
 pub keys_rise : {X : Type 0} → KeysRise X
 unfolding IsStrictlySortedBy

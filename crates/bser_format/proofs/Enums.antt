@@ -12,18 +12,16 @@ use Rattle.bser_format.specs.Expected.{Due, Fills, nothing_due, node_due, key_du
 use Rattle.bser_format.specs.declared.errors.Kind.TheVariants.{MapKey}
 use Rattle.bser_format.specs.declared.errors.name.EnumName.{EnumName}
 use Rattle.bser_format.specs.declared.errors.Complaint.TheVariants.{EnumObjectEntries}
-use Rattle.bser_format.proofs.Fronts.{any_string_reads}
+use Rattle.bser_format.proofs.Fronts.{string_reads, utf8_reads, string_of_reads, kept}
 use Rattle.bser_format.proofs.Sound.{only}
 use Rattle.bser_format.specs.Named.{reads, Reader, give, and_then, ◌>>=◌, next, count, utf8, string_of, text_of, refuse, complain}
 use Rattle.bser_format.specs.DueReaders.{value_tag, less_one, place_from, variant_after}
 use Rattle.bser_format.specs.Asks.{Asks, Payloads, labels, payload, alone, payload_asked, is_object, asks_enum}
 use Rattle.bser_format.specs.TypeLaws.{Passes, PassPayload, PassVariants}
-use Rattle.bser_format.proofs.Agreement.{forgotten, string_of_same}
 use Rattle.bser_format.proofs.Steps as steps
 use Rattle.bser_format.proofs.Steps.{Leaves, front_leaves}
 use Rattle.bser_format.proofs.Heads.{count_passes}
 use Rattle.bser_format.proofs.Scalars.{unit_passes}
-use Rattle.bser_format.proofs.Strings.{string_there, utf8_there, kept}
 use Rattle.bser_format.proofs.Options.{mapped, chained, when_some}
 
 -- ---- variants
@@ -86,7 +84,7 @@ entry_passes vs ws fit s t c e o n d b x f =
 
 -- a key that is UTF-8
 pub key_there : (s b : List ℕ) → is_utf8 s ≡ true → SpellsString s b → steps.Passes (text_of MapKey) s b
-key_there s b u h x = ap (and_then utf8) (forgotten (string_of MapKey (b ++ x)) s x (string_of_same MapKey (b ++ x) ∙ any_string_reads s b x h)) ∙ kept s x u
+key_there s b u h x = ap (and_then utf8) (string_of_reads MapKey s b x h) ∙ kept s x u
 
 -- an enum, after a look at what stands there
 abbrev after_look : Bool → EnumName → Payloads → ℕ → ℕ → Reader Unit
@@ -97,12 +95,12 @@ after_look skips enum vs o n b =
 text_alone : (skips : Bool) (enum : EnumName) (vs : Payloads) (ws : List (List ℕ × Payload)) → PassVariants vs ws → (o n : ℕ) (s b x : List ℕ) (c : Content) → Spells n (text s) b → Named ws s c → after_look skips enum vs o n (b ++ x) ≡ reads tt x
 text_alone skips enum vs ws fit o n s b x c h e =
     ap (λ l. after_look skips enum vs o n (l ++ x)) (h.whole ∙ ap (λ l. l ++ h.rest) h.first)
-    ∙ ap (λ a. and_then (λ i. alone (payload i vs)) (and_then (place_from 0 (labels vs)) a)) (utf8_there s h.rest x h.second) ∙ name_passes vs ws fit s x c e
+    ∙ ap (λ a. and_then (λ i. alone (payload i vs)) (and_then (place_from 0 (labels vs)) a)) (utf8_reads s h.rest x h.second) ∙ name_passes vs ws fit s x c e
 
 bytes_alone : (skips : Bool) (enum : EnumName) (vs : Payloads) (ws : List (List ℕ × Payload)) → PassVariants vs ws → (o n : ℕ) (s b x : List ℕ) (c : Content) → is_utf8 s ≡ true → Spells n (bytes s) b → Named ws s c → after_look skips enum vs o n (b ++ x) ≡ reads tt x
 bytes_alone skips enum vs ws fit o n s b x c u h e =
     ap (λ l. after_look skips enum vs o n (l ++ x)) (h.whole ∙ ap (λ l. l ++ h.rest) h.first)
-    ∙ ap (λ a. and_then (λ i. alone (payload i vs)) (and_then (place_from 0 (labels vs)) a)) (ap (and_then utf8) (string_there s h.rest x h.second) ∙ kept s x u) ∙ name_passes vs ws fit s x c e
+    ∙ ap (λ a. and_then (λ i. alone (payload i vs)) (and_then (place_from 0 (labels vs)) a)) (ap (and_then utf8) (string_reads s h.rest x h.second) ∙ kept s x u) ∙ name_passes vs ws fit s x c e
 
 -- an object of one entry
 entry_there : (skips : Bool) (enum : EnumName) (vs : Payloads) (ws : List (List ℕ × Payload)) → PassVariants vs ws → (o n : ℕ) (k : List ℕ) (t : Tree) (b x : List ℕ) (c : Content) → is_utf8 k ≡ true

@@ -1,7 +1,7 @@
 -- A value whose body fits has its counts in range, so its canonical message is a message.
 use Rattle.std.proofs.Common.{◌≡◌, ℕ, max, ◌<◌, ◌≤◌, ◌^◌, List, [], ◌∷◌, ◌++◌, length, Some, refl, sym, ap, ◌∙◌, arith}
-use Rattle.std.proofs.lemmas.List.{length-append}
-use Rattle.std.proofs.lemmas.Option.{some_pair_parts, same_Some}
+use Rattle.std.proofs.lemmas.List.{length-append, append_cancel_left}
+use Rattle.std.proofs.lemmas.Option.{same_Some}
 use Rattle.std.specs.Int.{w32, to_le_bytes}
 use Rattle.bser_format.specs.Tree.{Tree, null, boolean, integer, real, bytes, text, array, object, template, Items, no_items, item, Entries, no_entries, entry, items, entries}
 use Rattle.bser_format.specs.Grammar.{Bytes, SpellsCount}
@@ -9,13 +9,13 @@ use Rattle.bser_format.specs.Expand.{expand}
 use Rattle.bser_format.specs.Normal.{normal}
 use Rattle.bser_format.specs.Canonical.{least_count, canonical_body, canonical_items, canonical_entries, canonical_message, IsWritable, ItemsAreWritable, EntriesAreWritable}
 use Rattle.bser_format.specs.Measures.{depth}
-use Rattle.bser_format.specs.Message.{IsMessage}
-use Rattle.bser_format.specs.Plain.{parts}
+use Rattle.bser_format.specs.Message.{Head, IsMessage}
 use Rattle.bser_format.specs.ValueTree.{IsValueTree, ItemsAreValueTrees, EntriesAreValueTrees}
 use Rattle.bser_format.proofs.Canon.{joined, count_spelled, text_spelled}
 use Rattle.bser_format.proofs.Lengths.{length-entry, key_long, items_few, entries_few, length-message}
 use Rattle.bser_format.proofs.Fronts.{one_value}
-use Rattle.bser_format.proofs.GrammarLaws.{Frame, parts_reads, one_message}
+use Rattle.bser_format.proofs.GrammarLaws.{one_message}
+use Rattle.bser_format.proofs.OneHead.{one_head}
 use Rattle.bser_format.proofs.Back.{canon_message, normal_settled}
 
 -- ---- counts
@@ -81,18 +81,21 @@ read_again n c t u v a x y h l short m e made =
     same_value : (t v : Tree) → Some t ≡ Some v → v ≡ t
     same_value t v e = sym (same_Some t v e)
 
-frame : (t : Tree) → length (canonical_body t) < 2 ^ 63 → Frame (0, canonical_body t) (canonical_message t)
-frame t l = joined (Bytes (0 ∷ 2 ∷ [])) _ (0 ∷ 2 ∷ []) _ refl (joined (Bytes (to_le_bytes w32 0)) _ (to_le_bytes w32 0) _ refl
-    (joined (SpellsCount (length (canonical_body t))) (Bytes (canonical_body t)) (least_count (length (canonical_body t))) (canonical_body t) (count_spelled _ l) refl))
+-- the head of a canonical message
+head_of : Tree → List ℕ
+head_of t = 0x00 ∷ 0x02 ∷ (to_le_bytes w32 0 ++ least_count (length (canonical_body t)))
+
+head_there : (t : Tree) → length (canonical_body t) < 2 ^ 63 → Head 0 (length (canonical_body t)) (head_of t)
+unfolding head_of
+head_there t l = (omega arith, joined (Bytes (0x00 ∷ 0x02 ∷ [])) _ (0x00 ∷ 0x02 ∷ []) _ refl (joined (Bytes (to_le_bytes w32 0)) _ (to_le_bytes w32 0) _ refl (count_spelled _ l)))
 
 -- trees that can be written, templates among them, have equal messages only where they are equal
 pub equal_trees : (t u : Tree) → IsWritable t → IsWritable u → length (canonical_body t) < 2 ^ 63 → length (canonical_body u) < 2 ^ 63 → canonical_message t ≡ canonical_message u → t ≡ u
+unfolding head_of
 equal_trees t u h k l m e =
     let n : ℕ = max (depth t) (depth u) in
-    let zero_fits : 0 < 2 ^ 32 = omega arith in
-    let parts_same = some_pair_parts (0, canonical_body t) (0, canonical_body u) [] []
-    (sym (parts_reads 0 (canonical_body t) zero_fits (canonical_message t) [] (frame t l)) ∙ ap (λ b. parts (b ++ [])) e ∙ parts_reads 0 (canonical_body u) zero_fits (canonical_message u) [] (frame u m)) in
-    let bodies : canonical_body t ≡ canonical_body u = ap (λ p. p.1) parts_same.0 in
+    let heads = one_head 0 0 (length (canonical_body t)) (length (canonical_body u)) (head_of t) (head_of u) (canonical_body t) (canonical_body u) (head_there t l) (head_there u m) e in
+    let bodies : canonical_body t ≡ canonical_body u = append_cancel_left (head_of t) (canonical_body t) (canonical_body u) (e ∙ ap (λ s. s ++ canonical_body u) (sym heads.0)) in
     (one_value n (canonical_body t) (canonical_body u) [] [] t u (text_spelled n t h (omega arith)) (text_spelled n u k (omega arith)) (ap (λ b. b ++ []) bodies)).1
 
 pub equal_values : (t u : Tree) → IsValueTree t → IsValueTree u → length (canonical_body t) < 2 ^ 63 → length (canonical_body u) < 2 ^ 63 → canonical_message t ≡ canonical_message u → t ≡ u

@@ -1,17 +1,17 @@
 -- One integer, one message, more levels.
 use Rattle.std.proofs.Common.{◌≡◌, ℕ, zero, suc, ◌+◌, ◌-◌, ◌^◌, ◌<◌, ◌≤◌, ℤ, List, [], ◌∷◌, ◌++◌, length, Option, Some, None, refl, sym, ap, subst, ◌∙◌, arith, bytes_eq}
 use Rattle.std.proofs.lemmas.List.{append_cancel_right}
-use Rattle.std.proofs.lemmas.Option.{some_pair_parts}
-use Rattle.std.specs.Int.{w32, to_le_bytes, from_le_bytes}
 use Rattle.bser_format.specs.Tree.{Tree, null, boolean, integer, real, bytes, text, array, object, template, items, entries, rows}
 use Rattle.bser_format.specs.Grammar.{Format, Bytes, SpellsCount, Each, SpellsInteger, SpellsString, SpellsEntry, SpellsField, Spells, int32, ◌then◌}
-use Rattle.bser_format.specs.Plain.{int, front, check, string, magic, parts, give, ◌>>=◌}
+use Rattle.bser_format.specs.Named.{int, any, message}
 use Rattle.bser_format.specs.Message.{IsMessage}
-use Rattle.bser_format.proofs.Fronts.{Reads, reads_then, reads_last, string_reads, int_reads, one_value, front_reads, from_to_le_bytes}
+use Rattle.bser_format.proofs.Fronts.{int_reads}
+use Rattle.bser_format.proofs.Sifting.{same_answer}
+use Rattle.bser_format.proofs.Messages.{tree_reads}
 
 pub one_int : (b c x y : List ℕ) (v w : ℤ) → SpellsInteger v b → SpellsInteger w c → b ++ x ≡ c ++ y → (b ≡ c) × (v ≡ w)
 one_int b c x y v w p q e =
-    let same = some_pair_parts v w x y (sym (int_reads v b x p) ∙ ap int e ∙ int_reads w c y q) in
+    let same = same_answer v w x y (sym (int_reads v b x p) ∙ ap int e ∙ int_reads w c y q) in
     (append_cancel_right b c y (subst (λ r. b ++ r ≡ c ++ y) same.1 e), same.0)
 
 -- ---- levels
@@ -58,25 +58,7 @@ more_levels n m b t l h = more_by (m - n) n m t b (omega arith) h
 
 -- ---- messages
 
-bytes_reads : (n : ℕ) (s : List ℕ) → length s ≡ n → Reads (front n) (Bytes s) s
-bytes_reads n s l b y e = ap (λ c. front n (c ++ y)) e ∙ front_reads n s y l
-
-magic_reads : Reads magic (Bytes (0x00 ∷ 0x02 ∷ [])) (0x00 ∷ 0x02 ∷ [])
-magic_reads = reads_last (front 2) (check (λ s. bytes_eq s (0x00 ∷ 0x02 ∷ []))) (Bytes (0x00 ∷ 0x02 ∷ [])) (0x00 ∷ 0x02 ∷ []) (0x00 ∷ 0x02 ∷ []) (bytes_reads 2 _ refl) (λ w. refl)
-
--- the frame of a body
-abbrev pub Frame : ℕ × List ℕ → Format
-Frame p = Bytes (0x00 ∷ 0x02 ∷ []) then Bytes (to_le_bytes w32 p.0) then SpellsCount (length p.1) then Bytes p.1
-
-pub parts_reads : (c : ℕ) (body : List ℕ) → c < 2 ^ 32 → Reads parts (Frame (c, body)) (c, body)
-parts_reads c body small =
-    reads_then magic (λ m. front 4 >>= λ cs. string >>= λ p. give (from_le_bytes w32 cs, p)) _ _ (0x00 ∷ 0x02 ∷ []) _ magic_reads
-    (reads_then (front 4) (λ cs. string >>= λ p. give (from_le_bytes w32 cs, p)) _ _ (to_le_bytes w32 c) _ (bytes_reads 4 _ refl)
-    (reads_last string (λ p. give (from_le_bytes w32 (to_le_bytes w32 c), p)) _ body (c, body) (string_reads body) (λ w. ap (λ k. Some ((k, body), w)) (from_to_le_bytes int32 c small))))
-
 pub one_message : (n c d : ℕ) (a b x y : List ℕ) (t u : Tree) → IsMessage n c t a → IsMessage n d u b → a ++ x ≡ b ++ y → (a ≡ b) × (c ≡ d) × (t ≡ u)
 one_message n c d a b x y t u p q e =
-    let same = some_pair_parts (c, p.body) (d, q.body) x y (sym (parts_reads c p.body p.capabilities a x p.whole) ∙ ap parts e ∙ parts_reads d q.body q.capabilities b y q.whole) in
-    let bodies : p.body ≡ q.body = ap (λ v. v.1) same.0 in
-    let value = one_value n p.body q.body [] [] t u p.value q.value (ap (λ v. v ++ []) bodies) in
-    (append_cancel_right a b y (subst (λ r. a ++ r ≡ b ++ y) same.1 e), ap (λ v. v.0) same.0, value.1)
+    let same = same_answer (c, t) (d, u) x y (sym (tree_reads n c t a x p) ∙ ap (message (any n)) e ∙ tree_reads n d u b y q) in
+    (append_cancel_right a b y (subst (λ r. a ++ r ≡ b ++ y) same.1 e), ap (λ v. v.0) same.0, ap (λ v. v.1) same.0)

@@ -7,20 +7,18 @@ use Rattle.bser_format.specs.Expand.{expand_items, expand_entries, expand_rows, 
 use Rattle.bser_format.specs.Grammar.{Format, Bytes, Each, Spells, SpellsCount, SpellsKey, SpellsEntry, SpellsField, IsTemplate, ◌then◌}
 use Rattle.bser_format.specs.Expected.{Fills, node_due, field_due, row_due, WantedItems, nodes, rows_over, entries_of_object, fields_of_row, FillsItems, FillsPair, FillsPairs}
 use Rattle.bser_format.specs.declared.errors.Kind.TheVariants.{TemplateKey}
-use Rattle.bser_format.specs.declared.errors.Complaint.TheVariants.{NegativeCount}
 use Rattle.bser_format.proofs.Fronts.{count_reads, many_all, key_reads}
 use Rattle.bser_format.specs.Named.{reads, give, ◌>>=◌, next, count, many, text_of}
 use Rattle.bser_format.specs.DueReaders.{tag, value_tag, rows_wanted, table_at, items_at, pairs_at}
-use Rattle.bser_format.proofs.Agreement.{counted_same, many_same, text_of_same, forgotten}
 use Rattle.bser_format.proofs.Steps.{Passes, Leaves, front_leaves, stays, bind_leaves}
 
 -- ---- counts and keys
 
 pub count_passes : (k : ℕ) (b : List ℕ) → SpellsCount k b → Passes count k b
-count_passes k b h x = forgotten (count (b ++ x)) k x (counted_same NegativeCount (b ++ x) ∙ count_reads k b x h)
+count_passes k b h x = count_reads k b x h
 
 pub keys_pass : (ks : List (List ℕ)) (b : List ℕ) → Each SpellsKey ks b → Passes (many (text_of TemplateKey) (length ks)) ks b
-keys_pass ks b h x = forgotten (many (text_of TemplateKey) (length ks) (b ++ x)) ks x (many_same _ _ (text_of_same TemplateKey) (length ks) (b ++ x) ∙ many_all _ SpellsKey key_reads ks b x h)
+keys_pass ks b h x = many_all (text_of TemplateKey) SpellsKey key_reads ks b x h
 
 -- a tag of a value
 tag_passes : (t : ℕ) (b : List ℕ) → Bytes (t ∷ []) b → Passes next t b

@@ -1,6 +1,5 @@
 -- What a type of integers reads, reading it passes over.
 use Rattle.std.proofs.Common.{◌≡◌, ℕ, ℤ, Bool, true, false, cond, List, ◌++◌, Option, Some, None, refl, ap, ◌∙◌, FitsSigned}
-use Rattle.std.specs.Int.{to_le_bytes, cast_unsigned}
 use Rattle.bser_format.specs.Tree.{Tree, null, boolean, integer, real, bytes, text, array, object, template}
 use Rattle.bser_format.specs.Expand.{expand}
 use Rattle.bser_format.specs.Grammar.{Spells, SpellsInteger, IntSize, int8, int16, int32, int64, width_of, int_bytes}
@@ -14,16 +13,12 @@ use Rattle.bser_format.specs.DueReaders.{integer_at, value_tag}
 use Rattle.bser_format.specs.Asks.{asks_integer, in_range}
 use Rattle.bser_format.specs.TypeLaws.{Passes}
 use Rattle.bser_format.proofs.Dues.{passes_by, leaf_handles}
-use Rattle.bser_format.proofs.Agreement.{number_same, forgotten}
-
-number_there : (s : IntSize) (v : ℤ) (x : List ℕ) → FitsSigned (width_of s) v → named.number s (to_le_bytes (width_of s) (cast_unsigned (width_of s) v) ++ x) ≡ reads v x
-number_there s v x h = forgotten _ v x (number_same s _ ∙ number_reads s v x h)
 
 after_tag : (skips : Bool) (s : IntSize) (v : ℤ) (x : List ℕ) → FitsSigned (width_of s) v → and_then integer_at (and_then (value_tag skips) (named.next (int_bytes s v ++ x))) ≡ reads v x
-after_tag skips int8 v x h = number_there int8 v x h
-after_tag skips int16 v x h = number_there int16 v x h
-after_tag skips int32 v x h = number_there int32 v x h
-after_tag skips int64 v x h = number_there int64 v x h
+after_tag skips int8 v x h = number_reads int8 v x h
+after_tag skips int16 v x h = number_reads int16 v x h
+after_tag skips int32 v x h = number_reads int32 v x h
+after_tag skips int64 v x h = number_reads int64 v x h
 
 when_true : (c : Bool) (k : Option Content) (l : Content) → cond c k None ≡ Some l → c ≡ true
 when_true true k l e = refl

@@ -1,5 +1,6 @@
 pub mod Fronts
 pub mod Sound
+pub mod Exact
 pub mod Canon
 pub mod GrammarLaws
 pub mod Messages
@@ -11,8 +12,6 @@ pub mod Strays
 pub mod Cuts
 pub mod KeyNames
 pub mod EnumNames
-pub mod Agreement
-pub mod NamedFrames
 pub mod Steps
 pub mod Options
 pub mod Dues
@@ -28,7 +27,6 @@ pub mod Maps
 pub mod Anything
 pub mod Enums
 pub mod Structs
-pub mod NamedMessages
 pub mod Sifting
 pub mod TextKeys
 pub mod TextLaws

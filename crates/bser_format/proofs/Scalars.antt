@@ -11,7 +11,6 @@ use Rattle.bser_format.specs.Named.{reads, give, and_then, next, front}
 use Rattle.bser_format.specs.DueReaders.{bool_at, real_at, unit_at, value_tag}
 use Rattle.bser_format.specs.Asks.{done, asks_bool, asks_real, asks_unit}
 use Rattle.bser_format.specs.TypeLaws.{Passes}
-use Rattle.bser_format.proofs.Agreement.{front_same, forgotten}
 use Rattle.bser_format.proofs.Dues.{passes_by, leaf_handles, no_key}
 
 bool_node : (skips : Bool) (n : ℕ) (t : Tree) (b x : List ℕ) (c : Content) → Spells n t b → reads_bool (expand t) ≡ Some c → and_then done (and_then bool_at (and_then (value_tag skips) (next (b ++ x)))) ≡ reads tt x
@@ -29,11 +28,8 @@ bool_node skips n (template ks rs) b x c h r = absurd cc
 pub bool_passes : Passes asks_bool reads_bool
 bool_passes = passes_by (leaf_handles (λ n. bool_at) (λ o n. done) reads_bool (λ o n skips t b x c h r. bool_node skips n t b x c h r) refl (λ s. refl) (λ s. refl) (λ es. refl))
 
-eight : (r : ℕ) (x : List ℕ) → front 8 (to_le_bytes w64 r ++ x) ≡ reads (to_le_bytes w64 r) x
-eight r x = forgotten (front 8 (to_le_bytes w64 r ++ x)) (to_le_bytes w64 r) x (front_same 8 (to_le_bytes w64 r ++ x) ∙ front_reads 8 (to_le_bytes w64 r) x refl)
-
 real_node : (skips : Bool) (n : ℕ) (t : Tree) (b x : List ℕ) (c : Content) → Spells n t b → reads_real (expand t) ≡ Some c → and_then done (and_then real_at (and_then (value_tag skips) (next (b ++ x)))) ≡ reads tt x
-real_node skips n (real v) b x c h r = ap (λ l. and_then done (and_then real_at (and_then (value_tag skips) (next (l ++ x))))) h.1 ∙ ap (λ a. and_then (done {X = ℕ}) (and_then (λ d. give (from_le_bytes w64 d)) a)) (eight v x)
+real_node skips n (real v) b x c h r = ap (λ l. and_then done (and_then real_at (and_then (value_tag skips) (next (l ++ x))))) h.1 ∙ ap (λ a. and_then (done {X = ℕ}) (and_then (λ d. give (from_le_bytes w64 d)) a)) (front_reads 8 (to_le_bytes w64 v) x refl)
 real_node skips n null b x c h r = absurd cc
 real_node skips n (boolean v) b x c h r = absurd cc
 real_node skips n (integer v) b x c h r = absurd cc

@@ -4,7 +4,7 @@ use Rattle.std.proofs.lemmas.Option.{some_pair_parts}
 use Rattle.std.specs.List.{AllByRecursion}
 use Rattle.bser_format.specs.declared.errors.Error.{Error}
 use Rattle.bser_format.specs.Named.{Answer, reads, refuses, Reader, give, refuse, and_then, ◌>>=◌, many}
-use Rattle.bser_format.proofs.Agreement.{forget}
+use Rattle.bser_format.specs.Plain.{forget}
 
 -- what the first answers, the second answers exactly where P holds
 pub record Sifted {X : Type 0} (P : X → Type 0) (o p : Answer X) : Type 0 where

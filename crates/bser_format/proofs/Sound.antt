@@ -1,10 +1,9 @@
 -- What reading gives is spelled at the front.
-use Rattle.std.proofs.Common.{◌≡◌, inl, inr, ℕ, zero, suc, ◌^◌, ◌%◌, ◌<◌, ◌≤◌, ℤ, pos, negsuc, Bool, true, false, ◌&&◌, cond, List, [], ◌∷◌, ◌++◌, length, take, drop, get_or, Option, Some, None, option_and_then, refl, sym, ap, subst, ◌∙◌, append_assoc, append-nil, arith, IsUtf8, nat_lt, nat_eq}
+use Rattle.std.proofs.Common.{◌≡◌, inl, inr, ℕ, zero, suc, ◌^◌, ◌%◌, ◌<◌, ◌≤◌, ℤ, pos, negsuc, Bool, true, false, cond, List, [], ◌∷◌, ◌++◌, length, take, drop, get_or, Option, Some, None, refl, sym, ap, subst, ◌∙◌, append_assoc, append-nil, arith, IsUtf8, nat_lt, nat_eq}
 use Rattle.std.proofs.lemmas.List.{take-append-drop, length-take-le}
-use Rattle.std.proofs.lemmas.Bool.{ltb-false, eqb-true, and_parts}
+use Rattle.std.proofs.lemmas.Bool.{ltb-false, eqb-true}
 use Rattle.std.proofs.lemmas.Int.{of_z-to_z}
 use Rattle.std.proofs.lemmas.Nat.{le_bytes_2, le_bytes_4, le_bytes_8}
-use Rattle.std.proofs.lemmas.Option.{some_pair_parts}
 use Rattle.std.proofs.lemmas.Str.{IsUtf8-from_is_utf8}
 use Rattle.std.proofs.Math.Facts.{sfits_to_z, Fits-of_lt}
 use Rattle.std.specs.List.{AllByRecursion}
@@ -13,9 +12,15 @@ use Rattle.std.specs.Int.{w64, to_le_bytes, from_le_bytes, cast_signed, byte_len
 use mir.Val.{bits}
 use Rattle.bser_format.specs.Tree.{Tree, null, boolean, integer, real, bytes, text, array, object, template, Items, Entries, Rows, items, entries, fields, rows, items_of, entries_of, fields_of, rows_of}
 use Rattle.bser_format.specs.Grammar.{Format, Bytes, Given, Each, SpellsInteger, SpellsCount, SpellsString, SpellsKey, SpellsEntry, SpellsField, IsTemplate, Spells, IntSize, int8, int16, int32, int64, width_of, tag_of, ◌then◌}
-use Rattle.bser_format.specs.Plain.{Reader, give, fail, ◌>>=◌, next, front, many, number, int_after, int, natural, count, string, check, utf8, key_after, any_string, key, entry_of, prefer, or_else, skipped, field_after, array_body, object_body, rows_body, template_body, leaf, branch, is_positive, value}
+use Rattle.bser_format.specs.declared.errors.Error.{Error}
+use Rattle.bser_format.specs.declared.errors.Error.TheVariants.{DeInvalidStartByte}
+use Rattle.bser_format.specs.declared.errors.Kind.{Kind}
+use Rattle.bser_format.specs.declared.errors.Kind.TheVariants.{NextItem, Integer, MapKey, TemplateKeys, TemplateKey, Array, Object, Template}
+use Rattle.bser_format.specs.declared.errors.Complaint.{Complaint}
+use Rattle.bser_format.specs.declared.errors.Complaint.TheVariants.{NegativeLength, NegativeCount, RowsWithoutKeys}
+use Rattle.bser_format.specs.Named.{Answer, reads, refuses, Reader, give, refuse, ◌>>=◌, eof, utf8_wanted, next, front, many, number, int_after, int, natural, size, count, string, utf8, string_after, string_of, text_of, entry_of, field_of, array_body, object_body, rows_body, template_body, within, template_after, value_after, value, any, is_positive}
 use Rattle.bser_format.proofs.Canon.{joined, tagged}
-use Rattle.bser_format.proofs.GrammarLaws.{more_levels}
+use Rattle.bser_format.proofs.Sifting.{then_reads, same_answer}
 
 abbrev pub IsBytes : List ℕ → Type 0
 IsBytes b = AllByRecursion (λ x. x < 256) b
@@ -29,38 +34,34 @@ pub record Front (F : Format) (b y : List ℕ) : Type 0 where
 
 -- what r gives is spelled as P says
 abbrev pub Sound : {X : Type 0} → Reader X → (X → Format) → Type 0
-Sound {X = X} r P = (b y : List ℕ) (x : X) → IsBytes b → r b ≡ Some (x, y) → Front (P x) b y
-
-pub then_some : {A B P : Type 0} (f : A → Option B) (o : Option A) (y : B) → option_and_then f o ≡ Some y → ((x : A) → o ≡ Some x → f x ≡ Some y → P) → P
-then_some f None y e k = cc
-then_some f (Some x) y e k = k x refl e
+Sound {X = X} r P = (b y : List ℕ) (x : X) → IsBytes b → r b ≡ reads x y → Front (P x) b y
 
 pub bind_sound : {X Y : Type 0} (r : Reader X) (k : X → Reader Y) (P : X → Format) (Q : X → Y → Format) (R : Y → Format)
     → Sound r P → ((x : X) → Sound (k x) (Q x)) → ((x : X) (z : Y) (b : List ℕ) → (P x then Q x z) b → R z b) → Sound (r >>= k) R
-bind_sound r k P Q R first second form b y z all e = then_some (λ p. k p.0 p.1) (r b) (z, y) e λ p one more.
-    let f = first b p.1 p.0 all one in
-    let g = second p.0 p.1 y z f.rest more in
+bind_sound r k P Q R first second form b y z all e = then_reads k (r b) z y e λ x c one more.
+    let f = first b c x all one in
+    let g = second x c y z f.rest more in
     record {
       part = f.part ++ g.part;
-      whole = f.whole ∙ ap (λ c. f.part ++ c) g.whole ∙ sym (append_assoc f.part g.part y);
-      form = form p.0 z (f.part ++ g.part) (joined (P p.0) (Q p.0 z) f.part g.part f.form g.form);
+      whole = f.whole ∙ ap (λ d. f.part ++ d) g.whole ∙ sym (append_assoc f.part g.part y);
+      form = form x z (f.part ++ g.part) (joined (P x) (Q x z) f.part g.part f.form g.form);
       rest = g.rest;
     }
 
--- the last step reads no byte
-pub map_sound : {X Y : Type 0} (r : Reader X) (f : X → Y) (P : X → Format) (R : Y → Format) → Sound r P → ((x : X) (b : List ℕ) → P x b → R (f x) b) → Sound (r >>= λ x. give (f x)) R
-map_sound r f P R first form b y z all e = then_some (λ p. give (f p.0) p.1) (r b) (z, y) e λ p one more.
-    let g = first b p.1 p.0 all one in
-    let same = some_pair_parts (f p.0) z p.1 y more in
-    subst (λ w. Front (R z) b w) same.1 (subst (λ w. Front (R w) b p.1) same.0 (record { part = g.part; whole = g.whole; form = form p.0 g.part g.form; rest = g.rest }))
-
-pub fail_sound : {X : Type 0} (R : X → Format) → Sound (fail {X = X}) R
-fail_sound R b y x all e = cc
+pub refuse_sound : {X : Type 0} (e : Error) (R : X → Format) → Sound (refuse {X = X} e) R
+refuse_sound e R b y x all h = absurd cc
 
 pub give_sound : {X : Type 0} (x : X) (R : X → Format) → R x [] → Sound (give x) R
 give_sound x R h b y z all e =
-    let same = some_pair_parts x z b y e in
+    let same = same_answer x z b y e in
     subst (λ w. Front (R z) b w) same.1 (subst (λ w. Front (R w) b b) same.0 (record { part = []; whole = refl; form = h; rest = all }))
+
+-- the last step reads no byte
+pub map_sound : {X Y : Type 0} (r : Reader X) (f : X → Y) (P : X → Format) (R : Y → Format) → Sound r P → ((x : X) (b : List ℕ) → P x b → R (f x) b) → Sound (r >>= λ x. give (f x)) R
+map_sound r f P R first form b y z all e = then_reads (λ x. give (f x)) (r b) z y e λ x c one more.
+    let g = first b c x all one in
+    let same = same_answer (f x) z c y more in
+    subst (λ w. Front (R z) b w) same.1 (subst (λ w. Front (R w) b c) same.0 (record { part = g.part; whole = g.whole; form = form x g.part g.form; rest = g.rest }))
 
 pub if_sound : {X : Type 0} (c : Bool) (r s : Reader X) (R : X → Format) → (c ≡ true → Sound r R) → (c ≡ false → Sound s R) → Sound (cond c r s) R
 if_sound true r s R f g = f refl
@@ -74,9 +75,9 @@ pub as_sound : {X : Type 0} (r : Reader X) (P R : X → Format) → Sound r P �
 as_sound r P R h form b y x all e = let g = h b y x all e in record { part = g.part; whole = g.whole; form = form x g.part g.form; rest = g.rest }
 
 pub next_sound : Sound next (λ t. Bytes (t ∷ []))
-next_sound [] y t all e = cc
+next_sound [] y t all e = absurd cc
 next_sound (x ∷ b) y t all e =
-    let same = some_pair_parts x t b y e in
+    let same = same_answer x t b y e in
     record { part = t ∷ []; whole = ap (λ c. c ∷ b) same.0 ∙ ap (λ c. t ∷ c) same.1; form = refl; rest = subst IsBytes same.1 all.1 }
 
 -- a tag, and what is read by it
@@ -98,15 +99,15 @@ byte_at (x ∷ b) h (suc i) = byte_at b h.1 i
 abbrev pub Exactly : ℕ → List ℕ → Format
 Exactly n s b = (length s ≡ n) × (b ≡ s) × IsBytes s
 
-guard : {A : Type 0} (c : Bool) (o : Option A) (y : A) → cond c None o ≡ Some y → (c ≡ false) × (o ≡ Some y)
-guard true o y e = cc
-guard false o y e = (refl, e)
+long_enough : {A : Type 0} (c : Bool) (e : Error) (o : Answer A) (x : A) (y : List ℕ) → cond c (refuses e) o ≡ reads x y → (c ≡ false) × (o ≡ reads x y)
+long_enough true e o x y h = absurd cc
+long_enough false e o x y h = (refl, h)
 
 pub front_sound : (n : ℕ) → Sound (front n) (Exactly n)
 front_sound n b y s all e =
-    let cut = guard (nat_lt (length b) n) (Some (take n b, drop n b)) (s, y) e in
+    let cut = long_enough (nat_lt (length b) n) eof (reads (take n b) (drop n b)) s y e in
     let long : n ≤ length b = ltb-false (length b) n cut.0 in
-    let same = some_pair_parts (take n b) s (drop n b) y cut.1 in
+    let same = same_answer (take n b) s (drop n b) y cut.1 in
     let two = bytes_parts (take n b) (drop n b) (subst IsBytes (sym (take-append-drop n b)) all) in
     record {
       part = s;
@@ -134,51 +135,52 @@ number_sound s = map_sound (front (byte_len (width_of s))) (λ b. cast_signed (w
       spelled = ap (λ k. tag_of s ∷ k) (h.1 ∙ sym back.1 ∙ ap (to_le_bytes (width_of s)) (sym (of_z-to_z (width_of s) _ back.0)));
     }
 
-int_after_sound : (tag : ℕ) → Sound (int_after tag) (λ v b. SpellsInteger v (tag ∷ b))
-int_after_sound tag =
+int_after_sound : (e : Error) (tag : ℕ) → Sound (int_after e tag) (λ v b. SpellsInteger v (tag ∷ b))
+int_after_sound e tag =
     let R : ℕ → ℤ → Format = λ t v b. SpellsInteger v (t ∷ b) in
-    tag_sound tag 3 _ _ R (number_sound int8) (tag_sound tag 4 _ _ R (number_sound int16) (tag_sound tag 5 _ _ R (number_sound int32) (tag_sound tag 6 _ _ R (number_sound int64) (fail_sound (R tag)))))
+    tag_sound tag 3 _ _ R (number_sound int8) (tag_sound tag 4 _ _ R (number_sound int16) (tag_sound tag 5 _ _ R (number_sound int32) (tag_sound tag 6 _ _ R (number_sound int64) (refuse_sound e (R tag)))))
 
 pub int_sound : Sound int SpellsInteger
-int_sound = by_tag int_after SpellsInteger int_after_sound
+int_sound = by_tag (λ tag. int_after (DeInvalidStartByte Integer tag) tag) SpellsInteger (λ tag. int_after_sound (DeInvalidStartByte Integer tag) tag)
 
-natural_sound : (v : ℤ) → Sound (natural v) (λ n b. (b ≡ []) × (v ≡ pos n))
-natural_sound (pos n) = give_sound n _ (refl, refl)
-natural_sound (negsuc n) = fail_sound _
+natural_sound : (c : Complaint) (v : ℤ) → Sound (natural c v) (λ n b. (b ≡ []) × (v ≡ pos n))
+natural_sound c (pos n) = give_sound n _ (refl, refl)
+natural_sound c (negsuc n) = refuse_sound _ _
 
 -- nothing follows
 pub only : (F G : Format) (b : List ℕ) (h : (F then G) b) → h.rest ≡ [] → F b
 only F G b h e = subst F (sym (h.whole ∙ ap (λ c. h.front ++ c) e ∙ append-nil h.front)) h.first
 
-pub count_sound : Sound count SpellsCount
-count_sound = bind_sound int natural SpellsInteger (λ v n b. (b ≡ []) × (v ≡ pos n)) SpellsCount int_sound natural_sound
+-- a length or a count
+pub counted_sound : (c : Complaint) → Sound (int >>= natural c) SpellsCount
+counted_sound c = bind_sound int (natural c) SpellsInteger (λ v n b. (b ≡ []) × (v ≡ pos n)) SpellsCount int_sound (natural_sound c)
     (λ v n b h. subst (λ k. SpellsInteger k b) h.second.1 (only (SpellsInteger v) _ b h h.second.0))
 
 pub string_sound : Sound string (λ s. SpellsCount (length s) then Bytes s)
-string_sound = bind_sound count front SpellsCount Exactly (λ s. SpellsCount (length s) then Bytes s) count_sound front_sound
+string_sound = bind_sound size front SpellsCount Exactly (λ s. SpellsCount (length s) then Bytes s) (counted_sound NegativeLength) front_sound
     (λ n s b h. record { front = h.front; rest = h.rest; whole = h.whole; first = subst (λ k. SpellsCount k h.front) (sym h.second.0) h.first; second = h.second.1 })
 
 abbrev pub Checked : List ℕ → List ℕ → Format
 Checked s u b = (b ≡ []) × (s ≡ u) × IsUtf8 s
 
-check_sound : (s : List ℕ) → Sound (check is_utf8 s) (Checked s)
-check_sound s = if_sound (is_utf8 s) (give s) fail (Checked s) (λ e. give_sound s (Checked s) (refl, refl, IsUtf8-from_is_utf8 s e)) (λ e. fail_sound (Checked s))
+check_sound : (s : List ℕ) → Sound (utf8 s) (Checked s)
+check_sound s = if_sound (is_utf8 s) (give s) (refuse utf8_wanted) (Checked s) (λ e. give_sound s (Checked s) (refl, refl, IsUtf8-from_is_utf8 s e)) (λ e. refuse_sound utf8_wanted (Checked s))
 
 abbrev pub Text : List ℕ → Format
 Text s = SpellsCount (length s) then Given (IsUtf8 s) (Bytes s)
 
-utf8_sound : Sound utf8 Text
-utf8_sound = bind_sound string (check is_utf8) (λ s. SpellsCount (length s) then Bytes s) Checked Text string_sound check_sound
+text_sound : Sound (string >>= utf8) Text
+text_sound = bind_sound string utf8 (λ s. SpellsCount (length s) then Bytes s) Checked Text string_sound check_sound
     (λ s u b h. let k = only (SpellsCount (length s) then Bytes s) (Checked s u) b h h.second.0 in
     subst (λ v. Text v b) h.second.1 (record { front = k.front; rest = k.rest; whole = k.whole; first = k.first; second = (h.second.2, k.second) }))
 
-any_string_sound : Sound any_string SpellsString
-any_string_sound = by_tag key_after SpellsString λ tag.
+string_of_sound : (kind : Kind) → Sound (string_of kind) SpellsString
+string_of_sound kind = by_tag (λ tag. string_after (DeInvalidStartByte kind tag) tag) SpellsString λ tag.
     tag_sound tag 0x02 string _ (λ t s b. SpellsString s (t ∷ b)) (as_sound string (λ s. SpellsCount (length s) then Bytes s) _ string_sound (λ s b h. inl (tagged 0x02 _ b h)))
-    (tag_sound tag 0x0d utf8 fail (λ t s b. SpellsString s (t ∷ b)) (as_sound utf8 Text _ utf8_sound (λ s b h. inr (tagged 0x0d _ b h))) (fail_sound _))
+    (tag_sound tag 0x0d (string >>= utf8) _ (λ t s b. SpellsString s (t ∷ b)) (as_sound (string >>= utf8) Text _ text_sound (λ s b h. inr (tagged 0x0d _ b h))) (refuse_sound _ _))
 
-key_sound : Sound key SpellsKey
-key_sound = bind_sound any_string (check is_utf8) SpellsString Checked SpellsKey any_string_sound check_sound
+key_sound : Sound (text_of TemplateKey) SpellsKey
+key_sound = bind_sound (string_of TemplateKey) utf8 SpellsString Checked SpellsKey (string_of_sound TemplateKey) check_sound
     (λ s u b h. subst (λ v. SpellsKey v b) h.second.1 (h.second.2, only (SpellsString s) (Checked s u) b h h.second.0))
 
 -- ---- containers
@@ -223,7 +225,7 @@ counted : {X : Type 0} (P : X → Format) (n : ℕ) (xs : List X) (b : List ℕ)
 counted P n xs b h = record { front = h.front; rest = h.rest; whole = h.whole; first = subst (λ k. SpellsCount k h.front) (sym h.second.0) h.first; second = h.second.1 }
 
 array_sound : (r : Reader Tree) (F : Tree → Format) → Sound r F → Sound (array_body r) (IsArray F)
-array_sound r F one = bind_sound count (λ n. many r n >>= λ ts. give (array (items_of ts))) SpellsCount (λ n t b. (ts : List Tree) × (array (items_of ts) ≡ t) × Many F n ts b) (IsArray F) count_sound
+array_sound r F one = bind_sound count (λ n. many r n >>= λ ts. give (array (items_of ts))) SpellsCount (λ n t b. (ts : List Tree) × (array (items_of ts) ≡ t) × Many F n ts b) (IsArray F) (counted_sound NegativeCount)
     (λ n. map_sound (many r n) (λ ts. array (items_of ts)) (Many F n) _ (many_sound r F one n) (λ ts b h. (ts, refl, h)))
     (λ n t b h. (
       items_of h.second.0,
@@ -232,8 +234,8 @@ array_sound r F one = bind_sound count (λ n. many r n >>= λ ts. give (array (i
           (counted F n h.second.0 b (record { front = h.front; rest = h.rest; whole = h.whole; first = h.first; second = h.second.2 })),
     ))
 
-entry_sound : (r : Reader Tree) (F : Tree → Format) → Sound r F → Sound (entry_of r) (SpellsEntry F)
-entry_sound r F one = bind_sound any_string (λ k. r >>= λ t. give (k, t)) SpellsString (λ k e b. (k ≡ e.0) × F e.1 b) (SpellsEntry F) any_string_sound
+entry_sound : (r : Reader Tree) (F : Tree → Format) → Sound r F → Sound (entry_of (string_of MapKey) r) (SpellsEntry F)
+entry_sound r F one = bind_sound (string_of MapKey) (λ k. r >>= λ t. give (k, t)) SpellsString (λ k e b. (k ≡ e.0) × F e.1 b) (SpellsEntry F) (string_of_sound MapKey)
     (λ k. map_sound r (λ t. (k, t)) F (λ e b. (k ≡ e.0) × F e.1 b) one (λ t b h. (refl, h)))
     (λ k e b h. record { front = h.front; rest = h.rest; whole = h.whole; first = subst (λ s. SpellsString s h.front) h.second.0 h.first; second = h.second.1 })
 
@@ -243,9 +245,9 @@ ObjectBody F es = SpellsCount (length es) then Each (SpellsEntry F) es
 abbrev pub IsObject : (Tree → Format) → Tree → Format
 IsObject F t b = (es : Entries) × (object es ≡ t) × ObjectBody F (entries es) b
 
-object_sound : (r : Reader Tree) (F : Tree → Format) → Sound r F → Sound (object_body r) (IsObject F)
-object_sound r F one = bind_sound count (λ n. many (entry_of r) n >>= λ es. give (object (entries_of es))) SpellsCount (λ n t b. (es : List (List ℕ × Tree)) × (object (entries_of es) ≡ t) × Many (SpellsEntry F) n es b) (IsObject F) count_sound
-    (λ n. map_sound (many (entry_of r) n) (λ es. object (entries_of es)) (Many (SpellsEntry F) n) _ (many_sound (entry_of r) (SpellsEntry F) (entry_sound r F one) n) (λ es b h. (es, refl, h)))
+object_sound : (r : Reader Tree) (F : Tree → Format) → Sound r F → Sound (object_body (string_of MapKey) r) (IsObject F)
+object_sound r F one = bind_sound count (λ n. many (entry_of (string_of MapKey) r) n >>= λ es. give (object (entries_of es))) SpellsCount (λ n t b. (es : List (List ℕ × Tree)) × (object (entries_of es) ≡ t) × Many (SpellsEntry F) n es b) (IsObject F) (counted_sound NegativeCount)
+    (λ n. map_sound (many (entry_of (string_of MapKey) r) n) (λ es. object (entries_of es)) (Many (SpellsEntry F) n) _ (many_sound (entry_of (string_of MapKey) r) (SpellsEntry F) (entry_sound r F one) n) (λ es b h. (es, refl, h)))
     (λ n t b h. (
       entries_of h.second.0,
       h.second.1,
@@ -253,17 +255,15 @@ object_sound r F one = bind_sound count (λ n. many (entry_of r) n >>= λ es. gi
           (counted (SpellsEntry F) n h.second.0 b (record { front = h.front; rest = h.rest; whole = h.whole; first = h.first; second = h.second.2 })),
     ))
 
-or_sound : {X : Type 0} (r s : Reader X) (R : X → Format) → Sound r R → Sound s R → Sound (or_else r s) R
-or_sound {X = X} r s R f g b y x all e = go (r b) refl
+field_sound : (r : Reader Tree) (F : Tree → Format) → Sound r F → Sound (field_of r) (SpellsField F)
+field_sound r F one [] y f all e = absurd cc
+field_sound r F one (x ∷ b) y f all e = go (nat_eq x 0x0c) refl e
   where
-    go : (o : Option (X × List ℕ)) → r b ≡ o → Front (R x) b y
-    go None none = g b y x all (ap (λ q. prefer q (s b)) (sym none) ∙ e)
-    go (Some p) some = f b y x all (some ∙ ap (λ q. prefer q (s b)) (sym some) ∙ e)
-
-field_sound : (r : Reader Tree) (F : Tree → Format) → Sound r F → Sound (field_after r) (SpellsField F)
-field_sound r F one = or_sound (r >>= λ t. give (Some t)) (next >>= skipped) (SpellsField F)
-    (map_sound r (λ t. Some t) F (SpellsField F) one (λ t b h. h))
-    (by_tag skipped (SpellsField F) λ tag. tag_sound tag 0x0c (give None) fail (λ t f b. SpellsField F f (t ∷ b)) (give_sound None _ refl) (fail_sound _))
+    go : (c : Bool) → nat_eq x 0x0c ≡ c → cond c (reads None b) ((r >>= λ t. give (Some t)) (x ∷ b)) ≡ reads f y → Front (SpellsField F f) (x ∷ b) y
+    go true is h =
+        let same = same_answer None f b y h in
+        record { part = x ∷ []; whole = ap (λ l. x ∷ l) same.1; form = subst (λ g. SpellsField F g (x ∷ [])) same.0 (ap (λ t. t ∷ []) (eqb-true x 0x0c is)); rest = subst IsBytes same.1 all.1 }
+    go false is h = map_sound r (λ t. Some t) F (SpellsField F) one (λ t c k. k) (x ∷ b) y f all h
 
 abbrev pub RowsBody : (Tree → Format) → List (List (Option Tree)) → Format
 RowsBody F rs = Each (Each (SpellsField F)) rs
@@ -287,15 +287,15 @@ no_rows_read [] e = refl
 no_rows_read (r ∷ rs) e = absurd (omega arith)
 
 rows_made : (r : Reader Tree) (F : Tree → Format) → Sound r F → (ks : List (List ℕ)) (m : ℕ) → ((rs : List (List (Option Tree))) → length rs ≡ m → ks ≡ [] → rs ≡ [])
-    → Sound (many (many (field_after r) (length ks)) m >>= λ rs. give (template ks (rows_of rs))) (IsTableOf F ks m)
-rows_made r F one ks m none = map_sound (many (many (field_after r) (length ks)) m) (λ rs. template ks (rows_of rs)) (Many (Many (SpellsField F) (length ks)) m) (IsTableOf F ks m)
-    (many_sound (many (field_after r) (length ks)) (Many (SpellsField F) (length ks)) (many_sound (field_after r) (SpellsField F) (field_sound r F one) (length ks)) m)
+    → Sound (many (many (field_of r) (length ks)) m >>= λ rs. give (template ks (rows_of rs))) (IsTableOf F ks m)
+rows_made r F one ks m none = map_sound (many (many (field_of r) (length ks)) m) (λ rs. template ks (rows_of rs)) (Many (Many (SpellsField F) (length ks)) m) (IsTableOf F ks m)
+    (many_sound (many (field_of r) (length ks)) (Many (SpellsField F) (length ks)) (many_sound (field_of r) (SpellsField F) (field_sound r F one) (length ks)) m)
     (λ rs b h. let long = each_long F (length ks) rs b h.1 in let back = sym (rows_there rs) in
     (rows_of rs, refl, subst (IsTemplate ks) back (table_rows ks rs (none rs h.0) long.0), ap length (rows_there rs) ∙ h.0, subst (λ us. RowsBody F us b) back long.1))
 
 rows_sound : (r : Reader Tree) (F : Tree → Format) → Sound r F → (ks : List (List ℕ)) (m : ℕ) → Sound (rows_body r ks (length ks) m) (IsTableOf F ks m)
 rows_sound r F one [] zero = rows_made r F one [] zero (λ rs e k. no_rows_read rs e)
-rows_sound r F one [] (suc m) = fail_sound _
+rows_sound r F one [] (suc m) = refuse_sound _ _
 rows_sound r F one (k ∷ ks) m = rows_made r F one (k ∷ ks) m (λ rs e same. cc)
 
 abbrev pub TableBody : (Tree → Format) → List (List ℕ) → List (List (Option Tree)) → Format
@@ -310,89 +310,77 @@ RestOf F ks t b = (rs : Rows) × (template ks rs ≡ t) × IsTemplate ks (rows r
 
 rest_sound : (r : Reader Tree) (F : Tree → Format) → Sound r F → (ks : List (List ℕ)) → Sound (count >>= λ m. rows_body r ks (length ks) m) (RestOf F ks)
 unfolding RestOf
-rest_sound r F one ks = bind_sound count (λ m. rows_body r ks (length ks) m) SpellsCount (IsTableOf F ks) (RestOf F ks) count_sound (rows_sound r F one ks)
+rest_sound r F one ks = bind_sound count (λ m. rows_body r ks (length ks) m) SpellsCount (IsTableOf F ks) (RestOf F ks) (counted_sound NegativeCount) (rows_sound r F one ks)
     (λ m t b h. (h.second.0, h.second.1, h.second.2, record { front = h.front; rest = h.rest; whole = h.whole; first = subst (λ k. SpellsCount k h.front) (sym h.second.3) h.first; second = h.second.4 }))
 
 KeysThen : (Tree → Format) → ℕ → Tree → Format
 KeysThen F n t b = (ks : List (List ℕ)) × (length ks ≡ n) × (Each SpellsKey ks then RestOf F ks t) b
 
-keys_sound : (r : Reader Tree) (F : Tree → Format) → Sound r F → (n : ℕ) → Sound (many key n >>= λ ks. count >>= λ m. rows_body r ks n m) (KeysThen F n)
+keys_sound : (r : Reader Tree) (F : Tree → Format) → Sound r F → (n : ℕ) → Sound (many (text_of TemplateKey) n >>= λ ks. count >>= λ m. rows_body r ks n m) (KeysThen F n)
 unfolding KeysThen
-keys_sound r F one n b y t all e = then_some _ (many key n b) (t, y) e λ p first more.
-    let f = many_sound key SpellsKey key_sound n b p.1 p.0 all first in
-    let same : length p.0 ≡ n = f.form.0 in
-    let g = rest_sound r F one p.0 p.1 y t f.rest (subst (λ k. (count >>= λ m. rows_body r p.0 k m) p.1 ≡ Some (t, y)) (sym same) more) in
+keys_sound r F one n b y t all e = then_reads _ (many (text_of TemplateKey) n b) t y e λ ks c first more.
+    let f = many_sound (text_of TemplateKey) SpellsKey key_sound n b c ks all first in
+    let same : length ks ≡ n = f.form.0 in
+    let g = rest_sound r F one ks c y t f.rest (subst (λ k. (count >>= λ m. rows_body r ks k m) c ≡ reads t y) (sym same) more) in
     record {
       part = f.part ++ g.part;
-      whole = f.whole ∙ ap (λ c. f.part ++ c) g.whole ∙ sym (append_assoc f.part g.part y);
-      form = (p.0, same, joined (Each SpellsKey p.0) (RestOf F p.0 t) f.part g.part f.form.1 g.form);
+      whole = f.whole ∙ ap (λ d. f.part ++ d) g.whole ∙ sym (append_assoc f.part g.part y);
+      form = (ks, same, joined (Each SpellsKey ks) (RestOf F ks t) f.part g.part f.form.1 g.form);
       rest = g.rest;
     }
 
-table_sound : (r : Reader Tree) (F : Tree → Format) → Sound r F → Sound (next >>= template_body r) (λ t b. (c : List ℕ) × (b ≡ 0x00 ∷ c) × IsTableSpelled F t c)
+table_sound : (r : Reader Tree) (F : Tree → Format) → Sound r F → Sound (template_body r) (IsTableSpelled F)
 unfolding KeysThen RestOf
-table_sound r F one = by_tag (template_body r) _ λ tag.
-    tag_sound tag 0x00 _ fail (λ k t b. (c : List ℕ) × (k ∷ b ≡ 0x00 ∷ c) × IsTableSpelled F t c)
-    (bind_sound count (λ n. many key n >>= λ ks. count >>= λ m. rows_body r ks n m) SpellsCount (KeysThen F) _ count_sound (keys_sound r F one)
+table_sound r F one = bind_sound count (λ n. many (text_of TemplateKey) n >>= λ ks. count >>= λ m. rows_body r ks n m) SpellsCount (KeysThen F) (IsTableSpelled F) (counted_sound NegativeCount) (keys_sound r F one)
     (λ n t b h. let ks = h.second.0 in let s = h.second.2 in (
-      b,
-      refl,
-      (
-        ks,
-        s.second.0,
-        s.second.1,
-        s.second.2,
-        record {
-          front = h.front;
-          rest = h.rest;
-          whole = h.whole;
-          first = subst (λ k. SpellsCount k h.front) (sym h.second.1) h.first;
-          second = record { front = s.front; rest = s.rest; whole = s.whole; first = s.first; second = s.second.3 };
-        },
-      ),
-    )))
-    (fail_sound _)
+      ks,
+      s.second.0,
+      s.second.1,
+      s.second.2,
+      record {
+        front = h.front;
+        rest = h.rest;
+        whole = h.whole;
+        first = subst (λ k. SpellsCount k h.front) (sym h.second.1) h.first;
+        second = record { front = s.front; rest = s.rest; whole = s.whole; first = s.first; second = s.second.3 };
+      },
+    ))
 
 -- ---- values
 
-abbrev pub Leaf : ℕ → Tree → Format
-Leaf tag t b = Spells zero t (tag ∷ b)
+-- what follows a tag
+abbrev pub After : ℕ → ℕ → Tree → Format
+After n tag t b = Spells n t (tag ∷ b)
 
-leaf_sound : (tag : ℕ) → Sound (leaf tag) (Leaf tag)
-leaf_sound tag =
-    tag_sound tag 0x0a (give null) _ Leaf (give_sound null (Leaf 0x0a) refl)
-    (tag_sound tag 0x08 (give (boolean true)) _ Leaf (give_sound (boolean true) (Leaf 0x08) refl)
-    (tag_sound tag 0x09 (give (boolean false)) _ Leaf (give_sound (boolean false) (Leaf 0x09) refl)
-    (tag_sound tag 0x07 (front 8 >>= λ b. give (real (from_le_bytes w64 b))) _ Leaf
-    (map_sound (front 8) (λ b. real (from_le_bytes w64 b)) (Exactly 8) (Leaf 0x07) (front_sound 8)
+template_sound : (n : ℕ) → Sound (any n) (Spells n) → Sound (next >>= template_after (is_positive n) (any n)) (After (suc n) 0x0b)
+template_sound n one = by_tag (template_after (is_positive n) (any n)) (After (suc n) 0x0b) λ tag.
+    tag_sound tag 0x00 (within (is_positive n) Array (template_body (any n))) _ (λ k t b. Spells (suc n) t (0x0b ∷ k ∷ b)) (inside n one) (refuse_sound (DeInvalidStartByte TemplateKeys tag) _)
+  where
+    inside : (n : ℕ) → Sound (any n) (Spells n) → Sound (within (is_positive n) Array (template_body (any n))) (λ t b. Spells (suc n) t (0x0b ∷ 0x00 ∷ b))
+    inside zero one = refuse_sound _ _
+    inside (suc n) one = as_sound (template_body (any (suc n))) (IsTableSpelled (Spells (suc n))) _ (table_sound (any (suc n)) (Spells (suc n)) one)
+        (λ t b h. subst (λ u. Spells (suc (suc n)) u (0x0b ∷ 0x00 ∷ b)) h.2 (h.3, tagged 0x0b _ _ (tagged 0x00 _ b h.4)))
+
+after_sound : (n : ℕ) (deep deeper : Bool) (r : Reader Tree) → Sound (within deep Array (array_body r)) (After n 0x00) → Sound (within deep Object (object_body (string_of MapKey) r)) (After n 0x01)
+    → Sound (within deep Template (next >>= template_after deeper r)) (After n 0x0b) → (tag : ℕ) → Sound (value_after deep deeper (string_of MapKey) r tag) (After n tag)
+after_sound n deep deeper r arrays objects templates tag =
+    tag_sound tag 0x0a (give null) _ (After n) (give_sound null (After n 0x0a) refl)
+    (tag_sound tag 0x08 (give (boolean true)) _ (After n) (give_sound (boolean true) (After n 0x08) refl)
+    (tag_sound tag 0x09 (give (boolean false)) _ (After n) (give_sound (boolean false) (After n 0x09) refl)
+    (tag_sound tag 0x07 (front 8 >>= λ b. give (real (from_le_bytes w64 b))) _ (After n)
+    (map_sound (front 8) (λ b. real (from_le_bytes w64 b)) (Exactly 8) (After n 0x07) (front_sound 8)
     (λ c b h. let back = le_bytes_back int64 c h.0 (byte_at c h.2) in (back.0, ap (λ k. 0x07 ∷ k) (h.1 ∙ sym back.1))))
-    (tag_sound tag 0x02 (string >>= λ s. give (bytes s)) _ Leaf (map_sound string (λ s. bytes s) _ (Leaf 0x02) string_sound (λ s b h. tagged 0x02 _ b h))
-    (tag_sound tag 0x0d (utf8 >>= λ s. give (text s)) _ Leaf (map_sound utf8 (λ s. text s) Text (Leaf 0x0d) utf8_sound (λ s b h. tagged 0x0d _ b h))
-    (map_sound (int_after tag) (λ v. integer v) (λ v b. SpellsInteger v (tag ∷ b)) (Leaf tag) (int_after_sound tag) (λ v b h. h)))))))
+    (tag_sound tag 0x02 (string >>= λ s. give (bytes s)) _ (After n) (map_sound string (λ s. bytes s) _ (After n 0x02) string_sound (λ s b h. tagged 0x02 _ b h))
+    (tag_sound tag 0x0d (string >>= utf8 >>= λ s. give (text s)) _ (After n) (map_sound (string >>= utf8) (λ s. text s) Text (After n 0x0d) text_sound (λ s b h. tagged 0x0d _ b h))
+    (tag_sound tag 0x00 (within deep Array (array_body r)) _ (After n) arrays
+    (tag_sound tag 0x01 (within deep Object (object_body (string_of MapKey) r)) _ (After n) objects
+    (tag_sound tag 0x0b (within deep Template (next >>= template_after deeper r)) _ (After n) templates
+    (map_sound (int_after (DeInvalidStartByte NextItem tag) tag) (λ v. integer v) (λ v b. SpellsInteger v (tag ∷ b)) (After n tag) (int_after_sound (DeInvalidStartByte NextItem tag) tag) (λ v b h. h))))))))))
 
-abbrev pub Branch : ℕ → ℕ → Tree → Format
-Branch n tag t b = Spells (suc n) t (tag ∷ b)
-
-table_branch : (n : ℕ) → Sound (value n) (Spells n) → is_positive n ≡ true → Sound (next >>= template_body (value n)) (Branch n 0x0b)
-table_branch zero one e = cc
-table_branch (suc n) one e = as_sound (next >>= template_body (value (suc n))) _ (Branch (suc n) 0x0b) (table_sound (value (suc n)) (Spells (suc n)) one)
-    (λ t b h. let s = h.2 in subst (λ u. Branch (suc n) 0x0b u b) s.2
-    (subst (λ c. Spells (suc (suc n)) (template s.0 s.1) (0x0b ∷ c)) (sym h.1) (s.3, tagged 0x0b _ _ (tagged 0x00 _ _ s.4))))
-
-branch_sound : (n : ℕ) → Sound (value n) (Spells n) → (tag : ℕ) → Sound (branch (is_positive n) (value n) tag) (Branch n tag)
-branch_sound n one tag =
-    tag_sound tag 0x00 (array_body (value n)) _ (Branch n) (as_sound (array_body (value n)) (IsArray (Spells n)) (Branch n 0x00) (array_sound (value n) (Spells n) one)
-    (λ t b h. subst (λ u. Branch n 0x00 u b) h.1 (tagged 0x00 _ b h.2)))
-    (tag_sound tag 0x01 (object_body (value n)) _ (Branch n) (as_sound (object_body (value n)) (IsObject (Spells n)) (Branch n 0x01) (object_sound (value n) (Spells n) one)
-    (λ t b h. subst (λ u. Branch n 0x01 u b) h.1 (tagged 0x01 _ b h.2)))
-    (if_sound (nat_eq tag 0x0b && is_positive n) (next >>= template_body (value n)) fail (Branch n tag)
-    (λ e. let both = and_parts (nat_eq tag 0x0b) (is_positive n) e in
-    subst (λ k. Sound (next >>= template_body (value n)) (Branch n k)) (sym (eqb-true tag 0x0b both.0)) (table_branch n one both.1))
-    (λ e. fail_sound (Branch n tag))))
-
-pub value_sound : (n : ℕ) → Sound (value n) (Spells n)
+pub value_sound : (n : ℕ) → Sound (any n) (Spells n)
 unfolding value
-value_sound zero = by_tag leaf (Spells zero) leaf_sound
-value_sound (suc n) = or_sound (next >>= leaf) (next >>= branch (is_positive n) (value n)) (Spells (suc n))
-    (as_sound (next >>= leaf) (Spells zero) (Spells (suc n)) (by_tag leaf (Spells zero) leaf_sound) (λ t b h. more_levels zero (suc n) b t (omega arith) h))
-    (by_tag (branch (is_positive n) (value n)) (Spells (suc n)) (branch_sound n (value_sound n)))
+value_sound zero = by_tag (value_after false false (string_of MapKey) (refuse eof)) (Spells zero) (after_sound zero false false (refuse eof) (refuse_sound _ _) (refuse_sound _ _) (refuse_sound _ _))
+value_sound (suc n) = by_tag (value_after true (is_positive n) (string_of MapKey) (any n)) (Spells (suc n)) (after_sound (suc n) true (is_positive n) (any n)
+    (as_sound (array_body (any n)) (IsArray (Spells n)) (After (suc n) 0x00) (array_sound (any n) (Spells n) (value_sound n)) (λ t b h. subst (λ u. After (suc n) 0x00 u b) h.1 (tagged 0x00 _ b h.2)))
+    (as_sound (object_body (string_of MapKey) (any n)) (IsObject (Spells n)) (After (suc n) 0x01) (object_sound (any n) (Spells n) (value_sound n)) (λ t b h. subst (λ u. After (suc n) 0x01 u b) h.1 (tagged 0x01 _ b h.2)))
+    (template_sound n (value_sound n)))

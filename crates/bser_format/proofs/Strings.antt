@@ -7,20 +7,13 @@ use Rattle.bser_format.specs.Expand.{expand, key_tree}
 use Rattle.bser_format.specs.Grammar.{Bytes, Given, Spells, SpellsCount, SpellsString, ◌then◌}
 use Rattle.bser_format.specs.Content.{Content, byte_list, Meaning}
 use Rattle.bser_format.specs.ReadsScalars.{string_bytes_of, utf8_of, reads_slice, reads_string, reads_char, one_char}
-use Rattle.bser_format.proofs.Fronts.{string_reads, utf8_reads}
+use Rattle.bser_format.proofs.Fronts.{string_reads, utf8_reads, kept}
 use Rattle.bser_format.specs.Named.{Answer, reads, refuses, Reader, give, refuse, and_then, ◌>>=◌, next, string, utf8, utf8_wanted}
 use Rattle.bser_format.specs.DueReaders.{Seen, tag, bytes_at, text_at, value_tag, key_tag}
 use Rattle.bser_format.specs.Asks as asks
 use Rattle.bser_format.specs.Asks.{done, asks_bytes, asks_string, asks_char}
 use Rattle.bser_format.specs.TypeLaws.{Passes}
-use Rattle.bser_format.proofs.Agreement.{string_same, utf8_same, forgotten}
 use Rattle.bser_format.proofs.Dues.{Handles, passes_by}
-
-pub string_there : (s b x : List ℕ) → (SpellsCount (length s) then Bytes s) b → string (b ++ x) ≡ reads s x
-string_there s b x h = forgotten _ s x (string_same (b ++ x) ∙ string_reads s b x h)
-
-pub utf8_there : (s b x : List ℕ) → (SpellsCount (length s) then Given (IsUtf8 s) (Bytes s)) b → (string >>= utf8) (b ++ x) ≡ reads s x
-utf8_there s b x h = forgotten _ s x (utf8_same (b ++ x) ∙ utf8_reads s b x h)
 
 -- ---- bytes
 
@@ -29,10 +22,10 @@ pub looked : (look : ℕ → Reader Seen) → ((y : List ℕ) → look 0x02 y �
     → and_then bytes_at (and_then look (next (b ++ x))) ≡ reads s x
 looked look two thirteen s b x (inl h) =
     ap (λ l. and_then bytes_at (and_then look (next (l ++ x)))) (h.whole ∙ ap (λ l. l ++ h.rest) h.first)
-    ∙ ap (and_then bytes_at) (two (h.rest ++ x)) ∙ string_there s h.rest x h.second
+    ∙ ap (and_then bytes_at) (two (h.rest ++ x)) ∙ string_reads s h.rest x h.second
 looked look two thirteen s b x (inr h) =
     ap (λ l. and_then bytes_at (and_then look (next (l ++ x)))) (h.whole ∙ ap (λ l. l ++ h.rest) h.first)
-    ∙ ap (and_then bytes_at) (thirteen (h.rest ++ x)) ∙ utf8_there s h.rest x h.second
+    ∙ ap (and_then bytes_at) (thirteen (h.rest ++ x)) ∙ utf8_reads s h.rest x h.second
 
 pub string_node : (skips : Bool) (n : ℕ) (t : Tree) (s b x : List ℕ) → string_bytes_of (expand t) ≡ Some s → Spells n t b → and_then bytes_at (and_then (value_tag skips) (next (b ++ x))) ≡ reads s x
 string_node skips n (bytes v) s b x e h = looked (value_tag skips) (λ y. refl) (λ y. refl) v b x (inl h) ∙ ap (λ w. reads w x) (cc)
@@ -71,10 +64,6 @@ pub bytes_passes : Passes asks_bytes reads_slice
 bytes_passes = passes_by (bytes_handled done reads_slice (λ u c r. slice_holds (string_bytes_of u) c r))
 
 -- ---- texts
-
--- what is UTF-8 stays
-pub kept : (s y : List ℕ) → is_utf8 s ≡ true → utf8 s y ≡ reads s y
-kept s y e = ap (λ c. cond c (give s) (refuse utf8_wanted) y) e
 
 text_of_bytes : (a : Answer Seen) (s y : List ℕ) → and_then bytes_at a ≡ reads s y → is_utf8 s ≡ true → and_then text_at a ≡ reads s y
 text_of_bytes (reads v w) s y e u = ap (and_then utf8) e ∙ kept s y u

@@ -6,12 +6,11 @@ use Rattle.std.specs.Int.{w64, from_le_bytes}
 use Rattle.bser_format.specs.Tree.{Tree, null, boolean, integer, real, bytes, text, array, object, template, items_of, entries_of, rows_of, fields_of}
 use Rattle.bser_format.specs.Expand.{expand, expand_fields}
 use Rattle.bser_format.specs.ReadsAny.{has_utf8_keys, entries_have_utf8_keys}
-use Rattle.bser_format.specs.Plain.{is_positive}
 use Rattle.bser_format.specs.declared.errors.Kind.{Kind}
 use Rattle.bser_format.specs.declared.errors.Kind.TheVariants.{NextItem, MapKey, TemplateKeys, TemplateKey, Array, Object, Template}
 use Rattle.bser_format.specs.declared.errors.Complaint.TheVariants.{RowsWithoutKeys}
 use Rattle.bser_format.specs.declared.errors.Error.TheVariants.{DeInvalidStartByte, DeRecursionLimitExceeded}
-use Rattle.bser_format.specs.Named.{reads, Reader, give, refuse, and_then, ◌>>=◌, eof, utf8_wanted, complain, next, front, many, int_after, count, string, utf8, string_of, text_of, entry_of, field_of, array_body, object_body, rows_body, template_body, within, template_after, value_after, value, any, with_text_keys}
+use Rattle.bser_format.specs.Named.{reads, Reader, give, refuse, and_then, ◌>>=◌, eof, utf8_wanted, complain, next, front, many, int_after, count, string, utf8, string_of, text_of, entry_of, field_of, array_body, object_body, rows_body, template_body, within, template_after, value_after, value, any, with_text_keys, is_positive}
 use Rattle.bser_format.specs.NamedLaws.{HasTextKeys}
 use Rattle.bser_format.proofs.Sifting.{Sifted, Sifts, Always, Anything, Counted, then_reads, same_answer, always, same_sifts, refuse_sifts, give_sifts, given, if_sifts, bind_sifts, map_sifts, after_sifts, many_sifts, many_always}
 

@@ -7,8 +7,8 @@ use Rattle.bser_format.specs.declared.errors.Error.{Error}
 use Rattle.bser_format.proofs.Sound.{IsBytes}
 use Rattle.bser_format.specs.Named.{reads, refuses, Reader, ◌>>=◌, head, ends_at, message, any, with_text_keys}
 use Rattle.bser_format.specs.NamedLaws.{HasTextKeys}
-use Rattle.bser_format.proofs.Agreement.{reads_spelled, refused, no_answer}
-use Rattle.bser_format.proofs.NamedFrames.{reads_messages, ends_reads}
+use Rattle.bser_format.proofs.Exact.{reads_spelled, refused, no_answer}
+use Rattle.bser_format.proofs.Messages.{reads_messages, ends_reads}
 use Rattle.bser_format.proofs.Sifting.{Sifts, Anything, always, same_sifts, bind_sifts, after_sifts}
 use Rattle.bser_format.proofs.TextKeys.{text_keys_sift}
 

@@ -2,7 +2,6 @@
 -- order of reading.
 use Rattle.std.specs.Prelude.{ℕ, zero, suc, ℤ, Bool, true, false, ◌&&◌, ◌||◌, nat_lt, List, [], ◌∷◌, bytes_eq, ◌==◌, if◌then◌else◌}
 use Rattle.std.specs.Int.{w64, from_le_bytes}
-use Rattle.bser_format.specs.Plain.{is_positive}
 use Rattle.bser_format.specs.Expected.{Due, nothing_due, node_due, key_due, field_due, name_due, row_due, WantedItems, nodes, rows_over, WantedPairs, entries_of_object, fields_of_row}
 use Rattle.bser_format.specs.declared.errors.Error.{Error}
 use Rattle.bser_format.specs.declared.errors.Error.TheVariants.{DeInvalidStartByte}
@@ -10,7 +9,7 @@ use Rattle.bser_format.specs.declared.errors.Kind.TheVariants as kinds
 use Rattle.bser_format.specs.declared.errors.Kind.TheVariants.{NextItem, MapKey, TemplateKeys, TemplateKey}
 use Rattle.bser_format.specs.declared.errors.Complaint.TheVariants.{WrongType, TooFewItems, ValueOpen, RowsWithoutKeys, UnknownVariant, EnumObjectEntries}
 use Rattle.bser_format.specs.declared.errors.name.EnumName.{EnumName}
-use Rattle.bser_format.specs.Named.{Reader, give, refuse, ◌>>=◌, complain, next, front, many, int_after, count, string, utf8, string_after, text_of, within}
+use Rattle.bser_format.specs.Named.{Reader, give, refuse, ◌>>=◌, complain, next, front, many, int_after, count, string, utf8, string_after, text_of, within, is_positive}
 
 -- what is where something is expected: a tag, the key of a row's field, or a row
 pub data Seen : Type 0 where

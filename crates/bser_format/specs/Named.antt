@@ -5,7 +5,6 @@ use Rattle.std.specs.Int.{w32, w64, from_le_bytes, cast_signed, byte_len}
 use Rattle.std.specs.Str.{is_utf8}
 use Rattle.bser_format.specs.Tree.{items_of, entries_of, rows_of, Tree, null, boolean, integer, real, bytes, text, array, object, template}
 use Rattle.bser_format.specs.Grammar.{IntSize, int8, int16, int32, int64, width_of}
-use Rattle.bser_format.specs.Plain.{is_positive}
 use Rattle.bser_format.specs.declared.errors.Error.{Error}
 use Rattle.bser_format.specs.declared.errors.Error.TheVariants.{DeInvalidStartByte, DeCustom, DeRecursionLimitExceeded, DeEof, DeInvalidMagic, DeReaderError}
 use Rattle.bser_format.specs.declared.errors.Kind.{Kind}
@@ -186,6 +185,11 @@ value_after deep deeper key r tag =
     else if tag == 0x01 then within deep Object (object_body key r)
     else if tag == 0x0b then within deep Template (next >>= template_after deeper r)
     else (int_after (DeInvalidStartByte NextItem tag) tag >>= λ v. give (integer v))
+
+-- there is one more level
+abbrev pub is_positive : ℕ → Bool
+is_positive zero = false
+is_positive (suc n) = true
 
 -- a value with n levels left, whose objects' keys are read so
 unfoldable pub value : Reader (List ℕ) → ℕ → Reader Tree

@@ -6,7 +6,8 @@ use Rattle.std.specs.List.{AllByRecursion}
 use Rattle.bser_format.specs.Tree.{Tree, null, boolean, integer, real, bytes, text, array, object, template, Items, no_items, item, items, Rows, no_rows, row, rows}
 use Rattle.bser_format.specs.Grammar.{Format, Bytes, Each, Spells, SpellsCount, SpellsKey, SpellsField, IsTemplate, ◌then◌}
 use Rattle.bser_format.specs.Expand.{expand, expand_items, expand_rows}
-use Rattle.bser_format.specs.Plain.{Reader, give, ◌>>=◌, next, count, many, key}
+use Rattle.bser_format.specs.Named.{Reader, give, ◌>>=◌, next, count, many, text_of}
+use Rattle.bser_format.specs.declared.errors.Kind.TheVariants.{TemplateKey}
 use Rattle.bser_format.specs.Expected.{Due, Fills, FillsNode, FillsItems, nothing_due, node_due, key_due, field_due, name_due, row_due, WantedItems, nodes, rows_over}
 use Rattle.bser_format.proofs.Fronts.{Reads, reads_then, reads_last, next_reads, count_reads, key_reads, many_all}
 use Rattle.bser_deserializer.specs.Parts.{ArrayHead, TemplateHead, ItemsHead, BeginsItems}
@@ -107,14 +108,14 @@ abbrev Table : List (List ℕ) → ℕ → Format
 Table ks k = Bytes (0x0b ∷ []) then Bytes (0x00 ∷ []) then SpellsCount (length ks) then Each SpellsKey ks then SpellsCount k
 
 abbrev table_head : Reader (List (List ℕ) × ℕ)
-table_head = next >>= λ t. next >>= λ a. count >>= λ n. many key n >>= λ us. count >>= λ m. give (us, m)
+table_head = next >>= λ t. next >>= λ a. count >>= λ n. many (text_of TemplateKey) n >>= λ us. count >>= λ m. give (us, m)
 
 table_head_reads : (ks : List (List ℕ)) (k : ℕ) → Reads table_head (Table ks k) (ks, k)
 table_head_reads ks k =
-    reads_then next (λ t. next >>= λ a. count >>= λ n. many key n >>= λ us. count >>= λ m. give (us, m)) (Bytes (0x0b ∷ [])) _ 0x0b (ks, k) (next_reads 0x0b)
-    (reads_then next (λ a. count >>= λ n. many key n >>= λ us. count >>= λ m. give (us, m)) (Bytes (0x00 ∷ [])) _ 0x00 (ks, k) (next_reads 0x00)
-    (reads_then count (λ n. many key n >>= λ us. count >>= λ m. give (us, m)) (SpellsCount (length ks)) _ (length ks) (ks, k) (count_reads (length ks))
-    (reads_then (many key (length ks)) (λ us. count >>= λ m. give (us, m)) (Each SpellsKey ks) (SpellsCount k) ks (ks, k) (many_all key SpellsKey key_reads ks)
+    reads_then next (λ t. next >>= λ a. count >>= λ n. many (text_of TemplateKey) n >>= λ us. count >>= λ m. give (us, m)) (Bytes (0x0b ∷ [])) _ 0x0b (ks, k) (next_reads 0x0b)
+    (reads_then next (λ a. count >>= λ n. many (text_of TemplateKey) n >>= λ us. count >>= λ m. give (us, m)) (Bytes (0x00 ∷ [])) _ 0x00 (ks, k) (next_reads 0x00)
+    (reads_then count (λ n. many (text_of TemplateKey) n >>= λ us. count >>= λ m. give (us, m)) (SpellsCount (length ks)) _ (length ks) (ks, k) (count_reads (length ks))
+    (reads_then (many (text_of TemplateKey) (length ks)) (λ us. count >>= λ m. give (us, m)) (Each SpellsKey ks) (SpellsCount k) ks (ks, k) (many_all (text_of TemplateKey) SpellsKey key_reads ks)
     (reads_last count (λ m. give (ks, m)) (SpellsCount k) k (ks, k) (count_reads k) (λ y. refl)))))
 
 -- an array, as its head and its items

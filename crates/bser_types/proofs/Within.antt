@@ -1,14 +1,15 @@
 -- A container that is read in steps: what was taken, and what is left to take.
 use Rattle.std.proofs.Common.{◌≡◌, ℕ, zero, suc, List, ◌∷◌, ◌++◌, length, append_assoc, Option, Some, None, refl, sym, ap, subst, ◌∙◌, inl, inr}
 use Rattle.std.proofs.lemmas.List.{append_cancel_left, append_cancel_right}
-use Rattle.std.proofs.lemmas.Option.{some_pair_parts}
 use Rattle.bser_format.specs.Tree.{Tree, null, object, Fields, fields, fields_of}
 use Rattle.bser_format.specs.Grammar.{Format, Each, Spells, SpellsString, SpellsField}
 use Rattle.bser_format.specs.Expand.{expand, expand_fields, key_tree}
-use Rattle.bser_format.specs.Plain.{Reader, any_string, field_after, many, value}
+use Rattle.bser_format.specs.declared.errors.Kind.TheVariants.{MapKey}
+use Rattle.bser_format.specs.Named.{Reader, string_of, field_of, many, any}
 use Rattle.bser_format.specs.Content.{Content, Meaning}
 use Rattle.bser_format.specs.Expected.{Due, Fills, nothing_due, node_due, key_due, field_due, name_due, row_due}
-use Rattle.bser_format.proofs.Fronts.{Reads, value_reads, any_string_reads, field_reads, fields_back, many_all}
+use Rattle.bser_format.proofs.Fronts.{Reads, value_reads, string_of_reads, field_reads, fields_back, many_all}
+use Rattle.bser_format.proofs.Sifting.{same_answer}
 use Rattle.bser_deserializer.specs.Reading.{FillsReadably}
 use Rattle.bser_deserializer.specs.State.{State}
 
@@ -43,16 +44,11 @@ due_as reads s text f = record { tree = f.tree; filled = f.filled; read = f.read
 -- where what two formats spell is read by one reader, they spell the same
 pub one_front : {X : Type 0} (r : Reader X) (F G : Format) (x z : X) → Reads r F x → Reads r G z → (a b s t : List ℕ) → F a → G b → a ++ s ≡ b ++ t → (a ≡ b) × (x ≡ z)
 one_front r F G x z f g a b s t p q e =
-    let same = some_pair_parts x z s t (sym (f a s p) ∙ ap r e ∙ g b t q) in
+    let same = same_answer x z s t (sym (f a s p) ∙ ap r e ∙ g b t q) in
     (append_cancel_right a b t (subst (λ l. a ++ l ≡ b ++ t) same.1 e), same.0)
 
-no_skip : (n : ℕ) (y : List ℕ) → value n (0x0c ∷ y) ≡ None
-unfolding value
-no_skip zero y = refl
-no_skip (suc n) y = refl
-
 one_field : (n : ℕ) (f g : Option Tree) (a b s t : List ℕ) → SpellsField (Spells n) f a → SpellsField (Spells n) g b → a ++ s ≡ b ++ t → (a ≡ b) × (f ≡ g)
-one_field n f g = one_front (field_after (value n)) (SpellsField (Spells n) f) (SpellsField (Spells n) g) f g (field_reads (value n) (Spells n) (value_reads n) (no_skip n) f) (field_reads (value n) (Spells n) (value_reads n) (no_skip n) g)
+one_field n f g = one_front (field_of (any n)) (SpellsField (Spells n) f) (SpellsField (Spells n) g) f g (field_reads n f) (field_reads n g)
 
 -- what a field stands for
 abbrev field_tree : Option Tree → Tree
@@ -63,9 +59,9 @@ field_due_as : (n : ℕ) (u : Tree) (b : List ℕ) → Fills n field_due u b →
 field_due_as n u b (inl h) = (None, h.0, h.1)
 field_due_as n u b (inr h) = (Some h.tree, h.stands, h.spelled)
 
-row_reads : (n k : ℕ) (row : Fields) → length (fields row) ≡ k → Reads (many (field_after (value n)) k) (Each (SpellsField (Spells n)) (fields row)) (fields row)
-row_reads n k row e = subst (λ m. Reads (many (field_after (value n)) m) (Each (SpellsField (Spells n)) (fields row)) (fields row)) e
-    (many_all (field_after (value n)) (SpellsField (Spells n)) (field_reads (value n) (Spells n) (value_reads n) (no_skip n)) (fields row))
+row_reads : (n k : ℕ) (row : Fields) → length (fields row) ≡ k → Reads (many (field_of (any n)) k) (Each (SpellsField (Spells n)) (fields row)) (fields row)
+row_reads n k row e = subst (λ m. Reads (many (field_of (any n)) m) (Each (SpellsField (Spells n)) (fields row)) (fields row)) e
+    (many_all (field_of (any n)) (SpellsField (Spells n)) (field_reads n) (fields row))
 
 same_row : (v w : Fields) → fields v ≡ fields w → v ≡ w
 same_row v w e = sym (fields_back v) ∙ ap fields_of e ∙ fields_back w
@@ -74,10 +70,10 @@ same_row v w e = sym (fields_back v) ∙ ap fields_of e ∙ fields_back w
 pub one_due : (n : ℕ) (d : Due) (t u : Tree) (a b x y : List ℕ) → Fills n d t a → Fills n d u b → a ++ x ≡ b ++ y → (a ≡ b) × (t ≡ u)
 one_due n nothing_due t u a b x y p q e = absurd p
 one_due n node_due t u a b x y p q e =
-    let same = one_front (value n) (Spells n p.tree) (Spells n q.tree) p.tree q.tree (value_reads n p.tree) (value_reads n q.tree) a b x y p.spelled q.spelled e in
+    let same = one_front (any n) (Spells n p.tree) (Spells n q.tree) p.tree q.tree (value_reads n p.tree) (value_reads n q.tree) a b x y p.spelled q.spelled e in
     (same.0, p.stands ∙ ap expand same.1 ∙ sym q.stands)
 one_due n key_due t u a b x y p q e =
-    let same = one_front any_string (SpellsString p.key) (SpellsString q.key) p.key q.key (any_string_reads p.key) (any_string_reads q.key) a b x y p.spelled q.spelled e in
+    let same = one_front (string_of MapKey) (SpellsString p.key) (SpellsString q.key) p.key q.key (string_of_reads MapKey p.key) (string_of_reads MapKey q.key) a b x y p.spelled q.spelled e in
     (same.0, p.stands ∙ ap key_tree same.1 ∙ sym q.stands)
 one_due n field_due t u a b x y p q e =
     let v = field_due_as n t a p in
@@ -86,6 +82,6 @@ one_due n field_due t u a b x y p q e =
     (same.0, v.1 ∙ ap field_tree same.1 ∙ sym w.1)
 one_due n (name_due k) t u a b x y p q e = (p.1 ∙ sym q.1, p.0 ∙ sym q.0)
 one_due n (row_due ks) t u a b x y p q e =
-    let same = one_front (many (field_after (value n)) (length ks)) (Each (SpellsField (Spells n)) (fields p.row)) (Each (SpellsField (Spells n)) (fields q.row)) (fields p.row) (fields q.row)
+    let same = one_front (many (field_of (any n)) (length ks)) (Each (SpellsField (Spells n)) (fields p.row)) (Each (SpellsField (Spells n)) (fields q.row)) (fields p.row) (fields q.row)
     (row_reads n (length ks) p.row p.even) (row_reads n (length ks) q.row q.even) a b x y p.spelled q.spelled e in
     (same.0, p.stands ∙ ap (λ r. object (expand_fields ks r)) (same_row p.row q.row same.1) ∙ sym q.stands)

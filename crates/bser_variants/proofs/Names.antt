@@ -17,7 +17,8 @@ use Rattle.bser_format.specs.Named.{Answer, reads, refuses, give, and_then, comp
 use Rattle.bser_format.specs.DueReaders.{Seen, is_key_tag, value_tag, key_tag, asked, bytes_at, text_at, place_from, variant_of_row, variant_due}
 use Rattle.bser_format.proofs.Heads.{count_passes}
 use Rattle.bser_format.proofs.Steps.{Passes}
-use Rattle.bser_format.proofs.Strings.{kept, looked}
+use Rattle.bser_format.proofs.Fronts.{kept}
+use Rattle.bser_format.proofs.Strings.{looked}
 use Rattle.bser_deserializer.specs.Dues.{IsValueDue}
 use Rattle.bser_deserializer.specs.Fields.{field_from, field_of}
 use Rattle.bser_deserializer.specs.Parts.{BeginsPairs, ObjectHead, pairs_left, pair_key}

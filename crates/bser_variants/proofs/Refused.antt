@@ -7,7 +7,6 @@ use Rattle.std.proofs.lemmas.Bool.{ltb-true, ltb-false}
 use Rattle.std.proofs.lemmas.Str.{IsUtf8-nil}
 use Rattle.bser_format.specs.EnumName.{kept, kept_whole}
 use Rattle.bser_format.specs.Expected.{Due, nothing_due, node_due, key_due, field_due, name_due, row_due, WantedPairs, entries_of_object, fields_of_row}
-use Rattle.bser_format.specs.Plain.{is_positive}
 use Rattle.bser_format.specs.declared.errors.Error.{Error}
 use Rattle.bser_format.specs.declared.errors.Error.TheVariants.{DeInvalidStartByte, DeRecursionLimitExceeded}
 use Rattle.bser_format.specs.declared.errors.Kind.TheVariants as kinds
@@ -15,7 +14,7 @@ use Rattle.bser_format.specs.declared.errors.Kind.TheVariants.{MapKey}
 use Rattle.bser_format.specs.declared.errors.Complaint.TheVariants.{UnknownVariant, EnumObjectEntries}
 use Rattle.bser_format.specs.declared.errors.name.EnumName.{EnumName}
 use Rattle.bser_format.proofs.EnumNames.{whole_known}
-use Rattle.bser_format.specs.Named.{Answer, Reader, reads, refuses, give, and_then, ◌>>=◌, complain, eof, next, count, string, utf8, text_of}
+use Rattle.bser_format.specs.Named.{Answer, Reader, reads, refuses, give, and_then, ◌>>=◌, complain, eof, next, count, string, utf8, text_of, is_positive}
 use Rattle.bser_format.specs.DueReaders.{tag, is_key_tag, asked, pairs_at, text_at, place_from, variant_after, variant_of_row, variant_due}
 use Rattle.bser_format.specs.Asks.{done, asks_string}
 use Rattle.bser_source.specs.Window.{Window}

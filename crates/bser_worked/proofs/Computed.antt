@@ -6,12 +6,13 @@ use Rattle.std.specs.List.{AllByRecursion}
 use Rattle.bser_format.specs.Tree.{Tree}
 use Rattle.bser_format.specs.Message.{IsMessage}
 use Rattle.bser_format.specs.Grammar.{Spells}
-use Rattle.bser_format.specs.Plain.{message, value}
+use Rattle.bser_format.specs.Plain.{forget, message, value}
 use Rattle.bser_format.specs.Expand.{expand}
 use Rattle.bser_format.specs.Normal.{normal}
 use Rattle.bser_format.specs.Measures.{depth}
 use Rattle.bser_format.specs.Canonical.{canonical_message}
-use Rattle.bser_format.proofs.Messages.{message_sound, message_reads, value_exact}
+use Rattle.bser_format.proofs.Exact.{value_exact}
+use Rattle.bser_format.proofs.Messages.{message_exact, tree_reads}
 use Rattle.bser_format.proofs.Settled.{settles, message_settles}
 use Rattle.bser_worked.specs.Reading.{IsBody, IsRead, IsReadBack, IsRefused, IsValueOf}
 
@@ -25,11 +26,11 @@ bytes_all (x ∷ b) e = let both = and_parts (nat_lt x 256) (are_bytes b) e in (
 
 pub is_read : (n : ℕ) (b : List ℕ) (t : Tree) → are_bytes b ≡ true → message n b ≡ Some ((0, t), []) → IsRead n b t
 is_read n b t all e =
-    let h = message_sound n 0 b [] t (bytes_all b all) e in
+    let h = (message_exact n 0 b [] t (bytes_all b all)).0 e in
     (subst (IsMessage n 0 t) (sym (h.1 ∙ append-nil h.0)) h.2, e)
 
 pub is_refused : (n : ℕ) (b : List ℕ) → message n b ≡ None → IsRefused n b
-is_refused n b e = (e, λ c t a x h same. none-some ((c, t), x) (sym e ∙ ap (message n) same ∙ message_reads n c t a x h))
+is_refused n b e = (e, λ c t a x h same. none-some ((c, t), x) (sym e ∙ ap (message n) same ∙ ap forget (tree_reads n c t a x h)))
 
 pub is_body : (n : ℕ) (b : List ℕ) (t : Tree) → are_bytes b ≡ true → value n b ≡ Some (t, []) → IsBody n b t
 is_body n b t all e =

@@ -1,4 +1,4 @@
-use Rattle.bser_format.proofs.Messages.{value_exact}
+use Rattle.bser_format.proofs.Exact.{value_exact}
 use Rattle.bser_format.proofs.grammar.reading_is_exact.Goals as goal
 
 pub returns : goal.returns

@@ -1,7 +1,7 @@
 use Rattle.std.proofs.Common.{refl}
 use Rattle.std.specs.Str.{is_utf8, chars}
 use Rattle.bser_format.specs.Canonical.{least_integer, canonical_key}
-use Rattle.bser_format.specs.Plain.{value}
+use Rattle.bser_format.specs.Named.{value}
 use Rattle.bser_worked.specs.Templates.{people_message}
 use Rattle.bser_worked.proofs.Computed.{read_value, shorter}
 use Rattle.bser_worked.proofs.compact_laws.equal_compact_messages.Goals as goal

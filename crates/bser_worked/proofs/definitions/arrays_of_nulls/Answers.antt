@@ -1,7 +1,7 @@
 use Rattle.std.proofs.Common.{refl}
 use Rattle.std.specs.Str.{is_utf8, chars}
 use Rattle.bser_format.specs.Canonical.{least_integer, canonical_key}
-use Rattle.bser_format.specs.Plain.{value}
+use Rattle.bser_format.specs.Named.{value}
 use Rattle.bser_worked.proofs.definitions.arrays_of_nulls.Goals as goal
 
 pub returns-clause-body : goal.returns-clause-body

@@ -1,7 +1,7 @@
 use Rattle.std.proofs.Common.{refl}
 use Rattle.std.specs.Str.{is_utf8, chars}
 use Rattle.bser_format.specs.Canonical.{least_integer, canonical_key}
-use Rattle.bser_format.specs.Plain.{value}
+use Rattle.bser_format.specs.Named.{value}
 use Rattle.bser_worked.proofs.Computed.{is_refused}
 use Rattle.bser_worked.proofs.definitions.rows_without_keys_are_refused.Goals as goal
 

@@ -1,7 +1,7 @@
 use Rattle.std.proofs.Common.{refl}
 use Rattle.std.specs.Str.{is_utf8, chars}
 use Rattle.bser_format.specs.Canonical.{least_integer, canonical_key}
-use Rattle.bser_format.specs.Plain.{value}
+use Rattle.bser_format.specs.Named.{value}
 use Rattle.bser_worked.specs.Templates.{people_body, templates, hundred_nulls}
 use Rattle.bser_worked.specs.Spelled.{long_key_body}
 use Rattle.bser_worked.proofs.Computed.{is_body, value_of}

@@ -2,7 +2,7 @@ use Rattle.std.proofs.Common.{refl, arith, pos}
 use Rattle.std.specs.Str.{is_utf8, chars}
 use Rattle.std.specs.Int.{w64}
 use Rattle.bser_format.specs.Canonical.{least_integer, canonical_key}
-use Rattle.bser_format.specs.Plain.{value}
+use Rattle.bser_format.specs.Named.{value}
 use Rattle.bser_format.proofs.Canon.{within_fits}
 use Rattle.bser_worked.proofs.Computed.{is_read}
 use Rattle.bser_worked.proofs.laws.round_trip.Goals as goal
