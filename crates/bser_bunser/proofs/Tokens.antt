@@ -1,7 +1,7 @@
 -- Tokens at the front.
 use Rattle.std.proofs.Common.{◌≡◌, ℕ, ◌+◌, ◌≤◌, ◌<◌, ◌^◌, true, false, List, [], ◌∷◌, ◌++◌, length, take, drop, get_or, append_assoc, refl, sym, ap, subst, ◌∙◌, arith, lit<, inl, inr}
 use Rattle.std.specs.Prelude.{ℤ, pos, ◌⊎◌, FitsSigned}
-use Rattle.std.specs.Int.{w64, to_le_bytes, from_le_bytes, cast_unsigned, byte_len}
+use Rattle.std.specs.Int.{w64, to_le_bytes, from_le_bytes, byte_len}
 use Rattle.std.proofs.lemmas.Bool.{ne_eqb}
 use Rattle.std.proofs.lemmas.List.{length-drop, length-take, take-append-drop}
 use Rattle.bser_format.specs.Grammar.{IntSize, int8, int16, int32, int64, tag_of, width_of, int_bytes, SpellsCount}

@@ -5,7 +5,7 @@ use Rattle.bser_format.specs.Errors.{error_of}
 use Rattle.bser_format.specs.Grammar.{SpellsCount, SpellsKey, SpellsString, Each}
 use Rattle.bser_format.specs.declared.errors.Error.{Error}
 use Rattle.bser_format.specs.declared.errors.Error.TheVariants.{DeInvalidStartByte}
-use Rattle.bser_format.specs.declared.errors.Complaint.TheVariants.{RowsWithoutKeys, NegativeCount}
+use Rattle.bser_format.specs.declared.errors.Complaint.TheVariants.{RowsWithoutKeys}
 use Rattle.bser_format.specs.declared.errors.Kind.TheVariants.{TemplateKey}
 use Rattle.bser_format.specs.declared.errors.ReadCause.TheVariants.{Utf8}
 use Rattle.bser_format.proofs.Fronts.{reads_then, count_reads, key_reads, many_all}

@@ -11,7 +11,7 @@ use Rattle.bser_format.specs.ReadsAny.{has_utf8_keys, items_have_utf8_keys, entr
 use Rattle.bser_format.specs.Expected.{Due, Fills, nothing_due, node_due, key_due, field_due, name_due, row_due}
 use Rattle.bser_format.specs.declared.errors.Kind.TheVariants.{MapKey}
 use Rattle.bser_format.proofs.Fronts.{value_reads, string_of_reads, field_reads, many_all, fields_back}
-use Rattle.bser_format.specs.Named.{reads, and_then, many, string_of, field_of, any, with_text_keys}
+use Rattle.bser_format.specs.Named.{reads, and_then, many, field_of, any, with_text_keys}
 use Rattle.bser_format.specs.NamedLaws.{HasTextKeys}
 use Rattle.bser_format.specs.Asks.{done, asks_any}
 use Rattle.bser_format.specs.TypeLaws.{Passes}

@@ -14,12 +14,12 @@ use Rattle.bser_format.specs.declared.errors.name.EnumName.{EnumName}
 use Rattle.bser_format.specs.declared.errors.Complaint.TheVariants.{EnumObjectEntries}
 use Rattle.bser_format.proofs.Fronts.{string_reads, utf8_reads, string_of_reads, kept}
 use Rattle.bser_format.proofs.Sound.{only}
-use Rattle.bser_format.specs.Named.{reads, Reader, give, and_then, ◌>>=◌, next, count, utf8, string_of, text_of, refuse, complain}
+use Rattle.bser_format.specs.Named.{reads, Reader, give, and_then, ◌>>=◌, next, count, utf8, text_of, refuse, complain}
 use Rattle.bser_format.specs.DueReaders.{value_tag, less_one, place_from, variant_after}
 use Rattle.bser_format.specs.Asks.{Asks, Payloads, labels, payload, alone, payload_asked, is_object, asks_enum}
 use Rattle.bser_format.specs.TypeLaws.{Passes, PassPayload, PassVariants}
 use Rattle.bser_format.proofs.Steps as steps
-use Rattle.bser_format.proofs.Steps.{Leaves, front_leaves}
+use Rattle.bser_format.proofs.Steps.{front_leaves}
 use Rattle.bser_format.proofs.Heads.{count_passes}
 use Rattle.bser_format.proofs.Scalars.{unit_passes}
 use Rattle.bser_format.proofs.Options.{mapped, chained, when_some}

@@ -4,7 +4,7 @@ use Rattle.std.proofs.lemmas.List.{length-append, append_cancel_left}
 use Rattle.std.proofs.lemmas.Option.{same_Some}
 use Rattle.std.specs.Int.{w32, to_le_bytes}
 use Rattle.bser_format.specs.Tree.{Tree, null, boolean, integer, real, bytes, text, array, object, template, Items, no_items, item, Entries, no_entries, entry, items, entries}
-use Rattle.bser_format.specs.Grammar.{Bytes, SpellsCount}
+use Rattle.bser_format.specs.Grammar.{Bytes}
 use Rattle.bser_format.specs.Expand.{expand}
 use Rattle.bser_format.specs.Normal.{normal}
 use Rattle.bser_format.specs.Canonical.{least_count, canonical_body, canonical_items, canonical_entries, canonical_message, IsWritable, ItemsAreWritable, EntriesAreWritable}

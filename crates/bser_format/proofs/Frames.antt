@@ -30,7 +30,7 @@ pub record Parts (n c : ℕ) (t : Tree) (b : List ℕ) : Type 0 where
   pub start : Head c (length body) head
   pub value : Spells n t body
 
-pub parts : (n c : ℕ) (t : Tree) (b : List ℕ) → IsMessage n c t b → Parts n c t b
+unfoldable pub parts : (n c : ℕ) (t : Tree) (b : List ℕ) → IsMessage n c t b → Parts n c t b
 parts n c t b m =
     let after_magic = m.whole.second in
     let after_four = after_magic.second in

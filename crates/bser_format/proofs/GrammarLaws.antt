@@ -1,8 +1,8 @@
 -- One integer, one message, more levels.
-use Rattle.std.proofs.Common.{◌≡◌, ℕ, zero, suc, ◌+◌, ◌-◌, ◌^◌, ◌<◌, ◌≤◌, ℤ, List, [], ◌∷◌, ◌++◌, length, Option, Some, None, refl, sym, ap, subst, ◌∙◌, arith, bytes_eq}
+use Rattle.std.proofs.Common.{◌≡◌, ℕ, zero, suc, ◌+◌, ◌-◌, ◌≤◌, ℤ, List, [], ◌∷◌, ◌++◌, Option, Some, None, sym, ap, subst, ◌∙◌, arith}
 use Rattle.std.proofs.lemmas.List.{append_cancel_right}
 use Rattle.bser_format.specs.Tree.{Tree, null, boolean, integer, real, bytes, text, array, object, template, items, entries, rows}
-use Rattle.bser_format.specs.Grammar.{Format, Bytes, SpellsCount, Each, SpellsInteger, SpellsString, SpellsEntry, SpellsField, Spells, int32, ◌then◌}
+use Rattle.bser_format.specs.Grammar.{Format, Each, SpellsInteger, SpellsString, SpellsEntry, SpellsField, Spells, ◌then◌}
 use Rattle.bser_format.specs.Named.{int, any, message}
 use Rattle.bser_format.specs.Message.{IsMessage}
 use Rattle.bser_format.proofs.Fronts.{int_reads}

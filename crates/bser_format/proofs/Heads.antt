@@ -1,5 +1,5 @@
 -- The heads of arrays, templates and objects, and what is due inside.
-use Rattle.std.proofs.Common.{◌≡◌, ℕ, suc, Bool, List, [], ◌∷◌, ◌++◌, length, map, refl, ap, ◌∙◌, inl, inr}
+use Rattle.std.proofs.Common.{◌≡◌, ℕ, suc, Bool, List, [], ◌∷◌, ◌++◌, length, map, refl, ap, inl, inr}
 use Rattle.std.specs.List.{AllByRecursion}
 use Rattle.bser_format.specs.Tree.{Items, no_items, item, items, Entries, no_entries, entry, entries, Rows, no_rows, row, rows, Fields, no_fields, skip, field, fields}
 use Rattle.bser_format.specs.Tree.{array, object, template}

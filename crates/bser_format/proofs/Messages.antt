@@ -5,7 +5,7 @@ use Rattle.std.proofs.lemmas.Slice.Eq.{bytes_eq-Decides}
 use Rattle.std.specs.Int.{w32, to_le_bytes, from_le_bytes}
 use Rattle.bser_format.specs.Tree.{Tree}
 use Rattle.bser_format.specs.Expand.{expand}
-use Rattle.bser_format.specs.Grammar.{Format, Bytes, Given, SpellsCount, Spells, int32, ◌then◌}
+use Rattle.bser_format.specs.Grammar.{Format, Bytes, SpellsCount, Spells, int32, ◌then◌}
 use Rattle.bser_format.specs.Message.{Head, IsMessage}
 use Rattle.bser_format.specs.Content.{Content, Meaning}
 use Rattle.bser_format.specs.Expected.{node_due}
@@ -18,7 +18,7 @@ use Rattle.bser_format.specs.Plain.{forget}
 use Rattle.bser_format.specs.Asks.{Asks}
 use Rattle.bser_format.specs.TypeLaws.{Passes}
 use Rattle.bser_format.proofs.Fronts.{Reads, reads_then, reads_last, counted_reads, front_reads, from_to_le_bytes, value_reads}
-use Rattle.bser_format.proofs.Sound.{IsBytes, Sound, Exactly, le_bytes_back, byte_at, front_sound, counted_sound, bind_sound, map_sound, only, if_sound, give_sound, refuse_sound}
+use Rattle.bser_format.proofs.Sound.{IsBytes, Sound, Exactly, le_bytes_back, byte_at, front_sound, counted_sound, then_front, as_front, given_front, bind_sound, only, if_sound, give_sound, refuse_sound}
 use Rattle.bser_format.proofs.Sifting.{then_reads, same_answer}
 use Rattle.bser_format.proofs.Frames.{framed, parts}
 use Rattle.bser_format.proofs.Exact.{reads_spelled, forgotten}
@@ -33,25 +33,16 @@ magic_sound = bind_sound (front 2) (λ s. cond (bytes_eq s (0x00 ∷ 0x02 ∷ []
     (λ s. if_sound (bytes_eq s (0x00 ∷ 0x02 ∷ [])) (give s) (refuse (DeInvalidMagic s)) (Kept s) (λ e. give_sound s (Kept s) (refl, refl, e)) (λ e. refuse_sound (DeInvalidMagic s) (Kept s)))
     (λ s u b h. (only (Exactly 2 s) (Kept s u) b h h.second.0).1 ∙ (bytes_eq-Decides s (0x00 ∷ 0x02 ∷ [])).0 h.second.2)
 
-abbrev Rest : ℕ × ℕ → Format
-Rest p = Given (p.0 < 2 ^ 32) (Bytes (to_le_bytes w32 p.0) then SpellsCount p.1)
-
-abbrev Length : List ℕ → ℕ × ℕ → Format
-Length c p b = (from_le_bytes w32 c ≡ p.0) × SpellsCount p.1 b
-
-rest_sound : Sound (front 4 >>= λ c. size >>= λ k. give (from_le_bytes w32 c, k)) Rest
-rest_sound = bind_sound (front 4) (λ c. size >>= λ k. give (from_le_bytes w32 c, k)) (Exactly 4) Length Rest (front_sound 4)
-    (λ c. map_sound size (λ k. (from_le_bytes w32 c, k)) SpellsCount (Length c) (counted_sound NegativeLength) (λ k b h. (refl, h)))
-    (λ c p b h.
-    let back = le_bytes_back int32 c h.first.0 (byte_at c h.first.2) in
-    let same = h.second.0 in (
-      subst (λ k. k < 2 ^ 32) same back.0,
-      record { front = h.front; rest = h.rest; whole = h.whole; first = h.first.1 ∙ sym back.1 ∙ ap (to_le_bytes w32) same; second = h.second.1 },
-    ))
-
 head_sound : Sound head (λ p. Head p.0 p.1)
-head_sound = bind_sound magic (λ m. front 4 >>= λ c. size >>= λ k. give (from_le_bytes w32 c, k)) (λ s. Bytes (0x00 ∷ 0x02 ∷ [])) (λ m. Rest) (λ p. Head p.0 p.1) magic_sound (λ m. rest_sound)
-    (λ m p b h. (h.second.0, record { front = h.front; rest = h.rest; whole = h.whole; first = h.first; second = h.second.1 }))
+head_sound b y p all e =
+    then_reads (λ m. front 4 >>= λ c. size >>= λ k. give (from_le_bytes w32 c, k)) (magic b) p y e λ m c first more.
+    then_reads (λ c. size >>= λ k. give (from_le_bytes w32 c, k)) (front 4 c) p y more λ cs d second more_size.
+    then_reads (λ k. give (from_le_bytes w32 cs, k)) (size d) p y more_size λ k g third last.
+    let f = magic_sound b c m all first in
+    let s = front_sound 4 c d cs f.rest second in
+    let q = counted_sound NegativeLength d g k s.rest third in
+    let back = le_bytes_back int32 cs s.form.0 (byte_at cs s.form.2) in
+    given_front (λ h. Head h.0 h.1) (from_le_bytes w32 cs, k) p b g y last (as_front (then_front f (then_front (as_front s (λ w h. h.1 ∙ sym back.1)) q)) (λ w h. (back.0, h)))
 
 bytes_reads : (n : ℕ) (s : List ℕ) → length s ≡ n → Reads (front n) (Bytes s) s
 bytes_reads n s l b y e = ap (λ c. front n (c ++ y)) e ∙ front_reads n s y l

@@ -7,7 +7,7 @@ use Rattle.bser_format.specs.Grammar.{Spells}
 use Rattle.bser_format.specs.Content.{Content}
 use Rattle.bser_format.specs.ReadsScalars.{reads_bool, reads_real, reads_unit}
 use Rattle.bser_format.proofs.Fronts.{front_reads}
-use Rattle.bser_format.specs.Named.{reads, give, and_then, next, front}
+use Rattle.bser_format.specs.Named.{reads, give, and_then, next}
 use Rattle.bser_format.specs.DueReaders.{bool_at, real_at, unit_at, value_tag}
 use Rattle.bser_format.specs.Asks.{done, asks_bool, asks_real, asks_unit}
 use Rattle.bser_format.specs.TypeLaws.{Passes}

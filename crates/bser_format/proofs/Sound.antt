@@ -10,14 +10,14 @@ use Rattle.std.specs.List.{AllByRecursion}
 use Rattle.std.specs.Str.{is_utf8}
 use Rattle.std.specs.Int.{w64, to_le_bytes, from_le_bytes, cast_signed, byte_len}
 use mir.Val.{bits}
-use Rattle.bser_format.specs.Tree.{Tree, null, boolean, integer, real, bytes, text, array, object, template, Items, Entries, Rows, items, entries, fields, rows, items_of, entries_of, fields_of, rows_of}
+use Rattle.bser_format.specs.Tree.{Tree, null, boolean, integer, real, bytes, text, array, object, template, Rows, items, entries, fields, rows, items_of, entries_of, fields_of, rows_of}
 use Rattle.bser_format.specs.Grammar.{Format, Bytes, Given, Each, SpellsInteger, SpellsCount, SpellsString, SpellsKey, SpellsEntry, SpellsField, IsTemplate, Spells, IntSize, int8, int16, int32, int64, width_of, tag_of, ◌then◌}
 use Rattle.bser_format.specs.declared.errors.Error.{Error}
 use Rattle.bser_format.specs.declared.errors.Error.TheVariants.{DeInvalidStartByte}
 use Rattle.bser_format.specs.declared.errors.Kind.{Kind}
 use Rattle.bser_format.specs.declared.errors.Kind.TheVariants.{NextItem, Integer, MapKey, TemplateKeys, TemplateKey, Array, Object, Template}
 use Rattle.bser_format.specs.declared.errors.Complaint.{Complaint}
-use Rattle.bser_format.specs.declared.errors.Complaint.TheVariants.{NegativeLength, NegativeCount, RowsWithoutKeys}
+use Rattle.bser_format.specs.declared.errors.Complaint.TheVariants.{NegativeLength, NegativeCount}
 use Rattle.bser_format.specs.Named.{Answer, reads, refuses, Reader, give, refuse, ◌>>=◌, eof, utf8_wanted, next, front, many, number, int_after, int, natural, size, count, string, utf8, string_after, string_of, text_of, entry_of, field_of, array_body, object_body, rows_body, template_body, within, template_after, value_after, value, any, is_positive}
 use Rattle.bser_format.proofs.Canon.{joined, tagged}
 use Rattle.bser_format.proofs.Sifting.{then_reads, same_answer}
@@ -32,36 +32,43 @@ pub record Front (F : Format) (b y : List ℕ) : Type 0 where
   pub form : F part
   pub rest : IsBytes y
 
+-- one form after the other
+pub then_front : {F G : Format} {b c y : List ℕ} → Front F b c → Front G c y → Front (F then G) b y
+then_front {F} {G} {b} {c} {y} f g = record {
+  part = f.part ++ g.part;
+  whole = f.whole ∙ ap (λ d. f.part ++ d) g.whole ∙ sym (append_assoc f.part g.part y);
+  form = joined F G f.part g.part f.form g.form;
+  rest = g.rest;
+}
+
+-- of another form
+pub as_front : {F G : Format} {b y : List ℕ} → Front F b y → ((c : List ℕ) → F c → G c) → Front G b y
+as_front f form = record { part = f.part; whole = f.whole; form = form f.part f.form; rest = f.rest }
+
 -- what r gives is spelled as P says
 abbrev pub Sound : {X : Type 0} → Reader X → (X → Format) → Type 0
 Sound {X = X} r P = (b y : List ℕ) (x : X) → IsBytes b → r b ≡ reads x y → Front (P x) b y
+
+-- what is given is what was read
+pub given_front : {X : Type 0} (R : X → Format) (x z : X) (b c y : List ℕ) → reads x c ≡ reads z y → Front (R x) b c → Front (R z) b y
+given_front R x z b c y e f = let same = same_answer x z c y e in subst (λ w. Front (R z) b w) same.1 (subst (λ w. Front (R w) b c) same.0 f)
 
 pub bind_sound : {X Y : Type 0} (r : Reader X) (k : X → Reader Y) (P : X → Format) (Q : X → Y → Format) (R : Y → Format)
     → Sound r P → ((x : X) → Sound (k x) (Q x)) → ((x : X) (z : Y) (b : List ℕ) → (P x then Q x z) b → R z b) → Sound (r >>= k) R
 bind_sound r k P Q R first second form b y z all e = then_reads k (r b) z y e λ x c one more.
     let f = first b c x all one in
-    let g = second x c y z f.rest more in
-    record {
-      part = f.part ++ g.part;
-      whole = f.whole ∙ ap (λ d. f.part ++ d) g.whole ∙ sym (append_assoc f.part g.part y);
-      form = form x z (f.part ++ g.part) (joined (P x) (Q x z) f.part g.part f.form g.form);
-      rest = g.rest;
-    }
+    as_front (then_front f (second x c y z f.rest more)) (form x z)
 
 pub refuse_sound : {X : Type 0} (e : Error) (R : X → Format) → Sound (refuse {X = X} e) R
 refuse_sound e R b y x all h = absurd cc
 
 pub give_sound : {X : Type 0} (x : X) (R : X → Format) → R x [] → Sound (give x) R
-give_sound x R h b y z all e =
-    let same = same_answer x z b y e in
-    subst (λ w. Front (R z) b w) same.1 (subst (λ w. Front (R w) b b) same.0 (record { part = []; whole = refl; form = h; rest = all }))
+give_sound x R h b y z all e = given_front R x z b b y e (record { part = []; whole = refl; form = h; rest = all })
 
 -- the last step reads no byte
 pub map_sound : {X Y : Type 0} (r : Reader X) (f : X → Y) (P : X → Format) (R : Y → Format) → Sound r P → ((x : X) (b : List ℕ) → P x b → R (f x) b) → Sound (r >>= λ x. give (f x)) R
 map_sound r f P R first form b y z all e = then_reads (λ x. give (f x)) (r b) z y e λ x c one more.
-    let g = first b c x all one in
-    let same = same_answer (f x) z c y more in
-    subst (λ w. Front (R z) b w) same.1 (subst (λ w. Front (R w) b c) same.0 (record { part = g.part; whole = g.whole; form = form x g.part g.form; rest = g.rest }))
+    given_front R (f x) z b c y more (as_front (first b c x all one) (form x))
 
 pub if_sound : {X : Type 0} (c : Bool) (r s : Reader X) (R : X → Format) → (c ≡ true → Sound r R) → (c ≡ false → Sound s R) → Sound (cond c r s) R
 if_sound true r s R f g = f refl
@@ -72,7 +79,7 @@ pub tag_sound : {X : Type 0} (tag t : ℕ) (r s : Reader X) (R : ℕ → X → F
 tag_sound {X = X} tag t r s R f g = if_sound (nat_eq tag t) r s (R tag) (λ e. subst (λ k. Sound r (R k)) (sym (eqb-true tag t e)) f) (λ e. g)
 
 pub as_sound : {X : Type 0} (r : Reader X) (P R : X → Format) → Sound r P → ((x : X) (b : List ℕ) → P x b → R x b) → Sound r R
-as_sound r P R h form b y x all e = let g = h b y x all e in record { part = g.part; whole = g.whole; form = form x g.part g.form; rest = g.rest }
+as_sound r P R h form b y x all e = as_front (h b y x all e) (form x)
 
 pub next_sound : Sound next (λ t. Bytes (t ∷ []))
 next_sound [] y t all e = absurd cc
@@ -157,8 +164,10 @@ counted_sound c = bind_sound int (natural c) SpellsInteger (λ v n b. (b ≡ [])
     (λ v n b h. subst (λ k. SpellsInteger k b) h.second.1 (only (SpellsInteger v) _ b h h.second.0))
 
 pub string_sound : Sound string (λ s. SpellsCount (length s) then Bytes s)
-string_sound = bind_sound size front SpellsCount Exactly (λ s. SpellsCount (length s) then Bytes s) (counted_sound NegativeLength) front_sound
-    (λ n s b h. record { front = h.front; rest = h.rest; whole = h.whole; first = subst (λ k. SpellsCount k h.front) (sym h.second.0) h.first; second = h.second.1 })
+string_sound b y s all e = then_reads front (size b) s y e λ n c one more.
+    let f = counted_sound NegativeLength b c n all one in
+    let g = front_sound n c y s f.rest more in
+    then_front (as_front f (λ w. subst (λ k. SpellsCount k w) (sym g.form.0))) (as_front g (λ w h. h.1))
 
 abbrev pub Checked : List ℕ → List ℕ → Format
 Checked s u b = (b ≡ []) × (s ≡ u) × IsUtf8 s
@@ -188,14 +197,14 @@ key_sound = bind_sound (string_of TemplateKey) utf8 SpellsString Checked SpellsK
 abbrev pub Many : {X : Type 0} → (X → Format) → ℕ → List X → Format
 Many P n xs b = (length xs ≡ n) × Each P xs b
 
-abbrev pub Tail : {X : Type 0} → (X → Format) → ℕ → X → List X → Format
-Tail {X = X} P n x zs b = (ys : List X) × (x ∷ ys ≡ zs) × Many P n ys b
-
 many_sound : {X : Type 0} (r : Reader X) (P : X → Format) → Sound r P → (n : ℕ) → Sound (many r n) (Many P n)
-many_sound r P one zero = give_sound [] (Many P zero) (refl, refl)
-many_sound r P one (suc n) = bind_sound r (λ x. many r n >>= λ xs. give (x ∷ xs)) P (Tail P n) (Many P (suc n)) one
-    (λ x. map_sound (many r n) (λ xs. x ∷ xs) (Many P n) (Tail P n x) (many_sound r P one n) (λ ys b h. (ys, refl, h)))
-    (λ x zs b h. subst (λ w. Many P (suc n) w b) h.second.1 (ap suc h.second.2.0, record { front = h.front; rest = h.rest; whole = h.whole; first = h.first; second = h.second.2.1 }))
+many_sound r P one zero b y zs all e = give_sound [] (Many P zero) (refl, refl) b y zs all e
+many_sound r P one (suc n) b y zs all e =
+    then_reads (λ x. many r n >>= λ xs. give (x ∷ xs)) (r b) zs y e λ x c first more.
+    then_reads (λ xs. give (x ∷ xs)) (many r n c) zs y more λ xs d second last.
+    let f = one b c x all first in
+    let g = many_sound r P one n c d xs f.rest second in
+    given_front (Many P (suc n)) (x ∷ xs) zs b d y last (as_front (then_front f (as_front g (λ w h. h.1))) (λ w h. (ap suc g.form.0, h)))
 
 items_there : (ts : List Tree) → items (items_of ts) ≡ ts
 items_there [] = refl
@@ -214,46 +223,32 @@ rows_there : (rs : List (List (Option Tree))) → rows (rows_of rs) ≡ rs
 rows_there [] = refl
 rows_there (r ∷ rs) = ap (λ f. f ∷ rows (rows_of rs)) (fields_there r) ∙ ap (λ us. r ∷ us) (rows_there rs)
 
--- what follows a container's tag
-abbrev pub ArrayBody : (Tree → Format) → List Tree → Format
-ArrayBody F ts = SpellsCount (length ts) then Each F ts
+-- what follows a tag
+abbrev pub After : ℕ → ℕ → Tree → Format
+After n tag t b = Spells n t (tag ∷ b)
 
-abbrev pub IsArray : (Tree → Format) → Tree → Format
-IsArray F t b = (ts : Items) × (array ts ≡ t) × ArrayBody F (items ts) b
+-- a count, and as many
+counted_many : {X : Type 0} (r : Reader X) (P : X → Format) (f : List X → Tree) (R : Tree → Format) → Sound r P → ((xs : List X) (b : List ℕ) → (SpellsCount (length xs) then Each P xs) b → R (f xs) b)
+    → Sound (count >>= λ n. many r n >>= λ xs. give (f xs)) R
+counted_many r P f R one form b y t all e =
+    then_reads (λ n. many r n >>= λ xs. give (f xs)) (count b) t y e λ n c first more.
+    then_reads (λ xs. give (f xs)) (many r n c) t y more λ xs d second last.
+    let a = counted_sound NegativeCount b c n all first in
+    let g = many_sound r P one n c d xs a.rest second in
+    given_front R (f xs) t b d y last (as_front (then_front (as_front a (λ w. subst (λ k. SpellsCount k w) (sym g.form.0))) (as_front g (λ w h. h.1))) (form xs))
 
-counted : {X : Type 0} (P : X → Format) (n : ℕ) (xs : List X) (b : List ℕ) → (SpellsCount n then Many P n xs) b → (SpellsCount (length xs) then Each P xs) b
-counted P n xs b h = record { front = h.front; rest = h.rest; whole = h.whole; first = subst (λ k. SpellsCount k h.front) (sym h.second.0) h.first; second = h.second.1 }
-
-array_sound : (r : Reader Tree) (F : Tree → Format) → Sound r F → Sound (array_body r) (IsArray F)
-array_sound r F one = bind_sound count (λ n. many r n >>= λ ts. give (array (items_of ts))) SpellsCount (λ n t b. (ts : List Tree) × (array (items_of ts) ≡ t) × Many F n ts b) (IsArray F) (counted_sound NegativeCount)
-    (λ n. map_sound (many r n) (λ ts. array (items_of ts)) (Many F n) _ (many_sound r F one n) (λ ts b h. (ts, refl, h)))
-    (λ n t b h. (
-      items_of h.second.0,
-      h.second.1,
-      subst (λ us. ArrayBody F us b) (sym (items_there h.second.0))
-          (counted F n h.second.0 b (record { front = h.front; rest = h.rest; whole = h.whole; first = h.first; second = h.second.2 })),
-    ))
+array_sound : (n : ℕ) → Sound (any n) (Spells n) → Sound (array_body (any n)) (After (suc n) 0x00)
+array_sound n one = counted_many (any n) (Spells n) (λ ts. array (items_of ts)) (After (suc n) 0x00) one
+    (λ ts b h. tagged 0x00 _ b (subst (λ us. (SpellsCount (length us) then Each (Spells n) us) b) (sym (items_there ts)) h))
 
 entry_sound : (r : Reader Tree) (F : Tree → Format) → Sound r F → Sound (entry_of (string_of MapKey) r) (SpellsEntry F)
 entry_sound r F one = bind_sound (string_of MapKey) (λ k. r >>= λ t. give (k, t)) SpellsString (λ k e b. (k ≡ e.0) × F e.1 b) (SpellsEntry F) (string_of_sound MapKey)
     (λ k. map_sound r (λ t. (k, t)) F (λ e b. (k ≡ e.0) × F e.1 b) one (λ t b h. (refl, h)))
     (λ k e b h. record { front = h.front; rest = h.rest; whole = h.whole; first = subst (λ s. SpellsString s h.front) h.second.0 h.first; second = h.second.1 })
 
-abbrev pub ObjectBody : (Tree → Format) → List (List ℕ × Tree) → Format
-ObjectBody F es = SpellsCount (length es) then Each (SpellsEntry F) es
-
-abbrev pub IsObject : (Tree → Format) → Tree → Format
-IsObject F t b = (es : Entries) × (object es ≡ t) × ObjectBody F (entries es) b
-
-object_sound : (r : Reader Tree) (F : Tree → Format) → Sound r F → Sound (object_body (string_of MapKey) r) (IsObject F)
-object_sound r F one = bind_sound count (λ n. many (entry_of (string_of MapKey) r) n >>= λ es. give (object (entries_of es))) SpellsCount (λ n t b. (es : List (List ℕ × Tree)) × (object (entries_of es) ≡ t) × Many (SpellsEntry F) n es b) (IsObject F) (counted_sound NegativeCount)
-    (λ n. map_sound (many (entry_of (string_of MapKey) r) n) (λ es. object (entries_of es)) (Many (SpellsEntry F) n) _ (many_sound (entry_of (string_of MapKey) r) (SpellsEntry F) (entry_sound r F one) n) (λ es b h. (es, refl, h)))
-    (λ n t b h. (
-      entries_of h.second.0,
-      h.second.1,
-      subst (λ us. ObjectBody F us b) (sym (entries_there h.second.0))
-          (counted (SpellsEntry F) n h.second.0 b (record { front = h.front; rest = h.rest; whole = h.whole; first = h.first; second = h.second.2 })),
-    ))
+object_sound : (n : ℕ) → Sound (any n) (Spells n) → Sound (object_body (string_of MapKey) (any n)) (After (suc n) 0x01)
+object_sound n one = counted_many (entry_of (string_of MapKey) (any n)) (SpellsEntry (Spells n)) (λ es. object (entries_of es)) (After (suc n) 0x01) (entry_sound (any n) (Spells n) one)
+    (λ es b h. tagged 0x01 _ b (subst (λ us. (SpellsCount (length us) then Each (SpellsEntry (Spells n)) us) b) (sym (entries_there es)) h))
 
 field_sound : (r : Reader Tree) (F : Tree → Format) → Sound r F → Sound (field_of r) (SpellsField F)
 field_sound r F one [] y f all e = absurd cc
@@ -298,68 +293,28 @@ rows_sound r F one [] zero = rows_made r F one [] zero (λ rs e k. no_rows_read 
 rows_sound r F one [] (suc m) = refuse_sound _ _
 rows_sound r F one (k ∷ ks) m = rows_made r F one (k ∷ ks) m (λ rs e same. cc)
 
-abbrev pub TableBody : (Tree → Format) → List (List ℕ) → List (List (Option Tree)) → Format
-TableBody F ks rs = SpellsCount (length ks) then Each SpellsKey ks then SpellsCount (length rs) then RowsBody F rs
-
-abbrev pub IsTableSpelled : (Tree → Format) → Tree → Format
-IsTableSpelled F t b = (ks : List (List ℕ)) × (rs : Rows) × (template ks rs ≡ t) × IsTemplate ks (rows rs) × TableBody F ks (rows rs) b
-
--- the row count, and the rows
-RestOf : (Tree → Format) → List (List ℕ) → Tree → Format
-RestOf F ks t b = (rs : Rows) × (template ks rs ≡ t) × IsTemplate ks (rows rs) × (SpellsCount (length (rows rs)) then RowsBody F (rows rs)) b
-
-rest_sound : (r : Reader Tree) (F : Tree → Format) → Sound r F → (ks : List (List ℕ)) → Sound (count >>= λ m. rows_body r ks (length ks) m) (RestOf F ks)
-unfolding RestOf
-rest_sound r F one ks = bind_sound count (λ m. rows_body r ks (length ks) m) SpellsCount (IsTableOf F ks) (RestOf F ks) (counted_sound NegativeCount) (rows_sound r F one ks)
-    (λ m t b h. (h.second.0, h.second.1, h.second.2, record { front = h.front; rest = h.rest; whole = h.whole; first = subst (λ k. SpellsCount k h.front) (sym h.second.3) h.first; second = h.second.4 }))
-
-KeysThen : (Tree → Format) → ℕ → Tree → Format
-KeysThen F n t b = (ks : List (List ℕ)) × (length ks ≡ n) × (Each SpellsKey ks then RestOf F ks t) b
-
-keys_sound : (r : Reader Tree) (F : Tree → Format) → Sound r F → (n : ℕ) → Sound (many (text_of TemplateKey) n >>= λ ks. count >>= λ m. rows_body r ks n m) (KeysThen F n)
-unfolding KeysThen
-keys_sound r F one n b y t all e = then_reads _ (many (text_of TemplateKey) n b) t y e λ ks c first more.
-    let f = many_sound (text_of TemplateKey) SpellsKey key_sound n b c ks all first in
-    let same : length ks ≡ n = f.form.0 in
-    let g = rest_sound r F one ks c y t f.rest (subst (λ k. (count >>= λ m. rows_body r ks k m) c ≡ reads t y) (sym same) more) in
-    record {
-      part = f.part ++ g.part;
-      whole = f.whole ∙ ap (λ d. f.part ++ d) g.whole ∙ sym (append_assoc f.part g.part y);
-      form = (ks, same, joined (Each SpellsKey ks) (RestOf F ks t) f.part g.part f.form.1 g.form);
-      rest = g.rest;
-    }
-
-table_sound : (r : Reader Tree) (F : Tree → Format) → Sound r F → Sound (template_body r) (IsTableSpelled F)
-unfolding KeysThen RestOf
-table_sound r F one = bind_sound count (λ n. many (text_of TemplateKey) n >>= λ ks. count >>= λ m. rows_body r ks n m) SpellsCount (KeysThen F) (IsTableSpelled F) (counted_sound NegativeCount) (keys_sound r F one)
-    (λ n t b h. let ks = h.second.0 in let s = h.second.2 in (
-      ks,
-      s.second.0,
-      s.second.1,
-      s.second.2,
-      record {
-        front = h.front;
-        rest = h.rest;
-        whole = h.whole;
-        first = subst (λ k. SpellsCount k h.front) (sym h.second.1) h.first;
-        second = record { front = s.front; rest = s.rest; whole = s.whole; first = s.first; second = s.second.3 };
-      },
-    ))
+table_sound : (n : ℕ) → Sound (any n) (Spells n) → Sound (within (is_positive n) Array (template_body (any n))) (λ t b. Spells (suc n) t (0x0b ∷ 0x00 ∷ b))
+table_sound zero one b y t all e = absurd cc
+table_sound (suc n) one b y t all e =
+    then_reads _ (count b) t y e λ k c first more_keys.
+    then_reads _ (many (text_of TemplateKey) k c) t y more_keys λ ks d second more_rows.
+    then_reads _ (count d) t y more_rows λ m g third last.
+    let f = counted_sound NegativeCount b c k all first in
+    let keys = many_sound (text_of TemplateKey) SpellsKey key_sound k c d ks f.rest second in
+    let q = counted_sound NegativeCount d g m keys.rest third in
+    let body = rows_sound (any (suc n)) (Spells (suc n)) one ks m g y t q.rest (subst (λ j. rows_body (any (suc n)) ks j m g ≡ reads t y) (sym keys.form.0) last) in
+    let table = body.form in
+    let part = then_front (as_front f (λ w. subst (λ j. SpellsCount j w) (sym keys.form.0)))
+    (then_front (as_front keys (λ w h. h.1))
+    (then_front (as_front q (λ w. subst (λ j. SpellsCount j w) (sym table.3)))
+    (record { part = body.part; whole = body.whole; form = table.4; rest = body.rest }))) in
+    as_front part (λ w h. subst (λ u. Spells (suc (suc n)) u (0x0b ∷ 0x00 ∷ w)) table.1 (table.2, tagged 0x0b _ _ (tagged 0x00 _ w h)))
 
 -- ---- values
 
--- what follows a tag
-abbrev pub After : ℕ → ℕ → Tree → Format
-After n tag t b = Spells n t (tag ∷ b)
-
 template_sound : (n : ℕ) → Sound (any n) (Spells n) → Sound (next >>= template_after (is_positive n) (any n)) (After (suc n) 0x0b)
 template_sound n one = by_tag (template_after (is_positive n) (any n)) (After (suc n) 0x0b) λ tag.
-    tag_sound tag 0x00 (within (is_positive n) Array (template_body (any n))) _ (λ k t b. Spells (suc n) t (0x0b ∷ k ∷ b)) (inside n one) (refuse_sound (DeInvalidStartByte TemplateKeys tag) _)
-  where
-    inside : (n : ℕ) → Sound (any n) (Spells n) → Sound (within (is_positive n) Array (template_body (any n))) (λ t b. Spells (suc n) t (0x0b ∷ 0x00 ∷ b))
-    inside zero one = refuse_sound _ _
-    inside (suc n) one = as_sound (template_body (any (suc n))) (IsTableSpelled (Spells (suc n))) _ (table_sound (any (suc n)) (Spells (suc n)) one)
-        (λ t b h. subst (λ u. Spells (suc (suc n)) u (0x0b ∷ 0x00 ∷ b)) h.2 (h.3, tagged 0x0b _ _ (tagged 0x00 _ b h.4)))
+    tag_sound tag 0x00 (within (is_positive n) Array (template_body (any n))) _ (λ k t b. Spells (suc n) t (0x0b ∷ k ∷ b)) (table_sound n one) (refuse_sound (DeInvalidStartByte TemplateKeys tag) _)
 
 after_sound : (n : ℕ) (deep deeper : Bool) (r : Reader Tree) → Sound (within deep Array (array_body r)) (After n 0x00) → Sound (within deep Object (object_body (string_of MapKey) r)) (After n 0x01)
     → Sound (within deep Template (next >>= template_after deeper r)) (After n 0x0b) → (tag : ℕ) → Sound (value_after deep deeper (string_of MapKey) r tag) (After n tag)
@@ -380,7 +335,5 @@ after_sound n deep deeper r arrays objects templates tag =
 pub value_sound : (n : ℕ) → Sound (any n) (Spells n)
 unfolding value
 value_sound zero = by_tag (value_after false false (string_of MapKey) (refuse eof)) (Spells zero) (after_sound zero false false (refuse eof) (refuse_sound _ _) (refuse_sound _ _) (refuse_sound _ _))
-value_sound (suc n) = by_tag (value_after true (is_positive n) (string_of MapKey) (any n)) (Spells (suc n)) (after_sound (suc n) true (is_positive n) (any n)
-    (as_sound (array_body (any n)) (IsArray (Spells n)) (After (suc n) 0x00) (array_sound (any n) (Spells n) (value_sound n)) (λ t b h. subst (λ u. After (suc n) 0x00 u b) h.1 (tagged 0x00 _ b h.2)))
-    (as_sound (object_body (string_of MapKey) (any n)) (IsObject (Spells n)) (After (suc n) 0x01) (object_sound (any n) (Spells n) (value_sound n)) (λ t b h. subst (λ u. After (suc n) 0x01 u b) h.1 (tagged 0x01 _ b h.2)))
-    (template_sound n (value_sound n)))
+value_sound (suc n) = by_tag (value_after true (is_positive n) (string_of MapKey) (any n)) (Spells (suc n))
+    (after_sound (suc n) true (is_positive n) (any n) (array_sound n (value_sound n)) (object_sound n (value_sound n)) (template_sound n (value_sound n)))

@@ -1,14 +1,14 @@
 -- What bytes, texts and characters read, reading them passes over.
-use Rattle.std.proofs.Common.{◌≡◌, ℕ, Bool, true, false, cond, List, [], ◌∷◌, ◌++◌, length, Option, Some, None, refl, sym, ap, ◌∙◌, inl, inr, IsUtf8, chars, option_map, option_and_then}
+use Rattle.std.proofs.Common.{◌≡◌, ℕ, Bool, true, false, cond, List, [], ◌∷◌, ◌++◌, Option, Some, None, refl, sym, ap, ◌∙◌, inl, inr, chars, option_map, option_and_then}
 use Rattle.std.proofs.lemmas.Str.{is_utf8-from_IsUtf8}
 use Rattle.std.specs.Str.{is_utf8}
 use Rattle.bser_format.specs.Tree.{Tree, null, boolean, integer, real, bytes, text, array, object, template}
 use Rattle.bser_format.specs.Expand.{expand, key_tree}
-use Rattle.bser_format.specs.Grammar.{Bytes, Given, Spells, SpellsCount, SpellsString, ◌then◌}
+use Rattle.bser_format.specs.Grammar.{Spells, SpellsString, ◌then◌}
 use Rattle.bser_format.specs.Content.{Content, byte_list, Meaning}
 use Rattle.bser_format.specs.ReadsScalars.{string_bytes_of, utf8_of, reads_slice, reads_string, reads_char, one_char}
 use Rattle.bser_format.proofs.Fronts.{string_reads, utf8_reads, kept}
-use Rattle.bser_format.specs.Named.{Answer, reads, refuses, Reader, give, refuse, and_then, ◌>>=◌, next, string, utf8, utf8_wanted}
+use Rattle.bser_format.specs.Named.{Answer, reads, refuses, Reader, and_then, next, utf8}
 use Rattle.bser_format.specs.DueReaders.{Seen, tag, bytes_at, text_at, value_tag, key_tag}
 use Rattle.bser_format.specs.Asks as asks
 use Rattle.bser_format.specs.Asks.{done, asks_bytes, asks_string, asks_char}

@@ -1,5 +1,5 @@
 -- A container that is read in steps: what was taken, and what is left to take.
-use Rattle.std.proofs.Common.{◌≡◌, ℕ, zero, suc, List, ◌∷◌, ◌++◌, length, append_assoc, Option, Some, None, refl, sym, ap, subst, ◌∙◌, inl, inr}
+use Rattle.std.proofs.Common.{◌≡◌, ℕ, List, ◌++◌, length, append_assoc, Option, Some, None, sym, ap, subst, ◌∙◌, inl, inr}
 use Rattle.std.proofs.lemmas.List.{append_cancel_left, append_cancel_right}
 use Rattle.bser_format.specs.Tree.{Tree, null, object, Fields, fields, fields_of}
 use Rattle.bser_format.specs.Grammar.{Format, Each, Spells, SpellsString, SpellsField}
