@@ -66,7 +66,7 @@ kept_refused lends t s e a m b tag first rest (inr p) =
     (names_taken (text_of TemplateKey) (error_of Utf8) a b (t ∷ rest.text) (λ x. no_text_after (DeInvalidStartByte TemplateKey t) t s rest.text x tag rest.spelled p.1) (took_then a m b (t ∷ []) rest.text first rest.took)))
 
 key_passes : (k b : List ℕ) → SpellsKey k b → Passes (text_of TemplateKey) k b
-key_passes k b h x = forgotten (text_of TemplateKey (b ++ x)) k x (text_of_same TemplateKey (b ++ x) ∙ key_reads k b x h)
+key_passes k b h x = key_reads k b x h
 
 -- ---- keys, one by one
 
