@@ -4,3 +4,9 @@ pub mod Messages
 pub mod Heads
 pub mod Within
 pub mod Sources
+pub mod Lengths
+pub mod Slices
+pub mod Readers
+pub mod Nexts
+pub mod Places
+pub mod DescribedReaders

@@ -1,6 +1,16 @@
-//! Whole messages, read from a slice or from a reader.
+//! Whole messages, read from a slice or from a reader: one, one within limits of levels and bytes,
+//! one after another, and with errors that are described for people.
 #![tactic(auto)]
 
+mod counted;
+pub mod described;
+pub mod description;
+pub mod length;
 pub mod limited;
+pub mod limited_slice;
 pub mod limits;
 pub mod message;
+pub mod next;
+mod progress;
+pub mod reader_messages;
+pub mod slice_messages;

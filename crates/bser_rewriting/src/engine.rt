@@ -3,11 +3,11 @@ ghost use Rattle.std.specs.Prelude.{OnOk, IfErr};
 ghost use Rattle.bser_format.specs.Compact.{fold_templates};
 ghost use Rattle.bser_rewriting.specs.Canon.{Rewrote, RefusesRewriting, canonical};
 
-use bser_compact::message::serialize_compact;
 use bser_format::errors::Result;
 use bser_messages::message::from_reader;
 use bser_ser::message::serialize_to;
 use bser_source::device::{Sink, Source};
+use bser_value::compact::serialize_compact;
 use bser_value::value::Value;
 use std::alloc::Global;
 

@@ -13,7 +13,7 @@ use Rattle.bser_deserializer.specs.Reading.{Asking, bare, Needs}
 use Rattle.bser_types.specs.Askings.{asking_option}
 use Rattle.bser_types.specs.Slots.{StructField, reads_struct, struct_needs}
 use Rattle.bser_types.specs.Slots as slots
-use Rattle.bser_fields.specs.Askings.{FieldAskings, asking_struct}
+use Rattle.bser_structs.specs.Askings.{FieldAskings, asking_struct}
 use Rattle.bser_structs.specs.Entries.{given_entry, entries_tree}
 
 -- ---- types

@@ -1,3 +1,11 @@
+pub mod Absent
+pub mod Asked
+pub mod Passed
+pub mod Askings
+pub mod FieldCalls
+pub mod Rows
+pub mod SlotValues
+pub mod Structs
 pub mod Entries
 pub mod Fields
 pub mod Objects

@@ -6,7 +6,7 @@ use Rattle.bser_deserializer.specs.Seen.{Seen}
 use Rattle.bser_deserializer.specs.declared.frames.MapHead.{MapHead}
 use Rattle.bser_types.specs.Accesses.{texts, RefusesDue}
 use Rattle.bser_types.specs.Slots.{struct_needs}
-use Rattle.bser_fields.specs.Structs.{Names}
+use Rattle.bser_structs.specs.Structs.{Names}
 use Rattle.bser_variants.specs.EnumAccess.{enum_head}
 use Rattle.bser_format.specs.Enums.{Payload, unit, holds, reads_enum}
 use Rattle.bser_format.specs.declared.errors.Error.{Error}

@@ -1,5 +1,4 @@
-//! Structs by one list of their fields, and enums by one list of their variants, for reading and
-//! for writing.
+//! Structs by their fields, and enums by their variants: by one list, for reading and for writing.
 //!
 //! A struct's [`Fields`] say what it is read as and written as. [`read_struct`](crate::read_struct)
 //! reads it, and [`put_struct`](crate::put_struct) writes it. An enum's [`Variants`] say the same
@@ -7,12 +6,16 @@
 //! writes. [`ObjectOr`] chooses by the kind of what is expected.
 #![tactic(auto)]
 
+pub mod entries;
 pub mod enums;
 pub mod fields;
 pub mod object_or;
 pub mod payload;
 pub mod payloads;
 pub mod reading;
+pub mod slot;
+pub mod slots;
+pub mod struct_reader;
 pub mod variants;
 pub mod writing;
 
@@ -21,7 +24,7 @@ pub use crate::fields::{Codec, Fields, ReadOnly, WriteOnly};
 pub use crate::object_or::ObjectOr;
 pub use crate::payload::{Newtype, ReadPayload, Struct, Unit};
 pub use crate::payloads::{OneOf, ReadPayloads};
+pub use crate::slot::{Optional, Required};
 pub use crate::variants::{put_variant, put_variant_fields};
 pub use crate::writing::{Given, PutField, PutFields, put_fields};
-pub use bser_fields::slot::{Optional, Required};
 pub use std::marker::PhantomData;

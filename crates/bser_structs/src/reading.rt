@@ -23,7 +23,7 @@ macro_rules! field_values {
 }
 
 /// Reads the object or the row that is expected as a struct, by
-/// [`read_fields`](bser_fields::fields::ReadsFields::read_fields), and fails as it does.
+/// [`read_fields`](crate::struct_reader::ReadsFields::read_fields), and fails as it does.
 ///
 /// Each field is written with its name. A `Required` one has to be there; an `Optional` and a
 /// `Nullable` one is `None` where it is null or absent. Other names are passed over.

@@ -7,3 +7,6 @@ pub mod Pieces
 pub mod Parts
 pub mod Steps
 pub mod Read
+pub mod CompactPieces
+pub mod Folding
+pub mod Writable

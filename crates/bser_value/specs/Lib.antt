@@ -5,3 +5,4 @@ pub mod Made
 pub mod Gathered
 pub mod Places
 pub mod Shows
+pub mod CompactTexts

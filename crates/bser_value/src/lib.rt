@@ -1,10 +1,13 @@
-//! `Value`, which is any value: how it is made of what is read, looked into, printed and written.
+//! `Value`, which is any value: how it is made of what is read, looked into, printed and written, and
+//! written in the compact form, which no message that reads as it is shorter than.
 #![tactic(auto)]
 
 mod builder;
 mod building;
+pub mod compact;
 mod gathered;
 mod places;
 pub mod reading;
 mod table;
+mod template;
 pub mod value;

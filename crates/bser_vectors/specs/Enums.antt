@@ -6,7 +6,7 @@ use Rattle.bser_format.specs.ReadsHolders.{reads_tuple}
 use Rattle.bser_deserializer.specs.HoldsLists.{HoldsTuple}
 use Rattle.bser_deserializer.specs.Reading.{Asking}
 use Rattle.bser_types.specs.Slots.{required, reads_struct}
-use Rattle.bser_fields.specs.Askings.{asking_struct}
+use Rattle.bser_structs.specs.Askings.{asking_struct}
 use Rattle.bser_types.specs.Askings.{asking_tuple}
 use Rattle.bser_variants.specs.Askings.{VariantAskings, asking_enum}
 use Rattle.bser_variants.specs.Variants.{HoldsVariant}

@@ -9,7 +9,7 @@ use Rattle.bser_deserializer.specs.HoldsLists.{HoldsList, HoldsTuple}
 use Rattle.bser_deserializer.specs.Reading.{Asking}
 use Rattle.bser_types.specs.Askings.{asking_option, asking_vec}
 use Rattle.bser_types.specs.Slots.{StructField, required, optional, reads_struct}
-use Rattle.bser_fields.specs.Askings.{asking_struct}
+use Rattle.bser_structs.specs.Askings.{asking_struct}
 use Rattle.bser_vectors.specs.declared.structs.FileInfo.{FileInfo}
 use Rattle.bser_vectors.specs.declared.structs.Files.{Files}
 use Rattle.bser_vectors.specs.declared.structs.TemplateRow.{TemplateRow}

@@ -8,10 +8,10 @@ ghost use Rattle.bser_vectors.specs.Enums.{reads_parts, asking_parts, reads_test
 
 use bser_bunser::refusal::Answer;
 use bser_deserializer::deserializer::Deserializer;
-use bser_fields::fields::ReadsFields;
-use bser_fields::slot::Required;
 use bser_source::read::DeRead;
 use bser_source::reference::LendsText;
+use bser_structs::slot::Required;
+use bser_structs::struct_reader::ReadsFields;
 use bser_types::deserialize::{Deserialize, OwnedShape, Shape};
 use bser_variants::enum_access::ReadsEnums;
 use std::alloc::Global;

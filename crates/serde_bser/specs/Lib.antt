@@ -49,9 +49,9 @@ pub use Rattle.bser_types.specs.Ranges
 pub use Rattle.bser_types.specs.Rests
 pub use Rattle.bser_types.specs.Slots
 pub use Rattle.bser_types.specs.Tuples
-pub use Rattle.bser_fields.specs.Fields as FieldCalls
-pub use Rattle.bser_fields.specs.Askings as FieldAskings
-pub use Rattle.bser_fields.specs.SlotValues
+pub use Rattle.bser_structs.specs.FieldCalls
+pub use Rattle.bser_structs.specs.Askings as FieldAskings
+pub use Rattle.bser_structs.specs.SlotValues
 pub use Rattle.bser_variants.specs.Variants
 pub use Rattle.bser_variants.specs.EnumAccess
 pub use Rattle.bser_variants.specs.Calls as VariantCalls
@@ -59,11 +59,11 @@ pub use Rattle.bser_variants.specs.Rests as VariantRests
 pub use Rattle.bser_variants.specs.Askings as VariantAskings
 pub use Rattle.bser_messages.specs.Messages
 pub use Rattle.bser_messages.specs.Limited
-pub use Rattle.bser_streams.specs.Lengths
-pub use Rattle.bser_streams.specs.Streams
-pub use Rattle.bser_streams.specs.Readers
-pub use Rattle.bser_streams.specs.Slices
-pub use Rattle.bser_describe.specs.Descriptions
+pub use Rattle.bser_messages.specs.Lengths
+pub use Rattle.bser_messages.specs.Streams
+pub use Rattle.bser_messages.specs.Readers
+pub use Rattle.bser_messages.specs.Slices
+pub use Rattle.bser_messages.specs.Descriptions
 pub use Rattle.bser_format.specs.Written
 pub use Rattle.bser_format.specs.Pieces
 pub use Rattle.bser_format.specs.Compact
@@ -81,4 +81,4 @@ pub use Rattle.bser_structs.specs.Payloads
 pub use Rattle.bser_value.specs.ValueView
 pub use Rattle.bser_value.specs.Contents
 pub use Rattle.bser_value.specs.Displayed
-pub use Rattle.bser_compact.specs.Texts as CompactTexts
+pub use Rattle.bser_value.specs.CompactTexts

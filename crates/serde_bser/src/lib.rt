@@ -15,11 +15,10 @@ pub mod stream;
 
 pub mod value {
     //! Values of any kind, and their shortest messages.
-    pub use bser_compact::message::serialize_compact;
+    pub use bser_value::compact::serialize_compact;
     pub use bser_value::value::Value;
 }
 
-pub use bser_format::{bytestring, errors, header};
+pub use bser_format::{bytestring, errors, escaped, header};
 pub use bser_messages::message::{from_reader, from_slice};
 pub use bser_source::device;
-pub use bser_format::escaped;

@@ -3,13 +3,13 @@ ghost use Rattle.std.specs.Prelude.{◌≡◌, Ok, OnOk, IfOk, IfErr};
 ghost use Rattle.bser_ser.specs.Ends.{CanBeWritten};
 ghost use Rattle.bser_ser.specs.Message.{message_of, IsUnmeasured};
 
-pub use bser_compact::message::serialize_compact;
 use bser_format::errors::{Error, Result};
 pub use bser_ser::message::{serialize, serialize_to};
 pub use bser_ser::{CountWrite, Serialize, Serializer};
 use bser_source::device::Watched;
 pub use bser_structs::variants::{put_variant, put_variant_fields};
 pub use bser_structs::writing::{Given, PutField, PutFields, put_fields};
+pub use bser_value::compact::serialize_compact;
 use std::alloc::Global;
 
 /// The value's message in a new vector.

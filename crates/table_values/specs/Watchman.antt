@@ -6,7 +6,7 @@ use Rattle.bser_deserializer.specs.HoldsLists.{HoldsList, HoldsTuple}
 use Rattle.bser_types.specs.Slots.{required, reads_struct}
 use Rattle.bser_deserializer.specs.Reading.{Asking}
 use Rattle.bser_types.specs.Askings.{asking_vec}
-use Rattle.bser_fields.specs.Askings.{asking_struct}
+use Rattle.bser_structs.specs.Askings.{asking_struct}
 use Rattle.table_values.specs.declared.watchman.FileName.{FileName}
 use Rattle.table_values.specs.declared.watchman.FileNames.{FileNames}
 

@@ -1,7 +1,9 @@
 //! Tests by the public calls of the crates.
 mod compact;
+mod memory;
 mod promises;
 mod rewriting;
+mod streams;
 
 use std::process::Abort;
 

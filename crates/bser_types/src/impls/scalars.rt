@@ -12,11 +12,11 @@ use crate::deserialize::{Deserialize, OwnedShape, Shape};
 use bser_bunser::refusal::Answer;
 use bser_deserializer::deserializer::Deserializer;
 use bser_format::errors::Result;
+use bser_format::real::{bits_of, float_of};
 use bser_ser::{Serialize, Serializer};
 use bser_source::device::Sink;
 use bser_source::read::DeRead;
 use bser_source::reference::LendsText;
-use bser_format::real::{bits_of, float_of};
 use std::alloc::Global;
 
 /// The 64 bits of a real.

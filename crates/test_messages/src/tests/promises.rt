@@ -1,15 +1,15 @@
 //! Each promise at a concrete type.
 use super::{EARLY_END, ROWS, check_bytes};
-use bser_promises::agreement::read_both_ways;
-use bser_promises::bounds::read_within_bounds;
-use bser_promises::least::{compactly_rewritten, least_compact_message, least_message, rewritten};
-use bser_promises::messages::{have_one_compact_message, have_one_message};
-use bser_promises::returned::{
+use bser_source::device::Watched;
+use laws::agreement::read_both_ways;
+use laws::bounds::read_within_bounds;
+use laws::least::{compactly_rewritten, least_compact_message, least_message, rewritten};
+use laws::messages::{have_one_compact_message, have_one_message};
+use laws::returned::{
     ReadBack, compactly_written_and_read, compactly_written_and_read_on, written_and_read,
     written_and_read_on,
 };
-use bser_promises::templates::{TemplateReadings, read_written_out, read_written_out_on};
-use bser_source::device::Watched;
+use laws::templates::{TemplateReadings, read_written_out, read_written_out_on};
 use serde_bser::errors::Result;
 use serde_bser::from_slice;
 use serde_bser::value::Value;

@@ -8,7 +8,7 @@ use Rattle.bser_deserializer.specs.State.{State}
 use Rattle.bser_deserializer.proofs.Openings.{if_ok, if_err}
 use Rattle.bser_variants.specs.EnumAccess.{enum_head}
 use Rattle.bser_variants.specs.Variants.{OpenEnum}
-use Rattle.bser_structs.proofs.Places.{place_known, name_refused, place_read, place_refused}
+use Rattle.bser_structs.proofs.VariantPlaces.{place_known, name_refused, place_read, place_refused}
 use Rattle.bser_structs.proofs.enums.read_variants.Goals as goal
 
 pub returns-in_err-place-clause-refused : goal.returns-in_err-place-clause-refused

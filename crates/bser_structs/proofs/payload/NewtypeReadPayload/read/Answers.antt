@@ -1,5 +1,5 @@
 use Rattle.bser_deserializer.specs.State.{State}
-use Rattle.bser_structs.proofs.Places.{held_read}
+use Rattle.bser_structs.proofs.VariantPlaces.{held_read}
 use Rattle.bser_structs.proofs.payload.NewtypeReadPayload.read.Goals as goal
 
 pub returns-clause-found : goal.returns-clause-found

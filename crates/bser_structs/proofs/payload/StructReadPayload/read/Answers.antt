@@ -3,7 +3,7 @@ use Rattle.std.specs.Borrow.{Bor}
 use Rattle.bser_deserializer.specs.HoldsLists.{HoldsTuple}
 use Rattle.bser_deserializer.specs.State.{State}
 use Rattle.bser_types.specs.Slots.{reads_struct}
-use Rattle.bser_structs.proofs.Places.{held_read}
+use Rattle.bser_structs.proofs.VariantPlaces.{held_read}
 use Rattle.bser_structs.proofs.payload.StructReadPayload.read.Goals as goal
 
 pub returns-clause-found : goal.returns-clause-found

@@ -11,7 +11,7 @@ use Rattle.bser_deserializer.specs.Reading.{IsRefusal}
 use Rattle.bser_types.specs.Fold.{either}
 use Rattle.bser_vectors.specs.Files.{Found, file_names, file_field, nothing_found, file_found, both, HoldsExactFile}
 use Rattle.bser_deserializer.specs.declared.field.Field.TheVariants.{Known}
-use Rattle.bser_fields.proofs.Folds.{struct_start, struct_field, struct_value, struct_end, opening, name_refused, field_refused, field_unread, fields_missing, keeps_not, keeps_is, first_read, read_again, was_read, later_place, either_left, either_right, takes_left, takes_right}
+use Rattle.bser_structs.proofs.Folds.{struct_start, struct_field, struct_value, struct_end, opening, name_refused, field_refused, field_unread, fields_missing, keeps_not, keeps_is, first_read, read_again, was_read, later_place, either_left, either_right, takes_left, takes_right}
 use Rattle.bser_vectors.proofs.files.ExactFileDeserialize.deserialize.Goals as goal
 use Rattle.bser_vectors.proofs.files.ExactFileDeserialize.deserialize.Goals.{in_default-2-via-in-Some+in_default, in_default-2-via-in_default}
 

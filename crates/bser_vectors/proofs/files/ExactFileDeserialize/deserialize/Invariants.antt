@@ -2,7 +2,7 @@ use Rattle.std.proofs.Common.{◌≡◌}
 use Rattle.bser_types.specs.Accesses.{open_pairs}
 use Rattle.bser_deserializer.specs.Parts.{pairs_left}
 use Rattle.bser_vectors.specs.Files.{Found, file_names, file_field, nothing_found, file_found}
-use Rattle.bser_fields.proofs.Folds.{AtField}
+use Rattle.bser_structs.proofs.Folds.{AtField}
 use Rattle.bser_types.specs.Slots.{Keeps}
 use Rattle.bser_vectors.proofs.files.ExactFileDeserialize.deserialize.Given as goal
 

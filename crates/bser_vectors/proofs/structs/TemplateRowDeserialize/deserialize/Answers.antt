@@ -2,7 +2,7 @@ use Rattle.std.proofs.Common.{rules}
 use mir.Val.{SFits}
 use Rattle.std.specs.Int.{w32}
 use Rattle.std.proofs.lemmas.Int.{to_z-of_z}
-use Rattle.bser_fields.proofs.FieldValues.{fields_are}
+use Rattle.bser_structs.proofs.FieldValues.{fields_are}
 use Rattle.bser_vectors.proofs.structs.TemplateRowDeserialize.deserialize.Goals as goal
 
 pub returns-clause-found : goal.returns-clause-found

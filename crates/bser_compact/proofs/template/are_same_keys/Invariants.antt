@@ -1,7 +1,0 @@
-use Rattle.std.proofs.Common.{◌≡◌}
-use Rattle.bser_format.specs.Compact.{same_keys}
-use Rattle.bser_compact.specs.Texts.{names_of}
-use Rattle.bser_compact.proofs.template.are_same_keys.Given as goal
-
-abbrev pub invariant-loop-key : goal.invariant-loop-key
-invariant-loop-key l = same_keys (names_of l.key-iterator) (names_of l.rest) ≡ same_keys (names_of l.entries.entries) (names_of l.others.entries)

@@ -1,7 +1,0 @@
-use Rattle.std.proofs.Common.{◌≡◌, drop}
-use Rattle.bser_compact.specs.Texts.{names_of}
-use Rattle.bser_compact.proofs.Folding.{all_have}
-use Rattle.bser_compact.proofs.template.shared_keys.Given as goal
-
-abbrev pub invariant-loop-item : goal.invariant-loop-item
-invariant-loop-item l = all_have (names_of l.first.entries) (drop l.item-index l.rest) ≡ all_have (names_of l.first.entries) l.rest

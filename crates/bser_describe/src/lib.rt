@@ -1,7 +1,0 @@
-//! Whole messages, whose errors are described for people.
-#![tactic(auto)]
-
-mod counted;
-pub mod description;
-mod progress;
-pub mod reading;

@@ -1,5 +1,0 @@
-use Rattle.std.proofs.Common.{[], refl}
-use Rattle.bser_fields.proofs.slots.UnitSlots.read_in_turn.Goals as goal
-
-pub returns-clause-found : goal.returns-clause-found
-returns-clause-found g c = λ names place keys. (([], refl, tt), refl)

@@ -1,4 +1,0 @@
-pub mod Alike
-pub mod Back
-pub mod Shorter
-pub mod WrittenOut

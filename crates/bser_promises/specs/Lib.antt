@@ -1,5 +1,0 @@
-pub mod Agreement
-pub mod Returned
-pub mod Least
-pub mod Bounds
-pub mod Templates

@@ -1,4 +1,0 @@
-pub mod Lengths
-pub mod Slices
-pub mod Readers
-pub mod Nexts

@@ -1,4 +1,0 @@
-pub mod Lengths
-pub mod Streams
-pub mod Readers
-pub mod Slices

@@ -1,0 +1,11 @@
+pub mod Agreement
+pub mod Returned
+pub mod Least
+pub mod Bounds
+pub mod TemplateRows
+pub mod Reading
+pub mod Samples
+pub mod Templates
+pub mod Recorded
+pub mod Spelled
+pub mod Faults

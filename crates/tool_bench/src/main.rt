@@ -1,0 +1,192 @@
+//! Does one operation of the library many times, so that its instructions can be counted.
+//!
+//! `tool_bench OPERATION FILE COUNT` does it COUNT times with the message in FILE, and prints what
+//! came of the last time. Where FILE is `-`, the message is the program's own answer of 500 files,
+//! which has no template. Without arguments each operation is done once with an answer of a few
+//! files.
+//!
+//! `serialize` writes a `Value` to memory, `serialize-compact` does so in the compact form, and `value`
+//! and `value-reader` read one; they print the length and a checksum of its message. `typed-lent`, `typed-owned` and `typed-reader` read the
+//! files as structs, and print how many there are and the sum of their fields. `skip` keeps
+//! nothing. The operations on a `reader` read from a reader over the bytes, the others from the
+//! bytes themselves.
+#![tactic(auto)]
+
+mod files;
+mod rows;
+mod table;
+
+use crate::rows::{Bytes, Files};
+use anyhow::{Context, Result, bail};
+use serde_bser::bytestring::ByteString;
+use serde_bser::de::{Deserialize, DeserializeOwned, Ignored};
+use serde_bser::device::Watched;
+use serde_bser::ser::{serialize, serialize_compact};
+use serde_bser::value::Value;
+use serde_bser::{from_reader, from_slice};
+use std::alloc::Global;
+use std::{env, fs};
+
+/// The files of the answer where there are no arguments.
+const FEW: usize = 3;
+
+/// The files of the answer that is measured.
+const MANY: usize = 500;
+
+/// What is done.
+const OPERATIONS: [&str; 8] = [
+    "serialize",
+    "serialize-compact",
+    "value",
+    "value-reader",
+    "typed-lent",
+    "typed-owned",
+    "typed-reader",
+    "skip",
+];
+
+fn main(rt: HostRuntime) -> Result<()> {
+    let mut args = env::args(&rt)?.skip(1);
+    match args.next() {
+        None => do_each_once(&rt),
+        Some(operation) => {
+            let file = args.next().context("no FILE")?;
+            let count = args.next().context("no COUNT")?.parse::<u32>()?;
+            do_often(&rt, operation.as_str(), file.as_str(), count)
+        }
+    }
+}
+
+// Does each operation once with an answer of a few files.
+fn do_each_once(rt: &HostRuntime) -> Result<()> {
+    let message = written(rt.alloc(), &files::answer(rt.alloc(), FEW)?)?;
+    for operation in OPERATIONS {
+        let line = repeated(rt.alloc(), operation, &message, 1)?;
+        println!(rt; "{operation}: {line}")?;
+    }
+    Ok(())
+}
+
+// Does the operation `count` times with the message in the file.
+fn do_often(rt: &HostRuntime, operation: &str, file: &str, count: u32) -> Result<()> {
+    let message = message_of(rt, file)?;
+    let line = repeated(rt.alloc(), operation, &message, count)?;
+    println!(rt; "{line}")?;
+    Ok(())
+}
+
+// The message in the file, or where it is `-`, that of the program's own answer.
+fn message_of(rt: &HostRuntime, file: &str) -> Result<Vec<u8>> {
+    if file == "-" {
+        return written(rt.alloc(), &files::answer(rt.alloc(), MANY)?);
+    }
+    Ok(fs::read(rt, file)?)
+}
+
+// Does the operation `count` times, and tells what came of the last time.
+fn repeated(alloc: Global, operation: &str, message: &[u8], count: u32) -> Result<String> {
+    match operation {
+        "serialize" => written_often(alloc, message, count),
+        "serialize-compact" => compact_often(alloc, message, count),
+        "value" => value_told(alloc, read_often(alloc, message, count)),
+        "value-reader" => value_told(alloc, copied_often(alloc, message, count)),
+        "typed-lent" => files_told::<&[u8], &str>(alloc, read_often(alloc, message, count)),
+        "typed-owned" => files_told::<ByteString, String>(alloc, read_often(alloc, message, count)),
+        "typed-reader" => {
+            files_told::<ByteString, String>(alloc, copied_often(alloc, message, count))
+        }
+        "skip" => skip_told(alloc, read_often(alloc, message, count)),
+        _ => bail!("unknown operation {operation}"),
+    }
+}
+
+// Reads the message `count` times, and answers what was read last. What was read before is dropped
+// first.
+fn read_often<'de, T: Deserialize<&'de [u8]>>(
+    alloc: Global,
+    message: &'de [u8],
+    count: u32,
+) -> Result<T> {
+    let mut last = None;
+    for _ in 0..count {
+        last = None;
+        let read: T = from_slice(alloc, message)?;
+        last = Some(read);
+    }
+    last.context("COUNT is 0")
+}
+
+// Reads the message `count` times, each time from a reader, and answers what was read last. What was
+// read before is dropped first.
+fn copied_often<T: DeserializeOwned>(alloc: Global, message: &[u8], count: u32) -> Result<T> {
+    let mut last = None;
+    for _ in 0..count {
+        last = None;
+        let mut reader = Watched::new(message);
+        let read: T = from_reader(alloc, &mut reader)?;
+        last = Some(read);
+    }
+    last.context("COUNT is 0")
+}
+
+// Writes the message's value `count` times, each time to memory of its own, and tells of what was
+// written last.
+fn written_often(alloc: Global, message: &[u8], count: u32) -> Result<String> {
+    let value: Value = from_slice(alloc, message)?;
+    let mut last = Vec::new(alloc);
+    for _ in 0..count {
+        last = written(alloc, &value)?;
+    }
+    bytes_told(alloc, &last)
+}
+
+// Writes the message's value in the compact form `count` times, each time to memory of its own, and
+// tells of what was written last.
+fn compact_often(alloc: Global, message: &[u8], count: u32) -> Result<String> {
+    let value: Value = from_slice(alloc, message)?;
+    let mut last = Vec::new(alloc);
+    for _ in 0..count {
+        let mut writer = Watched::new(Vec::new(alloc));
+        serialize_compact(alloc, &mut writer, &value)?;
+        last = writer.into_inner();
+    }
+    bytes_told(alloc, &last)
+}
+
+// The value's message in memory.
+fn written(alloc: Global, value: &Value) -> Result<Vec<u8>> {
+    match serialize(alloc, Watched::new(Vec::new(alloc)), value) {
+        Ok(writer) => Ok(writer.into_inner()),
+        Err((_, error)) => Err(error.into()),
+    }
+}
+
+fn value_told(alloc: Global, value: Result<Value>) -> Result<String> {
+    bytes_told(alloc, &written(alloc, &value?)?)
+}
+
+fn files_told<B: Bytes + Drop, S: Bytes + Drop>(
+    alloc: Global,
+    files: Result<Files<B, S>>,
+) -> Result<String> {
+    let files = files?;
+    let line = format!(in alloc; "{} files, sum {}", files.files.len(), files.sum())?;
+    Ok(line)
+}
+
+fn skip_told(alloc: Global, skipped: Result<Ignored>) -> Result<String> {
+    let _skipped = skipped?;
+    Ok(String::from_str(alloc, "skipped")?)
+}
+
+fn bytes_told(alloc: Global, bytes: &[u8]) -> Result<String> {
+    let line = format!(in alloc; "{} bytes, checksum {:016x}", bytes.len(), checksum(bytes))?;
+    Ok(line)
+}
+
+// The FNV-1a hash of 64 bits.
+fn checksum(bytes: &[u8]) -> u64 {
+    bytes.iter().fold(0xcbf2_9ce4_8422_2325, |hash: u64, byte| {
+        (hash ^ u64::from(*byte)).wrapping_mul(0x0000_0100_0000_01b3)
+    })
+}
