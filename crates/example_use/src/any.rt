@@ -18,11 +18,6 @@ pub fn print_message(rt: &HostRuntime) -> ExitCode {
     }
 }
 
-/// The version of the server that sent the message.
-pub fn version_of(message: &Value) -> Option<&str> {
-    message.get("version").and_then(Value::as_str)
-}
-
 /// The bytes in all files of an answer. A sum above the greatest `i64` stays there.
 pub fn total_size(answer: &Value) -> i64 {
     let mut total: i64 = 0;

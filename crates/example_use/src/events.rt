@@ -7,7 +7,7 @@ use serde_bser::value::Value;
 use std::alloc::Global;
 
 /// Prints what kind each message of the reader is, up to the end of its stream.
-pub fn print_events<S: Source>(rt: &HostRuntime, reader: &mut S) -> Result<()> {
+pub fn print_events<S: Source + Drop>(rt: &HostRuntime, reader: S) -> Result<()> {
     let limits = Limits {
         levels: 128,
         bytes: 1_000_000,
@@ -17,18 +17,23 @@ pub fn print_events<S: Source>(rt: &HostRuntime, reader: &mut S) -> Result<()> {
         match messages.next_message::<Value>() {
             Ok(Some(message)) => println!(rt; "{}", kind_of(&message))?,
             Ok(None) => break,
-            Err(
-                Error::DeReaderError {
-                    source: ReadCause::Eof,
-                },
-            ) => {
-                println!(rt; "the stream ends inside a message")?;
-                break;
-            }
-            Err(error) => return Err(error),
+            Err(error) => return print_end(rt, error),
         }
     }
     Ok(())
+}
+
+/// Prints that the stream is cut, or hands on another error.
+fn print_end(rt: &HostRuntime, error: Error) -> Result<()> {
+    match error {
+        Error::DeReaderError {
+            source: ReadCause::Eof,
+        } => {
+            println!(rt; "the stream ends inside a message")?;
+            Ok(())
+        }
+        other => Err(other),
+    }
 }
 
 /// What a message is, by the keys that it has.

@@ -41,7 +41,7 @@ fn print_others(rt: &HostRuntime) -> Result<()> {
     println!(rt; "-- replies")?;
     replies::print_replies(rt, &bytes)?;
     println!(rt; "-- events")?;
-    events::print_events(rt, &mut Watched::new(bytes.as_slice()))?;
+    events::print_events(rt, Watched::new(bytes.as_slice()))?;
     println!(rt; "-- values")?;
     print_values(rt, &bytes)?;
     print_written(rt)
@@ -51,7 +51,8 @@ fn print_others(rt: &HostRuntime) -> Result<()> {
 fn print_values(rt: &HostRuntime, bytes: &[u8]) -> Result<()> {
     let alloc = rt.alloc();
     let answer: Value = from_slice(alloc, bytes)?;
-    let version = any::version_of(&answer).unwrap_or("none");
+    let version = answer.get("version").and_then(Value::as_str);
+    let version = version.unwrap_or("none");
     println!(rt;
         "version {version}, bytes in files: {}",
         any::total_size(&answer)
@@ -95,7 +96,8 @@ fn print_files(rt: &HostRuntime) -> Result<()> {
         Some(size) => println!(rt; "size {size}")?,
         None => println!(rt; "no size")?,
     }
-    let renamed = Change::Renamed(file.name);
+    let File { name, size: _ } = file;
+    let renamed = Change::Renamed(name);
     print_change(rt, &renamed)?;
     print_change(rt, &Change::Gone)?;
     let size = 7;

@@ -15,5 +15,8 @@ pub fn size_in(alloc: Global, bytes: &[u8]) -> Result<Option<i64>>
         ⟦<Value as Shape>⟧.asks ⟦<Value as Shape>⟧.needs e bytes.now) }
 {
     let value: Value = from_slice(alloc, bytes)?;
-    Ok(value.get("size").and_then(Value::as_i64))
+    match value.get("size") {
+        Some(size) => Ok(size.as_i64()),
+        None => Ok(None),
+    }
 }
