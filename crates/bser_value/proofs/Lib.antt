@@ -10,3 +10,4 @@ pub mod Read
 pub mod CompactPieces
 pub mod Folding
 pub mod Writable
+pub mod Puts

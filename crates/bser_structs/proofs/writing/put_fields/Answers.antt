@@ -1,5 +1,5 @@
 use Rattle.std.proofs.lemmas.Result.{MatchResult-weaker}
-use Rattle.bser_structs.proofs.Entries.{tree_ends, tree_stops, tree_writable}
+use Rattle.bser_structs.proofs.WrittenEntries.{tree_ends, tree_stops, tree_writable}
 use Rattle.bser_structs.proofs.writing.put_fields.Goals as goal
 
 pub returns-clause-ok : goal.returns-clause-ok

@@ -1,5 +1,5 @@
 use Rattle.std.proofs.lemmas.Result.{err_from_is_err_and, MatchResult-weaker}
-use Rattle.bser_structs.proofs.Entries.{each_ends, first_stops, others_stop, each_writable}
+use Rattle.bser_structs.proofs.WrittenEntries.{each_ends, first_stops, others_stop, each_writable}
 use Rattle.bser_structs.proofs.writing.Tuple2PutFields.put_each.Goals as goal
 
 pub returns-in_err-put-clause-err : goal.returns-in_err-put-clause-err

@@ -1,5 +1,5 @@
 use Rattle.std.proofs.lemmas.Result.{MatchResult-weaker}
-use Rattle.bser_structs.proofs.Entries.{one_ends, one_stops}
+use Rattle.bser_structs.proofs.WrittenEntries.{one_ends, one_stops}
 use Rattle.bser_structs.proofs.writing.Tuple2RefStrRefPutField.put.Goals as goal
 
 pub returns-in-Ok-clause-ok : goal.returns-in-Ok-clause-ok

@@ -10,10 +10,11 @@ use Rattle.bser_ser.specs.Ends.{AddsTree, text_of}
 use Rattle.bser_ser.specs.Sent.{Sent, refusal_of}
 use Rattle.bser_source.proofs.Lists.{item_here}
 use Rattle.bser_ser.proofs.Ends.{UpTo-start, UpTo-more, Ends-both, Stops-second, Stops-none}
-use Rattle.bser_ser.proofs.Texts.{item_text, entry_text, Ends-array, Stops-array, Ends-object, Stops-object}
+use Rattle.bser_ser.proofs.Texts.{item_text, entry_text}
 use Rattle.bser_value.specs.ValueView.{tree_of, items_view, entries_view}
 use Rattle.bser_value.specs.declared.value.Value.{Value}
 use Rattle.bser_value.proofs.Views.{length-items, length-entries, written-Array, written-Object}
+use Rattle.bser_value.proofs.Puts.{array_ends, array_stops, object_ends, object_stops}
 use Rattle.bser_value.proofs.value.writing.+add.Goals as goal
 
 abbrev told : Value → Result Tree Error
@@ -32,8 +33,7 @@ add_items-loop-item-init g t c =
 pub add_items-returns-in_err-add_value-clause-put : goal.add_items-returns-in_err-add_value-clause-put
 add_items-returns-in_err-add_value-clause-put g t c =
     let p = err_from_is_err_and c.from_residual-in_err-add_value.result c.from_residual-in_err-add_value.ensures.1 in
-    rw p.1 (Stops-array g.W.Sink told c.args.items.now.items g.met.W.Sink.took_both _ _ c.item-item.result
-    c.args.out.now c.loop-item.out c.add_value.new.out (refusal_of c.add_value.new.out) c.loop-item.invariant.put
+    rw p.1 (array_stops g.W.Sink told c.args.items.now.items _ c.args.out.now c.loop-item.out _ c.item-item.result c.add_value.new.out (refusal_of c.add_value.new.out) g.met.W.Sink.took_both c.loop-item.invariant.put
     (item_here c.deref-item-items.result.now c.loop-item.item-index c.item-item.result c.loop-item-test.true c.item-item.is) c.in_err-add_value.ensures.put)
 
 pub add_items-loop-item-preserved : goal.add_items-loop-item-preserved
@@ -47,7 +47,7 @@ add_items-loop-item-preserved g t c =
 
 pub add_items-returns-clause-put : goal.add_items-returns-clause-put
 add_items-returns-clause-put g t c =
-    Ends-array g.W.Sink told c.args.items.now.items _ c.args.out.now c.loop-item.out c.loop-item.invariant.put
+    array_ends g.W.Sink told c.args.items.now.items _ c.args.out.now c.loop-item.out c.loop-item.invariant.put
     (drop_all c.loop-item.item-index c.deref-item-items.result.now c.loop-item-test.false)
 
 pub add_entries-loop-key-init : goal.add_entries-loop-key-init
@@ -64,15 +64,13 @@ add_entries-loop-key-init g t c =
 pub add_entries-returns-in_err-add_text_key-clause-put : goal.add_entries-returns-in_err-add_text_key-clause-put
 add_entries-returns-in_err-add_text_key-clause-put g t c =
     let p = err_from_is_err_and c.from_residual-in_err-add_text_key.result c.from_residual-in_err-add_text_key.ensures.1 in
-    rw p.1 (Stops-object g.W.Sink string_bytes told c.args.entries.now.entries g.met.W.Sink.took_both _ c.next.new.self (c.in-Some.key.now, c.in-Some.value.now)
-    c.args.out.now c.loop-key.out c.add_text_key.new.self (refusal_of c.add_text_key.new.self) c.loop-key.invariant.put c.in-Some.ensures.steps
+    rw p.1 (object_stops g.W.Sink string_bytes told c.args.entries.now.entries _ c.args.out.now c.loop-key.out c.next.new.self (c.in-Some.key.now, c.in-Some.value.now) c.add_text_key.new.self (refusal_of c.add_text_key.new.self) g.met.W.Sink.took_both c.loop-key.invariant.put c.in-Some.ensures.steps
     (Stops-none g.W.Sink (entry_text string_bytes told (c.in-Some.key.now, c.in-Some.value.now)) c.loop-key.out c.add_text_key.new.self (refusal_of c.add_text_key.new.self) c.in_err-add_text_key.ensures.0 c.in_err-add_text_key.ensures.1))
 
 pub add_entries-returns-in_err-add_value-clause-put : goal.add_entries-returns-in_err-add_value-clause-put
 add_entries-returns-in_err-add_value-clause-put g t c =
     let p = err_from_is_err_and c.from_residual-in_err-add_value.result c.from_residual-in_err-add_value.ensures.1 in
-    rw p.1 (Stops-object g.W.Sink string_bytes told c.args.entries.now.entries g.met.W.Sink.took_both _ c.next.new.self (c.in-Some.key.now, c.in-Some.value.now)
-    c.args.out.now c.loop-key.out c.add_value.new.out (refusal_of c.add_value.new.out) c.loop-key.invariant.put c.in-Some.ensures.steps
+    rw p.1 (object_stops g.W.Sink string_bytes told c.args.entries.now.entries _ c.args.out.now c.loop-key.out c.next.new.self (c.in-Some.key.now, c.in-Some.value.now) c.add_value.new.out (refusal_of c.add_value.new.out) g.met.W.Sink.took_both c.loop-key.invariant.put c.in-Some.ensures.steps
     (Stops-second g.W.Sink g.met.W.Sink.took_both (Ok (canonical_key (string_bytes c.in-Some.key.now))) (text_of (told c.in-Some.value.now)) c.loop-key.out c.add_text_key.new.self c.add_value.new.out (refusal_of c.add_value.new.out) (rw c.as_str.ensures.value at c.in_ok-add_text_key.ensures.0) c.in_err-add_value.ensures.put))
 
 pub add_entries-loop-key-preserved : goal.add_entries-loop-key-preserved
@@ -86,7 +84,7 @@ add_entries-loop-key-preserved g t c =
 
 pub add_entries-returns-clause-put : goal.add_entries-returns-clause-put
 add_entries-returns-clause-put g t c =
-    Ends-object g.W.Sink string_bytes told c.args.entries.now.entries _ c.args.out.now c.loop-key.out c.loop-key.invariant.put (search rules)
+    object_ends g.W.Sink string_bytes told c.args.entries.now.entries _ c.args.out.now c.loop-key.out c.loop-key.invariant.put (search rules)
 
 pub add_value-returns-in-Array-clause-put : goal.add_value-returns-in-Array-clause-put
 add_value-returns-in-Array-clause-put g t c = rw (c.in-Array.is) (subst (λ (m : Result Tree Error). AddsTree g.W.Sink c.args.out.now c.add_items.new.out m c.add_items.result) (sym (written-Array c.in-Array.items)) c.add_items.ensures.put)
