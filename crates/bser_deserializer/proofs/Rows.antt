@@ -7,7 +7,7 @@ use Rattle.bser_format.specs.Tree as trees
 use Rattle.bser_format.specs.Tree.{Tree, entries, entries_of, fields, fields_of}
 use Rattle.bser_format.specs.Grammar.{Each, Spells, SpellsField}
 use Rattle.bser_format.specs.Expand.{expand, expand_entries, expand_fields}
-use Rattle.bser_format.specs.Expected.{row_due}
+use Rattle.bser_format.specs.Expected.{node_due, row_due}
 use Rattle.bser_format.specs.ReadsAny.{has_utf8_keys, entries_have_utf8_keys, reads_ignored}
 use Rattle.bser_format.proofs.Fronts.{field_reads}
 use Rattle.bser_format.specs.declared.errors.Error.{Error}
@@ -163,6 +163,9 @@ row_goes_on takes place before mid named after old s z p less name f state =
           (more mid named after (events.key k) (tree_events (told_field f.field)) key f.told));
     }
 
+no_value : (ks : List (List ℕ)) → row_due ks ≡ node_due → ⊥
+no_value ks e = cc
+
 -- a row whose fields were all taken
 pub row_ends : {B : Type 0} (takes : B → Event → B → Type 0) (place len : ℕ) (first before mid after : B) (s m z : State) → place ≡ len → len ≡ length s.keys
     → RowPart takes place before mid s m → takes first (events.open_object len) before → takes mid events.close after → z ≡ m
@@ -183,6 +186,7 @@ row_ends takes place len first before mid after s m z full count p opens closes 
         stands = ap trees.object (beside_expanded ks p.row);
         spelled = subst (λ l. Each (SpellsField (Spells s.levels)) l p.text) (sym (fields_again p.row)) whole;
       };
+      spelled = λ e. absurd (no_value ks e);
       rows = row_whole s.levels ks p.row p.text whole;
       keys = p.keys;
       took = p.took;

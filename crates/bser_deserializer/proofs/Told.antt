@@ -128,6 +128,7 @@ any_value takes s z before after due v state = record {
   tree = v.tree;
   text = v.text;
   filled = subst (λ d. Fills s.levels d (expand v.tree) v.text) (sym due) (record { tree = v.tree; stands = refl; spelled = v.spelled });
+  spelled = λ _. v.spelled;
   rows = spelled_whole s.levels v.tree v.text v.spelled;
   keys = v.keys;
   took = v.took;
@@ -145,12 +146,16 @@ field_filled : (n : ℕ) (f : Option Tree) (text : List ℕ) → SpellsField (Sp
 field_filled n None text h = inl (refl, h)
 field_filled n (Some t) text h = inr (record { tree = t; stands = refl; spelled = h })
 
+apart : field_due ≡ node_due → ⊥
+apart e = cc
+
 pub any_field : {B : Type 0} (takes : B → Event → B → Type 0) (s z : State) (before after : B) → s.due ≡ field_due
     → TookField takes s.levels before after s.source z.source → z ≡ past s z.source → TookAny takes before after s z
 any_field takes s z before after due f state = record {
   tree = told_field f.field;
   text = f.text;
   filled = subst (λ d. Fills s.levels d (expand (told_field f.field)) f.text) (sym due) (field_filled s.levels f.field f.text f.spelled);
+  spelled = λ e. absurd (apart (sym due ∙ e));
   rows = field_whole s.levels f.field f.text f.spelled;
   keys = f.keys;
   took = f.took;
@@ -237,6 +242,7 @@ any_text_key held takes s m z v t before after is a same good end told =
       tree = trees.text t;
       text = a.text;
       filled = subst (λ u. Fills s.levels s.due u a.text) b a.filled;
+      spelled = λ e. absurd (subst IsKeyDue e is);
       rows = tt;
       keys = refl;
       took = a.took;
@@ -252,6 +258,7 @@ any_bytes_key held takes s m z v t before after is a same bad end told =
       tree = trees.bytes t;
       text = a.text;
       filled = subst (λ u. Fills s.levels s.due u a.text) b a.filled;
+      spelled = λ e. absurd (subst IsKeyDue e is);
       rows = tt;
       keys = refl;
       took = a.took;

@@ -2,7 +2,7 @@
 use Rattle.std.specs.Prelude.{◌≡◌, ℕ, List, [], Option, Some, None, get_or, IsUtf8}
 use Rattle.bser_format.specs.Tree.{Tree, null}
 use Rattle.bser_format.specs.Expand.{expand}
-use Rattle.bser_format.specs.Expected.{Due, nothing_due, key_due, name_due, Fills}
+use Rattle.bser_format.specs.Expected.{Due, nothing_due, node_due, key_due, name_due, Fills}
 use Rattle.bser_format.specs.Grammar.{Spells, SpellsField}
 use Rattle.bser_format.specs.NamedLaws.{HasTextKeys}
 use Rattle.bser_source.specs.Window.{Window, Took}
@@ -16,6 +16,8 @@ pub record TookAny {B : Type 0} (takes : B → Event → B → Type 0) (before a
   pub tree : Tree
   pub text : List ℕ
   pub filled : Fills old.levels old.due (expand tree) text
+  -- where a value was expected, the tree is the one that the bytes spell
+  pub spelled : old.due ≡ node_due → Spells old.levels tree text
   pub rows : HasWholeRows tree
   pub keys : HasTextKeys tree
   pub took : Took old.source new.source text
