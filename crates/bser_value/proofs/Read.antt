@@ -40,7 +40,7 @@ one_more k t u o m utf8 first rest =
     ∙ ap (option_and_then (λ w. option_map (λ l. (k, w) ∷ l) o)) first ∙ ap (option_map (λ l. (k, u) ∷ l)) rest
 
 mutual
-  value_there : (t : Tree) → has_utf8_keys (expand t) ≡ true → (u : Tree) × (normal (expand t) ≡ Some u)
+  pub value_there : (t : Tree) → has_utf8_keys (expand t) ≡ true → (u : Tree) × (normal (expand t) ≡ Some u)
   value_there null h = (null, refl)
   value_there (boolean x) h = (boolean x, refl)
   value_there (integer x) h = (integer x, refl)
