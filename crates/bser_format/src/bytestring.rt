@@ -15,6 +15,7 @@ ghost use Rattle.bser_format.specs.ByteStrings.{overwritten, escape_by, quoted_b
 ghost use Rattle.bser_format.specs.Escaped.{quoted, escaped_byte, escaped, IsEscaped, escape_debug};
 ghost use Rattle.bser_format.specs.Escaped.{display_text, debug_text};
 
+use crate::marked::hex_digit;
 use std::alloc::{AllocError, Global};
 use std::cmp::Ordering;
 use std::fmt;
@@ -234,12 +235,7 @@ enum NulForm {
 fn low_digit(byte: u8) -> char
     ensures { result ≡ digit_char (byte % 16) }
 {
-    let value = byte % 16;
-    if value < 10 {
-        char::from(b'0' + value)
-    } else {
-        char::from(b'a' - 10 + value)
-    }
+    hex_digit(byte % 16)
 }
 
 /// Appends each byte as `\x` and two digits.
