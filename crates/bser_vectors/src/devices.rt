@@ -1,6 +1,5 @@
 //! A reader and a writer that follow a plan, for tests of what a device may do.
-ghost use Rattle.std.specs.Prelude.{◌≡◌, ◌<◌, ◌≤◌, ◌⊎◌, IsTrue, IfOk, IsOkAnd, OnOk};
-ghost use Rattle.bser_vectors.specs.Planned.{is_steady, known, bytes_left, plan_of};
+ghost use Rattle.std.specs.Prelude.{◌≤◌, IfOk};
 
 use std::alloc::Global;
 use std::io;
@@ -29,16 +28,12 @@ pub struct Plan {
 
 impl Plan {
     /// As many bytes a call as are asked for.
-    pub fn whole() -> Self
-        ensures { IsTrue (is_steady result) }
-    {
+    pub fn whole() -> Self {
         Plan::pieces(usize::MAX)
     }
 
     /// At most `most` bytes a call.
-    pub fn pieces(most: usize) -> Self
-        ensures { 0 < most → IsTrue (is_steady result) }
-    {
+    pub fn pieces(most: usize) -> Self {
         Plan {
             most,
             before: 0,
@@ -59,9 +54,6 @@ impl Plan {
     fn moves(&mut self, asked: usize, there: usize) -> io::Result<usize>
         ensures asked { IfOk result (λ n. n ≤ asked) }
         ensures there { IfOk result (λ n. n ≤ there) }
-        ensures plan { OnOk result (is_steady self.new ≡ is_steady self.old) }
-        ensures some { IsTrue (is_steady self.old) → IsOkAnd result
-            (λ n. n ≡ 0 → (asked ≡ 0) ⊎ (there ≡ 0)) }
     {
         let count = asked.min(there).min(self.most);
         if asked == 0 || self.then == Then::GoesOn {
@@ -94,10 +86,7 @@ pub struct PlannedReader<'a> {
 
 impl<'a> PlannedReader<'a> {
     /// Gives `bytes` as the plan says.
-    pub fn new(bytes: &'a [u8], plan: Plan) -> Self
-        ensures left { bytes_left result ≡ bytes.now }
-        ensures plan { plan_of result ≡ plan }
-    {
+    pub fn new(bytes: &'a [u8], plan: Plan) -> Self {
         PlannedReader {
             left: bytes,
             plan,
@@ -106,9 +95,7 @@ impl<'a> PlannedReader<'a> {
     }
 
     /// The bytes that were not given.
-    pub fn left(&self) -> &'a [u8]
-        ensures { result.now ≡ bytes_left self.now }
-    {
+    pub fn left(&self) -> &'a [u8] {
         self.left
     }
 
@@ -119,8 +106,6 @@ impl<'a> PlannedReader<'a> {
 }
 
 impl<'a> Read for PlannedReader<'a> {
-    ghost remaining = { λ reader. known (is_steady (plan_of reader)) (bytes_left reader) };
-
     fn read(&mut self, buf: &mut [u8]) -> io::Result<usize> {
         self.calls = self.calls.saturating_add(1);
         let count = self.plan.moves(buf.len(), self.left.len())?;

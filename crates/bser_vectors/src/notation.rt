@@ -8,17 +8,14 @@
 //! A refusal of reading is `E1`, a kind and a byte; `C` and the place of the complaint, from 1;
 //! `E3` and a kind; `E4` and the counts expected and read; `E5` and the two bytes of another magic;
 //! `E6` and the source's cause; or `E11` for want of memory. Any other is `another refusal`.
-ghost use Rattle.std.specs.Prelude.{◌≡◌, ◌↔◌, IsTrue, IfOk, string_bytes};
-ghost use Rattle.bser_value.specs.ValueView.{tree_of};
-ghost use Rattle.bser_vectors.specs.Notation.{notation, answer_notation};
-
 mod builder;
 mod refusals;
+pub mod text;
 mod values;
 
 use crate::notation::builder::build_value;
 pub use crate::notation::refusals::code;
-pub use crate::notation::values::shown;
+pub use crate::notation::values::{put_value, shown};
 use bser_format::errors::Error;
 use bser_value::value::Value;
 use hex::FromHexError;
@@ -61,9 +58,7 @@ pub fn is_answer(
     alloc: Global,
     answer: &Result<Value, Error>,
     expected: &str,
-) -> Result<bool, AllocError>
-    ensures { IfOk result (λ same. IsTrue same ↔ (expected.now ≡ answer_notation answer.now)) }
-{
+) -> Result<bool, AllocError> {
     let text = match answer {
         Ok(value) => shown(alloc, value)?,
         Err(error) => code(alloc, error)?,
@@ -75,9 +70,7 @@ pub fn is_answer(
 ///
 /// Refused as `Malformed` where the text is not the notation of the value that it spells, as with
 /// another order of an object's keys, or spells none.
-pub fn parse_value(alloc: Global, text: &str) -> Result<Value, NotationError>
-    ensures { IfOk result (λ value. notation (tree_of value) ≡ text.now) }
-{
+pub fn parse_value(alloc: Global, text: &str) -> Result<Value, NotationError> {
     let value = build_value(alloc, text)?;
     if shown(alloc, &value)?.as_str() == text {
         Ok(value)

@@ -1,0 +1,42 @@
+//! Compares reading and writing with tables of messages whose answers came from elsewhere, and recorded
+//! messages with what was written down of them. It prints how many agree.
+//!
+//! The lists of lines are `sample-types.tsv`, of scalars, strings, options, lists and tuples,
+//! `sample-objects.tsv`, of maps, structs and enums, and `sample.tsv` and `lines.tsv`, of values. Those of
+//! cases are `cases-types.txt`, `values.txt`, mostly of what a `Value` is read from, and
+//! `cases-objects.txt`. What is in a file `wrong-..` is wrong, and each of it is named.
+#![tactic(auto)]
+
+mod answer;
+mod case;
+mod columns;
+mod kinds;
+mod line;
+mod recorded;
+mod refusals;
+mod row;
+mod shown;
+mod tables;
+mod watchman;
+mod ways;
+mod written;
+
+use crate::tables::{compare_lines, compare_rows};
+use anyhow::Result;
+
+fn main(rt: HostRuntime) -> Result<()> {
+    compare_lines(&rt, false, "sample-types.tsv")?;
+    compare_lines(&rt, false, "wrong-types.tsv")?;
+    compare_rows(&rt, "cases-types.txt")?;
+    compare_rows(&rt, "values.txt")?;
+    compare_rows(&rt, "wrong-cases.txt")?;
+    compare_lines(&rt, false, "sample-objects.tsv")?;
+    compare_lines(&rt, false, "wrong-objects.tsv")?;
+    compare_rows(&rt, "cases-objects.txt")?;
+    compare_lines(&rt, true, "sample.tsv")?;
+    compare_lines(&rt, true, "lines.tsv")?;
+    compare_lines(&rt, true, "wrong-lines.tsv")?;
+    refusals::compare_all(&rt)?;
+    watchman::compare_all(&rt)?;
+    recorded::compare_all(&rt)
+}

@@ -1,0 +1,120 @@
+//! Recorded messages of a Watchman server and its client: what is printed of each, and written for it.
+//!
+//! The folder `watchman` has the messages. The file `recorded.tsv` has a line for each, with the sums of
+//! its text and of what is written for it, and `wrong-recorded.tsv` has wrong lines.
+use crate::columns::columns;
+use crate::written::{compact_message, is_shown};
+use anyhow::Result;
+use bser_vectors::devices::Plan;
+use bser_vectors::ways::read_by_plan;
+use serde_bser::from_slice;
+use serde_bser::ser::to_vec;
+use serde_bser::value::Value;
+use std::alloc::Global;
+use std::fs;
+
+/// Prints and writes the value of each recorded message of the lists.
+pub fn compare_all(rt: &HostRuntime) -> Result<()> {
+    compare_recordings(rt, "recorded.tsv")?;
+    compare_recordings(rt, "wrong-recorded.tsv")
+}
+
+/// Prints and writes the value of each recorded message of the list.
+fn compare_recordings(rt: &HostRuntime, file: &str) -> Result<()> {
+    let text = fs::read_to_string(rt, file)?;
+    let mut recordings = 0u64;
+    let mut wrong = 0u64;
+    for line in text.as_str().lines() {
+        recordings = recordings.saturating_add(1);
+        let recording = Recording::parse(line);
+        let message = fs::read(rt, recording.file)?;
+        if let Some(what) = recording.first_mismatch(rt.alloc(), &message)? {
+            wrong = wrong.saturating_add(1);
+            println!(rt; "{}: {what}", recording.file)?;
+        }
+    }
+    println!(rt; "{recordings} recorded messages, {wrong} of them wrong")?;
+    Ok(())
+}
+
+/// A recorded message, and what the list says of it: `#LENGTH:SHA256` of its text on one line, and of
+/// the messages that are written for its value.
+#[derive(Clone, Copy)]
+struct Recording<'a> {
+    /// The message's file.
+    file: &'a str,
+    text: &'a str,
+    canonical: &'a str,
+    compact: &'a str,
+}
+
+impl<'a> Recording<'a> {
+    /// Takes a line apart at its tabs.
+    fn parse(line: &'a str) -> Self {
+        let [file, text, canonical, compact, ..] = columns(line, "\t");
+        Recording {
+            file,
+            text,
+            canonical,
+            compact,
+        }
+    }
+
+    /// The first thing that is not as the list says.
+    ///
+    /// The compact message has to be at most as long as the recorded one, and to read back as its
+    /// value, from a slice and from readers of 1, 2, 3, 7 and 4096 bytes a call and of all bytes.
+    fn first_mismatch(&self, alloc: Global, message: &[u8]) -> Result<Option<&'static str>> {
+        let value: Value = from_slice(alloc, message)?;
+        if !is_read_by_readers(alloc, message, &value)? {
+            return Ok(Some("another value from a reader"));
+        }
+        let text = value.to_string(alloc)?;
+        if !is_shown(alloc, text.as_str().as_bytes(), self.text)? {
+            return Ok(Some("another text"));
+        }
+        if !is_shown(alloc, &to_vec(alloc, &value)?, self.canonical)? {
+            return Ok(Some("another canonical message"));
+        }
+        self.compact_mismatch(alloc, message.len(), &value)
+    }
+
+    /// The first thing about the compact message that is not as the list says, where `recorded` is how
+    /// many bytes the recorded one has.
+    fn compact_mismatch(
+        &self,
+        alloc: Global,
+        recorded: usize,
+        value: &Value,
+    ) -> Result<Option<&'static str>> {
+        let compact = compact_message(alloc, value)?;
+        if !is_shown(alloc, &compact, self.compact)? {
+            return Ok(Some("another compact message"));
+        }
+        if compact.len() > recorded {
+            return Ok(Some("longer than it was recorded"));
+        }
+        let back: Value = from_slice(alloc, &compact)?;
+        if back != *value || !is_read_by_readers(alloc, &compact, value)? {
+            return Ok(Some("another value of the compact message"));
+        }
+        Ok(None)
+    }
+}
+
+/// Whether readers of 1, 2, 3, 7 and 4096 bytes a call and of all bytes give the value, and have
+/// nothing left.
+fn is_read_by_readers(alloc: Global, message: &[u8], value: &Value) -> Result<bool> {
+    for most in [1, 2, 3, 7, 4096, usize::MAX] {
+        if !is_read_by(alloc, message, value, Plan::pieces(most))? {
+            return Ok(false);
+        }
+    }
+    Ok(true)
+}
+
+/// Whether a reader of this plan gives the value, and has nothing left.
+fn is_read_by(alloc: Global, message: &[u8], value: &Value, plan: Plan) -> Result<bool> {
+    let (answer, count) = read_by_plan::<Value>(alloc, message, plan);
+    Ok(answer? == *value && count == message.len())
+}
