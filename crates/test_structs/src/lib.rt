@@ -2,12 +2,5 @@
 //! read back from what was written for them.
 #![tactic(auto)]
 
-pub mod choices;
-pub mod files;
-pub mod named;
-pub mod queries;
-pub mod returned;
-pub mod rows;
-pub mod signed;
 #[cfg(test)]
 mod tests;

@@ -1,5 +1,5 @@
 //! Byte strings: their texts, conversions, order and hashes.
-use super::checks::{check_bytes, check_string};
+use super::checks::{check_debug, check_text};
 use bser_format::bytestring::ByteString;
 use std::alloc::{AllocError, Global};
 use std::collections::{BTreeMap, HashMap};
@@ -7,21 +7,6 @@ use std::process::Abort;
 
 fn byte_string(alloc: Global, bytes: &[u8]) -> Result<ByteString, AllocError> {
     Ok(ByteString::from_vec(Vec::from_slice(alloc, bytes)?))
-}
-
-/// The byte string is escaped, shown and debugged as these texts.
-fn check_texts(
-    rt: &impl Abort,
-    alloc: Global,
-    bytes: &[u8],
-    escaped: &str,
-    shown: &str,
-    debugged: &str,
-) {
-    let value = byte_string(alloc, bytes).expect(rt, "memory is left");
-    check_string(rt, value.as_escaped_string(alloc), escaped);
-    check_string(rt, format!(in alloc; "{value}"), shown);
-    check_string(rt, format!(in alloc; "{value:?}"), debugged);
 }
 
 /// Bytes, and how they are escaped, shown and debugged.
@@ -51,125 +36,101 @@ const TEXTS: [(&[u8], &str, &str, &str); 10] = [
 #[test]
 fn texts(rt: HostRuntime) {
     for (bytes, escaped, shown, debugged) in &TEXTS {
-        check_texts(&rt, rt.alloc(), bytes, escaped, shown, debugged);
+        let value = byte_string(rt.alloc(), bytes).expect(&rt, "memory is left");
+        let found = value
+            .as_escaped_string(rt.alloc())
+            .expect(&rt, "memory is left");
+        check_text(&rt, rt.alloc(), found, escaped);
+        check_text(&rt, rt.alloc(), &value, shown);
+        check_debug(&rt, rt.alloc(), &value, debugged);
     }
 }
 
-/// The answer is this text, or these bytes as they were.
-fn is_answer(answer: &Result<String, ByteString>, expected: Result<&str, &[u8]>) -> bool {
-    match answer {
-        Ok(text) => expected == Ok(text.as_str()),
-        Err(same) => expected == Err(same.as_bytes()),
-    }
-}
-
-/// The bytes become this text, or are handed back as they are.
-fn check_into_string(rt: &impl Abort, alloc: Global, bytes: &[u8], expected: Result<&str, &[u8]>) {
-    let value = byte_string(alloc, bytes).expect(rt, "memory is left");
-    assert!(rt;
-        is_answer(&value.into_string(), expected),
-        "not {expected:?}"
-    );
-}
+/// Bytes, and the text that they become, or they themselves as they were.
+static CONVERSIONS: [(&[u8], &str); 3] = [
+    (b"\xff", "Err(\"\\\\xff\")"),
+    (b"Tom", "Ok(\"Tom\")"),
+    (b"caf\xc3\xa9", "Ok(\"caf\u{e9}\")"),
+];
 
 #[test]
 fn conversions(rt: HostRuntime) {
-    check_into_string(&rt, rt.alloc(), b"\xff", Err(b"\xff"));
-    check_into_string(&rt, rt.alloc(), b"Tom", Ok("Tom"));
-    check_into_string(&rt, rt.alloc(), b"caf\xc3\xa9", Ok("caf\u{e9}"));
+    for (bytes, answer) in &CONVERSIONS {
+        let value = byte_string(rt.alloc(), bytes).expect(&rt, "memory is left");
+        check_debug(&rt, rt.alloc(), value.into_string(), answer);
+    }
 }
 
-/// The two are the same, and so are copies of the first, which have these bytes.
+/// Whether the two are the same, and copies of the first, of which one is taken apart, are printed
+/// as this.
 fn check_copies(
     rt: &impl Abort,
     alloc: Global,
-    copied: &ByteString,
-    owned: &ByteString,
-    bytes: &[u8],
-) -> Result<(), AllocError> {
-    assert!(rt; copied == owned);
-    assert!(rt; copied.clone()? == *owned);
-    check_bytes(rt, copied.try_clone(alloc)?.into_bytes().as_slice(), bytes);
-    Ok(())
+    (copied, owned): (&ByteString, &ByteString),
+    printed: &str,
+) {
+    let bytes = copied.try_clone(alloc).map(ByteString::into_bytes);
+    let clone: Result<_, _> = copied.clone();
+    check_debug(rt, alloc, (copied == owned, clone, bytes), printed);
 }
 
 #[test]
-fn copies(rt: HostRuntime) -> Result<(), AllocError> {
-    let mut copied = ByteString::from_text(rt.alloc(), "name")?;
+fn copies(rt: HostRuntime) {
+    let mut copied = ByteString::from_text(rt.alloc(), "name").expect(&rt, "memory is left");
     copied.as_mut_bytes()[0] = b'g';
-    let owned = ByteString::from(String::from_str(rt.alloc(), "game")?);
-    check_copies(&rt, rt.alloc(), &copied, &owned, b"game")
+    let text = String::from_str(rt.alloc(), "game").expect(&rt, "memory is left");
+    let owned = ByteString::from(text);
+    let printed = "(true, Ok(\"game\"), Ok([103, 97, 109, 101]))";
+    check_copies(&rt, rt.alloc(), (&copied, &owned), printed);
 }
 
-/// A sorted map with copies of these keys.
-fn sorted(
-    alloc: Global,
-    entries: &[(&ByteString, i32)],
-) -> Result<BTreeMap<ByteString, i32>, AllocError> {
+/// Keys of maps, and their values.
+static ENTRIES: [(&[u8], i32); 2] = [(b"a\xff", 2), (b"a\x7f", 1)];
+
+fn sorted(alloc: Global) -> Result<BTreeMap<ByteString, i32>, AllocError> {
     let mut map = BTreeMap::new(alloc);
-    for (key, value) in entries {
-        map.insert(key.try_clone(alloc)?, *value)?;
+    for (key, value) in &ENTRIES {
+        map.insert(byte_string(alloc, key)?, *value)?;
     }
     Ok(map)
 }
 
-/// A hashed map with copies of these keys.
-fn hashed(
-    alloc: Global,
-    entries: &[(&ByteString, i32)],
-) -> Result<HashMap<ByteString, i32>, AllocError> {
+fn hashed(alloc: Global) -> Result<HashMap<ByteString, i32>, AllocError> {
     let mut map = HashMap::new(alloc);
-    for (key, value) in entries {
-        map.insert(key.try_clone(alloc)?, *value)?;
+    for (key, value) in &ENTRIES {
+        map.insert(byte_string(alloc, key)?, *value)?;
     }
     Ok(map)
 }
 
-/// Whether a sorted map finds its keys, and has the lesser one first.
-fn is_in_order(map: &BTreeMap<ByteString, i32>, low: &ByteString, high: &ByteString) -> bool {
-    map.get(high) == Some(&2) && map.keys().next() == Some(low)
+/// Keys, of which the last two are those of [`ENTRIES`], the lesser one first.
+type Keys<'a> = (&'a ByteString, &'a ByteString, &'a ByteString);
+
+/// The keys rise: a beginning stands before what it begins.
+fn check_order(rt: &impl Abort, alloc: Global, (short, low, high): Keys<'_>) {
+    let order = (short < low, low < high, low != high);
+    check_debug(rt, alloc, order, "(true, true, true)");
 }
 
-/// A sorted map of the two is in order.
-fn check_sorted(
-    rt: &impl Abort,
-    alloc: Global,
-    low: &ByteString,
-    high: &ByteString,
-) -> Result<(), AllocError> {
-    assert!(rt; is_in_order(&sorted(alloc, &[(high, 2), (low, 1)])?, low, high));
-    Ok(())
+/// A sorted map finds its keys, and has the lesser one first.
+fn check_sorted(rt: &impl Abort, alloc: Global, (_, _, high): Keys<'_>) {
+    let map = sorted(alloc).expect(rt, "memory is left");
+    let found = (map.get(high), map.keys().next());
+    check_debug(rt, alloc, found, "(Some(2), Some(\"a\\u{7f}\"))");
 }
 
-/// Whether a hashed map finds its keys, and no other.
-fn finds_its_keys(map: &HashMap<ByteString, i32>, low: &ByteString, other: &ByteString) -> bool {
-    map.get(low) == Some(&1) && map.get(other).is_none()
-}
-
-/// A hashed map of the two finds its keys, and no other.
-fn check_hashed(
-    rt: &impl Abort,
-    alloc: Global,
-    low: &ByteString,
-    high: &ByteString,
-    other: &ByteString,
-) -> Result<(), AllocError> {
-    assert!(rt; finds_its_keys(&hashed(alloc, &[(high, 2), (low, 1)])?, low, other));
-    Ok(())
-}
-
-/// The three rise: a beginning stands before what it begins.
-fn check_order(rt: &impl Abort, short: &ByteString, low: &ByteString, high: &ByteString) {
-    assert!(rt; low < high && short < low && low != high);
+/// A hashed map finds its keys, and no other.
+fn check_hashed(rt: &impl Abort, alloc: Global, (short, low, _): Keys<'_>) {
+    let map = hashed(alloc).expect(rt, "memory is left");
+    check_debug(rt, alloc, (map.get(low), map.get(short)), "(Some(1), None)");
 }
 
 #[test]
-fn order_and_maps(rt: HostRuntime) -> Result<(), AllocError> {
-    let alloc = rt.alloc();
-    let low = byte_string(alloc, b"a\x7f")?;
-    let high = byte_string(alloc, b"a\xff")?;
-    let short = byte_string(alloc, b"a")?;
-    check_order(&rt, &short, &low, &high);
-    check_sorted(&rt, alloc, &low, &high)?;
-    check_hashed(&rt, alloc, &low, &high, &short)
+fn order_and_maps(rt: HostRuntime) {
+    let short = byte_string(rt.alloc(), b"a").expect(&rt, "memory is left");
+    let low = byte_string(rt.alloc(), b"a\x7f").expect(&rt, "memory is left");
+    let high = byte_string(rt.alloc(), b"a\xff").expect(&rt, "memory is left");
+    check_order(&rt, rt.alloc(), (&short, &low, &high));
+    check_sorted(&rt, rt.alloc(), (&short, &low, &high));
+    check_hashed(&rt, rt.alloc(), (&short, &low, &high));
 }

@@ -1,47 +1,43 @@
-//! What the tests of all modules check: texts, bytes, messages and refusals.
-use bser_format::errors::Error;
+//! What the tests of all modules check: texts, bytes and messages.
+use bser_format::errors::Result;
 use bser_ser::Serialize;
 use bser_ser::message::serialize;
 use bser_source::device::Watched;
-use std::alloc::{AllocError, Global};
-use std::fmt::Display;
+use std::alloc::Global;
+use std::fmt::{Debug, Display};
 use std::process::Abort;
-use std::test::Fail;
-
-pub type Tested = std::result::Result<(), Fail>;
-
-/// The texts are the same.
-fn check_same(rt: &impl Abort, found: &str, expected: &str) {
-    assert_eq!(rt; found, expected);
-}
 
 /// The bytes are the same.
 pub fn check_bytes(rt: &impl Abort, found: &[u8], expected: &[u8]) {
     assert_eq!(rt; found, expected);
 }
 
-/// The string was made, and is this text.
-pub fn check_string(rt: &impl Abort, made: std::result::Result<String, AllocError>, text: &str) {
-    check_same(rt, made.expect(rt, "memory is left").as_str(), text);
+/// The texts are the same.
+fn check_same(rt: &impl Abort, found: &str, expected: &str) {
+    assert_eq!(rt; found, expected);
 }
 
 /// The value is printed as this text.
-pub fn check_text<T: Display + Drop>(rt: &impl Abort, alloc: Global, printed: T, text: &str) {
-    check_string(rt, format!(in alloc; "{printed}"), text);
+pub fn check_text<T: Display + Drop>(rt: &impl Abort, alloc: Global, value: T, text: &str) {
+    let printed = format!(in alloc; "{value}").expect(rt, "memory is left");
+    check_same(rt, printed.as_str(), text);
 }
 
-/// The answer is a refusal with this text.
-pub fn check_refused<T: Drop>(
-    rt: &impl Abort,
-    alloc: Global,
-    answer: std::result::Result<T, Error>,
-    text: &str,
-) {
-    check_text(rt, alloc, answer.err().expect(rt, "a refusal"), text);
+/// The values are printed as these texts.
+pub fn check_texts<T: Display>(rt: &impl Abort, alloc: Global, values: &[(T, &str)]) {
+    for (value, text) in values {
+        check_text(rt, alloc, value, text);
+    }
+}
+
+/// `Debug` prints the value as this text.
+pub fn check_debug<T: Debug + Drop>(rt: &impl Abort, alloc: Global, value: T, text: &str) {
+    let printed = format!(in alloc; "{value:?}").expect(rt, "memory is left");
+    check_same(rt, printed.as_str(), text);
 }
 
 /// A message in memory.
-pub fn message<T: Serialize>(alloc: Global, value: &T) -> std::result::Result<Vec<u8>, Error> {
+pub fn message<T: Serialize>(alloc: Global, value: &T) -> Result<Vec<u8>> {
     match serialize(alloc, Watched::new(Vec::new(alloc)), value) {
         Ok(writer) => Ok(writer.into_inner()),
         Err((_, error)) => Err(error),
@@ -56,5 +52,5 @@ pub fn check_written<T: Serialize + Drop>(
     expected: &[u8],
 ) {
     let found = message(alloc, &value).expect(rt, "the value is written");
-    check_bytes(rt, found.as_slice(), expected);
+    check_bytes(rt, &found, expected);
 }

@@ -1,5 +1,5 @@
 //! The printed texts of refusals and of tags.
-use super::checks::{check_string, check_text};
+use super::checks::{check_text, check_texts};
 use bser_format::errors::{Collection, Complaint, EnumName, Error, Kind, Message, ReadCause};
 use bser_format::header::{HeaderByte, header_byte_desc};
 use std::alloc::Global;
@@ -7,8 +7,13 @@ use std::io;
 use std::io::ErrorKind;
 use std::process::Abort;
 
+/// A reader's fault.
+fn reader_fault() -> ReadCause {
+    ReadCause::Reader(io::Error::from(ErrorKind::Other))
+}
+
 #[test]
-fn kinds(rt: HostRuntime) {
+fn kinds_and_causes(rt: HostRuntime) {
     let kinds = [
         (Kind::NextItem, "next item"),
         (Kind::Integer, "integer"),
@@ -24,9 +29,15 @@ fn kinds(rt: HostRuntime) {
             "object-like enum 'TestEnum'",
         ),
     ];
-    for (kind, text) in &kinds {
-        check_text(&rt, rt.alloc(), kind, text);
-    }
+    check_texts(&rt, rt.alloc(), &kinds);
+    let causes = [
+        (ReadCause::Eof, "end of input"),
+        (ReadCause::Utf8, "invalid UTF-8"),
+        (reader_fault(), "reader fault"),
+        (ReadCause::Memory, "out of memory"),
+        (ReadCause::Failed, "failed before"),
+    ];
+    check_texts(&rt, rt.alloc(), &causes);
 }
 
 const COMPLAINTS: [(Complaint, &str); 12] = [
@@ -50,87 +61,68 @@ const COMPLAINTS: [(Complaint, &str); 12] = [
     (Complaint::CountTooGreat, "count too great"),
 ];
 
-/// The error is printed as this beginning and then the text.
-fn check_error(rt: &impl Abort, alloc: Global, error: Error, beginning: &str, text: &str) {
-    let whole = format!(in alloc; "{beginning}{text}").expect(rt, "memory is left");
-    check_text(rt, alloc, error, whole.as_str());
-}
-
-/// The complaint is printed as this text, by itself and as a refusal of each side.
-fn check_complaint(rt: &impl Abort, alloc: Global, complaint: Complaint, text: &str) {
-    check_text(rt, alloc, complaint, text);
-    let reading = Error::de_custom(complaint);
-    check_error(rt, alloc, reading, "error while deserializing BSER: ", text);
-    let writing = Error::ser_custom(complaint);
-    check_error(rt, alloc, writing, "error while serializing BSER: ", text);
-}
-
+/// A complaint is printed as its text, by itself and as a refusal of each side.
 #[test]
 fn fixed_messages(rt: HostRuntime) {
+    check_texts(&rt, rt.alloc(), &COMPLAINTS);
     for (complaint, text) in &COMPLAINTS {
-        check_complaint(&rt, rt.alloc(), *complaint, text);
+        let (reading, writing) = (Error::de_custom(*complaint), Error::ser_custom(*complaint));
+        let both = format!(in rt.alloc(); "{reading}, {writing}").expect(&rt, "memory is left");
+        let expected = format!(in rt.alloc();
+            "error while deserializing BSER: {text}, error while serializing BSER: {text}"
+        ).expect(&rt, "memory is left");
+        check_text(&rt, rt.alloc(), both, expected.as_str());
     }
 }
 
-/// A reader's fault.
-fn reader_fault() -> ReadCause {
-    ReadCause::Reader(io::Error::from(ErrorKind::Other))
-}
-
-#[test]
-fn causes_of_refusals_of_reading(rt: HostRuntime) {
-    let alloc = rt.alloc();
-    check_text(&rt, alloc, ReadCause::Eof, "end of input");
-    check_text(&rt, alloc, ReadCause::Utf8, "invalid UTF-8");
-    check_text(&rt, alloc, reader_fault(), "reader fault");
-    check_text(&rt, alloc, ReadCause::Memory, "out of memory");
-    check_text(&rt, alloc, ReadCause::Failed, "failed before");
+/// A refusal with a message of the program's own.
+fn made(rt: &impl Abort, alloc: Global) -> Error {
+    let msg = Message::Made(String::from_str(alloc, "no colour").expect(rt, "memory is left"));
+    Error::DeCustom { msg }
 }
 
 #[test]
 fn refusals_of_reading(rt: HostRuntime) {
-    let alloc = rt.alloc();
-    let refused = Error::de_reader_error(reader_fault());
-    check_text(&rt, alloc, refused, "reader error while deserializing");
-    let refused = Error::de_reader_error(ReadCause::Memory);
-    check_text(&rt, alloc, refused, "out of memory");
-    let made = Error::DeCustom {
-        msg: Message::Made(String::from_str(alloc, "no colour").expect(&rt, "memory is left")),
-    };
-    check_text(
-        &rt,
-        alloc,
-        made,
-        "error while deserializing BSER: no colour",
-    );
-    let refused = Error::DeRecursionLimitExceeded {
-        kind: Kind::ObjectLikeEnum(EnumName::new("TestEnum")),
-    };
-    let text =
-        "while deserializing BSER: recursion limit exceeded with object-like enum 'TestEnum'";
-    check_text(&rt, alloc, refused, text);
-}
-
-/// The refusal of a collection whose size is not told.
-fn check_need_size(rt: &impl Abort, alloc: Global, kind: Collection, text: &str) {
-    check_text(rt, alloc, Error::SerNeedSize { kind }, text)
+    let kind = Kind::ObjectLikeEnum(EnumName::new("TestEnum"));
+    let refusals = [
+        (
+            Error::de_reader_error(reader_fault()),
+            "reader error while deserializing",
+        ),
+        (Error::de_reader_error(ReadCause::Memory), "out of memory"),
+        (
+            made(&rt, rt.alloc()),
+            "error while deserializing BSER: no colour",
+        ),
+        (
+            Error::DeRecursionLimitExceeded { kind },
+            "while deserializing BSER: recursion limit exceeded with object-like enum 'TestEnum'",
+        ),
+    ];
+    check_texts(&rt, rt.alloc(), &refusals);
 }
 
 #[test]
 fn refusals_of_writing(rt: HostRuntime) {
-    let alloc = rt.alloc();
-    let text = "while serializing BSER: need size of sequence";
-    check_need_size(&rt, alloc, Collection::Sequence, text);
-    let text = "while serializing BSER: need size of map";
-    check_need_size(&rt, alloc, Collection::Map, text);
-    let great = Error::SerU64TooBig {
-        v: 9223372036854775808,
-    };
-    let text = "while serializing BSER: integer too big: 9223372036854775808";
-    check_text(&rt, alloc, great, text);
-    let fault = Error::from(io::Error::from(ErrorKind::Other));
-    check_text(&rt, alloc, fault, "IO Error");
-    check_text(&rt, alloc, Error::OutOfMemory, "out of memory");
+    let (sequence, map) = (Collection::Sequence, Collection::Map);
+    let great = 9223372036854775808;
+    let refusals = [
+        (
+            Error::SerNeedSize { kind: sequence },
+            "while serializing BSER: need size of sequence",
+        ),
+        (
+            Error::SerNeedSize { kind: map },
+            "while serializing BSER: need size of map",
+        ),
+        (
+            Error::SerU64TooBig { v: great },
+            "while serializing BSER: integer too big: 9223372036854775808",
+        ),
+        (Error::from(io::Error::from(ErrorKind::Other)), "IO Error"),
+        (Error::OutOfMemory, "out of memory"),
+    ];
+    check_texts(&rt, rt.alloc(), &refusals);
 }
 
 const TAGS: [(u8, &str); 15] = [
@@ -151,15 +143,12 @@ const TAGS: [(u8, &str); 15] = [
     (0xff, "unknown byte '255'"),
 ];
 
-/// The tag's byte is described by this text, as a value and by its function.
-fn check_tag(rt: &impl Abort, alloc: Global, byte: u8, text: &str) {
-    check_text(rt, alloc, HeaderByte(byte), text);
-    check_string(rt, header_byte_desc(alloc, byte), text);
-}
-
+/// A tag's byte is described by its text, as a value and by its function.
 #[test]
 fn tags(rt: HostRuntime) {
     for (byte, text) in &TAGS {
-        check_tag(&rt, rt.alloc(), *byte, text);
+        check_text(&rt, rt.alloc(), HeaderByte(*byte), text);
+        let described = header_byte_desc(rt.alloc(), *byte).expect(&rt, "memory is left");
+        check_text(&rt, rt.alloc(), described, text);
     }
 }

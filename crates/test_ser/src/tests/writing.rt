@@ -3,7 +3,7 @@ mod strings;
 mod types;
 
 use self::types::{RealBits, TestEnum, TestStruct};
-use super::checks::{Tested, check_bytes, check_refused, check_written, message};
+use super::checks::{check_bytes, check_debug, check_written};
 use bser_format::bytestring::ByteString;
 use bser_format::errors::Error;
 use bser_ser::message::serialize_to;
@@ -14,7 +14,6 @@ use std::collections::BTreeMap;
 use std::io;
 use std::io::{ErrorKind, Write};
 use std::process::Abort;
-use std::test::Fail;
 
 /// A writer that follows a plan: for each call how many bytes it takes, or a fault. After the plan
 /// it takes all.
@@ -106,79 +105,64 @@ fn check_taken(rt: &impl Abort, writer: Watched<Planned>, expected: &[u8]) {
     check_bytes(rt, writer.into_inner().bytes.as_slice(), expected);
 }
 
-/// The text is finished, and the writer has taken it whole.
-fn check_finished(rt: &impl Abort, out: Planning) {
+/// Each flush is answered so, and then the text is finished, and the writer has taken it whole.
+fn check_flushes(rt: &impl Abort, alloc: Global, plan: &'static [Step], answers: &[&str]) {
+    let mut out = with_hello(rt, alloc, plan);
+    for answer in answers {
+        check_debug(rt, alloc, out.flush(), answer);
+    }
     let writer = out.finish().expect(rt, "the writer takes the rest");
     check_taken(rt, writer, b"\x0d\x03\x05hello");
 }
 
-/// The fault is of this kind.
-fn check_kind(rt: &impl Abort, fault: &io::Error, kind: ErrorKind) {
-    assert_eq!(rt; fault.kind(), kind);
+#[test]
+fn what_takes_nothing_and_what_is_interrupted_goes_on_at_the_next_flush(rt: HostRuntime) {
+    let zero = "Err(Custom { kind: WriteZero, error: \"nothing taken\" })";
+    check_flushes(&rt, rt.alloc(), &[Step::Take(0)], &[zero]);
+    let plan = &[Step::Take(2), Step::Fault(ErrorKind::Interrupted)];
+    let interrupted = "Err(Custom { kind: Interrupted, error: \"planned\" })";
+    check_flushes(&rt, rt.alloc(), plan, &[interrupted, "Ok(())"]);
 }
 
-/// Flushing stops with a fault of this kind.
-fn check_flush_stops(rt: &impl Abort, out: &mut Planning, kind: ErrorKind) {
-    check_kind(rt, &out.flush().err().expect(rt, "a fault"), kind);
-}
-
-/// Finishing stops with a fault of kind `Other`, and hands the serializer back.
-fn stopped(rt: &impl Abort, out: Planning) -> Planning {
-    let (out, fault) = out.try_finish().err().expect(rt, "a fault");
-    check_kind(rt, &fault, ErrorKind::Other);
+/// Finishing stops with a fault after three bytes, and hands the serializer back.
+fn stopped(rt: &impl Abort, alloc: Global) -> Planning {
+    let plan = &[Step::Take(3), Step::Fault(ErrorKind::Other)];
+    let (out, fault) = with_hello(rt, alloc, plan)
+        .try_finish()
+        .err()
+        .expect(rt, "a fault");
+    check_debug(
+        rt,
+        alloc,
+        fault,
+        "Custom { kind: Other, error: \"planned\" }",
+    );
     out
 }
 
-/// Finishing again goes on, and the writer has taken the text whole.
-fn check_finished_again(rt: &impl Abort, out: Planning) {
-    let writer = out.try_finish().ok().expect(rt, "no fault");
-    check_taken(rt, writer, b"\x0d\x03\x05hello");
+#[test]
+fn after_a_fault_it_goes_on_at_the_same_byte_and_what_was_taken_stays(rt: HostRuntime) {
+    let writer = stopped(&rt, rt.alloc())
+        .try_finish()
+        .ok()
+        .expect(&rt, "no fault");
+    check_taken(&rt, writer, b"\x0d\x03\x05hello");
+    check_taken(&rt, stopped(&rt, rt.alloc()).into_writer(), b"\x0d\x03\x05");
+}
+
+/// A list of a number that no message holds.
+fn great_number(alloc: Global) -> Result<Vec<u64>, AllocError> {
+    Ok(vec![in alloc; 9223372036854775808u64]?)
 }
 
 #[test]
-fn goes_on_at_the_same_byte_after_a_fault(rt: HostRuntime) {
-    let plan = &[Step::Take(3), Step::Fault(ErrorKind::Other)];
-    let out = stopped(&rt, with_hello(&rt, rt.alloc(), plan));
-    check_finished_again(&rt, out);
-}
-
-#[test]
-fn a_writer_that_takes_nothing_gives_write_zero(rt: HostRuntime) {
-    let mut out = with_hello(&rt, rt.alloc(), &[Step::Take(0)]);
-    check_flush_stops(&rt, &mut out, ErrorKind::WriteZero);
-    check_finished(&rt, out);
-}
-
-#[test]
-fn an_interruption_is_handed_back(rt: HostRuntime) {
-    let plan = &[Step::Take(2), Step::Fault(ErrorKind::Interrupted)];
-    let mut out = with_hello(&rt, rt.alloc(), plan);
-    check_flush_stops(&rt, &mut out, ErrorKind::Interrupted);
-    out.flush().expect(&rt, "no fault");
-    check_finished(&rt, out);
-}
-
-#[test]
-fn refuses_a_great_number_before_writing(rt: HostRuntime) -> Tested {
-    let alloc = rt.alloc();
-    let numbers = vec![in alloc; 9223372036854775808u64]?;
+fn refuses_a_great_number_before_writing(rt: HostRuntime) {
+    let numbers = great_number(rt.alloc()).expect(&rt, "memory is left");
     let mut writer = CountWrite::new();
-    let answer = serialize_to(alloc, &mut writer, &numbers);
+    let answer = serialize_to(rt.alloc(), &mut writer, &numbers);
+    let refusal = "Err(SerU64TooBig { v: 9223372036854775808 })";
+    check_debug(&rt, rt.alloc(), answer, refusal);
     assert_eq!(rt; writer.count(), 0);
-    check_refused(
-        &rt,
-        alloc,
-        answer,
-        "while serializing BSER: integer too big: 9223372036854775808",
-    );
-    Ok(())
-}
-
-#[test]
-fn what_was_taken_before_a_fault_stays_taken(rt: HostRuntime) {
-    let plan = &[Step::Take(3), Step::Fault(ErrorKind::Other)];
-    let out = stopped(&rt, with_hello(&rt, rt.alloc(), plan));
-    check_taken(&rt, out.into_writer(), b"\x0d\x03\x05");
 }
 
 /// A serializer into memory.
@@ -187,7 +171,7 @@ fn in_memory(alloc: Global) -> Serializer<Watched<Vec<u8>>> {
 }
 
 /// Puts a byte string of 4094 bytes, and so many nulls.
-fn put_much<W: Sink>(out: &mut Serializer<W>, nulls: usize) -> std::result::Result<(), Error> {
+fn put_much<W: Sink>(out: &mut Serializer<W>, nulls: usize) -> Result<(), Error> {
     out.put_bytes(&[0; 4090])?;
     for _ in 0..nulls {
         out.put_null()?;
@@ -214,76 +198,77 @@ fn check_put(rt: &impl Abort, out: Serializer<Watched<Vec<u8>>>, expected: &[u8]
     check_bytes(rt, writer.into_inner().as_slice(), expected);
 }
 
-/// Puts a text, and puts it again where memory was refused.
-fn put_again<W: Sink>(out: &mut Serializer<W>, text: &str) -> std::result::Result<(), Error> {
-    match out.put_text(text) {
-        Err(Error::OutOfMemory) => out.put_text(text),
-        answer => answer,
+/// Puts a text, or else the name of a variant, and puts it again where memory was refused.
+fn put_again<W: Sink>(out: &mut Serializer<W>, text: &str, is_variant: bool) -> Result<(), Error> {
+    for _ in 0..2 {
+        let answer = if is_variant {
+            out.put_newtype_variant(text)
+        } else {
+            out.put_text(text)
+        };
+        if !matches!(answer, Err(Error::OutOfMemory)) {
+            return answer;
+        }
     }
+    Err(Error::OutOfMemory)
 }
 
-/// Puts the name of a variant, and puts it again where memory was refused.
-fn put_variant_again<W: Sink>(
-    out: &mut Serializer<W>,
-    name: &str,
-) -> std::result::Result<(), Error> {
-    match out.put_newtype_variant(name) {
-        Err(Error::OutOfMemory) => out.put_newtype_variant(name),
-        answer => answer,
+/// Puts three texts and the name of a variant, each again where memory was refused.
+fn put_all_again<W: Sink>(out: &mut Serializer<W>) -> Result<(), Error> {
+    for text in ["hello", "a text", "and one that is longer"] {
+        put_again(out, text, false)?;
     }
+    put_again(out, "of an enum", true)
 }
 
 /// The pending bytes grow four times. Where the tests run with one of these growths refused, they
 /// are the same.
 #[test]
-fn a_put_that_is_refused_for_memory_can_be_put_again(rt: HostRuntime) -> Tested {
+fn a_put_that_is_refused_for_memory_can_be_put_again(rt: HostRuntime) {
     let mut out = in_memory(rt.alloc());
-    for text in ["hello", "a text", "and one that is longer"] {
-        put_again(&mut out, text)?;
-    }
-    put_variant_again(&mut out, "of an enum")?;
+    put_all_again(&mut out).expect(&rt, "each is put");
     check_put(
         &rt,
         out,
         b"\x0d\x03\x05hello\x0d\x03\x06a text\x0d\x03\x16and one that is longer\x01\x03\x01\x0d\x03\x0aof an enum",
     );
-    Ok(())
 }
 
 #[test]
 fn a_sequence_needs_its_size(rt: HostRuntime) {
     let mut out = in_memory(rt.alloc());
-    check_refused(
+    check_debug(
         &rt,
         rt.alloc(),
         out.put_seq(None),
-        "while serializing BSER: need size of sequence",
+        "Err(SerNeedSize { kind: Sequence })",
     );
     out.put_null().expect(&rt, "a null is put");
     check_put(&rt, out, b"\x0a");
 }
 
+/// Puts an object of one entry, whose key is no text.
+fn put_entry<W: Sink>(out: &mut Serializer<W>) -> Result<(), Error> {
+    out.put_map(Some(1))?;
+    out.put_key(b"\xff")?;
+    out.put_null()
+}
+
 #[test]
 fn puts_a_key_that_is_no_text(rt: HostRuntime) {
     let mut out = in_memory(rt.alloc());
-    out.put_map(Some(1)).expect(&rt, "an object is put");
-    out.put_key(b"\xff").expect(&rt, "a key is put");
-    out.put_null().expect(&rt, "a null is put");
+    put_entry(&mut out).expect(&rt, "an object is put");
     check_put(&rt, out, b"\x01\x03\x01\x02\x03\x01\xff\x0a");
 }
 
 /// A variant with fields.
-fn struct_variant() -> TestEnum {
-    TestEnum::TestStruct {
-        abc: (),
-        def: '\u{1f4a9}',
-    }
-}
+const STRUCT_VARIANT: TestEnum = TestEnum::TestStruct {
+    abc: (),
+    def: '\u{1f4a9}',
+};
 
 /// A variant with parts.
-fn tuple_variant() -> TestEnum {
-    TestEnum::TestTuple(42, 9223372036854775807)
-}
+const TUPLE_VARIANT: TestEnum = TestEnum::TestTuple(42, 9223372036854775807);
 
 #[test]
 fn writes_the_variants_of_an_enum(rt: HostRuntime) {
@@ -297,29 +282,25 @@ fn writes_the_variants_of_an_enum(rt: HostRuntime) {
     check_written(
         &rt,
         alloc,
-        struct_variant(),
+        STRUCT_VARIANT,
         b"\x00\x02\x00\x00\x00\x00\x03\x27\x01\x03\x01\x0d\x03\x0aTestStruct\x01\x03\x02\x0d\x03\x03abc\x0a\x0d\x03\x03def\x0d\x03\x04\xf0\x9f\x92\xa9",
     );
     check_written(
         &rt,
         alloc,
-        tuple_variant(),
+        TUPLE_VARIANT,
         b"\x00\x02\x00\x00\x00\x00\x03\x1d\x01\x03\x01\x0d\x03\x09TestTuple\x00\x03\x02\x03\x2a\x06\xff\xff\xff\xff\xff\xff\xff\x7f",
     );
 }
 
 /// A list of variants that hold something.
-fn enum_list(alloc: Global) -> std::result::Result<Vec<TestEnum>, AllocError> {
+fn enum_list(alloc: Global) -> Result<Vec<TestEnum>, AllocError> {
     let text = ByteString::from_text(alloc, "BSER test")?;
-    Ok(vec![in alloc;
-        TestEnum::TestNewtype(text),
-        tuple_variant(),
-        struct_variant(),
-    ]?)
+    Ok(vec![in alloc; TestEnum::TestNewtype(text), TUPLE_VARIANT, STRUCT_VARIANT]?)
 }
 
 /// A struct with something in each field.
-fn test_struct(alloc: Global) -> std::result::Result<TestStruct<TestEnum>, AllocError> {
+fn test_struct(alloc: Global) -> Result<TestStruct<TestEnum>, AllocError> {
     Ok(TestStruct {
         test_list: vec![in alloc; 3, 4, 42, 987, 524288]?,
         test_tuple: ("foo", Some(RealBits(0x400921fb54442d18))),
@@ -329,18 +310,17 @@ fn test_struct(alloc: Global) -> std::result::Result<TestStruct<TestEnum>, Alloc
 }
 
 #[test]
-fn writes_a_struct_of_a_list_a_tuple_and_enums(rt: HostRuntime) -> Tested {
+fn writes_a_struct_of_a_list_a_tuple_and_enums(rt: HostRuntime) {
     check_written(
         &rt,
         rt.alloc(),
-        test_struct(rt.alloc())?,
+        test_struct(rt.alloc()).expect(&rt, "memory is left"),
         b"\x00\x02\x00\x00\x00\x00\x04\xcb\x00\x01\x03\x04\x0d\x03\x09test_list\x00\x03\x05\x03\x03\x03\x04\x03\x2a\x04\xdb\x03\x05\x00\x00\x08\x00\x0d\x03\x0atest_tuple\x00\x03\x02\x0d\x03\x03foo\x07\x18\x2d\x44\x54\xfb\x21\x09\x40\x0d\x03\x09test_enum\x0d\x03\x08TestUnit\x0d\x03\x0etest_enum_list\x00\x03\x03\x01\x03\x01\x0d\x03\x0bTestNewtype\x02\x03\x09BSER test\x01\x03\x01\x0d\x03\x09TestTuple\x00\x03\x02\x03\x2a\x06\xff\xff\xff\xff\xff\xff\xff\x7f\x01\x03\x01\x0d\x03\x0aTestStruct\x01\x03\x02\x0d\x03\x03abc\x0a\x0d\x03\x03def\x0d\x03\x04\xf0\x9f\x92\xa9",
     );
-    Ok(())
 }
 
 /// A map with a member that has a value and one that has none.
-fn members(alloc: Global) -> std::result::Result<BTreeMap<String, Option<u8>>, AllocError> {
+fn members(alloc: Global) -> Result<BTreeMap<String, Option<u8>>, AllocError> {
     let mut members = BTreeMap::new(alloc);
     members.insert(String::from_str(alloc, "b")?, Some(1))?;
     members.insert(String::from_str(alloc, "a")?, None)?;
@@ -348,12 +328,12 @@ fn members(alloc: Global) -> std::result::Result<BTreeMap<String, Option<u8>>, A
 }
 
 #[test]
-fn writes_maps_options_and_tuples(rt: HostRuntime) -> Tested {
+fn writes_maps_options_and_tuples(rt: HostRuntime) {
     let alloc = rt.alloc();
     check_written(
         &rt,
         alloc,
-        members(alloc)?,
+        members(alloc).expect(&rt, "memory is left"),
         b"\x00\x02\x00\x00\x00\x00\x03\x0e\x01\x03\x02\x0d\x03\x01a\x0a\x0d\x03\x01b\x03\x01",
     );
     check_written(
@@ -362,5 +342,4 @@ fn writes_maps_options_and_tuples(rt: HostRuntime) -> Tested {
         (true, "x", [()].as_slice(), 'y'),
         b"\x00\x02\x00\x00\x00\x00\x03\x10\x00\x03\x04\x08\x0d\x03\x01x\x00\x03\x01\x0a\x0d\x03\x01y",
     );
-    Ok(())
 }

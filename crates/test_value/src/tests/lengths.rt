@@ -1,6 +1,6 @@
 //! Values of long messages.
-use super::checks::check_written;
-use super::repeated;
+use super::checks::repeated;
+use super::writing::check_written;
 use bser_vectors::devices::{Plan, PlannedReader};
 use serde_bser::de::{DeserializeOwned, Ignored, from_reader, from_slice};
 use serde_bser::device::Watched;
@@ -9,59 +9,47 @@ use serde_bser::value::Value;
 use std::alloc::Global;
 use std::process::Abort;
 
-/// The items of an array.
-fn items<'a>(value: &'a Value) -> Option<&'a [Value]> {
-    match value {
-        Value::Array(items) => Some(items.as_slice()),
-        _ => None,
-    }
-}
-
-/// A message with this head, and an array's items after it: so many numbers, from 0 to 99 again and
-/// again.
-fn numbers(alloc: Global, head: &[u8], count: usize) -> Result<Vec<u8>> {
+/// A message of an array of 5000 numbers, from 0 to 99 again and again.
+fn numbers(alloc: Global) -> Result<Vec<u8>> {
+    let head = b"\x00\x02\x00\x00\x00\x00\x04\x14\x27\x00\x04\x88\x13";
     let mut message = Vec::from_slice(alloc, head)?;
     let mut number = 0u8;
-    for _ in 0..count {
+    for _ in 0..5000 {
         message.extend_from_slice(&[3, number])?;
         number = number.wrapping_add(1) % 100;
     }
     Ok(message)
 }
 
-/// Checks that the items are so many numbers, from 0 to 99 again and again.
-fn check_numbers(rt: &impl Abort, items: &[Value], count: usize) {
-    assert_eq!(rt; items.len(), count);
+/// Checks that the answer is an array of 5000 numbers, from 0 to 99 again and again.
+fn check_numbers(rt: &impl Abort, answer: Result<Value>) {
+    let value = answer.expect(rt, "the message is read");
+    let items = value.as_array().expect(rt, "an array");
+    assert_eq!(rt; items.len(), 5000);
     let mut expected = 0i64;
-    for item in items {
-        assert!(rt;
-            matches!(item, Value::Integer(number) if *number == expected),
-            "{expected}"
-        );
+    for item in items.iter() {
+        assert_eq!(rt; item.as_i64(), Some(expected));
         expected = expected.wrapping_add(1) % 100;
     }
 }
 
 #[test]
 fn an_array_of_five_thousand_items_keeps_their_order(rt: HostRuntime) {
-    let alloc = rt.alloc();
-    let head = b"\x00\x02\x00\x00\x00\x00\x04\x14\x27\x00\x04\x88\x13";
-    let message = numbers(alloc, head, 5000).expect(&rt, "memory is left");
-    let value = from_slice::<Value>(alloc, &message).expect(&rt, "the message is read");
-    check_numbers(&rt, items(&value).unwrap_or_default(), 5000);
+    let message = numbers(rt.alloc()).expect(&rt, "memory is left");
+    check_numbers(&rt, from_slice(rt.alloc(), &message));
     let mut reader = Watched::new(message.as_slice());
-    assert!(rt;
-        value == from_reader::<_, Value>(alloc, &mut reader).expect(&rt, "the message is read")
-    );
+    check_numbers(&rt, from_reader(rt.alloc(), &mut reader));
 }
 
 #[test]
 fn a_long_byte_string_is_written_as_it_was_read(rt: HostRuntime) {
-    let alloc = rt.alloc();
     let front = b"\x00\x02\0\0\0\0\x05\x46\x0d\x03\x00\x02\x05\x40\x0d\x03\x00";
-    let message = repeated(alloc, front, b"\xff\x00", 100_000, b"").expect(&rt, "memory is left");
-    let value = from_slice::<Value>(alloc, &message).expect(&rt, "the message is read");
-    check_written(&rt, alloc, &value, &message);
+    let message = repeated(rt.alloc(), front, b"\xff\x00", 100_000, b"").expect(
+        &rt,
+        "memory is left",
+    );
+    let value = from_slice(rt.alloc(), &message).expect(&rt, "the message is read");
+    check_written(&rt, rt.alloc(), &value, &message);
 }
 
 /// Checks that a reader that gives what is asked for is called at most 16 times for the message.
@@ -74,12 +62,11 @@ fn check_calls<T: DeserializeOwned>(rt: &impl Abort, alloc: Global, message: &[u
 
 #[test]
 fn a_reader_is_called_rarely_however_deep_the_message(rt: HostRuntime) {
-    let alloc = rt.alloc();
     let head = b"\x00\x02\0\0\0\0\x04\x80\x01";
-    let message = repeated(alloc, head, b"\x00\x03\x01", 127, b"\x00\x03\x00").expect(
+    let message = repeated(rt.alloc(), head, b"\x00\x03\x01", 127, b"\x00\x03\x00").expect(
         &rt,
         "memory is left",
     );
-    check_calls::<Value>(&rt, alloc, &message);
-    check_calls::<Ignored>(&rt, alloc, &message);
+    check_calls::<Value>(&rt, rt.alloc(), &message);
+    check_calls::<Ignored>(&rt, rt.alloc(), &message);
 }

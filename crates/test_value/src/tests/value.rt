@@ -1,5 +1,5 @@
 //! Values that are made, copied and compared.
-use super::spelled;
+use super::checks::{check_answer, check_found, spelled};
 use serde_bser::value::Value;
 use std::alloc::{AllocError, Global};
 use std::collections::BTreeMap;
@@ -11,75 +11,62 @@ const NESTED: &str = "{6974656d73:[bff,i-5,r0000000000000001,t,n,s546f6d]}";
 /// The same with another real.
 const OTHER_REAL: &str = "{6974656d73:[bff,i-5,r0000000000000002,t,n,s546f6d]}";
 
-/// The integer that the number is as a value.
-fn integer_of(number: usize) -> Result<i64, &'static str> {
-    Value::from_usize(number)?.as_i64().ok_or("no integer")
-}
+/// Numbers, and the integers that they are as a value.
+static NUMBERS: [(usize, &str); 2] = [
+    (
+        9223372036854775808,
+        "Err(\"value is too large to represent as i64\")",
+    ),
+    (9223372036854775807, "Ok(Integer(9223372036854775807))"),
+];
 
 #[test]
 fn an_integer_above_the_limit_is_refused(rt: HostRuntime) {
-    let refused = Err("value is too large to represent as i64");
-    assert!(rt; integer_of(9223372036854775808) == refused);
-    assert!(rt; integer_of(9223372036854775807) == Ok(9223372036854775807));
+    for (number, value) in &NUMBERS {
+        check_found(&rt, rt.alloc(), Value::from_usize(*number), value);
+    }
 }
 
-/// Checks what a conversion gave.
-fn check_converted(rt: &impl Abort, value: Value, expected: Value) {
-    assert!(rt; value == expected);
-}
-
-/// A list of one value, which is null.
-fn one_null(alloc: Global) -> Result<Vec<Value>, AllocError> {
-    Ok(Vec::from_array(alloc, [Value::Null])?)
+/// A list of what is converted to a value of each variant.
+fn converted(alloc: Global) -> Result<Value, AllocError> {
+    let nulls = Vec::from_array(alloc, [Value::Null])?;
+    let items = [
+        Value::from(true),
+        Value::from(-5),
+        Value::from(String::from_str(alloc, "Tom")?),
+        Value::from_text(alloc, "Tom")?,
+        Value::from(nulls),
+        Value::from(BTreeMap::<String, Value>::new(alloc)),
+    ];
+    Ok(Value::from(Vec::from_array(alloc, items)?))
 }
 
 #[test]
 fn conversions_give_their_variants(rt: HostRuntime) {
-    let alloc = rt.alloc();
-    check_converted(&rt, Value::from(true), Value::Bool(true));
-    check_converted(&rt, Value::from(-5), Value::Integer(-5));
-    let text = Value::from(String::from_str(alloc, "Tom").expect(&rt, "memory is left"));
-    check_converted(
-        &rt,
-        text,
-        Value::from_text(alloc, "Tom").expect(&rt, "memory is left"),
-    );
-    let items = Value::from(one_null(alloc).expect(&rt, "memory is left"));
-    check_converted(
-        &rt,
-        items,
-        Value::Array(one_null(alloc).expect(&rt, "memory is left")),
-    );
-    let entries = Value::from(BTreeMap::<String, Value>::new(alloc));
-    check_converted(&rt, entries, Value::Object(BTreeMap::new(alloc)));
+    let value = converted(rt.alloc()).expect(&rt, "memory is left");
+    check_answer(&rt, rt.alloc(), Ok(value), "[t,i-5,s546f6d,s546f6d,[n],{}]");
 }
 
-#[test]
-fn a_copy_is_equal(rt: HostRuntime) {
-    let value = spelled(&rt, rt.alloc(), NESTED);
-    let copy = value.try_clone(rt.alloc()).expect(&rt, "memory is left");
-    assert!(rt; copy == value);
+/// Checks that the copy is as the value, and another is not.
+fn check_copy(rt: &impl Abort, value: &Value, copy: Value, other: &Value) {
+    assert!(rt; copy == *value && copy != *other && value != other);
     copy.check_tree();
 }
 
 #[test]
-fn a_clone_is_equal(rt: HostRuntime) {
+fn a_copy_and_a_clone_are_equal_and_another_real_differs(rt: HostRuntime) {
     let value = spelled(&rt, rt.alloc(), NESTED);
+    let other = spelled(&rt, rt.alloc(), OTHER_REAL);
+    let copy = value.try_clone(rt.alloc()).expect(&rt, "memory is left");
+    check_copy(&rt, &value, copy, &other);
     let clone = value.clone().expect(&rt, "memory is left");
-    assert!(rt; clone == value);
-    assert!(rt; clone != spelled(&rt, rt.alloc(), OTHER_REAL));
-}
-
-#[test]
-fn values_with_different_reals_differ(rt: HostRuntime) {
-    let value = spelled(&rt, rt.alloc(), NESTED);
-    assert!(rt; value != spelled(&rt, rt.alloc(), OTHER_REAL));
-    assert!(rt; Value::Real(5) != Value::Integer(5));
+    check_copy(&rt, &value, clone, &other);
+    check_copy(&rt, &Value::Real(5), Value::Real(5), &Value::Integer(5));
 }
 
 #[test]
 fn debug_prints_a_value(rt: HostRuntime) {
-    let value = spelled(&rt, rt.alloc(), NESTED);
-    let printed = format!(in rt.alloc(); "{value:?}").expect(&rt, "memory is left");
-    assert!(rt; printed.as_str().contains("Integer(-5)"), "{printed}");
+    let printed =
+        "Object({\"items\": Array([ByteString(\"\\\\xff\"), Integer(-5), Real(1), Bool(true), Null, Utf8String(\"Tom\")])})";
+    check_found(&rt, rt.alloc(), spelled(&rt, rt.alloc(), NESTED), printed);
 }

@@ -1,101 +1,172 @@
 //! Byte sources.
-use super::{check_bytes, check_equal, check_given, check_refused, source_of};
+use crate::tests::readers::source_of;
+use crate::tests::texts::is_printed;
 use bser_source::read::DeRead;
 use bser_source::slice_read::SliceRead;
+use bser_source::text::as_text;
 use std::alloc::Global;
 use std::process::Abort;
 
-/// No byte is left, and the call after the refusal is refused so.
-fn check_empty<R: DeRead>(rt: &impl Abort, alloc: Global, read: &mut R, again: &str) {
-    check_refused(rt, alloc, read.next(), "Eof");
-    check_refused(rt, alloc, read.peek(), again);
+/// A call, or what the scratch holds.
+#[derive(Clone, Copy)]
+enum Call {
+    /// The next byte, which is taken.
+    Next,
+    /// The next byte, which is not taken.
+    Peek,
+    /// The first two bytes, which are buffered, and of which one is taken.
+    Buffered,
+    /// A number of four bytes.
+    U32,
+    /// So many bytes, lent or copied.
+    Bytes(usize),
+    /// Why so many bytes are refused.
+    Refusal(usize),
+    /// How many bytes were taken.
+    Count,
+    Scratch,
+    ScratchLen,
+    /// Whether the scratch has room for little more than a window.
+    IsScratchSmall,
 }
 
-#[test]
-fn an_empty_slice_ends_each_time(rt: HostRuntime) {
-    check_empty(&rt, rt.alloc(), &mut SliceRead::new(b""), "Eof");
-}
+/// A call, and how its answer is printed.
+type Step = (Call, &'static str);
 
-#[test]
-fn an_empty_reader_ends_and_then_has_failed(rt: HostRuntime) {
-    check_empty(&rt, rt.alloc(), &mut source_of(b"", 9, 9), "Failed");
-}
-
-/// The first two bytes are buffered as these, and one is taken.
-fn check_buffered<R: DeRead>(rt: &impl Abort, read: &mut R, bytes: [u8; 2]) {
-    read.fill(2).expect(rt, "two bytes are left");
-    check_equal(rt, &read.buffered()[..2], &bytes);
+fn are_buffered<R: DeRead>(text: &str, read: &mut R) -> bool {
+    if read.fill(2).is_err() {
+        return false;
+    }
+    let are_so = is_printed(&read.buffered()[..2], text);
     read.consume(1);
+    are_so
 }
 
-/// Over the bytes 61 to 66.
-fn check_window<R: DeRead>(rt: &impl Abort, scratch: &mut Vec<u8>, read: &mut R) {
-    check_given(rt, read.peek(), 0x61);
-    check_equal(rt, read.read_count(), 0);
-    check_bytes(rt, read.next_bytes(0, scratch), b"");
-    check_buffered(rt, read, *b"ab");
-    check_given(rt, read.next_u32(scratch), 0x6564_6362);
-    check_given(rt, read.next(), 0x66);
-    check_equal(rt, read.read_count(), 6);
+fn are_bytes<R: DeRead>(len: usize, text: &str, scratch: &mut Vec<u8>, read: &mut R) -> bool {
+    match read.next_bytes(len, scratch) {
+        Ok(read) => is_printed(as_text(read.get_ref()), text),
+        Err(cause) => is_printed(cause, text),
+    }
 }
+
+fn is_answered<R: DeRead>(scratch: &mut Vec<u8>, (call, text): Step, read: &mut R) -> bool {
+    match call {
+        Call::Next => is_printed(read.next(), text),
+        Call::Peek => is_printed(read.peek(), text),
+        Call::Buffered => are_buffered(text, read),
+        Call::U32 => is_printed(read.next_u32(scratch), text),
+        Call::Bytes(len) => are_bytes(len, text, scratch, read),
+        Call::Refusal(len) => is_printed(read.next_bytes(len, scratch).err(), text),
+        Call::Count => is_printed(read.read_count(), text),
+        Call::Scratch => is_printed(scratch.as_slice(), text),
+        Call::ScratchLen => is_printed(scratch.len(), text),
+        Call::IsScratchSmall => is_printed(scratch.capacity() <= 65_542, text),
+    }
+}
+
+/// Checks that the source answers so step by step.
+fn check_source<R: DeRead + Drop>(rt: &impl Abort, alloc: Global, steps: &[Step], mut read: R) {
+    let mut scratch = Vec::new(alloc);
+    for (at, step) in steps.iter().enumerate() {
+        assert!(rt; is_answered(&mut scratch, *step, &mut read), "{at}");
+    }
+}
+
+/// A slice, or a reader of at most so many bytes a call, which is interrupted after so many bytes.
+#[derive(Clone, Copy)]
+enum Source {
+    Slice,
+    Reader(usize, usize),
+}
+
+fn check_steps(rt: &impl Abort, alloc: Global, (source, bytes, steps): Case) {
+    match source {
+        Source::Slice => check_source(rt, alloc, steps, SliceRead::new(bytes)),
+        Source::Reader(most, whole) => {
+            check_source(rt, alloc, steps, source_of(bytes, most, whole));
+        }
+    }
+}
+
+/// A source, its bytes, and what it answers.
+type Case = (Source, &'static [u8], &'static [Step]);
+
+/// What is buffered is taken first.
+const WINDOW: [Step; 7] = [
+    (Call::Peek, "Ok(97)"),
+    (Call::Count, "0"),
+    (Call::Bytes(0), "Some(\"\")"),
+    (Call::Buffered, "[97, 98]"),
+    (Call::U32, "Ok(1701077858)"),
+    (Call::Next, "Ok(102)"),
+    (Call::Count, "6"),
+];
+
+static CASES: [Case; 9] = [
+    // an empty slice ends each time
+    (
+        Source::Slice,
+        b"",
+        &[(Call::Next, "Err(Eof)"), (Call::Peek, "Err(Eof)")],
+    ),
+    // an empty reader ends and then has failed
+    (
+        Source::Reader(9, 9),
+        b"",
+        &[(Call::Next, "Err(Eof)"), (Call::Peek, "Err(Failed)")],
+    ),
+    (Source::Slice, b"abcdef", &WINDOW),
+    (Source::Reader(1, 9), b"abcdef", &WINDOW),
+    (Source::Reader(9, 9), b"abcdef", &WINDOW),
+    // a slice lends and a reader copies
+    (
+        Source::Slice,
+        b"abc",
+        &[(Call::Bytes(2), "Some(\"ab\")"), (Call::Scratch, "[]")],
+    ),
+    (
+        Source::Reader(9, 9),
+        b"abc",
+        &[
+            (Call::Bytes(2), "Some(\"ab\")"),
+            (Call::Scratch, "[97, 98]"),
+        ],
+    ),
+    // a scratch grows only as bytes arrive
+    (
+        Source::Reader(9, 9),
+        b"abc",
+        &[
+            (Call::Refusal(1 << 62), "Some(Eof)"),
+            (Call::IsScratchSmall, "true"),
+        ],
+    ),
+    // an interruption is a fault
+    (
+        Source::Reader(9, 2),
+        b"\x00\x02\x00",
+        &[
+            (Call::Next, "Ok(0)"),
+            (Call::Next, "Ok(2)"),
+            (Call::Next, "Err(Reader(Kind(Interrupted)))"),
+            (Call::Next, "Err(Failed)"),
+        ],
+    ),
+];
+
+/// Of 10,001 bytes one is taken, and then all others go to the scratch.
+const GATHERED: [Step; 4] = [
+    (Call::Next, "Ok(7)"),
+    (Call::Refusal(10_000), "None"),
+    (Call::ScratchLen, "10000"),
+    (Call::Count, "10001"),
+];
 
 #[test]
-fn what_is_buffered_is_taken_first(rt: HostRuntime) {
-    let mut scratch = Vec::new(rt.alloc());
-    check_window(&rt, &mut scratch, &mut SliceRead::new(b"abcdef"));
-    check_window(&rt, &mut scratch, &mut source_of(b"abcdef", 1, 9));
-    check_window(&rt, &mut scratch, &mut source_of(b"abcdef", 9, 9));
-}
-
-/// The first two of the bytes 61 to 63 are given, and the scratch holds these after it.
-fn check_copied<R: DeRead>(rt: &impl Abort, scratch: &mut Vec<u8>, read: &mut R, copied: &[u8]) {
-    check_bytes(rt, read.next_bytes(2, scratch), b"ab");
-    check_equal(rt, scratch.as_slice(), copied);
-}
-
-#[test]
-fn a_slice_lends_and_a_reader_copies(rt: HostRuntime) {
-    let mut scratch = Vec::new(rt.alloc());
-    check_copied(&rt, &mut scratch, &mut SliceRead::new(b"abc"), b"");
-    check_copied(&rt, &mut scratch, &mut source_of(b"abc", 9, 9), b"ab");
-}
-
-/// One byte 7 is taken, and then 10,000 bytes to the scratch.
-fn check_gathered<R: DeRead>(rt: &impl Abort, scratch: &mut Vec<u8>, read: &mut R) {
-    check_given(rt, read.next(), 7);
-    assert!(rt; read.next_bytes(10_000, scratch).is_ok());
-    check_equal(rt, scratch.len(), 10_000);
-    check_equal(rt, read.read_count(), 10_001);
-}
-
-#[test]
-fn bytes_beyond_the_window_go_to_the_scratch(rt: HostRuntime) {
-    let mut scratch = Vec::new(rt.alloc());
-    check_gathered(
-        &rt,
-        &mut scratch,
-        &mut source_of(&[7u8; 10_001], 4099, 10_001),
-    );
-}
-
-#[test]
-fn a_scratch_grows_only_as_bytes_arrive(rt: HostRuntime) {
-    let mut scratch = Vec::new(rt.alloc());
-    let mut read = source_of(b"abc", 9, 9);
-    let refused = read.next_bytes(1 << 62, &mut scratch);
-    check_refused(&rt, rt.alloc(), refused, "Eof");
-    assert!(rt; scratch.capacity() <= 65_542);
-}
-
-/// The bytes 00 and 02 are taken before the reader is interrupted.
-fn check_interruption<R: DeRead>(rt: &impl Abort, alloc: Global, read: &mut R) {
-    check_given(rt, read.next(), 0x00);
-    check_given(rt, read.next(), 0x02);
-    check_refused(rt, alloc, read.next(), "Reader(Kind(Interrupted))");
-    check_refused(rt, alloc, read.next(), "Failed");
-}
-
-#[test]
-fn an_interruption_is_a_fault(rt: HostRuntime) {
-    check_interruption(&rt, rt.alloc(), &mut source_of(b"\x00\x02\x00", 9, 2));
+fn a_source_gives_bytes_as_they_come_and_then_its_end_or_its_fault(rt: HostRuntime) {
+    for case in &CASES {
+        check_steps(&rt, rt.alloc(), *case);
+    }
+    let beyond_the_window = source_of(&[7u8; 10_001], 4099, 10_001);
+    check_source(&rt, rt.alloc(), &GATHERED, beyond_the_window);
 }

@@ -1,16 +1,361 @@
-//! Refusals by their names, and what is refused after them.
-use super::{ASKS, Ask, Name, Wanted, ends_by, is_refused_by, keeps, make_due, reader_of};
-use bser_deserializer::cursor::Cursor;
-use bser_deserializer::deserializer::{Deserializer, Due};
-use bser_format::errors::{Complaint, Result};
-use bser_source::read::DeRead;
-use bser_source::reference::LendsText;
-use bser_source::slice_read::SliceRead;
+//! Refusals by their reasons, and what is refused after them.
+use super::steps::{Call, FAILED, REFUSED, Step, check_steps};
+use bser_deserializer::deserializer::Due;
+use bser_format::errors::Result;
 use std::alloc::Global;
 use std::process::Abort;
 
-/// What is due at a body's front, a call, how it is refused, and the body.
-type Case = (Due, Ask, Name, &'static [u8]);
+/// What is due at a body's front, a call that is refused, its reason, and the body.
+type Case = (Due, Call, &'static str, &'static [u8]);
+
+const TYPE: &str = "DeCustom { msg: Fixed(WrongType) }";
+
+const COUNT: &str = "DeCustom { msg: Fixed(NegativeCount) }";
+
+const LENGTH: &str = "DeCustom { msg: Fixed(NegativeLength) }";
+
+const ROWS: &str = "DeCustom { msg: Fixed(RowsWithoutKeys) }";
+
+const NOTHING: &str = "DeCustom { msg: Fixed(TooFewItems) }";
+
+const EOF: &str = "DeReaderError { source: Eof }";
+
+const UTF8: &str = "DeReaderError { source: Utf8 }";
+
+/// Another kind than is asked for is the wrong type.
+const OTHER_KINDS: [Case; 18] = [
+    (Due::Node, Call::Bool, TYPE, b"\x0a"),
+    (Due::Node, Call::Integer, TYPE, b"\x08"),
+    (
+        Due::Node,
+        Call::Integer,
+        TYPE,
+        b"\x07\x00\x00\x00\x00\x00\x00\x00\x00",
+    ),
+    (Due::Node, Call::Real, TYPE, b"\x03\x01"),
+    (Due::Node, Call::Unit, TYPE, b"\x09"),
+    (Due::Node, Call::Bytes, TYPE, b"\x00\x03\x00"),
+    (Due::Node, Call::Text, TYPE, b"\x03\x01"),
+    (Due::Node, Call::Items, TYPE, b"\x01\x03\x00"),
+    (Due::Node, Call::Pairs, TYPE, b"\x00\x03\x00"),
+    (Due::Node, Call::Pairs, TYPE, b"\x0b\x00\x03\x00\x03\x00"),
+    (Due::Field, Call::Bool, TYPE, b"\x0c"),
+    (Due::Field, Call::Text, TYPE, b"\x0c"),
+    (Due::Key, Call::Integer, TYPE, b"\x02\x03\x00"),
+    (Due::Key, Call::Unit, TYPE, b"\x0d\x03\x00"),
+    (Due::Key, Call::Items, TYPE, b"\x02\x03\x00"),
+    (Due::Row, Call::Bool, TYPE, b"\x08"),
+    (Due::Row, Call::Text, TYPE, b"\x02\x03\x00"),
+    (Due::Row, Call::Items, TYPE, b"\x00\x03\x00"),
+];
+
+/// A byte that may not stand there is named with its place.
+const STRAY_BYTES: [Case; 20] = [
+    (
+        Due::Node,
+        Call::Node,
+        "DeInvalidStartByte { kind: NextItem, byte: 14 }",
+        b"\x0e",
+    ),
+    (
+        Due::Node,
+        Call::IsNone,
+        "DeInvalidStartByte { kind: NextItem, byte: 12 }",
+        b"\x0c",
+    ),
+    (
+        Due::Node,
+        Call::Bool,
+        "DeInvalidStartByte { kind: NextItem, byte: 255 }",
+        b"\xff",
+    ),
+    (
+        Due::Node,
+        Call::Integer,
+        "DeInvalidStartByte { kind: NextItem, byte: 14 }",
+        b"\x0e",
+    ),
+    (
+        Due::Node,
+        Call::Unit,
+        "DeInvalidStartByte { kind: NextItem, byte: 12 }",
+        b"\x0c",
+    ),
+    (
+        Due::Node,
+        Call::Text,
+        "DeInvalidStartByte { kind: NextItem, byte: 15 }",
+        b"\x0f",
+    ),
+    (
+        Due::Node,
+        Call::Items,
+        "DeInvalidStartByte { kind: NextItem, byte: 12 }",
+        b"\x0c",
+    ),
+    (
+        Due::Node,
+        Call::Pairs,
+        "DeInvalidStartByte { kind: NextItem, byte: 97 }",
+        b"\x61",
+    ),
+    (
+        Due::Field,
+        Call::Real,
+        "DeInvalidStartByte { kind: NextItem, byte: 14 }",
+        b"\x0e",
+    ),
+    (
+        Due::Key,
+        Call::Node,
+        "DeInvalidStartByte { kind: MapKey, byte: 3 }",
+        b"\x03\x01",
+    ),
+    (
+        Due::Key,
+        Call::Bytes,
+        "DeInvalidStartByte { kind: MapKey, byte: 12 }",
+        b"\x0c",
+    ),
+    (
+        Due::Key,
+        Call::Bool,
+        "DeInvalidStartByte { kind: MapKey, byte: 8 }",
+        b"\x08",
+    ),
+    (
+        Due::Key,
+        Call::Pairs,
+        "DeInvalidStartByte { kind: MapKey, byte: 1 }",
+        b"\x01\x03\x00",
+    ),
+    (
+        Due::Node,
+        Call::Items,
+        "DeInvalidStartByte { kind: TemplateKeys, byte: 10 }",
+        b"\x0b\x0a",
+    ),
+    (
+        Due::Node,
+        Call::Items,
+        "DeInvalidStartByte { kind: TemplateKey, byte: 3 }",
+        b"\x0b\x00\x03\x01\x03\x01",
+    ),
+    (
+        Due::Node,
+        Call::Items,
+        "DeInvalidStartByte { kind: Integer, byte: 10 }",
+        b"\x00\x0a",
+    ),
+    (
+        Due::Node,
+        Call::Items,
+        "DeInvalidStartByte { kind: Integer, byte: 8 }",
+        b"\x0b\x00\x08",
+    ),
+    (
+        Due::Node,
+        Call::Items,
+        "DeInvalidStartByte { kind: Integer, byte: 9 }",
+        b"\x0b\x00\x03\x00\x09",
+    ),
+    (
+        Due::Node,
+        Call::Pairs,
+        "DeInvalidStartByte { kind: Integer, byte: 13 }",
+        b"\x01\x0d",
+    ),
+    (
+        Due::Node,
+        Call::Text,
+        "DeInvalidStartByte { kind: Integer, byte: 2 }",
+        b"\x0d\x02",
+    ),
+];
+
+/// A container without a level is named by its kind.
+const WITHOUT_LEVEL: [Case; 4] = [
+    (
+        Due::Node,
+        Call::Items,
+        "DeRecursionLimitExceeded { kind: Array }",
+        b"\x00\x0a",
+    ),
+    (
+        Due::Node,
+        Call::Pairs,
+        "DeRecursionLimitExceeded { kind: Object }",
+        b"\x01\x0a",
+    ),
+    (
+        Due::Node,
+        Call::Items,
+        "DeRecursionLimitExceeded { kind: Template }",
+        b"\x0b\x0a",
+    ),
+    (Due::Node, Call::Pairs, TYPE, b"\x00\x03\x00"),
+];
+
+/// The same where one level is left.
+const WITH_ONE_LEVEL: [Case; 2] = [
+    (
+        Due::Node,
+        Call::Items,
+        "DeInvalidStartByte { kind: TemplateKeys, byte: 10 }",
+        b"\x0b\x0a",
+    ),
+    (
+        Due::Node,
+        Call::Items,
+        "DeRecursionLimitExceeded { kind: Array }",
+        b"\x0b\x00\x0a",
+    ),
+];
+
+/// The same where two levels are left.
+const WITH_TWO_LEVELS: [Case; 1] = [(
+    Due::Node,
+    Call::Items,
+    "DeInvalidStartByte { kind: Integer, byte: 10 }",
+    b"\x0b\x00\x0a",
+)];
+
+/// Numbers and strings are refused by what they hold.
+const CONTENTS: [Case; 15] = [
+    (Due::Node, Call::Items, ROWS, b"\x0b\x00\x03\x00\x03\x01"),
+    (Due::Node, Call::Items, COUNT, b"\x00\x03\xff"),
+    (Due::Node, Call::Pairs, COUNT, b"\x01\x04\x00\x80"),
+    (Due::Node, Call::Items, COUNT, b"\x0b\x00\x03\x80"),
+    (
+        Due::Node,
+        Call::Items,
+        COUNT,
+        b"\x0b\x00\x03\x00\x05\xff\xff\xff\xff",
+    ),
+    (Due::Node, Call::Bytes, LENGTH, b"\x02\x03\xff"),
+    (
+        Due::Node,
+        Call::Text,
+        LENGTH,
+        b"\x0d\x06\x00\x00\x00\x00\x00\x00\x00\x80",
+    ),
+    (
+        Due::Node,
+        Call::Items,
+        LENGTH,
+        b"\x0b\x00\x03\x01\x02\x03\xff",
+    ),
+    (Due::Node, Call::Bytes, UTF8, b"\x0d\x03\x01\xff"),
+    (Due::Node, Call::Text, UTF8, b"\x0d\x03\x02\xc3\x28"),
+    (Due::Node, Call::Text, UTF8, b"\x02\x03\x01\xff"),
+    (Due::Key, Call::Bytes, UTF8, b"\x0d\x03\x01\xff"),
+    (Due::Key, Call::Text, UTF8, b"\x02\x03\x01\x80"),
+    (Due::Field, Call::Text, UTF8, b"\x02\x03\x01\xff"),
+    (
+        Due::Node,
+        Call::Items,
+        UTF8,
+        b"\x0b\x00\x03\x01\x02\x03\x01\xff",
+    ),
+];
+
+/// Bytes that break off are an early end.
+const CUT: [Case; 16] = [
+    (Due::Node, Call::Node, EOF, b""),
+    (Due::Node, Call::Bool, EOF, b""),
+    (Due::Key, Call::Text, EOF, b""),
+    (Due::Field, Call::IsNone, EOF, b""),
+    (Due::Node, Call::Integer, EOF, b"\x03"),
+    (Due::Node, Call::Integer, EOF, b"\x04\x80"),
+    (
+        Due::Node,
+        Call::Integer,
+        EOF,
+        b"\x06\x00\x00\x00\x00\x00\x00\x00",
+    ),
+    (
+        Due::Node,
+        Call::Real,
+        EOF,
+        b"\x07\x00\x00\x00\x00\x00\x00\x00",
+    ),
+    (Due::Node, Call::Bytes, EOF, b"\x02"),
+    (Due::Node, Call::Bytes, EOF, b"\x02\x03\x02a"),
+    (Due::Node, Call::Text, EOF, b"\x0d\x03\x02\xff"),
+    (Due::Node, Call::Items, EOF, b"\x00"),
+    (Due::Node, Call::Items, EOF, b"\x0b"),
+    (Due::Node, Call::Items, EOF, b"\x0b\x00\x03\x01"),
+    (
+        Due::Node,
+        Call::Items,
+        EOF,
+        b"\x0b\x00\x03\x01\x02\x03\x01a",
+    ),
+    (Due::Node, Call::Pairs, EOF, b"\x01\x04\x00"),
+];
+
+/// Where nothing is due each call has too few items.
+const NOTHING_DUE: [Case; 20] = [
+    (Due::Nothing, Call::Node, NOTHING, b"\x0a"),
+    (Due::Name, Call::Node, NOTHING, b"\x02\x03\x00"),
+    (Due::Nothing, Call::IsNone, NOTHING, b"\x0a"),
+    (Due::Name, Call::IsNone, NOTHING, b"\x02\x03\x00"),
+    (Due::Nothing, Call::Bool, NOTHING, b"\x0a"),
+    (Due::Name, Call::Bool, NOTHING, b"\x02\x03\x00"),
+    (Due::Nothing, Call::Integer, NOTHING, b"\x0a"),
+    (Due::Name, Call::Integer, NOTHING, b"\x02\x03\x00"),
+    (Due::Nothing, Call::Real, NOTHING, b"\x0a"),
+    (Due::Name, Call::Real, NOTHING, b"\x02\x03\x00"),
+    (Due::Nothing, Call::Unit, NOTHING, b"\x0a"),
+    (Due::Name, Call::Unit, NOTHING, b"\x02\x03\x00"),
+    (Due::Nothing, Call::Bytes, NOTHING, b"\x0a"),
+    (Due::Name, Call::Bytes, NOTHING, b"\x02\x03\x00"),
+    (Due::Nothing, Call::Text, NOTHING, b"\x0a"),
+    (Due::Name, Call::Text, NOTHING, b"\x02\x03\x00"),
+    (Due::Nothing, Call::Items, NOTHING, b"\x0a"),
+    (Due::Name, Call::Items, NOTHING, b"\x02\x03\x00"),
+    (Due::Nothing, Call::Pairs, NOTHING, b"\x0a"),
+    (Due::Name, Call::Pairs, NOTHING, b"\x02\x03\x00"),
+];
+
+/// How many levels are left at the front of a body, and what is refused then.
+static GROUPS: [(u8, &[Case]); 8] = [
+    (128, &OTHER_KINDS),
+    (128, &STRAY_BYTES),
+    (0, &WITHOUT_LEVEL),
+    (1, &WITH_ONE_LEVEL),
+    (2, &WITH_TWO_LEVELS),
+    (128, &CONTENTS),
+    (128, &CUT),
+    (128, &NOTHING_DUE),
+];
+
+/// After a refusal each call is refused by the failure alone, and so is the end.
+const AFTER: [Step; 23] = [
+    (Call::IsFailed, "true"),
+    (Call::Reason, FAILED),
+    (Call::Node, REFUSED),
+    (Call::Reason, FAILED),
+    (Call::IsNone, REFUSED),
+    (Call::Reason, FAILED),
+    (Call::Bool, REFUSED),
+    (Call::Reason, FAILED),
+    (Call::Integer, REFUSED),
+    (Call::Reason, FAILED),
+    (Call::Real, REFUSED),
+    (Call::Reason, FAILED),
+    (Call::Unit, REFUSED),
+    (Call::Reason, FAILED),
+    (Call::Bytes, REFUSED),
+    (Call::Reason, FAILED),
+    (Call::Text, REFUSED),
+    (Call::Reason, FAILED),
+    (Call::Items, REFUSED),
+    (Call::Reason, FAILED),
+    (Call::Pairs, REFUSED),
+    (Call::Reason, FAILED),
+    (Call::End, "Err(DeReaderError { source: Failed })"),
+];
 
 fn message_of(alloc: Global, body: &[u8]) -> Result<Vec<u8>> {
     let mut message = Vec::from_slice(alloc, b"\x00\x02\x00\x00\x00\x00\x03")?;
@@ -19,378 +364,22 @@ fn message_of(alloc: Global, body: &[u8]) -> Result<Vec<u8>> {
     Ok(message)
 }
 
-/// Whether each call is refused by the failure alone, and so is the end.
-fn is_each_refused<R: DeRead>(alloc: Global, from: &mut Deserializer<R>) -> bool
-where
-    R::Lent: LendsText,
-{
-    for call in ASKS {
-        if !is_refused_by(alloc, call, Name::Failed, from) {
-            return false;
+/// Checks that the call is refused by its reason, and each later one by the failure alone.
+fn check_case(rt: &impl Abort, alloc: Global, levels: u8, (due, call, reason, body): Case) {
+    let steps = [
+        (Call::Await(due), ""),
+        (call, REFUSED),
+        (Call::Reason, reason),
+    ];
+    let message = message_of(alloc, body).expect(rt, "memory is left");
+    check_steps(rt, alloc, levels, &message, (&steps, &AFTER));
+}
+
+#[test]
+fn a_call_is_refused_by_its_reason_and_each_later_one_has_failed(rt: HostRuntime) {
+    for (levels, cases) in &GROUPS {
+        for case in *cases {
+            check_case(&rt, rt.alloc(), *levels, *case);
         }
     }
-    ends_by(Name::Failed, from)
-}
-
-/// Whether the call is refused by its name, and each later one by the failure alone.
-fn is_refused<R: DeRead>(
-    alloc: Global,
-    (due, call, name, _): Case,
-    from: &mut Deserializer<R>,
-) -> bool
-where
-    R::Lent: LendsText,
-{
-    make_due(due, from);
-    let is_named = is_refused_by(alloc, call, name, from) && from.is_failed();
-    is_named && keeps(Name::Failed, from) && is_each_refused(alloc, from)
-}
-
-fn check_refused<R: DeRead + Drop>(
-    rt: &impl Abort,
-    alloc: Global,
-    levels: u8,
-    case: Case,
-    read: R,
-) -> Result<()>
-where
-    R::Lent: LendsText,
-{
-    let mut from = Deserializer::with_limit(alloc, usize::from(levels), read)?;
-    check_shown(rt, is_refused(alloc, case, &mut from), case.3);
-    Ok(())
-}
-
-/// Checks that this is so, and shows the body otherwise.
-fn check_shown(rt: &impl Abort, is_so: bool, body: &[u8]) {
-    assert!(rt; is_so, "{body:?}");
-}
-
-fn check_case(rt: &impl Abort, alloc: Global, levels: u8, case: Case) -> Result<()> {
-    let message = message_of(alloc, case.3)?;
-    check_refused(rt, alloc, levels, case, SliceRead::new(&message))?;
-    check_refused(rt, alloc, levels, case, reader_of(&message))
-}
-
-/// Checks that each case is refused, where so many levels are left at the front of the body.
-fn check_cases(rt: &impl Abort, alloc: Global, levels: u8, cases: &[Case]) -> Result<()> {
-    for case in cases {
-        check_case(rt, alloc, levels, *case)?;
-    }
-    Ok(())
-}
-
-const TYPE: Name = Name::Complains(Complaint::WrongType);
-
-const COUNT: Name = Name::Complains(Complaint::NegativeCount);
-
-const LENGTH: Name = Name::Complains(Complaint::NegativeLength);
-
-const ROWS: Name = Name::Complains(Complaint::RowsWithoutKeys);
-
-static OTHER_KINDS: [Case; 18] = [
-    (Due::Node, Ask::Bool, TYPE, b"\x0a"),
-    (Due::Node, Ask::Integer, TYPE, b"\x08"),
-    (
-        Due::Node,
-        Ask::Integer,
-        TYPE,
-        b"\x07\x00\x00\x00\x00\x00\x00\x00\x00",
-    ),
-    (Due::Node, Ask::Real, TYPE, b"\x03\x01"),
-    (Due::Node, Ask::Unit, TYPE, b"\x09"),
-    (Due::Node, Ask::Bytes, TYPE, b"\x00\x03\x00"),
-    (Due::Node, Ask::Text, TYPE, b"\x03\x01"),
-    (Due::Node, Ask::Items, TYPE, b"\x01\x03\x00"),
-    (Due::Node, Ask::Pairs, TYPE, b"\x00\x03\x00"),
-    (Due::Node, Ask::Pairs, TYPE, b"\x0b\x00\x03\x00\x03\x00"),
-    (Due::Field, Ask::Bool, TYPE, b"\x0c"),
-    (Due::Field, Ask::Text, TYPE, b"\x0c"),
-    (Due::Key, Ask::Integer, TYPE, b"\x02\x03\x00"),
-    (Due::Key, Ask::Unit, TYPE, b"\x0d\x03\x00"),
-    (Due::Key, Ask::Items, TYPE, b"\x02\x03\x00"),
-    (Due::Row, Ask::Bool, TYPE, b"\x08"),
-    (Due::Row, Ask::Text, TYPE, b"\x02\x03\x00"),
-    (Due::Row, Ask::Items, TYPE, b"\x00\x03\x00"),
-];
-
-#[test]
-fn another_kind_than_is_asked_for_is_the_wrong_type(rt: HostRuntime) -> Result<()> {
-    check_cases(&rt, rt.alloc(), 128, &OTHER_KINDS)
-}
-
-static STRAY_BYTES: [Case; 20] = [
-    (
-        Due::Node,
-        Ask::Node,
-        Name::Begins(Wanted::NextItem, 0x0e),
-        b"\x0e",
-    ),
-    (
-        Due::Node,
-        Ask::IsNone,
-        Name::Begins(Wanted::NextItem, 0x0c),
-        b"\x0c",
-    ),
-    (
-        Due::Node,
-        Ask::Bool,
-        Name::Begins(Wanted::NextItem, 0xff),
-        b"\xff",
-    ),
-    (
-        Due::Node,
-        Ask::Integer,
-        Name::Begins(Wanted::NextItem, 0x0e),
-        b"\x0e",
-    ),
-    (
-        Due::Node,
-        Ask::Unit,
-        Name::Begins(Wanted::NextItem, 0x0c),
-        b"\x0c",
-    ),
-    (
-        Due::Node,
-        Ask::Text,
-        Name::Begins(Wanted::NextItem, 0x0f),
-        b"\x0f",
-    ),
-    (
-        Due::Node,
-        Ask::Items,
-        Name::Begins(Wanted::NextItem, 0x0c),
-        b"\x0c",
-    ),
-    (
-        Due::Node,
-        Ask::Pairs,
-        Name::Begins(Wanted::NextItem, 0x61),
-        b"\x61",
-    ),
-    (
-        Due::Field,
-        Ask::Real,
-        Name::Begins(Wanted::NextItem, 0x0e),
-        b"\x0e",
-    ),
-    (
-        Due::Key,
-        Ask::Node,
-        Name::Begins(Wanted::MapKey, 0x03),
-        b"\x03\x01",
-    ),
-    (
-        Due::Key,
-        Ask::Bytes,
-        Name::Begins(Wanted::MapKey, 0x0c),
-        b"\x0c",
-    ),
-    (
-        Due::Key,
-        Ask::Bool,
-        Name::Begins(Wanted::MapKey, 0x08),
-        b"\x08",
-    ),
-    (
-        Due::Key,
-        Ask::Pairs,
-        Name::Begins(Wanted::MapKey, 0x01),
-        b"\x01\x03\x00",
-    ),
-    (
-        Due::Node,
-        Ask::Items,
-        Name::Begins(Wanted::TemplateKeys, 0x0a),
-        b"\x0b\x0a",
-    ),
-    (
-        Due::Node,
-        Ask::Items,
-        Name::Begins(Wanted::TemplateKey, 0x03),
-        b"\x0b\x00\x03\x01\x03\x01",
-    ),
-    (
-        Due::Node,
-        Ask::Items,
-        Name::Begins(Wanted::Integer, 0x0a),
-        b"\x00\x0a",
-    ),
-    (
-        Due::Node,
-        Ask::Items,
-        Name::Begins(Wanted::Integer, 0x08),
-        b"\x0b\x00\x08",
-    ),
-    (
-        Due::Node,
-        Ask::Items,
-        Name::Begins(Wanted::Integer, 0x09),
-        b"\x0b\x00\x03\x00\x09",
-    ),
-    (
-        Due::Node,
-        Ask::Pairs,
-        Name::Begins(Wanted::Integer, 0x0d),
-        b"\x01\x0d",
-    ),
-    (
-        Due::Node,
-        Ask::Text,
-        Name::Begins(Wanted::Integer, 0x02),
-        b"\x0d\x02",
-    ),
-];
-
-#[test]
-fn a_byte_that_may_not_stand_there_is_named_with_its_place(rt: HostRuntime) -> Result<()> {
-    check_cases(&rt, rt.alloc(), 128, &STRAY_BYTES)
-}
-
-static WITHOUT_LEVEL: [Case; 4] = [
-    (
-        Due::Node,
-        Ask::Items,
-        Name::TooDeep(Wanted::Array),
-        b"\x00\x0a",
-    ),
-    (
-        Due::Node,
-        Ask::Pairs,
-        Name::TooDeep(Wanted::Object),
-        b"\x01\x0a",
-    ),
-    (
-        Due::Node,
-        Ask::Items,
-        Name::TooDeep(Wanted::Template),
-        b"\x0b\x0a",
-    ),
-    (Due::Node, Ask::Pairs, TYPE, b"\x00\x03\x00"),
-];
-
-static WITH_ONE_LEVEL: [Case; 2] = [
-    (
-        Due::Node,
-        Ask::Items,
-        Name::Begins(Wanted::TemplateKeys, 0x0a),
-        b"\x0b\x0a",
-    ),
-    (
-        Due::Node,
-        Ask::Items,
-        Name::TooDeep(Wanted::Array),
-        b"\x0b\x00\x0a",
-    ),
-];
-
-static WITH_TWO_LEVELS: [Case; 1] = [(
-    Due::Node,
-    Ask::Items,
-    Name::Begins(Wanted::Integer, 0x0a),
-    b"\x0b\x00\x0a",
-)];
-
-#[test]
-fn a_container_without_a_level_is_named_by_its_kind(rt: HostRuntime) -> Result<()> {
-    check_cases(&rt, rt.alloc(), 0, &WITHOUT_LEVEL)?;
-    check_cases(&rt, rt.alloc(), 1, &WITH_ONE_LEVEL)?;
-    check_cases(&rt, rt.alloc(), 2, &WITH_TWO_LEVELS)
-}
-
-static CONTENTS: [Case; 15] = [
-    (Due::Node, Ask::Items, ROWS, b"\x0b\x00\x03\x00\x03\x01"),
-    (Due::Node, Ask::Items, COUNT, b"\x00\x03\xff"),
-    (Due::Node, Ask::Pairs, COUNT, b"\x01\x04\x00\x80"),
-    (Due::Node, Ask::Items, COUNT, b"\x0b\x00\x03\x80"),
-    (
-        Due::Node,
-        Ask::Items,
-        COUNT,
-        b"\x0b\x00\x03\x00\x05\xff\xff\xff\xff",
-    ),
-    (Due::Node, Ask::Bytes, LENGTH, b"\x02\x03\xff"),
-    (
-        Due::Node,
-        Ask::Text,
-        LENGTH,
-        b"\x0d\x06\x00\x00\x00\x00\x00\x00\x00\x80",
-    ),
-    (
-        Due::Node,
-        Ask::Items,
-        LENGTH,
-        b"\x0b\x00\x03\x01\x02\x03\xff",
-    ),
-    (Due::Node, Ask::Bytes, Name::Utf8, b"\x0d\x03\x01\xff"),
-    (Due::Node, Ask::Text, Name::Utf8, b"\x0d\x03\x02\xc3\x28"),
-    (Due::Node, Ask::Text, Name::Utf8, b"\x02\x03\x01\xff"),
-    (Due::Key, Ask::Bytes, Name::Utf8, b"\x0d\x03\x01\xff"),
-    (Due::Key, Ask::Text, Name::Utf8, b"\x02\x03\x01\x80"),
-    (Due::Field, Ask::Text, Name::Utf8, b"\x02\x03\x01\xff"),
-    (
-        Due::Node,
-        Ask::Items,
-        Name::Utf8,
-        b"\x0b\x00\x03\x01\x02\x03\x01\xff",
-    ),
-];
-
-#[test]
-fn numbers_and_strings_are_refused_by_what_they_hold(rt: HostRuntime) -> Result<()> {
-    check_cases(&rt, rt.alloc(), 128, &CONTENTS)
-}
-
-static CUT: [Case; 16] = [
-    (Due::Node, Ask::Node, Name::Eof, b""),
-    (Due::Node, Ask::Bool, Name::Eof, b""),
-    (Due::Key, Ask::Text, Name::Eof, b""),
-    (Due::Field, Ask::IsNone, Name::Eof, b""),
-    (Due::Node, Ask::Integer, Name::Eof, b"\x03"),
-    (Due::Node, Ask::Integer, Name::Eof, b"\x04\x80"),
-    (
-        Due::Node,
-        Ask::Integer,
-        Name::Eof,
-        b"\x06\x00\x00\x00\x00\x00\x00\x00",
-    ),
-    (
-        Due::Node,
-        Ask::Real,
-        Name::Eof,
-        b"\x07\x00\x00\x00\x00\x00\x00\x00",
-    ),
-    (Due::Node, Ask::Bytes, Name::Eof, b"\x02"),
-    (Due::Node, Ask::Bytes, Name::Eof, b"\x02\x03\x02a"),
-    (Due::Node, Ask::Text, Name::Eof, b"\x0d\x03\x02\xff"),
-    (Due::Node, Ask::Items, Name::Eof, b"\x00"),
-    (Due::Node, Ask::Items, Name::Eof, b"\x0b"),
-    (Due::Node, Ask::Items, Name::Eof, b"\x0b\x00\x03\x01"),
-    (
-        Due::Node,
-        Ask::Items,
-        Name::Eof,
-        b"\x0b\x00\x03\x01\x02\x03\x01a",
-    ),
-    (Due::Node, Ask::Pairs, Name::Eof, b"\x01\x04\x00"),
-];
-
-#[test]
-fn bytes_that_break_off_are_an_early_end(rt: HostRuntime) -> Result<()> {
-    check_cases(&rt, rt.alloc(), 128, &CUT)
-}
-
-#[test]
-fn where_nothing_is_due_each_call_has_too_few_items(rt: HostRuntime) -> Result<()> {
-    let name = Name::Complains(Complaint::TooFewItems);
-    for call in ASKS {
-        check_case(&rt, rt.alloc(), 128, (Due::Nothing, call, name, b"\x0a"))?;
-        check_case(
-            &rt,
-            rt.alloc(),
-            128,
-            (Due::Name, call, name, b"\x02\x03\x00"),
-        )?;
-    }
-    Ok(())
 }

@@ -1,6 +1,6 @@
 use Rattle.std.proofs.Common.{◌<◌, ◌^◌, length, string_bytes, arith, rules}
 use Rattle.test_structs.proofs.ReadBack.{text_back}
-use Rattle.test_structs.proofs.returned.text_returned.Goals as goal
+use Rattle.test_structs.proofs.tests.returned.text_returned.Goals as goal
 
 pub returns : goal.returns
 returns c =

@@ -10,7 +10,7 @@ use serde_bser::ser::{Serialize, Serializer};
 use std::alloc::Global;
 
 /// A file's name, size, and whether it exists.
-#[derive(Debug, PartialEq, Drop)]
+#[derive(Debug, Drop)]
 pub struct NamedFile<S> {
     pub name: S,
     pub size: u32,

@@ -11,7 +11,7 @@ use serde_bser::ser::{Serialize, Serializer};
 use std::alloc::Global;
 
 /// What is known of a file.
-#[derive(Debug, PartialEq, Drop)]
+#[derive(Debug, Drop)]
 pub struct File {
     pub name: ByteString,
     pub size: u64,

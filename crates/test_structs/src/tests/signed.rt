@@ -10,7 +10,7 @@ use serde_bser::ser::{Serialize, Serializer};
 use std::alloc::Global;
 
 /// How far a clock was set, and numbers that may be absent.
-#[derive(Debug, PartialEq, Drop)]
+#[derive(Debug, Drop)]
 pub struct Shift {
     pub seconds: i64,
     pub zone: i8,

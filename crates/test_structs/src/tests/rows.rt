@@ -8,7 +8,7 @@ use serde_bser::prelude::*;
 use std::alloc::Global;
 
 /// A name that may be no text, a kind, and tags.
-#[derive(Debug, PartialEq, Drop)]
+#[derive(Debug, Drop)]
 pub struct Row<'a> {
     pub name: &'a [u8],
     pub kind: Option<&'a str>,

@@ -2,7 +2,7 @@ use Rattle.std.proofs.Common.{◌≡◌, ◌<◌, ◌^◌, ◌++◌, length, ap,
 use Rattle.bser_format.specs.Tree.{array}
 use Rattle.bser_format.specs.Canonical.{canonical_message}
 use Rattle.test_structs.proofs.ReadBack.{numbers_back, written_numbers, numbers_of}
-use Rattle.test_structs.proofs.returned.numbers_returned.Goals as goal
+use Rattle.test_structs.proofs.tests.returned.numbers_returned.Goals as goal
 
 pub returns : goal.returns
 returns c =
