@@ -51,26 +51,24 @@ fn check_reader<T: DeserializeOwned + Debug>(
     check_printed::<T>(rt, alloc, &answer, printed);
 }
 
-/// Checks what the message is read as: `L`, whose strings may be lent, from a slice, and `T` from
-/// both.
-fn check_case<'a, L, T>(rt: &impl Abort, alloc: Global, bytes: &'a [u8], printed: &str)
+/// Checks what each message is read as from a slice.
+fn check_lent<'a, T>(rt: &impl Abort, alloc: Global, cases: &[Case<'a>])
 where
-    L: Deserialize<&'a [u8]> + Debug,
-    T: DeserializeOwned + Deserialize<&'a [u8]> + Debug,
+    T: Deserialize<&'a [u8]> + Debug,
 {
-    check_slice::<L>(rt, alloc, bytes, printed);
-    check_slice::<T>(rt, alloc, bytes, printed);
-    check_reader::<T>(rt, alloc, bytes, printed);
+    for (bytes, printed) in cases {
+        check_slice::<T>(rt, alloc, bytes, printed);
+    }
 }
 
-/// Checks what each message is read as, as `check_case` does.
-fn check_read<'a, L, T>(rt: &impl Abort, alloc: Global, cases: &[Case<'a>])
+/// Checks what each message is read as from a slice, and from a reader that gives one byte a call.
+fn check_owned<'a, T>(rt: &impl Abort, alloc: Global, cases: &[Case<'a>])
 where
-    L: Deserialize<&'a [u8]> + Debug,
     T: DeserializeOwned + Deserialize<&'a [u8]> + Debug,
 {
     for (bytes, printed) in cases {
-        check_case::<L, T>(rt, alloc, bytes, printed);
+        check_slice::<T>(rt, alloc, bytes, printed);
+        check_reader::<T>(rt, alloc, bytes, printed);
     }
 }
 

@@ -3,9 +3,15 @@ mod faults;
 mod messages;
 mod puts;
 
-use std::test::Fail;
+use bser_vectors::notation::parse_value;
+use serde_bser::value::Value;
+use std::alloc::Global;
+use std::process::Abort;
 
-type Tested = std::result::Result<(), Fail>;
+/// The value that the notation says.
+fn value(rt: &impl Abort, alloc: Global, notation: &str) -> Value {
+    parse_value(alloc, notation).expect(rt, "the notation is read")
+}
 
 /// Two rows of three fields each, in the notation: the first has no `ghi`, the second no `def`.
 const ROWS: &str = "[{616263:i123,646566:b626172,676869:n},{616263:i456,646566:n,676869:i789}]";

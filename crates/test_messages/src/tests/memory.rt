@@ -7,25 +7,16 @@ mod strings;
 mod values;
 mod writing;
 
+use super::{CANONICAL_ROWS, COMPACT_ROWS, ROWS};
+use bser_vectors::devices::{Plan, PlannedWriter};
+use serde_bser::device::Watched;
 use serde_bser::errors::Error;
-use std::alloc::AllocError;
+use std::alloc::{AllocError, Global};
 use std::io::ErrorKind;
 use std::process::Abort;
 use std::test::Fail;
 
 type Tested = std::result::Result<(), Fail>;
-
-/// Two rows of three fields each.
-const ROWS: &[u8] =
-    b"\x00\x02\0\0\0\0\x05\x28\0\0\0\x0b\x00\x03\x03\x02\x03\x03abc\x02\x03\x03def\x02\x03\x03ghi\x03\x02\x03\x7b\x02\x03\x03bar\x0a\x04\xc8\x01\x0c\x04\x15\x03";
-
-/// The canonical message of the two rows.
-const CANONICAL_ROWS: &[u8] =
-    b"\x00\x02\0\0\0\0\x03\x3d\x00\x03\x02\x01\x03\x03\x0d\x03\x03abc\x03\x7b\x0d\x03\x03def\x02\x03\x03bar\x0d\x03\x03ghi\x0a\x01\x03\x03\x0d\x03\x03abc\x04\xc8\x01\x0d\x03\x03def\x0a\x0d\x03\x03ghi\x04\x15\x03";
-
-/// The compact message of the two rows.
-const COMPACT_ROWS: &[u8] =
-    b"\x00\x02\0\0\0\0\x03\x28\x0b\x00\x03\x03\x0d\x03\x03abc\x0d\x03\x03def\x0d\x03\x03ghi\x03\x02\x03\x7b\x02\x03\x03bar\x0a\x04\xc8\x01\x0a\x04\x15\x03";
 
 /// Whether memory was refused, to the writer or to what calls it.
 fn is_want_of_memory(error: &Error) -> bool {
@@ -59,4 +50,23 @@ fn check_bytes(rt: &impl Abort, found: &[u8], expected: &[u8]) -> Tested {
 fn check_text(rt: &impl Abort, made: Result<String, AllocError>, expected: &str) -> Tested {
     assert_eq!(rt; made?.as_str(), expected);
     Ok(())
+}
+
+/// A writer that takes at most so many bytes a call.
+fn taking(alloc: Global, most: usize) -> Watched<PlannedWriter> {
+    Watched::new(PlannedWriter::new(alloc, Plan::pieces(most)))
+}
+
+/// Checks the answer to writing the message, and what the writer has of it.
+fn check_written(
+    rt: &impl Abort,
+    answer: Result<(), Error>,
+    writer: &Watched<PlannedWriter>,
+    message: &[u8],
+) -> Tested {
+    let taken = writer.get_ref().taken();
+    match answer {
+        Ok(()) => check_bytes(rt, taken, message),
+        Err(error) => wanted_after(rt, error, taken, message),
+    }
 }

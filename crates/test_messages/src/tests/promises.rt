@@ -1,5 +1,5 @@
 //! Each promise at a concrete type.
-use super::{EARLY_END, ROWS, check_bytes};
+use super::{EARLY_END, ROWS, check_bytes, check_printed, check_read, value_of};
 use bser_source::device::Watched;
 use laws::agreement::read_both_ways;
 use laws::bounds::read_within_bounds;
@@ -11,7 +11,6 @@ use laws::returned::{
 };
 use laws::templates::{TemplateReadings, read_written_out, read_written_out_on};
 use serde_bser::errors::Result;
-use serde_bser::from_slice;
 use serde_bser::value::Value;
 use std::alloc::Global;
 use std::process::Abort;
@@ -44,22 +43,11 @@ fn check_numbers(rt: &impl Abort, read: Result<Vec<i64>>) {
     );
 }
 
-/// Checks that the value was read.
-fn check_read(rt: &impl Abort, read: Result<Value>, value: &Value) {
-    assert!(rt; read.expect(rt, "the message is read") == *value);
-}
-
 /// Checks that the value was read from a reader, which has the stray byte left.
 fn check_read_on(rt: &impl Abort, read: Result<ReadBack>, value: &Value) {
     let back = read.expect(rt, "the message is read");
     assert!(rt; back.value == *value);
     check_bytes(rt, back.left.as_slice(), b"\xff");
-}
-
-/// Checks that reading was refused so.
-fn check_refused(rt: &impl Abort, alloc: Global, read: Result<Value>, expected: &str) {
-    let answer = format!(in alloc; "{read:?}").expect(rt, "memory is left");
-    assert_eq!(rt; answer.as_str(), expected);
 }
 
 /// Checks that the message was made.
@@ -84,15 +72,15 @@ fn a_slice_and_a_reader_agree(rt: HostRuntime) {
 fn a_slice_and_a_reader_refuse_alike(rt: HostRuntime) {
     let alloc = rt.alloc();
     let bytes = &NUMBERS_AND_STRAY[..NUMBERS_AND_STRAY.len() - 2];
-    let read = read_both_ways(alloc, bytes, &mut Watched::new(bytes));
-    check_refused(&rt, alloc, read.slice, EARLY_END);
-    check_refused(&rt, alloc, read.reader, EARLY_END);
+    let read = read_both_ways::<_, Value>(alloc, bytes, &mut Watched::new(bytes));
+    check_printed(&rt, alloc, &read.slice, EARLY_END);
+    check_printed(&rt, alloc, &read.reader, EARLY_END);
 }
 
 #[test]
 fn a_value_is_returned(rt: HostRuntime) {
     let alloc = rt.alloc();
-    let value: Value = from_slice(alloc, ROWS).expect(&rt, "the message is read");
+    let value = value_of(&rt, alloc, ROWS);
     check_read(&rt, written_and_read(alloc, 2, &value, b"\xff"), &value);
     check_read(
         &rt,
@@ -110,15 +98,16 @@ fn a_value_is_returned(rt: HostRuntime) {
 #[test]
 fn a_value_that_is_too_deep_is_not_returned(rt: HostRuntime) {
     let alloc = rt.alloc();
-    let value: Value = from_slice(alloc, ROWS).expect(&rt, "the message is read");
+    let value = value_of(&rt, alloc, ROWS);
     let deep = "Err(DeRecursionLimitExceeded { kind: Object })";
-    check_refused(&rt, alloc, written_and_read(alloc, 1, &value, b""), deep);
+    let read = written_and_read(alloc, 1, &value, b"");
+    check_printed(&rt, alloc, &read, deep);
 }
 
 /// Checks whether the values of two messages have one canonical and one compact message.
 fn check_compared(rt: &impl Abort, alloc: Global, first: &[u8], second: &[u8], expected: bool) {
-    let first: Value = from_slice(alloc, first).expect(rt, "the message is read");
-    let second: Value = from_slice(alloc, second).expect(rt, "the message is read");
+    let first = value_of(rt, alloc, first);
+    let second = value_of(rt, alloc, second);
     let canonical = have_one_message(alloc, &first, &second).expect(rt, "memory is left");
     let compact = have_one_compact_message(alloc, &first, &second).expect(rt, "memory is left");
     assert_eq!(rt; (canonical, compact), (expected, expected));
@@ -133,7 +122,7 @@ fn values_are_compared_by_their_messages(rt: HostRuntime) {
 #[test]
 fn the_least_messages_are_written(rt: HostRuntime) {
     let alloc = rt.alloc();
-    let value: Value = from_slice(alloc, TEMPLATE).expect(&rt, "the message is read");
+    let value = value_of(&rt, alloc, TEMPLATE);
     check_message(&rt, least_message(alloc, &value), OBJECTS);
     check_message(&rt, least_compact_message(alloc, &value), TEMPLATE);
     check_message(&rt, rewritten(alloc, TEMPLATE_AND_STRAY), OBJECTS);
@@ -143,7 +132,7 @@ fn the_least_messages_are_written(rt: HostRuntime) {
 #[test]
 fn a_value_is_read_within_bounds(rt: HostRuntime) {
     let alloc = rt.alloc();
-    let value: Value = from_slice(alloc, ROWS).expect(&rt, "the message is read");
+    let value = value_of(&rt, alloc, ROWS);
     check_read(&rt, read_within_bounds(alloc, ROWS), &value);
 }
 

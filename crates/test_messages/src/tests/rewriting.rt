@@ -2,14 +2,17 @@
 mod compact;
 mod process;
 
-use super::{EARLY_END, ROWS, check_bytes};
+use super::{
+    CANONICAL_ROWS, COMPACT_ROWS, EARLY_END, Parts, ROWS, check_bytes, check_printed, repeated,
+};
 use bser_format::errors::Result;
 use bser_rewriting::engine::canon;
 use bser_rewriting::program::{DONE, REFUSED, UNKNOWN_ARGUMENT, run};
-use bser_source::device::{Source, Watched};
-use std::alloc::{AllocError, Global};
+use bser_source::device::{Sink, Source, Watched};
+use bser_vectors::devices::{Plan, PlannedWriter, Then};
+use std::alloc::Global;
 use std::io;
-use std::io::{ErrorKind, Read, Write};
+use std::io::{ErrorKind, Read};
 use std::process::Abort;
 
 const NULL: &[u8] = b"\x00\x02\x00\x00\x00\x00\x03\x01\x0a";
@@ -33,112 +36,158 @@ impl Read for Piecewise<'_> {
     }
 }
 
-/// A writer that always fails.
-#[derive(Drop)]
-struct Full;
-
-impl Write for Full {
-    fn write(&mut self, _bytes: &[u8]) -> io::Result<usize> {
-        Err(io::Error::new(ErrorKind::Other, "full"))
-    }
-
-    fn flush(&mut self) -> io::Result<()> {
-        Ok(())
-    }
+/// A writer whose every call fails.
+fn full(alloc: Global) -> Watched<PlannedWriter> {
+    let plan = Plan::whole().up_to(0, Then::Faults(ErrorKind::Other));
+    Watched::new(PlannedWriter::new(alloc, plan))
 }
 
 fn memory(alloc: Global) -> Watched<Vec<u8>> {
     Watched::new(Vec::new(alloc))
 }
 
-/// What the program answers, what it leaves of its input, and what it writes as output and as
-/// errors.
-type Outcome<'a> = (u8, &'a [u8], &'a [u8], &'a [u8]);
-
-fn texts(alloc: Global, words: &[&str]) -> std::result::Result<Vec<String>, AllocError> {
+/// The words as arguments.
+fn arguments(rt: &impl Abort, alloc: Global, words: &[&str]) -> Vec<String> {
     let mut args = Vec::new(alloc);
     for word in words {
-        args.push(String::from_str(alloc, word)?)?;
+        let word = String::from_str(alloc, word).expect(rt, "memory is left");
+        args.push(word).expect(rt, "memory is left");
     }
-    Ok(args)
+    args
 }
 
-/// Checks that the outcome is the one expected.
-fn check_outcome(rt: &impl Abort, found: Outcome<'_>, expected: Outcome<'_>) {
-    assert_eq!(rt; found, expected);
+/// Runs the program with these words as arguments, and checks its status and what it leaves of its
+/// input.
+fn check_status<W: Sink, E: Sink>(
+    rt: &impl Abort,
+    alloc: Global,
+    words: &[&str],
+    input: &[u8],
+    writer: &mut W,
+    errors: &mut E,
+    expected: (u8, &[u8]),
+) {
+    let args = arguments(rt, alloc, words);
+    let mut reader = Watched::new(input);
+    let status = run(alloc, &args, &mut reader, writer, errors);
+    assert_eq!(rt; (status, *reader.get_ref()), expected);
 }
+
+/// What the program answers, what it leaves of its input, and what it writes as output and as
+/// errors.
+type Outcome = (u8, &'static [u8], &'static [u8], &'static [u8]);
 
 /// Runs the program with these words as arguments, and checks the outcome.
-fn check_run(rt: &impl Abort, alloc: Global, words: &[&str], input: &[u8], expected: Outcome<'_>) {
-    let args = texts(alloc, words).expect(rt, "memory is left");
-    let mut reader = Watched::new(input);
+fn check_run(rt: &impl Abort, alloc: Global, words: &[&str], input: &[u8], outcome: &Outcome) {
+    let (status, left, written, told) = *outcome;
     let mut output = memory(alloc);
     let mut errors = memory(alloc);
-    let status = run(alloc, &args, &mut reader, &mut output, &mut errors);
-    let left = *reader.get_ref();
-    let (written, told) = (output.get_ref().as_slice(), errors.get_ref().as_slice());
-    check_outcome(rt, (status, left, written, told), expected);
+    check_status(
+        rt,
+        alloc,
+        words,
+        input,
+        &mut output,
+        &mut errors,
+        (status, left),
+    );
+    check_bytes(rt, output.get_ref().as_slice(), written);
+    check_bytes(rt, errors.get_ref().as_slice(), told);
 }
+
+/// The outcome where an argument is not known: nothing is read.
+const UNKNOWN: Outcome = (
+    UNKNOWN_ARGUMENT,
+    NULL,
+    b"",
+    b"bser_canon: unknown argument\n",
+);
+
+/// Arguments, the input, and the outcome.
+static RUNS: [(&[&str], &[u8], Outcome); 10] = [
+    (&[], NULL, (DONE, b"", NULL, b"")),
+    (
+        &[],
+        b"",
+        (
+            REFUSED,
+            b"",
+            b"",
+            b"bser_canon: reader error while deserializing\n",
+        ),
+    ),
+    (&["--compact"], ROWS, (DONE, b"", COMPACT_ROWS, b"")),
+    (&["x"], NULL, UNKNOWN),
+    (&["--compact", "--compact"], NULL, UNKNOWN),
+    (&["--compact", "x"], NULL, UNKNOWN),
+    (&["x", "--compact"], NULL, UNKNOWN),
+    (&["--compac"], NULL, UNKNOWN),
+    (&["--compact "], NULL, UNKNOWN),
+    (&[""], NULL, UNKNOWN),
+];
 
 #[test]
-fn an_empty_input_is_refused(rt: HostRuntime) {
-    let told = b"bser_canon: reader error while deserializing\n";
-    check_run(&rt, rt.alloc(), &[], b"", (1, b"", b"", told));
-}
-
-#[test]
-fn an_argument_is_unknown_and_nothing_is_read(rt: HostRuntime) {
-    let told = b"bser_canon: unknown argument\n";
-    check_run(&rt, rt.alloc(), &["x"], NULL, (2, NULL, b"", told));
-}
-
-/// The status of a program whose errors cannot be written.
-fn status_untold(
-    alloc: Global,
-    args: &[String],
-    reader: &mut Watched<&[u8]>,
-    writer: &mut Watched<Vec<u8>>,
-) -> u8 {
-    run(alloc, args, reader, writer, &mut Watched::new(Full))
-}
-
-/// The statuses of three such programs: over no input, over null with these arguments, and over the
-/// same null without them.
-fn statuses_untold(alloc: Global, args: &[String], writer: &mut Watched<Vec<u8>>) -> [u8; 3] {
-    let refused = status_untold(alloc, &[], &mut Watched::new(b"".as_slice()), writer);
-    let mut reader = Watched::new(NULL);
-    let unknown = status_untold(alloc, args, &mut reader, writer);
-    let done = status_untold(alloc, &[], &mut reader, writer);
-    [refused, unknown, done]
-}
-
-#[test]
-fn the_status_stands_where_its_line_cannot_be_written(rt: HostRuntime) {
-    let args = texts(rt.alloc(), &["x"]).expect(&rt, "memory is left");
-    let mut writer = memory(rt.alloc());
-    let statuses = statuses_untold(rt.alloc(), &args, &mut writer);
-    assert_eq!(rt; statuses, [REFUSED, UNKNOWN_ARGUMENT, DONE]);
-    check_bytes(&rt, writer.get_ref().as_slice(), NULL);
+fn a_message_is_rewritten_refused_or_left_for_an_unknown_argument(rt: HostRuntime) {
+    for (words, input, outcome) in &RUNS {
+        check_run(&rt, rt.alloc(), words, input, outcome);
+    }
 }
 
 #[test]
 fn the_statuses_are_0_1_and_2(rt: HostRuntime) {
     assert_eq!(rt; [DONE, REFUSED, UNKNOWN_ARGUMENT], [0, 1, 2]);
-    check_run(&rt, rt.alloc(), &[], NULL, (0, b"", NULL, b""));
+}
+
+/// Checks the status where errors cannot be written, what is left, and what is written.
+fn check_untold(
+    rt: &impl Abort,
+    alloc: Global,
+    words: &[&str],
+    input: &[u8],
+    expected: (u8, &[u8]),
+    written: &[u8],
+) {
+    let mut output = memory(alloc);
+    check_status(
+        rt,
+        alloc,
+        words,
+        input,
+        &mut output,
+        &mut full(alloc),
+        expected,
+    );
+    check_bytes(rt, output.get_ref().as_slice(), written);
+}
+
+#[test]
+fn the_status_stands_where_its_line_cannot_be_written(rt: HostRuntime) {
+    let alloc = rt.alloc();
+    check_untold(&rt, alloc, &[], b"", (REFUSED, b""), b"");
+    check_untold(&rt, alloc, &["x"], NULL, (UNKNOWN_ARGUMENT, NULL), b"");
+    check_untold(&rt, alloc, &[], NULL, (DONE, b""), NULL);
 }
 
 #[test]
 fn a_writer_that_fails_is_an_io_error(rt: HostRuntime) {
     let alloc = rt.alloc();
-    let mut reader = Watched::new(NULL);
-    let mut writer = Watched::new(Full);
     let mut errors = memory(alloc);
-    let status = run(alloc, &[], &mut reader, &mut writer, &mut errors);
-    let told = errors.get_ref().as_slice();
-    assert_eq!(rt;
-        (status, told),
-        (REFUSED, b"bser_canon: IO Error\n".as_slice())
+    let expected = (REFUSED, b"".as_slice());
+    check_status(
+        &rt,
+        alloc,
+        &[],
+        NULL,
+        &mut full(alloc),
+        &mut errors,
+        expected,
     );
+    check_bytes(&rt, errors.get_ref().as_slice(), b"bser_canon: IO Error\n");
+}
+
+/// Rewrites the reader's next message.
+fn rewrite<R: Source>(alloc: Global, reader: &mut R, writer: &mut Watched<Vec<u8>>) -> Result<()> {
+    canon(alloc, reader, writer)
 }
 
 /// Rewrites the reader's next message, and checks all that the writer has then.
@@ -149,13 +198,8 @@ fn check_next<R: Source>(
     writer: &mut Watched<Vec<u8>>,
     expected: &[u8],
 ) {
-    canon(alloc, reader, writer).expect(rt, "the message is rewritten");
+    rewrite(alloc, reader, writer).expect(rt, "the message is rewritten");
     check_bytes(rt, writer.get_ref().as_slice(), expected);
-}
-
-/// The answer as it is printed.
-fn printed(alloc: Global, answer: Result<()>) -> std::result::Result<String, AllocError> {
-    format!(in alloc; "{answer:?}")
 }
 
 /// Checks that what a reader of so many bytes gives is refused so, and that nothing is written.
@@ -168,9 +212,9 @@ fn check_refused<R: Source>(
     expected: &str,
 ) {
     let before = writer.get_ref().len();
-    let answer = printed(alloc, canon(alloc, reader, writer)).expect(rt, "memory is left");
-    let after = writer.get_ref().len();
-    assert_eq!(rt; (given, answer.as_str(), after), (given, expected, before));
+    let answer = rewrite(alloc, reader, writer);
+    check_printed(rt, alloc, &answer, expected);
+    assert!(rt; writer.get_ref().len() == before, "after {given} bytes");
 }
 
 #[test]
@@ -234,10 +278,7 @@ static FORMS: [(&[u8], &[u8]); 7] = [
         b"\x00\x02\x00\x00\x00\x00\x03\x0f\x01\x03\x02\x0d\x03\x01a\x03\x02\x0d\x03\x01b\x03\x01",
     ),
     // rows of three fields
-    (
-        ROWS,
-        b"\x00\x02\x00\x00\x00\x00\x03\x3d\x00\x03\x02\x01\x03\x03\x0d\x03\x03abc\x03\x7b\x0d\x03\x03def\x02\x03\x03bar\x0d\x03\x03ghi\x0a\x01\x03\x03\x0d\x03\x03abc\x04\xc8\x01\x0d\x03\x03def\x0a\x0d\x03\x03ghi\x04\x15\x03",
-    ),
+    (ROWS, CANONICAL_ROWS),
 ];
 
 #[test]
@@ -248,20 +289,6 @@ fn a_message_is_written_in_its_canonical_form(rt: HostRuntime) {
     }
 }
 
-/// Slices, and how often each stands in a message.
-type Parts<'a> = &'a [(&'a [u8], usize)];
-
-/// The bytes of the parts, one after the other.
-fn repeated(alloc: Global, parts: Parts<'_>) -> std::result::Result<Vec<u8>, AllocError> {
-    let mut bytes = Vec::new(alloc);
-    for (part, count) in parts {
-        for _ in 0..*count {
-            bytes.extend_from_slice(part)?;
-        }
-    }
-    Ok(bytes)
-}
-
 /// Checks that the message of these parts is written as one of those, of so many bytes.
 fn check_parts(
     rt: &impl Abort,
@@ -270,8 +297,8 @@ fn check_parts(
     expected: Parts<'_>,
     length: usize,
 ) {
-    let message = repeated(alloc, message).expect(rt, "memory is left");
-    let expected = repeated(alloc, expected).expect(rt, "memory is left");
+    let message = repeated(rt, alloc, message);
+    let expected = repeated(rt, alloc, expected);
     assert!(rt; expected.len() == length);
     check_written(rt, alloc, &message, &expected);
 }
@@ -300,7 +327,7 @@ fn rows_under_a_long_key_are_written_out(rt: HostRuntime) {
         (b"a", 100),
         (b"\x0a", 1),
     ];
-    let object = repeated(alloc, &object).expect(&rt, "memory is left");
+    let object = repeated(&rt, alloc, &object);
     let head = b"\x00\x02\x00\x00\x00\x00\x04\xcf\x29\x00\x03\x64";
     check_parts(&rt, alloc, &rows, &[(head, 1), (&object, 100)], 10_712);
 }
@@ -320,7 +347,7 @@ fn templates_in_one_another_are_written_as_what_is_not_read_again(rt: HostRuntim
         &written,
         1282,
     );
-    let written = repeated(alloc, &written).expect(&rt, "memory is left");
+    let written = repeated(&rt, alloc, &written);
     let mut reader = Watched::new(written.as_slice());
     let deep = "Err(DeRecursionLimitExceeded { kind: Array })";
     check_refused(&rt, alloc, &mut reader, &mut memory(alloc), 1282, deep);

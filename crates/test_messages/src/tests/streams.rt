@@ -4,14 +4,10 @@ mod lengths;
 mod readers;
 mod slices;
 
+use bser_messages::limits::Limits;
 use std::alloc::Global;
 use std::fmt::Debug;
-use std::io;
-use std::io::Read;
 use std::process::Abort;
-use std::test::Fail;
-
-type Tested = std::result::Result<(), Fail>;
 
 /// A server's answer to `version`: an object of 4.9.0 under `version`, of 29 bytes.
 const VERSION: &[u8] =
@@ -28,18 +24,11 @@ const MIXED: &[u8] =
 /// A head that announces a body of 2^32 bytes, and the first two bytes of it.
 const HUGE: &[u8] = b"\x00\x02\x00\x00\x00\x00\x06\x00\x00\x00\x00\x01\x00\x00\x00\x02\x03";
 
-/// A reader that gives one byte a call.
-#[derive(Drop)]
-struct OneByOne<'a> {
-    bytes: &'a [u8],
-}
-
-impl<'a> Read for OneByOne<'a> {
-    fn read(&mut self, buf: &mut [u8]) -> io::Result<usize> {
-        let count = buf.len().min(1);
-        self.bytes.read(&mut buf[..count])
-    }
-}
+/// Bodies of at most five bytes.
+const FIVE: Limits = Limits {
+    levels: 128,
+    bytes: 5,
+};
 
 /// Checks that what was found is what was expected.
 fn check_equal<T: PartialEq + Debug + Copy>(rt: &impl Abort, found: T, expected: T) {

@@ -1,5 +1,5 @@
 //! Messages that are read as structs of fields without a list.
-use super::{Case, check_case, check_read};
+use super::{Case, check_lent, check_owned, check_reader, check_slice};
 use bser_vectors::structs::{FileInfo, Files, TemplateRow};
 
 /// Objects that are read as a file, whose fields come in any order, and others are passed over.
@@ -47,7 +47,8 @@ static FILES: [Case<'static>; 8] = [
 
 #[test]
 fn an_object_of_other_fields_or_kinds_is_refused(rt: HostRuntime) {
-    check_read::<FileInfo<&str>, FileInfo<String>>(&rt, rt.alloc(), &FILES);
+    check_lent::<FileInfo<&str>>(&rt, rt.alloc(), &FILES);
+    check_owned::<FileInfo<String>>(&rt, rt.alloc(), &FILES);
 }
 
 const TWO: &str = "Ok([FileInfo { name: \"x\", size: 5 }, FileInfo { name: \"y\", size: 6 }])";
@@ -81,7 +82,8 @@ static LISTS: [Case<'static>; 4] = [
 
 #[test]
 fn objects_and_rows_are_structs(rt: HostRuntime) {
-    check_read::<Vec<FileInfo<&str>>, Vec<FileInfo<String>>>(&rt, rt.alloc(), &LISTS);
+    check_lent::<Vec<FileInfo<&str>>>(&rt, rt.alloc(), &LISTS);
+    check_owned::<Vec<FileInfo<String>>>(&rt, rt.alloc(), &LISTS);
 }
 
 #[test]
@@ -91,7 +93,9 @@ fn a_struct_holds_structs(rt: HostRuntime) {
 \x02\x03\x05clock\x0a";
     let printed =
         "Ok(Files { files: [FileInfo { name: \"x\", size: 5 }, FileInfo { name: \"y\", size: 6 }] })";
-    check_case::<Files<&str>, Files<String>>(&rt, rt.alloc(), bytes, printed);
+    check_slice::<Files<&str>>(&rt, rt.alloc(), bytes, printed);
+    check_slice::<Files<String>>(&rt, rt.alloc(), bytes, printed);
+    check_reader::<Files<String>>(&rt, rt.alloc(), bytes, printed);
 }
 
 /// Objects that have a number and two fields that may be absent.
@@ -118,7 +122,8 @@ static NUMBERS: [Case<'static>; 4] = [
 
 #[test]
 fn an_absent_field_is_none_where_it_is_optional(rt: HostRuntime) {
-    check_read::<TemplateRow<&str>, TemplateRow<String>>(&rt, rt.alloc(), &NUMBERS);
+    check_lent::<TemplateRow<&str>>(&rt, rt.alloc(), &NUMBERS);
+    check_owned::<TemplateRow<String>>(&rt, rt.alloc(), &NUMBERS);
 }
 
 /// Two rows.
@@ -131,14 +136,14 @@ TemplateRow { abc: 456, def: None, ghi: Some(789) }])",
 
 #[test]
 fn rows_that_break_off_are_refused(rt: HostRuntime) {
-    check_read::<Vec<TemplateRow<&str>>, Vec<TemplateRow<String>>>(&rt, rt.alloc(), &ROWS);
+    check_lent::<Vec<TemplateRow<&str>>>(&rt, rt.alloc(), &ROWS);
+    check_owned::<Vec<TemplateRow<String>>>(&rt, rt.alloc(), &ROWS);
     let bytes = ROWS[0].0;
+    let eof = "Err(DeReaderError { source: Eof })";
     for len in 0..bytes.len() {
-        check_case::<Vec<TemplateRow<&str>>, Vec<TemplateRow<String>>>(
-            &rt,
-            rt.alloc(),
-            &bytes[..len],
-            "Err(DeReaderError { source: Eof })",
-        );
+        let cut = &bytes[..len];
+        check_slice::<Vec<TemplateRow<&str>>>(&rt, rt.alloc(), cut, eof);
+        check_slice::<Vec<TemplateRow<String>>>(&rt, rt.alloc(), cut, eof);
+        check_reader::<Vec<TemplateRow<String>>>(&rt, rt.alloc(), cut, eof);
     }
 }

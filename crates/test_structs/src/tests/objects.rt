@@ -4,7 +4,7 @@ use super::named::NamedFile;
 use super::queries::Query;
 use super::rows::Row;
 use super::signed::Shift;
-use super::{Case, check_message, check_read, check_slice, check_written};
+use super::{Case, check_lent, check_message, check_owned, check_slice, check_written};
 use serde_bser::de::ObjectOr;
 use std::alloc::Global;
 use std::collections::BTreeMap;
@@ -28,7 +28,7 @@ static FILES: [Case<'static>; 2] = [
 
 #[test]
 fn a_struct_is_read_as_it_is_written_and_what_is_none_is_null_or_left_out(rt: HostRuntime) {
-    check_read::<File, File>(&rt, rt.alloc(), &FILES);
+    check_owned::<File>(&rt, rt.alloc(), &FILES);
     check_written::<File>(&rt, rt.alloc(), &FILES);
 }
 
@@ -55,7 +55,7 @@ static OTHER_FILES: [Case<'static>; 3] = [
 
 #[test]
 fn fields_come_in_any_order_each_that_has_to_be_there_once(rt: HostRuntime) {
-    check_read::<File, File>(&rt, rt.alloc(), &OTHER_FILES);
+    check_owned::<File>(&rt, rt.alloc(), &OTHER_FILES);
 }
 
 /// The two files as rows of a template.
@@ -69,7 +69,7 @@ File { name: \"\\\\xff\", size: 128, mtime_ms: None, exists: None, kind: Some(\"
 
 #[test]
 fn rows_of_a_template_are_structs(rt: HostRuntime) {
-    check_read::<Vec<File>, Vec<File>>(&rt, rt.alloc(), &ROWS_OF_FILES);
+    check_owned::<Vec<File>>(&rt, rt.alloc(), &ROWS_OF_FILES);
 }
 
 /// A file, as it is written.
@@ -81,7 +81,8 @@ static NAMED_FILES: [Case<'static>; 1] = [(
 
 #[test]
 fn a_name_is_lent_or_owned(rt: HostRuntime) {
-    check_read::<NamedFile<&str>, NamedFile<String>>(&rt, rt.alloc(), &NAMED_FILES);
+    check_lent::<NamedFile<&str>>(&rt, rt.alloc(), &NAMED_FILES);
+    check_owned::<NamedFile<String>>(&rt, rt.alloc(), &NAMED_FILES);
     check_written::<NamedFile<&str>>(&rt, rt.alloc(), &NAMED_FILES);
     check_written::<NamedFile<String>>(&rt, rt.alloc(), &NAMED_FILES);
 }
@@ -105,7 +106,7 @@ static SHIFTS: [Case<'static>; 1] = [(
 
 #[test]
 fn numbers_have_a_sign(rt: HostRuntime) {
-    check_read::<Shift, Shift>(&rt, rt.alloc(), &SHIFTS);
+    check_owned::<Shift>(&rt, rt.alloc(), &SHIFTS);
     check_written::<Shift>(&rt, rt.alloc(), &SHIFTS);
 }
 
@@ -129,7 +130,8 @@ type Listed<S> = ObjectOr<NamedFile<S>, S>;
 #[test]
 fn files_are_names_or_objects_or_rows(rt: HostRuntime) {
     for cases in [&NAMES_AND_FILES, &ROWS] {
-        check_read::<Vec<Listed<&str>>, Vec<Listed<String>>>(&rt, rt.alloc(), cases);
+        check_lent::<Vec<Listed<&str>>>(&rt, rt.alloc(), cases);
+        check_owned::<Vec<Listed<String>>>(&rt, rt.alloc(), cases);
     }
     check_written::<Vec<Listed<String>>>(&rt, rt.alloc(), &NAMES_AND_FILES);
 }
@@ -152,7 +154,7 @@ static NO_FILES: [Case<'static>; 2] = [
 
 #[test]
 fn an_object_is_not_read_as_the_other_type(rt: HostRuntime) {
-    check_read::<FileOrMap, FileOrMap>(&rt, rt.alloc(), &NO_FILES);
+    check_owned::<FileOrMap>(&rt, rt.alloc(), &NO_FILES);
 }
 
 /// Checks that this message is written for a query of the names.

@@ -1,6 +1,6 @@
 //! Enums from names, objects and rows, the messages written for them, and their refusals.
 use super::choices::Choice;
-use super::{Case, check_read, check_written};
+use super::{Case, check_owned, check_written};
 use serde_bser::de::ObjectOr;
 
 /// A choice of each form, as it is written.
@@ -31,7 +31,7 @@ static CHOICES: [Case<'static>; 5] = [
 
 #[test]
 fn a_variant_of_each_form_is_read_as_it_is_written(rt: HostRuntime) {
-    check_read::<Choice<String>, Choice<String>>(&rt, rt.alloc(), &CHOICES);
+    check_owned::<Choice<String>>(&rt, rt.alloc(), &CHOICES);
     check_written::<Choice<String>>(&rt, rt.alloc(), &CHOICES);
 }
 
@@ -93,7 +93,7 @@ const STRAY_PAYLOAD: Case<'static> = (
 
 #[test]
 fn a_name_of_no_variant_and_another_payload_are_refused(rt: HostRuntime) {
-    check_read::<Choice<String>, Choice<String>>(&rt, rt.alloc(), &OTHER_CHOICES);
+    check_owned::<Choice<String>>(&rt, rt.alloc(), &OTHER_CHOICES);
 }
 
 /// A template of one row.
@@ -104,7 +104,7 @@ static ROWS: [Case<'static>; 1] = [(
 
 #[test]
 fn a_variant_is_read_from_a_row(rt: HostRuntime) {
-    check_read::<Vec<Choice<String>>, Vec<Choice<String>>>(&rt, rt.alloc(), &ROWS);
+    check_owned::<Vec<Choice<String>>>(&rt, rt.alloc(), &ROWS);
 }
 
 /// Values that begin with a byte that no value begins with.
@@ -121,5 +121,5 @@ type ChoiceOrText = ObjectOr<Choice<String>, String>;
 
 #[test]
 fn the_first_fault_of_either_type_is_told(rt: HostRuntime) {
-    check_read::<ChoiceOrText, ChoiceOrText>(&rt, rt.alloc(), &STRAY_BYTES);
+    check_owned::<ChoiceOrText>(&rt, rt.alloc(), &STRAY_BYTES);
 }

@@ -1,16 +1,16 @@
 //! Counts and lengths that announce far more than the message has. Nothing is reserved by them: the
 //! answer is the early end, and not a want of memory.
-use super::checks::{check_code, check_slice_refused, read_by};
-use bser_vectors::devices::Plan;
+use super::checks::check_refused;
 use serde_bser::bytestring::ByteString;
-use serde_bser::de::{Deserialize, DeserializeOwned, Ignored};
+use serde_bser::de::Ignored;
 use serde_bser::value::Value;
-use std::alloc::Global;
 use std::collections::{BTreeMap, BTreeSet, HashMap, VecDeque};
-use std::process::Abort;
 
 /// An array that announces 2^40 items and has 1, in a body that is said to have as many bytes more.
 const ITEMS: &[u8] = b"\x00\x02\0\0\0\0\x06\x0c\0\0\0\0\x01\0\0\x00\x06\0\0\0\0\0\x01\0\0\x03\x01";
+
+/// The same of no item.
+const NO_ITEM: &[u8] = b"\x00\x02\0\0\0\0\x06\x0c\0\0\0\0\x01\0\0\x00\x06\0\0\0\0\0\x01\0\0";
 
 /// An object that announces 2^40 entries and has 1 under "a".
 const ENTRIES: &[u8] =
@@ -27,55 +27,37 @@ const KEYS: &[u8] =
 /// A text that announces 2^40 bytes and has one.
 const TEXT: &[u8] = b"\x00\x02\0\0\0\0\x06\x0b\0\0\0\0\x01\0\0\x0d\x06\0\0\0\0\0\x01\0\0x";
 
-/// Checks that the message is an early end, from a slice and from readers.
-fn check_early_end<'a, T: Deserialize<&'a [u8]> + DeserializeOwned>(
-    rt: &impl Abort,
-    alloc: Global,
-    message: &'a [u8],
-) {
-    check_slice_refused::<T>(rt, alloc, message, "E6 Eof");
-    for plan in [Plan::pieces(1), Plan::whole()] {
-        let (answer, _) = read_by::<T>(alloc, message, plan);
-        check_code(rt, alloc, &answer, "E6 Eof");
-    }
-}
+/// Each of these messages.
+const ALL: &[&[u8]] = &[ITEMS, ENTRIES, ROWS, KEYS, TEXT];
+
+/// The refusal of an early end.
+const EARLY_END: &str = "E6 Eof";
 
 #[test]
-fn an_announced_count_of_items_reserves_nothing(rt: HostRuntime) {
+fn an_announced_count_or_length_reserves_nothing(rt: HostRuntime) {
     let alloc = rt.alloc();
-    check_early_end::<Vec<i64>>(&rt, alloc, ITEMS);
-    check_early_end::<VecDeque<i64>>(&rt, alloc, ITEMS);
-    check_early_end::<BTreeSet<i64>>(&rt, alloc, ITEMS);
-    check_early_end::<Vec<()>>(&rt, alloc, &ITEMS[..25]);
-    check_early_end::<Value>(&rt, alloc, ITEMS);
-    check_early_end::<Ignored>(&rt, alloc, ITEMS);
-}
-
-#[test]
-fn an_announced_count_of_entries_reserves_nothing(rt: HostRuntime) {
-    let alloc = rt.alloc();
-    check_early_end::<BTreeMap<String, i64>>(&rt, alloc, ENTRIES);
-    check_early_end::<HashMap<String, i64>>(&rt, alloc, ENTRIES);
-    check_early_end::<Value>(&rt, alloc, ENTRIES);
-    check_early_end::<Ignored>(&rt, alloc, ENTRIES);
+    check_refused::<Vec<i64>>(&rt, alloc, ITEMS, EARLY_END);
+    check_refused::<VecDeque<i64>>(&rt, alloc, ITEMS, EARLY_END);
+    check_refused::<BTreeSet<i64>>(&rt, alloc, ITEMS, EARLY_END);
+    check_refused::<Vec<()>>(&rt, alloc, NO_ITEM, EARLY_END);
+    check_refused::<BTreeMap<String, i64>>(&rt, alloc, ENTRIES, EARLY_END);
+    check_refused::<HashMap<String, i64>>(&rt, alloc, ENTRIES, EARLY_END);
+    check_refused::<String>(&rt, alloc, TEXT, EARLY_END);
+    check_refused::<ByteString>(&rt, alloc, TEXT, EARLY_END);
 }
 
 #[test]
 fn an_announced_count_of_rows_or_keys_reserves_nothing(rt: HostRuntime) {
-    let alloc = rt.alloc();
-    for message in [ROWS, KEYS] {
-        check_early_end::<Vec<BTreeMap<String, i64>>>(&rt, alloc, message);
-        check_early_end::<VecDeque<HashMap<String, i64>>>(&rt, alloc, message);
-        check_early_end::<Value>(&rt, alloc, message);
-        check_early_end::<Ignored>(&rt, alloc, message);
+    for message in &[ROWS, KEYS] {
+        check_refused::<Vec<BTreeMap<String, i64>>>(&rt, rt.alloc(), message, EARLY_END);
+        check_refused::<VecDeque<HashMap<String, i64>>>(&rt, rt.alloc(), message, EARLY_END);
     }
 }
 
 #[test]
-fn an_announced_length_reserves_nothing(rt: HostRuntime) {
-    let alloc = rt.alloc();
-    check_early_end::<String>(&rt, alloc, TEXT);
-    check_early_end::<ByteString>(&rt, alloc, TEXT);
-    check_early_end::<Value>(&rt, alloc, TEXT);
-    check_early_end::<Ignored>(&rt, alloc, TEXT);
+fn what_is_announced_reserves_nothing_for_a_value_or_where_it_is_ignored(rt: HostRuntime) {
+    for message in ALL {
+        check_refused::<Value>(&rt, rt.alloc(), message, EARLY_END);
+        check_refused::<Ignored>(&rt, rt.alloc(), message, EARLY_END);
+    }
 }

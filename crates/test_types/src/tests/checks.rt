@@ -19,19 +19,31 @@ pub fn copying(message: &[u8], plan: Plan) -> IoRead<Watched<PlannedReader<'_>>>
 }
 
 /// What reads the source's message. Its head is read.
-pub fn begun_at<R: DeRead + Drop>(rt: &impl Abort, alloc: Global, source: R) -> Deserializer<R> {
+pub fn begun<R: DeRead + Drop>(rt: &impl Abort, alloc: Global, source: R) -> Deserializer<R> {
     Deserializer::new(alloc, source).expect(rt, "the head is whole")
 }
 
-/// What reads the message from a slice. Its head is read.
-pub fn begun<'a>(rt: &impl Abort, alloc: Global, message: &'a [u8]) -> Deserializer<SliceRead<'a>> {
-    begun_at(rt, alloc, SliceRead::new(message))
+/// Reads the message at the start of the slice, which is read.
+pub fn read_slice<'a, T: Deserialize<&'a [u8]>>(
+    rt: &impl Abort,
+    alloc: Global,
+    bytes: &'a [u8],
+) -> T {
+    from_slice(alloc, bytes).expect(rt, "the message is read")
+}
+
+/// Reads the reader's next message.
+pub fn read_next<T: DeserializeOwned>(
+    alloc: Global,
+    reader: &mut Watched<PlannedReader<'_>>,
+) -> Result<T> {
+    from_reader(alloc, reader)
 }
 
 /// Reads the message from a reader that gives it by the plan, and tells how many bytes are left.
 pub fn read_by<T: DeserializeOwned>(alloc: Global, bytes: &[u8], plan: Plan) -> (Result<T>, usize) {
     let mut reader = Watched::new(PlannedReader::new(bytes, plan));
-    let answer = from_reader(alloc, &mut reader);
+    let answer = read_next(alloc, &mut reader);
     let left = reader.get_ref().left().len();
     (answer, left)
 }
@@ -42,6 +54,11 @@ pub fn check_code<T>(rt: &impl Abort, alloc: Global, answer: &Result<T>, expecte
         Ok(_) => assert!(rt; false, "{expected} is read"),
         Err(error) => check_error(rt, alloc, error, expected),
     }
+}
+
+/// Checks that what is read is at its end.
+pub fn check_at_end<R: DeRead>(rt: &impl Abort, from: &Deserializer<R>) {
+    from.end().expect(rt, "it is at its end");
 }
 
 /// Checks that the end is refused with this code.
@@ -64,15 +81,34 @@ pub fn check_slice_refused<'a, T: Deserialize<&'a [u8]>>(
     check_code(rt, alloc, &from_slice::<T>(alloc, bytes), expected);
 }
 
+/// Checks that the message is refused with this code where a reader gives it by the plan.
+fn check_reader_refused<T: DeserializeOwned>(
+    rt: &impl Abort,
+    alloc: Global,
+    bytes: &[u8],
+    plan: Plan,
+    expected: &str,
+) {
+    check_code(rt, alloc, &read_by::<T>(alloc, bytes, plan).0, expected);
+}
+
+/// Checks that the message is refused with this code from a slice, from a reader of one byte a call
+/// and from one of all bytes.
+pub fn check_refused<'a, T: Deserialize<&'a [u8]> + DeserializeOwned>(
+    rt: &impl Abort,
+    alloc: Global,
+    bytes: &'a [u8],
+    expected: &str,
+) {
+    check_slice_refused::<T>(rt, alloc, bytes, expected);
+    check_reader_refused::<T>(rt, alloc, bytes, Plan::pieces(1), expected);
+    check_reader_refused::<T>(rt, alloc, bytes, Plan::whole(), expected);
+}
+
 /// Checks that the error has this code.
 fn check_error(rt: &impl Abort, alloc: Global, error: &Error, expected: &str) {
     let code = code(alloc, error).expect(rt, "memory is left");
-    check_text(rt, code.as_str(), expected);
-}
-
-/// Checks that the text is the one expected.
-pub fn check_text(rt: &impl Abort, found: &str, expected: &str) {
-    assert_eq!(rt; found, expected);
+    check_equal(rt, &code.as_str(), &expected);
 }
 
 /// Checks that what the deserializer was refused by last has this code.
@@ -85,20 +121,8 @@ pub fn check_refusal<R: DeRead>(
     check_error(rt, alloc, &from.take_refusal(), expected);
 }
 
-/// Checks that the call was refused, with this code.
-pub fn check_refused<T, R: DeRead>(
-    rt: &impl Abort,
-    alloc: Global,
-    answer: &Answer<T>,
-    from: &mut Deserializer<R>,
-    expected: &str,
-) {
-    assert!(rt; answer.is_err(), "{expected} is read");
-    check_refusal(rt, alloc, from, expected);
-}
-
-/// Checks that a type that is lent is refused with this code where a reader gives the message by the
-/// plan.
+/// Checks that a type that is lent is refused with this code where a reader gives the message by
+/// the plan.
 pub fn check_not_lent<T: Deserialize<NoLoan>>(
     rt: &impl Abort,
     alloc: Global,
@@ -106,14 +130,10 @@ pub fn check_not_lent<T: Deserialize<NoLoan>>(
     plan: Plan,
     expected: &str,
 ) {
-    let mut from = begun_at(rt, alloc, copying(message, plan));
-    let refused = T::deserialize(alloc, &mut from);
-    check_refused(rt, alloc, &refused, &mut from, expected);
-}
-
-/// Checks that the count is the one expected.
-pub fn check_count(rt: &impl Abort, found: usize, expected: usize) {
-    assert_eq!(rt; found, expected);
+    let mut from = begun(rt, alloc, copying(message, plan));
+    let refused = T::deserialize(alloc, &mut from).is_err();
+    check_equal(rt, &refused, &true);
+    check_refusal(rt, alloc, &mut from, expected);
 }
 
 /// Checks that what was found is what was expected.
@@ -122,7 +142,7 @@ pub fn check_equal<T: Debug + PartialEq>(rt: &impl Abort, found: &T, expected: &
 }
 
 /// Checks that so many items are left, and what the next one is.
-pub fn check_item<R: DeRead, T: Deserialize<R::Lent> + Debug + PartialEq>(
+pub fn check_item<R: DeRead, T: Deserialize<R::Lent> + Debug + PartialEq + Copy>(
     rt: &impl Abort,
     alloc: Global,
     items: &mut SeqAccess<'_, R>,
@@ -132,21 +152,7 @@ pub fn check_item<R: DeRead, T: Deserialize<R::Lent> + Debug + PartialEq>(
 where
     R::Lent: LendsText,
 {
-    check_count(rt, items.remaining(), left);
+    check_equal(rt, &items.remaining(), &left);
     let item = items.next_element::<T>(alloc).expect(rt, "an item is read");
     check_equal(rt, &item, &expected);
-}
-
-/// Checks what the next key is.
-pub fn check_key<R: DeRead, K: Deserialize<R::Lent> + Debug + PartialEq>(
-    rt: &impl Abort,
-    alloc: Global,
-    entries: &mut MapAccess<'_, R>,
-    expected: K,
-)
-where
-    R::Lent: LendsText,
-{
-    let key = entries.next_key::<K>(alloc).expect(rt, "a key is read");
-    check_equal(rt, &key, &Some(expected));
 }

@@ -11,7 +11,8 @@ use std::process::Abort;
 type Told = (Option<&'static str>, Option<Finding>, usize);
 
 /// Checks what the description tells.
-fn check_told(rt: &impl Abort, refusal: &Description, told: Told) {
+fn check_told(rt: &impl Abort, refusal: Option<Description>, told: Told) {
+    let refusal = refusal.expect(rt, "the message is refused");
     assert_eq!(rt; (refusal.field(), refusal.finding(), refusal.place()), told);
 }
 
@@ -19,13 +20,13 @@ fn check_told(rt: &impl Abort, refusal: &Description, told: Told) {
 fn check_reader(rt: &impl Abort, alloc: Global, message: &[u8], plan: Plan, told: Told) {
     let mut reader = Watched::new(PlannedReader::new(message, plan));
     let refusal = describe::from_reader::<_, FileInfo<String>>(alloc, &mut reader).err();
-    check_told(rt, &refusal.expect(rt, "the message is refused"), told);
+    check_told(rt, refusal, told);
 }
 
 /// Checks what is told of the message, read as a file from a slice and from readers.
 fn check_file(rt: &impl Abort, alloc: Global, message: &[u8], told: Told) {
     let refusal = describe::from_slice::<FileInfo<String>>(alloc, message).err();
-    check_told(rt, &refusal.expect(rt, "the message is refused"), told);
+    check_told(rt, refusal, told);
     check_reader(rt, alloc, message, Plan::pieces(1), told);
     check_reader(rt, alloc, message, Plan::whole(), told);
 }
@@ -45,23 +46,29 @@ const TWICE: &[u8] =
 /// A file x that has no size.
 const MISSING: &[u8] = b"\x00\x02\0\0\0\0\x03\x0e\x01\x03\x01\x0d\x03\x04name\x0d\x03\x01x";
 
+/// Messages, and what is told of each.
+static REFUSED: [(&[u8], Told); 4] = [
+    (
+        TRUE,
+        (
+            Some("size"),
+            Some(Finding::Stray {
+                wanted: Wanted::Integer,
+                tag: 0x08,
+            }),
+            29,
+        ),
+    ),
+    (NEGATIVE, (Some("size"), Some(Finding::OutOfRange(-1)), 31)),
+    (TWICE, (Some("size"), Some(Finding::Repeated), 38)),
+    (MISSING, (Some("size"), Some(Finding::Missing), 22)),
+];
+
 #[test]
 fn a_refusal_tells_its_field_what_was_found_and_the_place(rt: HostRuntime) {
-    let alloc = rt.alloc();
-    let size = Some("size");
-    let stray = Finding::Stray {
-        wanted: Wanted::Integer,
-        tag: 0x08,
-    };
-    check_file(&rt, alloc, TRUE, (size, Some(stray), 29));
-    check_file(
-        &rt,
-        alloc,
-        NEGATIVE,
-        (size, Some(Finding::OutOfRange(-1)), 31),
-    );
-    check_file(&rt, alloc, TWICE, (size, Some(Finding::Repeated), 38));
-    check_file(&rt, alloc, MISSING, (size, Some(Finding::Missing), 22));
+    for (message, told) in &REFUSED {
+        check_file(&rt, rt.alloc(), message, *told);
+    }
 }
 
 #[test]

@@ -1,6 +1,5 @@
 //! Tests of the calls that read an enum.
-use super::checks::{begun, check_count, check_equal, check_item, check_key, check_refused};
-use bser_vectors::enums::TestEnum;
+use super::checks::{check_at_end, check_equal, check_item, check_refusal};
 use serde_bser::de::{Deserializer, EnumForm, MapAccess, ReadsContainers, ReadsEnums, SliceRead};
 use std::alloc::Global;
 use std::process::Abort;
@@ -17,17 +16,16 @@ const TUPLE: &[u8] =
 const STRUCT: &[u8] =
     b"\x00\x02\x00\x00\x00\x00\x05\x2b\x00\x00\x00\x01\x03\x01\x02\x03\x0aTestStruct\x01\x03\x02\x02\x03\x03abc\x02\x03\x03foo\x02\x03\x03def\x02\x03\x03bar";
 
-#[test]
-fn the_first_place_of_a_repeated_name_counts(rt: HostRuntime) {
-    let alloc = rt.alloc();
-    let message = b"\x00\x02\x00\x00\x00\x00\x03\x04\x0d\x03\x01a";
-    let mut from = begun(&rt, alloc, message);
+/// The text "a".
+const LETTER: &[u8] = b"\x00\x02\x00\x00\x00\x00\x03\x04\x0d\x03\x01a";
+
+/// Checks that the first place of a repeated name counts.
+fn check_repeated(rt: &impl Abort, from: &mut Deserializer<SliceRead<'_>>) {
     let variant = from
         .read_enum("Letter", &["b", "a", "a"])
-        .expect(&rt, "a variant is read");
-    check_count(&rt, variant.place(), 1);
-    variant.unit_variant().expect(&rt, "it holds nothing");
-    from.end().expect(&rt, "it is at its end");
+        .expect(rt, "a variant is read");
+    check_equal(rt, &variant.place(), &1);
+    variant.unit_variant().expect(rt, "it holds nothing");
 }
 
 /// Checks that the payload is an array of "foo" and "bar".
@@ -39,16 +37,6 @@ fn check_payload_items(rt: &impl Abort, alloc: Global, from: &mut Deserializer<S
     check_item(rt, alloc, &mut items, 2, Some("foo"));
     check_item(rt, alloc, &mut items, 1, Some("bar"));
     items.end().expect(rt, "it is at its end");
-}
-
-#[test]
-fn the_items_of_a_tuple_are_read(rt: HostRuntime) {
-    let mut from = Deserializer::with_limit(rt.alloc(), 2, SliceRead::new(TUPLE)).expect(
-        &rt,
-        "the head is whole",
-    );
-    check_payload_items(&rt, rt.alloc(), &mut from);
-    from.end().expect(&rt, "it is at its end");
 }
 
 /// Checks what the next key and its value are.
@@ -75,67 +63,99 @@ fn check_payload_entries(rt: &impl Abort, alloc: Global, from: &mut Deserializer
     entries.end().expect(rt, "it is at its end");
 }
 
-#[test]
-fn the_entries_of_a_struct_are_read(rt: HostRuntime) {
-    let mut from = Deserializer::with_limit(rt.alloc(), 2, SliceRead::new(STRUCT)).expect(
-        &rt,
-        "the head is whole",
-    );
-    check_payload_entries(&rt, rt.alloc(), &mut from);
-    from.end().expect(&rt, "it is at its end");
-}
-
-#[test]
-fn a_variant_is_read_by_its_form(rt: HostRuntime) {
-    let mut from = begun(&rt, rt.alloc(), UNIT);
+/// Checks that the variant is read by its form.
+fn check_form(rt: &impl Abort, from: &mut Deserializer<SliceRead<'_>>) {
     let form = from
         .read_enum_form("TestEnum", &["Other", "TestUnit"])
-        .expect(&rt, "a variant is read");
-    check_count(&rt, form.place(), 1);
+        .expect(rt, "a variant is read");
+    check_equal(rt, &form.place(), &1);
     if let EnumForm::Object(entry) = form {
-        entry.unit_variant().expect(&rt, "it holds null");
+        entry.unit_variant().expect(rt, "it holds null");
     }
-    from.end().expect(&rt, "it is at its end");
 }
 
-#[test]
-fn a_name_alone_has_no_items(rt: HostRuntime) {
-    let alloc = rt.alloc();
-    let message = b"\x00\x02\x00\x00\x00\x00\x03\x04\x0d\x03\x01a";
-    let mut from = begun(&rt, alloc, message);
+/// Asks for the items of a name that stands alone.
+fn ask_for_items(rt: &impl Abort, from: &mut Deserializer<SliceRead<'_>>) {
     let form = from
         .read_enum_form("Letter", &["a"])
-        .expect(&rt, "a variant is read");
+        .expect(rt, "a variant is read");
     if let EnumForm::Unit(alone) = form {
         drop(alone.tuple_variant());
     }
-    let refused = from.read_unit();
-    check_refused(&rt, alloc, &refused, &mut from, "E6 Failed");
 }
+
+/// Opens the object of a variant, and drops the access.
+fn drop_variant(rt: &impl Abort, from: &mut Deserializer<SliceRead<'_>>) {
+    let variant = from.read_enum("TestEnum", &["TestUnit"]);
+    drop(variant.expect(rt, "a variant is read"));
+}
+
+/// What is read of an enum.
+enum Part {
+    Repeated,
+    Items,
+    Entries,
+    Form,
+    ItemsOfNone,
+    Dropped,
+}
+
+/// Reads the part, and checks it.
+fn check_part(rt: &impl Abort, alloc: Global, from: &mut Deserializer<SliceRead<'_>>, part: &Part) {
+    match *part {
+        Part::Repeated => check_repeated(rt, from),
+        Part::Items => check_payload_items(rt, alloc, from),
+        Part::Entries => check_payload_entries(rt, alloc, from),
+        Part::Form => check_form(rt, from),
+        Part::ItemsOfNone => ask_for_items(rt, from),
+        Part::Dropped => drop_variant(rt, from),
+    }
+}
+
+/// Checks that reading a null is refused with this code.
+fn check_null_refused(
+    rt: &impl Abort,
+    alloc: Global,
+    from: &mut Deserializer<SliceRead<'_>>,
+    expected: &str,
+) {
+    check_equal(rt, &from.read_unit().is_err(), &true);
+    check_refusal(rt, alloc, from, expected);
+}
+
+/// Checks the part of a message of at most two levels, and that all is read then, or that a null is
+/// refused with this code.
+fn check_message(
+    rt: &impl Abort,
+    alloc: Global,
+    message: &[u8],
+    part: &Part,
+    refused: Option<&str>,
+) {
+    let from = Deserializer::with_limit(alloc, 2, SliceRead::new(message));
+    let mut from = from.expect(rt, "the head is whole");
+    check_part(rt, alloc, &mut from, part);
+    match refused {
+        None => check_at_end(rt, &from),
+        Some(code) => check_null_refused(rt, alloc, &mut from, code),
+    }
+}
+
+/// Messages, what is read of each, and the code of the refusal after it.
+static READ: [(&[u8], Part, Option<&str>); 6] = [
+    (LETTER, Part::Repeated, None),
+    (TUPLE, Part::Items, None),
+    (STRUCT, Part::Entries, None),
+    (UNIT, Part::Form, None),
+    // a name alone has no items
+    (LETTER, Part::ItemsOfNone, Some("E6 Failed")),
+    // a dropped variant leaves its object open
+    (UNIT, Part::Dropped, Some("C11")),
+];
 
 #[test]
-fn a_dropped_variant_leaves_its_object_open(rt: HostRuntime) {
-    let alloc = rt.alloc();
-    let mut from = begun(&rt, alloc, UNIT);
-    drop(
-        from.read_enum("TestEnum", &["TestUnit"])
-            .expect(&rt, "a variant is read"),
-    );
-    let refused = from.read_unit();
-    check_refused(&rt, alloc, &refused, &mut from, "C11");
-}
-
-/// Checks that the object's key is a unit variant, and its value null.
-fn check_unit_key(rt: &impl Abort, alloc: Global, from: &mut Deserializer<SliceRead<'_>>) {
-    let mut map = from.read_map().expect(rt, "an object is opened");
-    check_key(rt, alloc, &mut map, TestEnum::<&str>::TestUnit);
-    map.next_value::<()>(alloc).expect(rt, "a value is read");
-    map.end().expect(rt, "it is at its end");
-}
-
-#[test]
-fn a_key_is_a_unit_variant(rt: HostRuntime) {
-    let mut from = begun(&rt, rt.alloc(), UNIT);
-    check_unit_key(&rt, rt.alloc(), &mut from);
-    from.end().expect(&rt, "it is at its end");
+fn a_variant_is_read_by_the_form_of_its_payload(rt: HostRuntime) {
+    for (message, part, refused) in &READ {
+        check_message(&rt, rt.alloc(), message, part, *refused);
+    }
 }

@@ -1,5 +1,5 @@
 //! Types that are read from readers that fault.
-use super::checks::read_by;
+use super::checks::{check_equal, read_by};
 use bser_vectors::devices::{Plan, Then};
 use bser_vectors::structs::TemplateRow;
 use serde_bser::de::{DeserializeOwned, Ignored};
@@ -28,8 +28,8 @@ fn fault<T>(answer: &Result<T>) -> Option<ErrorKind> {
     }
 }
 
-/// Checks that a fault after each byte of the message is handed on, and that the bytes before it were
-/// taken, and no more.
+/// Checks that a fault after each byte of the message is handed on, and that the bytes before it
+/// were taken, and no more.
 fn check_faults_by<T: DeserializeOwned>(
     rt: &impl Abort,
     alloc: Global,
@@ -40,15 +40,27 @@ fn check_faults_by<T: DeserializeOwned>(
     for whole in 0..message.len() {
         let plan = Plan::pieces(most).up_to(whole, then);
         let (answer, left) = read_by::<T>(alloc, message, plan);
-        assert_eq!(rt; (fault(&answer), left), (Some(kind), message.len() - whole));
+        let found = (fault(&answer), left);
+        check_equal(rt, &found, &(Some(kind), message.len() - whole));
     }
 }
 
-/// The same of two kinds of faults, each from readers that give at most so many bytes a call.
+/// Faults, and the kind that is handed on. A reader that is interrupted once is not read again: its
+/// next call would give the byte.
+static FAULTS: [(Then, ErrorKind); 3] = [
+    (Then::Faults(ErrorKind::Interrupted), ErrorKind::Interrupted),
+    (Then::Faults(ErrorKind::BrokenPipe), ErrorKind::BrokenPipe),
+    (
+        Then::FaultsOnce(ErrorKind::Interrupted),
+        ErrorKind::Interrupted,
+    ),
+];
+
+/// The same of each of the faults, from readers that give at most so many bytes a call.
 fn check_faults<T: DeserializeOwned>(rt: &impl Abort, alloc: Global, message: &[u8]) {
-    for kind in [ErrorKind::Interrupted, ErrorKind::BrokenPipe] {
-        for most in [1, 3, usize::MAX] {
-            check_faults_by::<T>(rt, alloc, message, most, (Then::Faults(kind), kind));
+    for fault in &FAULTS {
+        for most in &[1, 3, usize::MAX] {
+            check_faults_by::<T>(rt, alloc, message, *most, *fault);
         }
     }
 }
@@ -61,21 +73,4 @@ fn a_fault_at_each_byte_is_handed_on(rt: HostRuntime) {
     check_faults::<Vec<TemplateRow<String>>>(&rt, alloc, ROWS);
     check_faults::<Vec<BTreeMap<String, Ignored>>>(&rt, alloc, ROWS);
     check_faults::<Ignored>(&rt, alloc, ROWS);
-}
-
-/// Checks that a reader that is interrupted once, after each byte of the message, is not asked again:
-/// its interruption is the answer, though its next call would give the byte.
-fn check_interruptions<T: DeserializeOwned>(rt: &impl Abort, alloc: Global, message: &[u8]) {
-    let kind = ErrorKind::Interrupted;
-    for most in [1, 3, usize::MAX] {
-        check_faults_by::<T>(rt, alloc, message, most, (Then::FaultsOnce(kind), kind));
-    }
-}
-
-#[test]
-fn a_reader_that_is_interrupted_once_is_not_read_again(rt: HostRuntime) {
-    let alloc = rt.alloc();
-    check_interruptions::<Value>(&rt, alloc, REAL);
-    check_interruptions::<Vec<TemplateRow<String>>>(&rt, alloc, ROWS);
-    check_interruptions::<Ignored>(&rt, alloc, ROWS);
 }

@@ -1,7 +1,7 @@
 //! Texts that are borrowed where the source lends, and copied where it does not.
-use super::checks::read_by;
+use super::checks::{check_equal, read_by, read_slice};
 use bser_vectors::devices::Plan;
-use serde_bser::from_slice;
+use std::alloc::Global;
 use std::borrow::CowStr;
 use std::process::Abort;
 
@@ -13,28 +13,31 @@ fn is_borrowed(text: &CowStr<'_>) -> bool {
     matches!(text, CowStr::Borrowed(_))
 }
 
-/// Checks what the text is, and whether it is borrowed.
-fn check_text(rt: &impl Abort, text: &CowStr<'_>, expected: (&str, bool)) {
-    assert_eq!(rt; (text.as_str(), is_borrowed(text)), expected);
-}
-
 /// Checks that the texts are the two names, and whether they are borrowed.
 fn check_names(rt: &impl Abort, names: &[CowStr<'_>], borrowed: bool) {
-    assert_eq!(rt; names.len(), 2);
-    check_text(rt, &names[0], ("Tom", borrowed));
-    check_text(rt, &names[1], ("Jerry", borrowed));
-}
-
-#[test]
-fn a_text_is_borrowed_from_a_slice(rt: HostRuntime) {
-    let names = from_slice::<Vec<CowStr<'_>>>(rt.alloc(), NAMES).expect(&rt, "the message is read");
-    check_names(&rt, &names, true);
-}
-
-#[test]
-fn a_text_is_copied_from_a_reader(rt: HostRuntime) {
-    for plan in [Plan::pieces(1), Plan::whole()] {
-        let (names, _) = read_by::<Vec<CowStr<'_>>>(rt.alloc(), NAMES, plan);
-        check_names(&rt, &names.expect(&rt, "the message is read"), false);
+    match names {
+        [tom, jerry] => {
+            check_equal(rt, &(tom.as_str(), is_borrowed(tom)), &("Tom", borrowed));
+            check_equal(
+                rt,
+                &(jerry.as_str(), is_borrowed(jerry)),
+                &("Jerry", borrowed),
+            );
+        }
+        _ => assert!(rt; false, "two names are read"),
     }
+}
+
+/// Checks that a reader's texts are copied.
+fn check_copied(rt: &impl Abort, alloc: Global, plan: Plan) {
+    let (names, _) = read_by::<Vec<CowStr<'_>>>(alloc, NAMES, plan);
+    check_names(rt, &names.expect(rt, "the message is read"), false);
+}
+
+#[test]
+fn a_text_is_borrowed_from_a_slice_and_copied_from_a_reader(rt: HostRuntime) {
+    let names = read_slice::<Vec<CowStr<'_>>>(&rt, rt.alloc(), NAMES);
+    check_names(&rt, &names, true);
+    check_copied(&rt, rt.alloc(), Plan::pieces(1));
+    check_copied(&rt, rt.alloc(), Plan::whole());
 }

@@ -1,8 +1,8 @@
 //! Maps in the order of their hashes, read from whole messages.
-use super::checks::check_slice_refused;
+use super::checks::{check_equal, check_slice_refused, read_by, read_slice};
+use bser_vectors::devices::Plan;
 use serde_bser::bytestring::ByteString;
-use serde_bser::de::{Deserialize, MapKey, from_reader, from_slice};
-use serde_bser::device::Watched;
+use serde_bser::de::{Deserialize, MapKey};
 use std::alloc::Global;
 use std::collections::HashMap;
 use std::process::Abort;
@@ -30,45 +30,57 @@ fn check_entry<K: MapKey>(
     key: &K,
     value: Option<u8>,
 ) {
-    assert_eq!(rt; (map.len(), map.get(key).copied()), (len, value));
+    check_equal(rt, &(map.len(), map.get(key).copied()), &(len, value));
 }
 
-/// Checks how many keys the message's map has, and what it has under this one.
-fn check_read<'a, K: MapKey + Deserialize<&'a [u8]>>(
+/// A message, how many keys its map has, and what it has under the key that is looked up.
+type Row<'a> = (&'a [u8], usize, Option<u8>);
+
+/// Checks each message's map, where this key is looked up.
+fn check_rows<'a, K: MapKey + Deserialize<&'a [u8]>>(
     rt: &impl Abort,
     alloc: Global,
-    message: &'a [u8],
-    len: usize,
     key: &K,
-    value: Option<u8>,
+    rows: &[Row<'a>],
 ) {
-    let map = from_slice::<HashMap<K, u8>>(alloc, message).expect(rt, "the message is read");
-    check_entry(rt, &map, len, key, value);
+    for row in rows {
+        let map = read_slice::<HashMap<K, u8>>(rt, alloc, row.0);
+        check_entry(rt, &map, row.1, key, row.2);
+    }
+}
+
+/// What is under "a".
+const UNDER_A: &[Row<'_>] = &[(FALLING, 2, Some(2)), (TWICE, 1, Some(2)), (EMPTY, 0, None)];
+
+/// What is under "b".
+const UNDER_B: &[Row<'_>] = &[(FALLING, 2, Some(1)), (TWICE, 1, None), (EMPTY, 0, None)];
+
+#[test]
+fn a_lent_key_finds_its_value_by_hash(rt: HostRuntime) {
+    check_rows(&rt, rt.alloc(), &"a", UNDER_A);
+    check_rows(&rt, rt.alloc(), &"b", UNDER_B);
+    check_rows(&rt, rt.alloc(), &b"a".as_slice(), UNDER_A);
+    check_rows(&rt, rt.alloc(), &b"c".as_slice(), &[(FALLING, 2, None)]);
 }
 
 #[test]
-fn each_type_of_keys_finds_its_values_by_hash(rt: HostRuntime) {
-    let alloc = rt.alloc();
-    let text = String::from_str(alloc, "a").expect(&rt, "memory is left");
-    check_read(&rt, alloc, FALLING, 2, &text, Some(2));
-    let name = ByteString::from_text(alloc, "b").expect(&rt, "memory is left");
-    check_read(&rt, alloc, FALLING, 2, &name, Some(1));
-    check_read(&rt, alloc, FALLING, 2, &"b", Some(1));
-    check_read(&rt, alloc, FALLING, 2, &b"a".as_slice(), Some(2));
-    check_read(&rt, alloc, FALLING, 2, &b"c".as_slice(), None);
-}
-
-#[test]
-fn the_last_of_equal_hashed_keys_stays(rt: HostRuntime) {
-    let alloc = rt.alloc();
-    let key = String::from_str(alloc, "a").expect(&rt, "memory is left");
-    check_read(&rt, alloc, TWICE, 1, &key, Some(2));
-    check_read(&rt, alloc, TWICE, 1, &"a", Some(2));
-    let read = from_reader::<_, HashMap<String, u8>>(alloc, &mut Watched::new(TWICE)).expect(
+fn an_owned_text_finds_its_value_by_hash(rt: HostRuntime) {
+    let key = String::from_str(rt.alloc(), "a").expect(&rt, "memory is left");
+    check_rows(&rt, rt.alloc(), &key, UNDER_A);
+    let (read, _) = read_by::<HashMap<String, u8>>(rt.alloc(), TWICE, Plan::whole());
+    check_entry(
         &rt,
-        "the message is read",
+        &read.expect(&rt, "the message is read"),
+        1,
+        &key,
+        Some(2),
     );
-    check_entry(&rt, &read, 1, &key, Some(2));
+}
+
+#[test]
+fn a_byte_string_finds_its_value_by_hash(rt: HostRuntime) {
+    let key = ByteString::from_text(rt.alloc(), "b").expect(&rt, "memory is left");
+    check_rows(&rt, rt.alloc(), &key, UNDER_B);
 }
 
 #[test]
@@ -86,10 +98,8 @@ fn what_no_hashed_map_is_read_from(rt: HostRuntime) {
 
 #[test]
 fn rows_are_hashed_maps(rt: HostRuntime) {
-    let alloc = rt.alloc();
-    let rows = from_slice::<Vec<HashMap<&str, u8>>>(alloc, ROWS).expect(&rt, "the message is read");
+    let rows = read_slice::<Vec<HashMap<&str, u8>>>(&rt, rt.alloc(), ROWS);
     assert_eq!(rt; rows.len(), 2);
     check_entry(&rt, &rows[0], 2, &"a", Some(1));
     check_entry(&rt, &rows[1], 2, &"b", Some(4));
-    check_read(&rt, alloc, EMPTY, 0, &String::new(alloc), None);
 }

@@ -1,23 +1,20 @@
 //! The printed texts of refused messages.
-use super::checks::check_text;
+use super::checks::check_equal;
 use bser_vectors::enums::TestEnum;
-use serde_bser::errors::{Error, Result};
+use serde_bser::errors::Result;
 use serde_bser::from_slice;
 use serde_bser::value::Value;
 use std::alloc::Global;
 use std::process::Abort;
 
-/// Checks how the refusal is printed.
-fn check_shown(rt: &impl Abort, alloc: Global, refusal: &Error, text: &str) {
-    let shown = format!(in alloc; "{refusal}").expect(rt, "memory is left");
-    check_text(rt, shown.as_str(), text);
-}
-
 /// Checks that the answer is a refusal that is printed so.
 fn check_printed<T>(rt: &impl Abort, alloc: Global, answer: &Result<T>, text: &str) {
     match answer {
         Ok(_) => assert!(rt; false, "{text}"),
-        Err(refusal) => check_shown(rt, alloc, refusal, text),
+        Err(refusal) => {
+            let shown = format!(in alloc; "{refusal}").expect(rt, "memory is left");
+            check_equal(rt, &shown.as_str(), &text);
+        }
     }
 }
 

@@ -1,14 +1,13 @@
 //! Messages that are read as types that take memory, and as such that take none.
 use super::{ROWS, Tested, wanted};
 use bser_vectors::devices::Plan;
-use bser_vectors::notation::is_answer;
+use bser_vectors::notation::parse_value;
 use bser_vectors::structs::TemplateRow;
 use bser_vectors::ways::read_by_plan;
 use serde_bser::bytestring::ByteString;
 use serde_bser::de::{Deserialize, DeserializeOwned, Ignored, RealBits};
 use serde_bser::errors::Result;
 use serde_bser::from_slice;
-use serde_bser::value::Value;
 use std::alloc::Global;
 use std::collections::{BTreeSet, HashMap};
 use std::fmt::Debug;
@@ -27,6 +26,30 @@ fn check_answer<T: PartialEq + Debug + Drop>(
     Ok(())
 }
 
+/// Whence a message is read.
+enum Way {
+    Slice,
+    /// A reader of one byte a call.
+    Bytes,
+    /// A reader of all bytes.
+    Whole,
+}
+
+static WAYS: [Way; 3] = [Way::Slice, Way::Bytes, Way::Whole];
+
+/// What the message is read as.
+fn read_from<'a, T: Deserialize<&'a [u8]> + DeserializeOwned>(
+    alloc: Global,
+    message: &'a [u8],
+    way: &Way,
+) -> Result<T> {
+    match *way {
+        Way::Slice => from_slice(alloc, message),
+        Way::Bytes => read_by_plan(alloc, message, Plan::pieces(1)).0,
+        Way::Whole => read_by_plan(alloc, message, Plan::whole()).0,
+    }
+}
+
 /// Checks what the message is read as from a slice, from a reader of one byte a call and from one of
 /// all bytes, or answers that memory was refused.
 fn check_read<'a, T: Deserialize<&'a [u8]> + DeserializeOwned + PartialEq + Debug>(
@@ -35,17 +58,10 @@ fn check_read<'a, T: Deserialize<&'a [u8]> + DeserializeOwned + PartialEq + Debu
     message: &'a [u8],
     expected: &T,
 ) -> Tested {
-    check_answer(rt, from_slice::<T>(alloc, message), expected)?;
-    check_answer(
-        rt,
-        read_by_plan::<T>(alloc, message, Plan::pieces(1)).0,
-        expected,
-    )?;
-    check_answer(
-        rt,
-        read_by_plan::<T>(alloc, message, Plan::whole()).0,
-        expected,
-    )
+    for way in &WAYS {
+        check_answer(rt, read_from::<T>(alloc, message, way), expected)?;
+    }
+    Ok(())
 }
 
 /// The number 128.
@@ -62,9 +78,13 @@ const TEXT: &[u8] = b"\x00\x02\0\0\0\0\x03\x06\x0d\x03\x03Tom";
 
 #[test]
 fn a_text_is_copied(rt: HostRuntime) -> Tested {
-    let text = String::from_str(rt.alloc(), "Tom")?;
-    check_read(&rt, rt.alloc(), TEXT, &text)?;
-    check_read(&rt, rt.alloc(), TEXT, &ByteString::from_string(text))
+    check_read(&rt, rt.alloc(), TEXT, &String::from_str(rt.alloc(), "Tom")?)?;
+    check_read(
+        &rt,
+        rt.alloc(),
+        TEXT,
+        &ByteString::from_text(rt.alloc(), "Tom")?,
+    )
 }
 
 /// An array of the numbers 3, 2 and 3.
@@ -72,11 +92,10 @@ const NUMBERS: &[u8] = b"\x00\x02\0\0\0\0\x03\x09\x00\x03\x03\x03\x03\x03\x02\x0
 
 #[test]
 fn numbers_are_listed_and_gathered(rt: HostRuntime) -> Tested {
-    let numbers = vec![in rt.alloc(); 3i64, 2, 3]?;
-    check_read(&rt, rt.alloc(), NUMBERS, &numbers)?;
+    check_read(&rt, rt.alloc(), NUMBERS, &vec![in rt.alloc(); 3i64, 2, 3]?)?;
     let mut set = BTreeSet::new(rt.alloc());
-    for number in [2i64, 3] {
-        set.insert(number)?;
+    for number in &[2i64, 3] {
+        set.insert(*number)?;
     }
     check_read(&rt, rt.alloc(), NUMBERS, &set)
 }
@@ -85,84 +104,42 @@ fn numbers_are_listed_and_gathered(rt: HostRuntime) -> Tested {
 const OBJECT: &[u8] =
     b"\x00\x02\0\0\0\0\x03\x0f\x01\x03\x02\x0d\x03\x01b\x03\x01\x0d\x03\x01a\x03\x02";
 
-/// Whether the map has "a" of 2 and "b" of 1 alone, where these are its keys' texts.
-fn is_object(map: &HashMap<String, i64>, a: &String, b: &String) -> bool {
-    map.len() == 2 && map.get(a) == Some(&2) && map.get(b) == Some(&1)
-}
-
-/// Checks that the answer is the object's map, or answers that memory was refused.
-fn check_map(rt: &impl Abort, alloc: Global, answer: Result<HashMap<String, i64>>) -> Tested {
-    let (a, b) = (String::from_str(alloc, "a")?, String::from_str(alloc, "b")?);
-    match answer {
-        Ok(map) => assert!(rt; is_object(&map, &a, &b)),
-        Err(error) => wanted(rt, error)?,
-    }
-    Ok(())
-}
+/// Its entries.
+static ENTRIES: [(&str, i64); 2] = [("a", 2), ("b", 1)];
 
 #[test]
 fn an_object_is_a_hashed_map(rt: HostRuntime) -> Tested {
-    let alloc = rt.alloc();
-    check_map(&rt, alloc, from_slice(alloc, OBJECT))?;
-    check_map(&rt, alloc, read_by_plan(alloc, OBJECT, Plan::pieces(1)).0)?;
-    check_map(&rt, alloc, read_by_plan(alloc, OBJECT, Plan::whole()).0)
+    let mut map = HashMap::new(rt.alloc());
+    for (key, number) in &ENTRIES {
+        map.insert(String::from_str(rt.alloc(), key)?, *number)?;
+    }
+    check_read(&rt, rt.alloc(), OBJECT, &map)
 }
 
 /// The two rows in the notation.
 const ROWS_SHOWN: &str =
     "[{616263:i123,646566:b626172,676869:n},{616263:i456,646566:n,676869:i789}]";
 
-/// Checks that the answer is the two rows, or answers that memory was refused in reading or in
-/// comparing.
-fn check_value(rt: &impl Abort, alloc: Global, answer: Result<Value>) -> Tested {
-    match answer {
-        Ok(value) => {
-            let read = Ok(value);
-            assert!(rt; is_answer(alloc, &read, ROWS_SHOWN)?);
-            Ok(())
-        }
-        Err(error) => wanted(rt, error),
-    }
-}
-
 #[test]
 fn a_template_is_a_value_or_refused_for_memory(rt: HostRuntime) -> Tested {
-    let alloc = rt.alloc();
-    check_value(&rt, alloc, from_slice(alloc, ROWS))?;
-    check_value(&rt, alloc, read_by_plan(alloc, ROWS, Plan::pieces(1)).0)?;
-    check_value(&rt, alloc, read_by_plan(alloc, ROWS, Plan::whole()).0)
-}
-
-/// Whether the row has these fields.
-fn is_row(row: &TemplateRow<String>, abc: i32, def: Option<&str>, ghi: Option<i64>) -> bool {
-    row.abc == abc && row.def.as_ref().map(String::as_str) == def && row.ghi == ghi
-}
-
-/// Whether these are the two rows.
-fn are_rows(rows: &[TemplateRow<String>]) -> bool {
-    match rows {
-        [first, second] => {
-            is_row(first, 123, Some("bar"), None) && is_row(second, 456, None, Some(789))
-        }
-        _ => false,
-    }
-}
-
-/// Checks that the answer is the two rows, or answers that memory was refused.
-fn check_rows(rt: &impl Abort, answer: Result<Vec<TemplateRow<String>>>) -> Tested {
-    match answer {
-        Ok(rows) => assert!(rt; are_rows(&rows)),
-        Err(error) => wanted(rt, error)?,
-    }
-    Ok(())
+    let value = parse_value(rt.alloc(), ROWS_SHOWN)?;
+    check_read(&rt, rt.alloc(), ROWS, &value)
 }
 
 #[test]
 fn a_template_is_its_rows_or_refused_for_memory(rt: HostRuntime) -> Tested {
     let alloc = rt.alloc();
-    check_rows(&rt, from_slice(alloc, ROWS))?;
-    check_rows(&rt, read_by_plan(alloc, ROWS, Plan::pieces(1)).0)?;
-    check_rows(&rt, read_by_plan(alloc, ROWS, Plan::whole()).0)
+    let first = TemplateRow {
+        abc: 123,
+        def: Some(String::from_str(alloc, "bar")?),
+        ghi: None,
+    };
+    let second = TemplateRow {
+        abc: 456,
+        def: None,
+        ghi: Some(789),
+    };
+    check_read(&rt, alloc, ROWS, &vec![in alloc; first, second]?)
 }
 
 #[test]

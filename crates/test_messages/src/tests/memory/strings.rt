@@ -34,14 +34,9 @@ fn check_copy(
 }
 
 #[test]
-fn a_byte_string_is_copied(rt: HostRuntime) -> Tested {
+fn a_byte_string_is_copied_and_cloned(rt: HostRuntime) -> Tested {
     let name = name(rt.alloc())?;
-    check_copy(&rt, &name, name.try_clone(rt.alloc()))
-}
-
-#[test]
-fn a_byte_string_is_cloned(rt: HostRuntime) -> Tested {
-    let name = name(rt.alloc())?;
+    check_copy(&rt, &name, name.try_clone(rt.alloc()))?;
     check_copy(&rt, &name, name.clone())
 }
 

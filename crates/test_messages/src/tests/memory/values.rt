@@ -24,14 +24,9 @@ fn check_copy(
 }
 
 #[test]
-fn a_value_is_copied(rt: HostRuntime) -> Tested {
+fn a_value_is_copied_and_cloned(rt: HostRuntime) -> Tested {
     let (value, same) = (rows(rt.alloc())?, rows(rt.alloc())?);
-    check_copy(&rt, &value, value.try_clone(rt.alloc()), &same)
-}
-
-#[test]
-fn a_value_is_cloned(rt: HostRuntime) -> Tested {
-    let (value, same) = (rows(rt.alloc())?, rows(rt.alloc())?);
+    check_copy(&rt, &value, value.try_clone(rt.alloc()), &same)?;
     check_copy(&rt, &value, value.clone(), &same)
 }
 

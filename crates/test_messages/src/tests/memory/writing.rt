@@ -1,6 +1,7 @@
 //! Messages that are written, and the bytes that a writer has of them.
-use super::{CANONICAL_ROWS, ROWS, Tested, check_bytes, wanted, wanted_after};
-use bser_vectors::devices::{Plan, PlannedWriter};
+use super::{
+    CANONICAL_ROWS, ROWS, Tested, check_bytes, check_written, taking, wanted, wanted_after,
+};
 use serde_bser::device::Watched;
 use serde_bser::errors::{Error, Result};
 use serde_bser::from_slice;
@@ -8,11 +9,6 @@ use serde_bser::ser::{Serialize, Serializer, serialize, serialize_compact, seria
 use serde_bser::value::Value;
 use std::alloc::Global;
 use std::process::Abort;
-
-/// A writer that takes at most five bytes a call.
-fn of_five(alloc: Global) -> Watched<PlannedWriter> {
-    Watched::new(PlannedWriter::new(alloc, Plan::pieces(5)))
-}
 
 /// Checks that the value is serialized so, or answers the refusal, after which the writer that is
 /// handed back has a beginning of the message.
@@ -22,7 +18,7 @@ fn check_serialized<T: Serialize>(
     value: &T,
     message: &[u8],
 ) -> Tested {
-    match serialize(alloc, of_five(alloc), value) {
+    match serialize(alloc, taking(alloc, 5), value) {
         Ok(writer) => check_bytes(rt, writer.get_ref().taken(), message),
         Err((writer, error)) => wanted_after(rt, error, writer.get_ref().taken(), message),
     }
@@ -52,7 +48,7 @@ fn more_than_is_kept_pending_is_serialized(rt: HostRuntime) -> Tested {
 
 #[test]
 fn a_number_that_is_too_great_is_named(rt: HostRuntime) -> Tested {
-    match serialize(rt.alloc(), of_five(rt.alloc()), &[1, u64::MAX]) {
+    match serialize(rt.alloc(), taking(rt.alloc(), 5), &[1, u64::MAX]) {
         Err((writer, Error::SerU64TooBig { v: u64::MAX })) => {
             check_bytes(&rt, writer.get_ref().taken(), b"")
         }
@@ -88,24 +84,10 @@ fn a_vector_is_refused_by_the_number_that_is_too_great(rt: HostRuntime) -> Teste
 const NESTED: &[u8] =
     b"\x00\x02\0\0\0\0\x03\x26\x0b\x00\x03\x01\x0d\x03\x01a\x03\x02\x0b\x00\x03\x01\x0d\x03\x01b\x03\x02\x03\x01\x03\x02\x0b\x00\x03\x01\x0d\x03\x01b\x03\x02\x03\x03\x03\x04";
 
-/// Checks the answer to writing the message, and what the writer has of it.
-fn check_written(
-    rt: &impl Abort,
-    answer: Result<()>,
-    writer: &Watched<PlannedWriter>,
-    message: &[u8],
-) -> Tested {
-    let taken = writer.get_ref().taken();
-    match answer {
-        Ok(()) => check_bytes(rt, taken, message),
-        Err(error) => wanted_after(rt, error, taken, message),
-    }
-}
-
 #[test]
 fn a_message_that_is_refused_for_memory_leaves_a_beginning(rt: HostRuntime) -> Tested {
     let value: Value = from_slice(rt.alloc(), ROWS)?;
-    let mut writer = of_five(rt.alloc());
+    let mut writer = taking(rt.alloc(), 5);
     let answer = serialize_to(rt.alloc(), &mut writer, &value);
     check_written(&rt, answer, &writer, CANONICAL_ROWS)
 }
@@ -113,7 +95,7 @@ fn a_message_that_is_refused_for_memory_leaves_a_beginning(rt: HostRuntime) -> T
 #[test]
 fn a_compact_message_that_is_refused_for_memory_leaves_a_beginning(rt: HostRuntime) -> Tested {
     let value: Value = from_slice(rt.alloc(), NESTED)?;
-    let mut writer = of_five(rt.alloc());
+    let mut writer = taking(rt.alloc(), 5);
     let answer = serialize_compact(rt.alloc(), &mut writer, &value);
     check_written(&rt, answer, &writer, NESTED)
 }

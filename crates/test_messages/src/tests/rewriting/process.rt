@@ -1,5 +1,6 @@
 //! Tests of the program over what a process gives it.
-use super::{NULL, ROWS, memory};
+use super::{NULL, memory};
+use crate::tests::check_bytes;
 use bser_rewriting::process::{Arguments, Finish, process};
 use bser_source::device::{Sink, Watched};
 use std::alloc::Global;
@@ -64,53 +65,56 @@ fn check_ending<W: Sink + Finish + Drop>(
     assert_eq!(rt; (code, told), (ExitCode::from(expected.0), expected.1));
 }
 
+/// The status and the line.
+type Ending = (u8, &'static [u8]);
+
 /// Checks the status, the line and what is written.
 fn check_process(
     rt: &impl Abort,
     alloc: Global,
     words: &[&[u8]],
     input: &[u8],
-    expected: (u8, &[u8]),
-    expected_bytes: &[u8],
+    ending: Ending,
+    expected: &[u8],
 ) {
     let mut written = Vec::new(alloc);
-    check_ending(
-        rt,
-        alloc,
-        words,
-        input,
-        Watched::new(&mut written),
-        expected,
-    );
-    assert_eq!(rt; written.as_slice(), expected_bytes);
+    let writer = Watched::new(&mut written);
+    check_ending(rt, alloc, words, input, writer, ending);
+    check_bytes(rt, written.as_slice(), expected);
 }
 
-#[test]
-fn a_message_is_written_with_status_0(rt: HostRuntime) {
-    check_process(&rt, rt.alloc(), &[], NULL, (0, b""), NULL);
-    check_process(&rt, rt.alloc(), &[b"--compact"], NULL, (0, b""), NULL);
-}
+/// The ending where an argument is not known.
+const UNKNOWN: Ending = (2, b"bser_canon: unknown argument\n");
 
-#[test]
-fn a_refusal_ends_with_status_1(rt: HostRuntime) {
-    let told = b"bser_canon: reader error while deserializing\n";
-    check_process(&rt, rt.alloc(), &[], &ROWS[..9], (1, told), b"");
-}
-
-#[test]
-fn other_arguments_end_with_status_2(rt: HostRuntime) {
-    let cases: [&[&[u8]]; 7] = [
-        &[b""],
-        &[b"-"],
-        &[b"\xff"],
-        &[b"--compact\xff"],
-        &[LONG],
-        &[b"--compact", b"x"],
+/// Arguments, the input, the ending and what is written.
+static ENDINGS: [(&[&[u8]], &[u8], Ending, &[u8]); 10] = [
+    (&[], NULL, (0, b""), NULL),
+    (&[b"--compact"], NULL, (0, b""), NULL),
+    // what is cut
+    (
+        &[],
+        b"\x00\x02\x00\x00\x00\x00\x05\x28\x00",
+        (1, b"bser_canon: reader error while deserializing\n"),
+        b"",
+    ),
+    (&[b""], NULL, UNKNOWN, b""),
+    (&[b"-"], NULL, UNKNOWN, b""),
+    (&[b"\xff"], NULL, UNKNOWN, b""),
+    (&[b"--compact\xff"], NULL, UNKNOWN, b""),
+    (&[LONG], NULL, UNKNOWN, b""),
+    (&[b"--compact", b"x"], NULL, UNKNOWN, b""),
+    (
         &[b"--compact", b"--compact", b"--compact"],
-    ];
-    for words in cases {
-        let told = b"bser_canon: unknown argument\n";
-        check_process(&rt, rt.alloc(), words, NULL, (2, told), b"");
+        NULL,
+        UNKNOWN,
+        b"",
+    ),
+];
+
+#[test]
+fn a_process_ends_with_status_0_1_or_2(rt: HostRuntime) {
+    for (words, input, ending, written) in &ENDINGS {
+        check_process(&rt, rt.alloc(), words, input, *ending, written);
     }
 }
 
