@@ -1,0 +1,9 @@
+mod Kept
+mod Lengths
+mod Ends
+mod Holds
+mod Read
+mod Lies
+mod Walks
+mod Tells
+mod Looks

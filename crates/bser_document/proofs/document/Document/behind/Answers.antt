@@ -1,0 +1,1 @@
+-- Behind the node that is there.

@@ -1,0 +1,9 @@
+-- The entries up to here were looked at.
+use Rattle.std.proofs.Common.{ℕ, List, ◌-◌}
+use Rattle.bser_format.specs.Tree.{Tree}
+use Rattle.bser_document.specs.Pairs.{HoldsEntries}
+use Rattle.bser_document.proofs.Looks.{Looked}
+use Rattle.bser_document.proofs.entries.Entries.last.Given as goal
+
+abbrev pub invariant-loop : goal.invariant-loop
+invariant-loop l = (m : List (List ℕ × Tree)) → HoldsEntries l.fn.self m → Looked l.key m l.rest l.found (l.end - l.counter)

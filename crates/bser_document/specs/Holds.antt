@@ -1,0 +1,165 @@
+-- What an item holds.
+use Rattle.std.specs.Prelude.{◌≡◌, ℕ, ◌+◌, Bool, true, false, List, [], ◌∷◌, length, Option, Some, None}
+use Rattle.std.specs.List.{AllByRecursion}
+use Rattle.bser_format.specs.Tree.{Tree, null, boolean, integer, real, bytes, text, array, object, template, no_items, items, no_entries, entries, Fields, fields}
+use Rattle.bser_format.specs.Expand.{expand, expand_fields}
+use Rattle.bser_format.specs.Normal.{normal}
+use Rattle.bser_deserializer.specs.WholeRows.{HasWholeRows, FieldsHaveWholeRows}
+use Rattle.bser_events.specs.Events as told
+use Rattle.bser_events.specs.Events.{Event}
+use Rattle.bser_document.specs.declared.document.Document.{Document}
+use Rattle.bser_document.specs.declared.document.Node.{Node}
+use Rattle.bser_document.specs.declared.item.Item.{Item}
+use Rattle.bser_document.specs.declared.item.Keys.{Keys}
+use Rattle.bser_document.specs.declared.item.Kind.{Kind}
+use Rattle.bser_document.specs.declared.item.Kind.TheVariants as kinds
+use Rattle.bser_document.specs.DocumentView.{Within, event_of}
+use Rattle.bser_document.specs.Spans.{Lies, tree_ends, fields_ends, TreeLies, KeysLie, FieldsLie, FieldLies}
+
+-- a value, a skipped field, or a row with its keys
+pub data Part : Type 0 where
+  tree : Tree → Part
+  skipped : Part
+  row_of : List (List ℕ) → Fields → Part
+
+-- what a part means, as it is read
+abbrev pub part_value : Part → Option Tree
+part_value (tree t) = normal (expand t)
+part_value skipped = Some null
+part_value (row_of ks fs) = normal (object (expand_fields ks fs))
+
+-- each row inside has a field for each key
+abbrev pub PartIsWhole : Part → Type 0
+PartIsWhole (tree t) = HasWholeRows t
+PartIsWhole skipped = Unit {0}
+PartIsWhole (row_of ks fs) = FieldsHaveWholeRows fs
+
+-- these keys are those of a template of the document
+pub record ShowsKeys (d : Document) (k : Keys) (ks : List (List ℕ)) : Type 0 where
+  pub count : k.len ≡ length ks
+  pub lie : KeysLie d ks k.at
+
+-- the fields of a row begin at this place
+pub record RowLies (d : Document) (keys : Option Keys) (at : ℕ) (ks : List (List ℕ)) (fs : Fields) : Type 0 where
+  pub keys_at : Keys
+  pub some : keys ≡ Some keys_at
+  pub shows : ShowsKeys d keys_at ks
+  pub count : length (fields fs) ≡ length ks
+  pub lie : FieldsLie d fs at
+
+-- the part begins at this place, where a row's keys are these
+abbrev pub PartLies : Document → Option Keys → ℕ → Part → Type 0
+PartLies d keys at (tree t) = (keys ≡ None) × TreeLies d t at
+PartLies d keys at skipped = (keys ≡ None) × FieldLies d None at
+PartLies d keys at (row_of ks fs) = RowLies d keys at ks fs
+
+-- each text and each key of the document is UTF-8
+abbrev pub HasTexts : Document → Type 0
+HasTexts d = AllByRecursion (Within d.strings.items) d.nodes.items
+
+-- an item is this value, as it is read
+pub record HoldsItem (i : Item) (u : Tree) : Type 0 where
+  pub part : Part
+  pub lies : PartLies i.document.now i.keys i.at part
+  pub value : part_value part ≡ Some u
+  pub whole : PartIsWhole part
+  pub texts : HasTexts i.document.now
+
+-- ---- kinds
+
+-- of which kind a value is
+abbrev pub kind_of : Tree → Kind
+kind_of null = kinds.Null
+kind_of (boolean v) = kinds.Bool
+kind_of (integer v) = kinds.Integer
+kind_of (real v) = kinds.Real
+kind_of (bytes s) = kinds.Bytes
+kind_of (text s) = kinds.Text
+kind_of (array ts) = kinds.Array
+kind_of (object es) = kinds.Object
+kind_of (template ks rs) = kinds.Array
+
+-- whether a value is null
+abbrev pub is_null : Tree → Bool
+is_null null = true
+is_null _ = false
+
+-- the bits of a real
+abbrev pub as_real_bits : Tree → Option ℕ
+as_real_bits (real bits) = Some bits
+as_real_bits _ = None
+
+-- ---- nodes
+
+-- the node at this place tells the first of these events
+abbrev pub TellsFirst : Document → ℕ → Node → Type 0
+TellsFirst d at n = (e : Event) (es : List Event) (ends : List (Option ℕ)) → Lies d at (e ∷ es) ends → event_of d.strings.items n ≡ e
+
+-- the node at this place, or null behind the last
+abbrev pub IsNodeAt : Document → ℕ → Node → Type 0
+IsNodeAt d at n = TellsFirst d at n × (HasTexts d → Within d.strings.items n)
+
+-- the value that a node tells, a container being empty
+abbrev pub event_tree : Event → Tree
+event_tree (told.boolean v) = boolean v
+event_tree (told.integer v) = integer v
+event_tree (told.real r) = real r
+event_tree (told.bytes s) = bytes s
+event_tree (told.text s) = text s
+event_tree (told.open_array n) = array no_items
+event_tree (told.open_template n) = array no_items
+event_tree (told.open_object n) = object no_entries
+event_tree _ = null
+
+-- the same of a node over these strings
+abbrev pub node_tree : List ℕ → Node → Tree
+node_tree s n = event_tree (event_of s n)
+
+-- the same value, but for what a container holds
+abbrev pub emptied : Tree → Tree
+emptied (array ts) = array no_items
+emptied (object es) = object no_entries
+emptied t = t
+
+-- the first event of a value
+abbrev pub first_event : Tree → Event
+first_event null = told.null
+first_event (boolean v) = told.boolean v
+first_event (integer v) = told.integer v
+first_event (real v) = told.real v
+first_event (bytes s) = told.bytes s
+first_event (text s) = told.text s
+first_event (array ts) = told.open_array (length (items ts))
+first_event (object es) = told.open_object (length (entries es))
+first_event (template ks rs) = told.open_template (length ks)
+
+-- the first event of a part; a row begins as an object
+abbrev pub part_event : Part → Event
+part_event (tree t) = first_event t
+part_event skipped = told.skip
+part_event (row_of ks fs) = told.open_object (length ks)
+
+-- the node of a part that begins here
+abbrev pub IsPartNode : Item → Node → Type 0
+IsPartNode i n = (p : Part) → PartLies i.document.now i.keys i.at p → event_of i.document.now.strings.items n ≡ part_event p
+
+-- a node at an item of this value
+pub record ShowsNode (u : Tree) (d : Document) (n : Node) : Type 0 where
+  pub same : node_tree d.strings.items n ≡ emptied u
+  pub within : Within d.strings.items n
+
+-- the place behind a node that has this end
+abbrev pub stepped : ℕ → Option ℕ → ℕ
+stepped n None = n + 1
+stepped n (Some end) = end
+
+-- the ends of a value's nodes, or of a skip's
+abbrev pub field_ends : Option Tree → ℕ → List (Option ℕ)
+field_ends None n = None ∷ []
+field_ends (Some t) n = tree_ends t n
+
+-- the ends of the nodes of a part
+abbrev pub part_ends : Part → ℕ → List (Option ℕ)
+part_ends (tree t) n = tree_ends t n
+part_ends skipped n = None ∷ []
+part_ends (row_of ks fs) n = fields_ends fs n

@@ -1,0 +1,7 @@
+pub mod DocumentView
+pub mod Spans
+pub mod Read
+pub mod Holds
+pub mod Walks
+pub mod Tells
+pub mod Pairs

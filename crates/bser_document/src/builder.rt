@@ -1,0 +1,163 @@
+//! What is made of the events of a value.
+ghost use Rattle.std.specs.Prelude.{◌≡◌, true, [], ◌∷◌, ◌++◌, length, OnOk, IfOk};
+ghost use Rattle.bser_document.specs.DocumentView.{Views, ViewsDocument, Takes, SameEvents, Closes, end_of, with_end};
+ghost use Rattle.bser_document.specs.declared.document.Node.TheVariants as nodes;
+
+use crate::document::{Document, Node};
+use bser_events::builder::Builder;
+use bser_events::event::Event;
+use std::alloc::{AllocError, Global};
+
+/// Gathers the nodes.
+#[derive(Drop)]
+pub struct DocumentBuilder {
+    nodes: Vec<Node>,
+    strings: Vec<u8>,
+    /// The nodes of the containers that are open.
+    begun: Vec<usize>,
+}
+
+impl DocumentBuilder {
+    /// Nothing was read.
+    pub fn new(alloc: Global) -> Self
+        ensures { Views result [] }
+    {
+        DocumentBuilder {
+            nodes: Vec::new(alloc),
+            strings: Vec::new(alloc),
+            begun: Vec::new(alloc),
+        }
+    }
+
+    /// What was told.
+    pub fn into_document(self) -> Document
+        ensures nodes { result.nodes ≡ self.nodes }
+        ensures strings { result.strings ≡ self.strings }
+    {
+        let DocumentBuilder {
+            nodes,
+            strings,
+            begun: _,
+        } = self;
+        Document { nodes, strings }
+    }
+
+    /// Puts a node behind the others.
+    #[inline(always)]
+    fn put(&mut self, node: Node) -> Result<(), AllocError>
+        ensures nodes { OnOk result (self.new.nodes.items ≡ self.old.nodes.items ++ node ∷ []) }
+        ensures strings { OnOk result (self.new.strings ≡ self.old.strings) }
+        ensures begun { OnOk result (self.new.begun ≡ self.old.begun) }
+    {
+        self.nodes.push(node)?;
+        Ok(())
+    }
+
+    /// Keeps a copy of a string, and answers its place.
+    #[inline(always)]
+    fn keep(&mut self, string: &[u8]) -> Result<usize, AllocError>
+        ensures place { IfOk result (λ at. at ≡ length self.old.strings.items) }
+        ensures strings { OnOk result
+            (self.new.strings.items ≡ self.old.strings.items ++ string.now) }
+        ensures nodes { OnOk result (self.new.nodes ≡ self.old.nodes) }
+        ensures begun { OnOk result (self.new.begun ≡ self.old.begun) }
+    {
+        let at = self.strings.len();
+        self.strings.extend_from_slice(string)?;
+        Ok(at)
+    }
+
+    /// Puts the head of a container behind the others.
+    #[inline(never)]
+    fn begin(&mut self, node: Node) -> Result<(), AllocError>
+        ensures nodes { OnOk result (self.new.nodes.items ≡ self.old.nodes.items ++ node ∷ []) }
+        ensures strings { OnOk result (self.new.strings ≡ self.old.strings) }
+        ensures begun { OnOk result (self.new.begun.items
+            ≡ self.old.begun.items ++ length self.old.nodes.items ∷ []) }
+    {
+        self.begun.push(self.nodes.len())?;
+        self.nodes.push(node)?;
+        Ok(())
+    }
+
+    /// Puts the end of the innermost container behind the others, and writes where it is.
+    #[inline(never)]
+    fn close(&mut self) -> Result<(), AllocError>
+        ensures nodes { OnOk result
+            (SameEvents (self.old.nodes.items ++ nodes.Close ∷ []) self.new.nodes.items) }
+        ensures strings { OnOk result (self.new.strings ≡ self.old.strings) }
+        ensures ends { OnOk result (Closes self.old self.new) }
+    {
+        self.nodes.push(Node::Close)?;
+        let Some(at) = self.begun.pop() else {
+            return Ok(());
+        };
+        let last = self.nodes.len();
+        if let Some(node) = self.nodes.get_mut(at) {
+            *node = ended(*node, last);
+        }
+        Ok(())
+    }
+}
+
+/// A container's node, with its end.
+#[inline(always)]
+fn ended(node: Node, last: usize) -> Node
+    ensures same { SameEvents (node ∷ []) (result ∷ []) }
+    ensures ends { end_of result ≡ with_end last (end_of node) }
+{
+    match node {
+        Node::Array { len, end: _ } => Node::Array { len, end: last },
+        Node::Object { len, end: _ } => Node::Object { len, end: last },
+        Node::Template { len, end: _ } => Node::Template { len, end: last },
+        _ => node,
+    }
+}
+
+impl Builder for DocumentBuilder {
+    ghost takes = { Takes };
+
+    ghost memory = { true };
+
+    ghost BYTES = { true };
+
+    const BYTES: bool = true;
+
+    #[inline(always)]
+    fn take(&mut self, event: Event<'_>) -> Result<(), AllocError> {
+        match event {
+            Event::Null => self.put(Node::Null),
+            Event::Skip => self.put(Node::Skip),
+            Event::Bool(truth) => self.put(Node::Bool(truth)),
+            Event::Int(number) => self.put(Node::Int(number)),
+            Event::Real(bits) => self.put(Node::Real(bits)),
+            Event::Bytes(string) => {
+                let at = self.keep(string)?;
+                self.put(Node::Bytes {
+                    len: string.len(),
+                    at,
+                })
+            }
+            Event::Text(string) => {
+                let at = self.keep(string.as_bytes())?;
+                self.put(Node::Text {
+                    len: string.len(),
+                    at,
+                })
+            }
+            Event::Array { len } => self.begin(Node::Array { len, end: 0 }),
+            Event::Object { len } => self.begin(Node::Object { len, end: 0 }),
+            Event::Key(key) => {
+                let at = self.keep(key.as_bytes())?;
+                self.put(Node::Key { len: key.len(), at })
+            }
+            Event::Template { len } => self.begin(Node::Template { len, end: 0 }),
+            Event::Rows { len } => self.put(Node::Rows { len }),
+            Event::Close => self.close(),
+        }
+    }
+
+    fn bytes_passed(&mut self, _len: usize) -> Result<(), AllocError> {
+        Ok(())
+    }
+}

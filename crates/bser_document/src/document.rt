@@ -1,0 +1,72 @@
+//! A message, as a list of nodes.
+
+/// A part of a message, in the order of reading.
+#[derive(Clone, Copy)]
+pub enum Node {
+    /// Null.
+    Null,
+    /// A truth value.
+    Bool(bool),
+    /// An integer.
+    Int(i64),
+    /// The bits of a real.
+    Real(u64),
+    /// A byte string, by its place in the strings.
+    Bytes {
+        /// How many bytes it has.
+        len: usize,
+        /// How many bytes stand before it.
+        at: usize,
+    },
+    /// A text.
+    Text {
+        /// How many bytes it has.
+        len: usize,
+        /// How many bytes stand before it.
+        at: usize,
+    },
+    /// A key of an object or of a template.
+    Key {
+        /// How many bytes it has.
+        len: usize,
+        /// How many bytes stand before it.
+        at: usize,
+    },
+    /// An array.
+    Array {
+        /// How many items follow.
+        len: usize,
+        /// The place behind its [`Node::Close`].
+        end: usize,
+    },
+    /// An object.
+    Object {
+        /// How many entries follow, each a key and a value.
+        len: usize,
+        /// The place behind its [`Node::Close`].
+        end: usize,
+    },
+    /// A template.
+    Template {
+        /// How many keys follow, and then the rows.
+        len: usize,
+        /// The place behind its [`Node::Close`].
+        end: usize,
+    },
+    /// The rows of a template.
+    Rows {
+        /// How many rows follow, each with a field for each key.
+        len: usize,
+    },
+    /// A missing field of a row.
+    Skip,
+    /// The end of an array, an object or a template.
+    Close,
+}
+
+/// Any value, as it is spelled in a message.
+#[derive(Drop)]
+pub struct Document {
+    pub(crate) nodes: Vec<Node>,
+    pub(crate) strings: Vec<u8>,
+}

@@ -1,0 +1,163 @@
+//! The items of an array, one after the other.
+ghost use Rattle.std.specs.Prelude.{◌≡◌, ◌≤◌, ◌<◌, ◌+◌, ◌^◌, ℕ, length, Option, option_map};
+ghost use Rattle.bser_format.specs.Tree.{Tree, Fields, fields};
+ghost use Rattle.bser_format.specs.Tree as trees;
+ghost use Rattle.bser_value.specs.Contents.{as_array};
+ghost use Rattle.bser_document.specs.DocumentView.{end_of};
+ghost use Rattle.bser_document.specs.declared.document.Node.TheVariants as nodes;
+ghost use Rattle.bser_document.specs.Spans.{FieldLies, FieldsLie, fields_ends};
+ghost use Rattle.bser_document.specs.Holds.{HoldsItem, PartLies, Part, part_ends, field_ends, stepped};
+ghost use Rattle.bser_document.specs.Walks.{HoldsItems, FindsItems, GivesItem, length_of, RowsBegin};
+
+use crate::document::{Document, Node};
+use crate::item::{Item, Keys};
+
+/// The items of an array that are still to come, or the rows of a template.
+#[derive(Clone, Copy)]
+pub struct Items<'d> {
+    document: &'d Document,
+    at: usize,
+    left: usize,
+    // the keys of the rows, and none for an array's items
+    keys: Option<Keys>,
+}
+
+impl<'d> Items<'d> {
+    /// The next item, and `None` where none is left.
+    pub fn next(&mut self) -> Option<Item<'d>>
+        ensures { (us : trees.Items) → HoldsItems self.old us → GivesItem us result self.new }
+    {
+        if self.left == 0 {
+            return None;
+        }
+        self.left -= 1;
+        let item = Item {
+            document: self.document,
+            at: self.at,
+            keys: self.keys,
+        };
+        self.at = item.behind();
+        Some(item)
+    }
+
+    /// How many items are still to come.
+    pub fn len(&self) -> usize
+        ensures { (us : trees.Items) → HoldsItems self.now us → result ≡ length_of us }
+    {
+        self.left
+    }
+}
+
+impl<'d> Item<'d> {
+    /// The items of an array, of a template its rows, and `None` for all else.
+    pub fn items(self) -> Option<Items<'d>>
+        ensures { (u : Tree) → HoldsItem self.entry u → FindsItems (as_array u) result }
+    {
+        match self.node() {
+            Node::Array { len, end: _ } => Some(Items {
+                document: self.document,
+                at: self.document.place(self.at, 1),
+                left: len,
+                keys: None,
+            }),
+            Node::Template { len, end: _ } => Some(self.rows(len)),
+            _ => None,
+        }
+    }
+
+    /// How many items an array has, of a template how many rows, and `None` for all else.
+    pub fn len(self) -> Option<usize>
+        ensures { (u : Tree) → HoldsItem self.entry u
+            → result ≡ option_map length_of (as_array u) }
+    {
+        match self.items() {
+            Some(items) => Some(items.len()),
+            None => None,
+        }
+    }
+
+    /// The rows of a template of so many keys.
+    fn rows(self, len: usize) -> Items<'d>
+        ensures { RowsBegin self.entry len result }
+    {
+        let at = self.document.place(self.at, 1);
+        let head = self.document.place(at, len);
+        Items {
+            document: self.document,
+            at: self.document.place(head, 1),
+            left: count_at(self.document.node(head)),
+            keys: Some(Keys { at, len }),
+        }
+    }
+
+    /// The place behind the value.
+    pub(crate) fn behind(self) -> usize
+        ensures { (p : Part) → PartLies self.entry.document.now self.entry.keys self.entry.at p
+            → result ≡ self.entry.at + length (part_ends p self.entry.at) }
+    {
+        match self.keys {
+            Some(keys) => self.document.behind_all(self.at, keys.len),
+            None => self.document.behind(self.at),
+        }
+    }
+}
+
+impl Document {
+    /// The place so many nodes behind this one.
+    #[inline(always)]
+    pub(crate) fn place(&self, at: usize, count: usize) -> usize
+        ensures { at + count ≤ length self.now.nodes.items → result ≡ at + count }
+    {
+        let _len = self.nodes.len();
+        at.saturating_add(count)
+    }
+
+    /// The place behind a value, or behind a skipped field.
+    #[inline(always)]
+    pub(crate) fn behind(&self, at: usize) -> usize
+        ensures { (p : Option Tree) → FieldLies self.now p at
+            → result ≡ at + length (field_ends p at) }
+    {
+        match self.nodes.get(at) {
+            Some(node) => behind(*node, at),
+            None => at,
+        }
+    }
+
+    /// The place behind so many fields of a row.
+    pub(crate) fn behind_all(&self, at: usize, count: usize) -> usize
+        ensures { (fs : Fields) → FieldsLie self.now fs at → length (fields fs) ≡ count
+            → result ≡ at + length (fields_ends fs at) }
+    {
+        let mut behind = at;
+        for _ in 0..count {
+            behind = self.behind(behind);
+        }
+        behind
+    }
+}
+
+/// The place behind a node that is here, or behind what it opens.
+#[inline(always)]
+fn behind(node: Node, at: usize) -> usize
+    requires { at + 1 < 2 ^ 64 }
+    ensures { result ≡ stepped at (end_of node) }
+{
+    match node {
+        Node::Array { len: _, end }
+        | Node::Object { len: _, end }
+        | Node::Template { len: _, end } => end,
+        _ => at + 1,
+    }
+}
+
+/// How many rows a node announces.
+#[inline(always)]
+fn count_at(node: Node) -> usize
+    ensures { (n : ℕ) → node ≡ nodes.Rows n → result ≡ n }
+{
+    match node {
+        Node::Rows { len } => len,
+        _ => 0,
+    }
+}

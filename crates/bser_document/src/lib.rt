@@ -1,0 +1,10 @@
+//! A document: any message, as one flat list of nodes and the bytes of its strings.
+#![tactic(auto)]
+
+mod builder;
+pub mod document;
+pub mod entries;
+pub mod item;
+pub mod items;
+pub mod reading;
+mod replay;

@@ -1,0 +1,14 @@
+//! Tests of documents.
+mod answers;
+mod items;
+mod kinds;
+
+use bser_document::document::Document;
+use serde_bser::from_slice;
+use std::alloc::Global;
+use std::process::Abort;
+
+/// The document that the message is.
+fn document(rt: &impl Abort, alloc: Global, message: &[u8]) -> Document {
+    from_slice(alloc, message).expect(rt, "the message is read")
+}
