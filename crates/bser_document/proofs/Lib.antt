@@ -7,3 +7,4 @@ mod Lies
 mod Walks
 mod Tells
 mod Looks
+mod Fields

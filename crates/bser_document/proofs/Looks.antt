@@ -63,7 +63,7 @@ no_key_there d at n never there texts k es xs h = absurd (no_key d.strings.items
 -- ---- the next entry
 
 -- an entry that is read, and those after it
-next_read : {P : Type 0} (k : List ℕ) (o : Option Tree) (rest : Option (List (List ℕ × Tree))) (m : List (List ℕ × Tree)) → cond (is_utf8 k) (option_and_then (λ u. option_map (λ l. (k, u) ∷ l) rest) o) None ≡ Some m
+pub next_read : {P : Type 0} (k : List ℕ) (o : Option Tree) (rest : Option (List (List ℕ × Tree))) (m : List (List ℕ × Tree)) → cond (is_utf8 k) (option_and_then (λ u. option_map (λ l. (k, u) ∷ l) rest) o) None ≡ Some m
     → ((u : Tree) (l : List (List ℕ × Tree)) → o ≡ Some u → rest ≡ Some l → (k, u) ∷ l ≡ m → P) → P
 next_read k o rest m e then' =
     then_some (λ u. option_map (λ l. (k, u) ∷ l) rest) o m (guard_some (is_utf8 k) _ m e) λ u first f. map_some (λ l. (k, u) ∷ l) rest m f λ l later same. then' u l first later same
@@ -292,6 +292,10 @@ entry_found key (p ∷ m) = ap (cond (bytes_eq key p.0) (Some p.1)) (entry_found
 lasts_found : (key : List ℕ) (m es : List (List ℕ × Tree)) → lookup (bytes_eq key) (fold (λ n e. insert_entry (slice_cmp nat_cmp) n e.0 e.1) m es) ≡ last_from (lookup (bytes_eq key) m) key es
 lasts_found key m [] = refl
 lasts_found key m (e ∷ es) = lasts_found key (insert_entry (slice_cmp nat_cmp) m e.0 e.1) es ∙ ap (λ f. last_from f key es) (put_value key e.0 e.1 m)
+
+-- the value at a key of an object that is read of these entries
+pub object_found : (key : List ℕ) (m : List (List ℕ × Tree)) → get key (object (entries_of (last_entries m))) ≡ last_from None key m
+object_found key m = entry_found key (last_entries m) ∙ lasts_found key [] m
 
 pub found_in : (key : List ℕ) (u : Tree) (s : Entries) (r : Option Item) → FindsEntries (as_object u) (Some s) → ((m : List (List ℕ × Tree)) → HoldsEntries s m → FindsItem (last_from None key m) r) → FindsItem (get key u) r
 found_in key null s r h last = absurd h

@@ -182,7 +182,7 @@ is_array (array ts) n e = (ts, refl, cc)
 is_array (object es) n e = absurd cc
 is_array (template ks rs) n e = absurd cc
 
-is_template : (t : Tree) (n : ℕ) → told.open_template n ≡ first_event t → (ks : List (List ℕ)) × (rs : Rows) × (t ≡ template ks rs) × (n ≡ length ks)
+pub is_template : (t : Tree) (n : ℕ) → told.open_template n ≡ first_event t → (ks : List (List ℕ)) × (rs : Rows) × (t ≡ template ks rs) × (n ≡ length ks)
 is_template null n e = absurd cc
 is_template (boolean v) n e = absurd cc
 is_template (integer v) n e = absurd cc

@@ -5,3 +5,4 @@ pub mod Holds
 pub mod Walks
 pub mod Tells
 pub mod Pairs
+pub mod Rows

@@ -75,6 +75,10 @@ GivesEntry (p ∷ m) (Some e) s = (e.key.now ≡ p.0) × HoldsItem e.value p.1 �
 GivesEntry [] None s = Unit {0}
 GivesEntry _ _ _ = ⊥
 
+-- a step over the entries, whichever are still to come
+abbrev pub StepsOverEntries : Entries → Option Entry → Entries → Type 0
+StepsOverEntries old e new = (m : List (List ℕ × Tree)) → HoldsEntries old m → GivesEntry m e new
+
 -- a value is found, or there is none
 abbrev pub FindsItem : Option Tree → Option Item → Type 0
 FindsItem (Some u) (Some i) = HoldsItem i u

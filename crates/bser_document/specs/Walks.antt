@@ -67,6 +67,10 @@ GivesItem (item u us) (Some i) s = HoldsItem i u × HoldsItems s us
 GivesItem no_items None s = Unit {0}
 GivesItem _ _ _ = ⊥
 
+-- a step over the items, whichever are still to come
+abbrev pub StepsOverItems : Items → Option Item → Items → Type 0
+StepsOverItems old i new = (us : trees.Items) → HoldsItems old us → GivesItem us i new
+
 -- how many items there are
 abbrev pub length_of : trees.Items → ℕ
 length_of us = length (items us)
@@ -76,3 +80,7 @@ abbrev pub RowsBegin : Item → ℕ → Items → Type 0
 RowsBegin i len s =
     (ks : List (List ℕ)) (rs : Rows) (us : trees.Items) → len ≡ length ks → TreeLies i.document.now (template ks rs) i.at → HasWholeRows (template ks rs) → HasTexts i.document.now
     → normal_items (expand_rows ks rs) ≡ Some us → HoldsItems s us
+
+-- rows have keys
+abbrev pub HasKeys : Items → Type 0
+HasKeys s = (k : Keys) × (s.keys ≡ Some k)

@@ -4,7 +4,7 @@ ghost use Rattle.bser_format.specs.SameTree.{same_bytes};
 ghost use Rattle.bser_format.specs.Tree.{Tree};
 ghost use Rattle.bser_value.specs.Contents.{as_object, get};
 ghost use Rattle.bser_document.specs.Holds.{HoldsItem};
-ghost use Rattle.bser_document.specs.Pairs.{HoldsEntries, FindsEntries, GivesEntry, FindsItem, IsKeyAt, last_from, picked};
+ghost use Rattle.bser_document.specs.Pairs.{HoldsEntries, FindsEntries, FindsItem, IsKeyAt, last_from, picked};
 
 use crate::document::{Document, Node};
 use crate::item::Item;
@@ -29,12 +29,17 @@ pub struct Entry<'d> {
     pub value: Item<'d>,
 }
 
-impl<'d> Entries<'d> {
-    /// The next entry, and `None` where none is left.
-    pub fn next(&mut self) -> Option<Entry<'d>>
-        ensures { (m : List (List ℕ × Tree)) → HoldsEntries self.old m
-            → GivesEntry m result self.new }
-    {
+impl<'d> Iterator for Entries<'d> {
+    ghost use Rattle.std.specs.Iterator.{at_most};
+    ghost use Rattle.bser_document.specs.Pairs.{StepsOverEntries};
+
+    type Item = Entry<'d>;
+
+    ghost next_gives = { StepsOverEntries };
+
+    ghost remaining = { λ s. at_most s.left };
+
+    fn next(&mut self) -> Option<Entry<'d>> {
         if self.left == 0 {
             return None;
         }
@@ -66,7 +71,9 @@ impl<'d> Entries<'d> {
             }
         }
     }
+}
 
+impl<'d> Entries<'d> {
     /// How many entries are still to come.
     pub fn len(&self) -> usize
         ensures { (m : List (List ℕ × Tree)) → HoldsEntries self.now m → result ≡ length m }
@@ -131,7 +138,7 @@ impl<'d> Item<'d> {
 impl Document {
     /// The key at this place.
     #[inline(always)]
-    fn key(&self, at: usize) -> &str
+    pub(crate) fn key(&self, at: usize) -> &str
         ensures { IsKeyAt self.now at result.now }
     {
         match self.node(at) {

@@ -7,7 +7,7 @@ ghost use Rattle.bser_document.specs.DocumentView.{end_of};
 ghost use Rattle.bser_document.specs.declared.document.Node.TheVariants as nodes;
 ghost use Rattle.bser_document.specs.Spans.{FieldLies, FieldsLie, fields_ends};
 ghost use Rattle.bser_document.specs.Holds.{HoldsItem, PartLies, Part, part_ends, field_ends, stepped};
-ghost use Rattle.bser_document.specs.Walks.{HoldsItems, FindsItems, GivesItem, length_of, RowsBegin};
+ghost use Rattle.bser_document.specs.Walks.{HoldsItems, FindsItems, HasKeys, length_of, RowsBegin};
 
 use crate::document::{Document, Node};
 use crate::item::{Item, Keys};
@@ -15,18 +15,24 @@ use crate::item::{Item, Keys};
 /// The items of an array that are still to come, or the rows of a template.
 #[derive(Clone, Copy)]
 pub struct Items<'d> {
-    document: &'d Document,
-    at: usize,
-    left: usize,
+    pub(crate) document: &'d Document,
+    pub(crate) at: usize,
+    pub(crate) left: usize,
     // the keys of the rows, and none for an array's items
-    keys: Option<Keys>,
+    pub(crate) keys: Option<Keys>,
 }
 
-impl<'d> Items<'d> {
-    /// The next item, and `None` where none is left.
-    pub fn next(&mut self) -> Option<Item<'d>>
-        ensures { (us : trees.Items) → HoldsItems self.old us → GivesItem us result self.new }
-    {
+impl<'d> Iterator for Items<'d> {
+    ghost use Rattle.std.specs.Iterator.{at_most};
+    ghost use Rattle.bser_document.specs.Walks.{StepsOverItems};
+
+    type Item = Item<'d>;
+
+    ghost next_gives = { StepsOverItems };
+
+    ghost remaining = { λ s. at_most s.left };
+
+    fn next(&mut self) -> Option<Item<'d>> {
         if self.left == 0 {
             return None;
         }
@@ -39,7 +45,9 @@ impl<'d> Items<'d> {
         self.at = item.behind();
         Some(item)
     }
+}
 
+impl<'d> Items<'d> {
     /// How many items are still to come.
     pub fn len(&self) -> usize
         ensures { (us : trees.Items) → HoldsItems self.now us → result ≡ length_of us }
@@ -60,7 +68,7 @@ impl<'d> Item<'d> {
                 left: len,
                 keys: None,
             }),
-            Node::Template { len, end: _ } => Some(self.rows(len)),
+            Node::Template { len, end: _ } => Some(self.all_rows(len)),
             _ => None,
         }
     }
@@ -77,8 +85,9 @@ impl<'d> Item<'d> {
     }
 
     /// The rows of a template of so many keys.
-    fn rows(self, len: usize) -> Items<'d>
-        ensures { RowsBegin self.entry len result }
+    pub(crate) fn all_rows(self, len: usize) -> Items<'d>
+        ensures begin { RowsBegin self.entry len result }
+        ensures keys { HasKeys result }
     {
         let at = self.document.place(self.at, 1);
         let head = self.document.place(at, len);

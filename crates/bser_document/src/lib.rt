@@ -8,3 +8,4 @@ pub mod item;
 pub mod items;
 pub mod reading;
 mod replay;
+pub mod rows;

@@ -4,6 +4,7 @@
 
 mod any;
 mod change;
+mod document;
 mod events;
 mod file;
 mod lists;
@@ -57,6 +58,8 @@ fn print_values(rt: &HostRuntime, bytes: &[u8]) -> Result<()> {
         "version {version}, bytes in files: {}",
         any::total_size(&answer)
     )?;
+    let (total, largest) = document::sizes(alloc, bytes)?;
+    println!(rt; "bytes in files: {total}, in the largest {largest}")?;
     let short = events::is_short(alloc, bytes);
     println!(rt; "at most 100 bytes: {short}")?;
     Ok(())

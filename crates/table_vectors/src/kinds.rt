@@ -25,7 +25,9 @@ fn scalars(alloc: Global, kind: &str, sample: &Sample<'_>) -> Compared {
         "u64" => sample.owned::<u64>(alloc),
         "unit" => sample.owned::<()>(alloc),
         "Ignored" => sample.owned::<Ignored>(alloc),
-        "Value" => sample.owned::<Value>(alloc),
+        "Value" => sample
+            .owned::<Value>(alloc)
+            .and_then(|()| sample.document(alloc)),
         "char" => sample.owned::<char>(alloc),
         "String" => sample.owned::<String>(alloc),
         "ByteString" => sample.owned::<ByteString>(alloc),

@@ -1,8 +1,10 @@
 //! The ways of reading one message as a type.
 use crate::shown::Shown;
+use bser_document::document::Document;
 use bser_format::errors::Error;
 use bser_messages::message::from_slice_within;
 use bser_types::deserialize::{Deserialize, DeserializeOwned};
+use bser_value::value::Value;
 use bser_vectors::devices::Plan;
 use bser_vectors::notation::code;
 use bser_vectors::notation::text::Text;
@@ -74,12 +76,7 @@ impl<'a> Sample<'a> {
     /// Reads from the slice.
     pub fn lent<T: Shown + Deserialize<&'a [u8]>>(&self, alloc: Global) -> Compared {
         let answer = from_slice_within::<T>(alloc, self.levels.min(1024), self.message);
-        let text = notation_of(alloc, &answer)?;
-        if text.as_str() == self.answer {
-            Ok(())
-        } else {
-            Err(Mismatch::Answer(Way::Slice, text))
-        }
+        self.check(alloc, Way::Slice, &answer, self.taken)
     }
 
     /// Reads from the slice, and from readers of 1, 2, 3, 7 and 4096 bytes a call and of all bytes at
@@ -99,13 +96,48 @@ impl<'a> Sample<'a> {
     fn by_reader<T: Shown + DeserializeOwned>(&self, alloc: Global, most: usize) -> Compared {
         let plan = Plan::pieces(most);
         let (answer, count) = read_by_plan_within::<T>(alloc, self.levels, self.message, plan);
-        let mut text = notation_of(alloc, &answer)?;
+        self.check(alloc, Way::Reader(most), &answer, count)
+    }
+
+    /// Reads a `Document` in the same ways. What is compared is the value that it holds.
+    pub fn document(&self, alloc: Global) -> Compared {
+        let answer = from_slice_within::<Document>(alloc, self.levels.min(1024), self.message);
+        self.check(alloc, Way::Slice, &held(alloc, answer), self.taken)?;
+        for most in PIECES {
+            let plan = Plan::pieces(most);
+            let (answer, count) = read_by_plan_within::<Document>(
+                alloc,
+                self.levels,
+                self.message,
+                plan,
+            );
+            self.check(alloc, Way::Reader(most), &held(alloc, answer), count)?;
+        }
+        Ok(())
+    }
+
+    /// Compares an answer, and how many bytes a reader gave.
+    fn check<T: Shown>(
+        &self,
+        alloc: Global,
+        way: Way,
+        answer: &Result<T, Error>,
+        count: usize,
+    ) -> Compared {
+        let mut text = notation_of(alloc, answer)?;
         if text.as_str() == self.answer && (answer.is_err() || count == self.taken) {
             return Ok(());
         }
-        write!(text, " of {count} bytes")?;
-        Err(Mismatch::Answer(Way::Reader(most), text))
+        if let Way::Reader(_) = way {
+            write!(text, " of {count} bytes")?;
+        }
+        Err(Mismatch::Answer(way, text))
     }
+}
+
+/// The value that a document holds.
+fn held(alloc: Global, answer: Result<Document, Error>) -> Result<Value, Error> {
+    Ok(answer?.to_value(alloc)?)
 }
 
 /// The notation of the answer.

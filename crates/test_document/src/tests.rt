@@ -2,6 +2,7 @@
 mod answers;
 mod items;
 mod kinds;
+mod rows;
 
 use bser_document::document::Document;
 use serde_bser::from_slice;

@@ -5,11 +5,13 @@
 //! which has no template. Without arguments each operation is done once with an answer of a few
 //! files.
 //!
-//! `serialize` writes a `Value` to memory, `serialize-compact` does so in the compact form, and `value`
-//! and `value-reader` read one; they print the length and a checksum of its message. `typed-lent`, `typed-owned` and `typed-reader` read the
-//! files as structs, and print how many there are and the sum of their fields. `skip` keeps
-//! nothing. The operations on a `reader` read from a reader over the bytes, the others from the
-//! bytes themselves.
+//! `serialize` writes a `Value` to memory, `serialize-compact` does so in the compact form, and
+//! `value` and `value-reader` read one; they print the length and a checksum of its message.
+//! `typed-lent`, `typed-owned` and `typed-reader` read the files as structs, and print how many
+//! there are and the sum of their fields. `document` and `document-reader` read a `Document` and
+//! print how many files it has; `document-lookup` looks up two numbers of each file as well, and
+//! prints their sum. `skip` keeps nothing. The operations on a `reader` read from a reader over the
+//! bytes, the others from the bytes themselves.
 #![tactic(auto)]
 
 mod files;
@@ -18,6 +20,9 @@ mod table;
 
 use crate::rows::{Bytes, Files};
 use anyhow::{Context, Result, bail};
+use bser_document::document::Document;
+use bser_document::item::Item;
+use bser_document::rows::Rows;
 use serde_bser::bytestring::ByteString;
 use serde_bser::de::{Deserialize, DeserializeOwned, Ignored};
 use serde_bser::device::Watched;
@@ -34,7 +39,7 @@ const FEW: usize = 3;
 const MANY: usize = 500;
 
 /// What is done.
-const OPERATIONS: [&str; 8] = [
+const OPERATIONS: [&str; 11] = [
     "serialize",
     "serialize-compact",
     "value",
@@ -42,6 +47,9 @@ const OPERATIONS: [&str; 8] = [
     "typed-lent",
     "typed-owned",
     "typed-reader",
+    "document",
+    "document-reader",
+    "document-lookup",
     "skip",
 ];
 
@@ -95,6 +103,9 @@ fn repeated(alloc: Global, operation: &str, message: &[u8], count: u32) -> Resul
         "typed-reader" => {
             files_told::<ByteString, String>(alloc, copied_often(alloc, message, count))
         }
+        "document" => document_told(alloc, read_often(alloc, message, count)),
+        "document-reader" => document_told(alloc, copied_often(alloc, message, count)),
+        "document-lookup" => looked_up_often(alloc, message, count),
         "skip" => skip_told(alloc, read_often(alloc, message, count)),
         _ => bail!("unknown operation {operation}"),
     }
@@ -172,6 +183,59 @@ fn files_told<B: Bytes + Drop, S: Bytes + Drop>(
     let files = files?;
     let line = format!(in alloc; "{} files, sum {}", files.files.len(), files.sum())?;
     Ok(line)
+}
+
+fn document_told(alloc: Global, document: Result<Document>) -> Result<String> {
+    let document = document?;
+    let files = document.root().get("files").and_then(Item::len);
+    let line = format!(in alloc; "{} files", files.unwrap_or(0))?;
+    Ok(line)
+}
+
+// Reads the message as a document `count` times, each time adds up the numbers of its files, and
+// tells of the last time.
+fn looked_up_often(alloc: Global, message: &[u8], count: u32) -> Result<String> {
+    let mut sum = 0;
+    for _ in 0..count {
+        let document: Document = from_slice(alloc, message)?;
+        sum = numbers_in(document.root());
+    }
+    let line = format!(in alloc; "sum {sum}")?;
+    Ok(line)
+}
+
+// The sizes and times of the files of an answer, added up.
+fn numbers_in(answer: Item<'_>) -> i64 {
+    let Some(files) = answer.get("files") else {
+        return 0;
+    };
+    if let Some(rows) = files.rows() {
+        return numbers_in_rows(rows);
+    }
+    let mut sum: i64 = 0;
+    if let Some(items) = files.items() {
+        for file in items {
+            sum = sum.wrapping_add(number_of(file.get("size")));
+            sum = sum.wrapping_add(number_of(file.get("mtime_ms")));
+        }
+    }
+    sum
+}
+
+// The same of files that are the rows of a template.
+fn numbers_in_rows(rows: Rows<'_>) -> i64 {
+    let mut sum: i64 = 0;
+    if let (Some(size), Some(changed)) = (rows.place("size"), rows.place("mtime_ms")) {
+        for row in rows {
+            sum = sum.wrapping_add(number_of(row.field(size)));
+            sum = sum.wrapping_add(number_of(row.field(changed)));
+        }
+    }
+    sum
+}
+
+fn number_of(field: Option<Item<'_>>) -> i64 {
+    field.and_then(Item::as_i64).unwrap_or(0)
 }
 
 fn skip_told(alloc: Global, skipped: Result<Ignored>) -> Result<String> {

@@ -9,10 +9,10 @@ loop-init c m h = none_looked c.args.key.now c.args.self (c.args.self.left - 0) 
 pub loop-preserved : goal.loop-preserved
 loop-preserved c m h =
     let less : c.args.self.left - c.loop.counter ≡ suc (c.args.self.left - (c.loop.counter + 1)) = omega (arith, c.loop-test.true) in
-    rw c.pick-found.ensures (one_looked c.args.key.now m c.loop.rest c.next.new.self c.loop.found c.in-Some.entry (c.args.self.left - c.loop.counter) (c.args.self.left - (c.loop.counter + 1)) less c.in-Some.ensures (c.loop.invariant m h))
+    rw c.pick-found.ensures (one_looked c.args.key.now m c.loop.rest c.next.new.self c.loop.found c.in-Some.entry (c.args.self.left - c.loop.counter) (c.args.self.left - (c.loop.counter + 1)) less c.in-Some.ensures.steps (c.loop.invariant m h))
 
 pub returns-in-None : goal.returns-in-None
-returns-in-None c m h = none_left_to_look c.args.key.now m c.loop.rest c.next.new.self c.loop.found (c.args.self.left - c.loop.counter) c.in-None.ensures (c.loop.invariant m h)
+returns-in-None c m h = none_left_to_look c.args.key.now m c.loop.rest c.next.new.self c.loop.found (c.args.self.left - c.loop.counter) c.in-None.ensures.steps (c.loop.invariant m h)
 
 pub returns : goal.returns
 returns c m h =

@@ -1,6 +1,6 @@
--- The rows stand behind the keys and their count.
-use Rattle.bser_document.proofs.Walks.{rows_begin}
+-- The rows stand behind the keys.
+use Rattle.bser_document.proofs.Fields.{rows_found}
 use Rattle.bser_document.proofs.item.Item.rows.Goals as goal
 
-pub returns : goal.returns
-returns c = rows_begin c.args.self c.args.len c.place-at.result c.place-head.result c.place.result c.node.result c.count_at.result c.place-at.ensures c.place-head.ensures c.place.ensures c.node.ensures c.count_at.ensures
+pub returns-in-Some : goal.returns-in-Some
+returns-in-Some c = rows_found c.args.self c.node.result c.in-Template.len c.in-Template.end c.all_rows-items.result c.in-Some.keys c.in-Template.is c.node.ensures.first c.all_rows-items.ensures.begin c.in-Some.is

@@ -1,0 +1,21 @@
+//! Any message, as it is spelled.
+use bser_document::document::Document;
+use bser_document::item::Item;
+use serde_bser::errors::Result;
+use serde_bser::from_slice;
+use std::alloc::Global;
+
+/// How many bytes the files of an answer have, and the largest of them.
+pub fn sizes(alloc: Global, message: &[u8]) -> Result<(i64, i64)> {
+    let answer: Document = from_slice(alloc, message)?;
+    let mut total: i64 = 0;
+    let mut largest: i64 = 0;
+    if let Some(files) = answer.root().get("files").and_then(Item::items) {
+        for file in files {
+            let size = file.get("size").and_then(Item::as_i64).unwrap_or(0);
+            total = total.saturating_add(size);
+            largest = largest.max(size);
+        }
+    }
+    Ok((total, largest))
+}
