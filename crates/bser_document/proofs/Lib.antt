@@ -11,3 +11,7 @@ mod Walks
 mod Tells
 mod Looks
 mod Fields
+mod Sorts
+mod Puts
+pub mod Depth
+mod Rising

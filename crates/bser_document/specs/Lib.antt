@@ -9,3 +9,5 @@ pub mod Walks
 pub mod Tells
 pub mod Pairs
 pub mod Rows
+pub mod Sorted
+pub mod Put

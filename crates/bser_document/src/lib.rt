@@ -6,6 +6,8 @@ pub mod document;
 pub mod entries;
 pub mod item;
 pub mod items;
+mod put;
 pub mod reading;
 mod replay;
 pub mod rows;
+mod sorted;
