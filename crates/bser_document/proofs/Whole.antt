@@ -1,6 +1,8 @@
 -- A document holds the value that is read of its nodes and strings.
-use Rattle.std.proofs.Common.{◌≡◌, ℕ, List, map, Some, refl, sym, ap, subst, ◌∙◌}
+use Rattle.std.proofs.Common.{◌≡◌, ℕ, List, map, Some, refl, sym, ap, subst, ◌∙◌, ◌<◌, ◌+◌, length, arith}
 use Rattle.std.specs.Prelude.{unwrap_or}
+use Rattle.std.proofs.lemmas.List.{length-map}
+use Rattle.bser_format.specs.Measures.{depth}
 use Rattle.bser_format.specs.Tree.{Tree, null}
 use Rattle.bser_format.specs.Expand.{expand}
 use Rattle.bser_format.specs.Normal.{normal}
@@ -15,6 +17,7 @@ use Rattle.bser_document.specs.Nodes.{event_of, Within, string_lens, marks, unma
 use Rattle.bser_document.specs.Spelled.{tree_told}
 use Rattle.bser_document.specs.Whole.{tree_in, value_in, TellsTree, HoldsStrings, HoldsNoMore, HasEnds, HasWholeRowsIn, ReadsValue, HoldsValueTree}
 use Rattle.bser_document.specs.DocumentView.{ViewsValue, ViewsDocument, HoldsDocument, value_of}
+use Rattle.bser_document.proofs.Depth.{read_deep}
 use Rattle.bser_document.proofs.Spelled.{tree_told_back}
 use Rattle.bser_document.proofs.Facts.{Tree-set, Event-set, List-set, Option-set, ℕ_set, HasWholeRows-prop, once, all_had, Within-had, IsValueTree-had}
 
@@ -81,3 +84,11 @@ document_value d u h =
     let whole : value u ≡ value h.read = h.same in
     let same : u ≡ h.read = cc in
     same ∙ sym (value_known d.nodes.items d.strings.items h.tree h.read h.views.shows.same h.rows h.normal)
+
+-- it is no deeper than there are nodes
+pub document_shallow : (d : Document) (count : ℕ) → count ≡ length d.nodes.items → depth (value_of d) < count + 1
+document_shallow d count is =
+    let ns : List Node = d.nodes.items in
+    let tree : Tree = tree_in ns d.strings.items in
+    let reads : normal (expand tree) ≡ Some (value_of d) = once (Option-set Tree-set _ _) d.reads in
+    omega (arith, is, read_deep tree (value_of d) reads, ap length (views_tree d).shows.same, length-map ns (event_of d.strings.items))

@@ -11,3 +11,4 @@ pub mod reading;
 mod replay;
 pub mod rows;
 mod sorted;
+mod writing;
