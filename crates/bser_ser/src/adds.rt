@@ -182,7 +182,7 @@ impl<W: Sink> Serializer<W> {
     }
 
     /// Puts the header of a message whose body has this many bytes.
-    pub(crate) fn add_front(&mut self, body: i64) -> Result<(), PutRefused>
+    pub(crate) fn add_header(&mut self, body: i64) -> Result<(), PutRefused>
         ensures { Adds W.Sink self.old self.new (front_of body) result }
     {
         let mut integer = [0; LONGEST];
@@ -229,7 +229,7 @@ impl<W: Sink> Serializer<W> {
 
     /// Puts a piece.
     #[inline(always)]
-    fn append(&mut self, piece: &[u8]) -> Result<(), PutRefused>
+    pub(crate) fn append(&mut self, piece: &[u8]) -> Result<(), PutRefused>
         ensures { Adds W.Sink self.old self.new piece.now result }
     {
         if self.is_taken_at_once(piece, &[]) {

@@ -98,6 +98,6 @@ fn put_message<W: Sink, T: Serialize>(
     requires { IsBodyLength (T.meaning value.now) len }
     ensures { PutsMessage W.Sink (T.meaning value.now) out.old out.new result }
 {
-    out.put_front(len)?;
+    out.put_header(len)?;
     value.serialize(alloc, out)
 }
