@@ -6,16 +6,20 @@ ghost use Rattle.bser_ser.specs.Sent.{writer_of};
 ghost use Rattle.bser_ser.specs.Stopped.{TookSome};
 
 use crate::Serialize;
+use crate::integer::LONGEST;
 use crate::serializer::Serializer;
 use bser_format::errors::{Complaint, Error, Result};
 use bser_source::count::CountWrite;
 use bser_source::device::Sink;
 use std::alloc::Global;
 
+/// The most bytes that a header takes: magic, capabilities and the longest integer.
+const LONGEST_HEADER: usize = 6 + LONGEST;
+
 /// Writes one message with the value as its body, to a borrowed writer.
 ///
 /// The value is gone through twice: once to measure its body, and once to write it; the body is not
-/// kept. Where measuring fails, the writer has taken nothing. Then the value has no tree, and the
+/// kept. In between the writer is told how long the message is. Where measuring fails, the writer has taken nothing. Then the value has no tree, and the
 /// error is the one that its type's `meaning` gives, as `SerU64TooBig` for a `u64` above
 /// `i64::MAX`; its body is longer than `i64::MAX` bytes (`SerCustom` `CountTooGreat`); or memory
 /// runs out (`OutOfMemory`). Writing itself fails with the writer's own error (`Io`), of kind
@@ -98,6 +102,7 @@ fn put_message<W: Sink, T: Serialize>(
     requires { IsBodyLength (T.meaning value.now) len }
     ensures { PutsMessage W.Sink (T.meaning value.now) out.old out.new result }
 {
+    out.expect(len as usize + LONGEST_HEADER);
     out.put_header(len)?;
     value.serialize(alloc, out)
 }
