@@ -26,6 +26,10 @@ Sent-both both a b c xs ys s t = record {
 pub Sent-none : {S : Type 0} {sink : Tells S} → ((s : S) → sink.took s s []) → (a : Serializer S) → Sent sink a a []
 Sent-none none a = record { taken = []; took_it = none a.writer; grew = append-nil a.pending.items; kept = refl; reason_kept = refl }
 
+-- a call of the writer that took nothing
+pub Sent-told : {S : Type 0} {sink : Tells S} (a : Serializer S) (writer : S) → sink.took a.writer writer [] → sink.failures writer ≡ sink.failures a.writer → Sent sink a (record a { writer = writer }) []
+Sent-told a writer took kept = record { taken = []; took_it = took; grew = append-nil a.pending.items; kept = kept; reason_kept = refl }
+
 module _ {S : Type 0} (sink : Tells S) (both : Joins sink) where
   stopped_after : (a b c : S) (xs bytes : List ℕ) (e : _) → sink.took a b xs → Stopped sink b c bytes e → Stopped sink a c (xs ++ bytes) e
   stopped_after a b c xs bytes e p t = record {

@@ -7,6 +7,7 @@ ghost use Rattle.bser_ser.specs.Message.{front_of};
 ghost use Rattle.bser_ser.specs.Sent.{Puts, PutsOr, PutsHead, IsTooBig, IsTooMany, IsCounted, payload_head, skip_piece};
 
 use crate::adds::Parts;
+use crate::integer::{LONGEST, spell};
 use crate::serializer::Serializer;
 use bser_format::errors::{Collection, Complaint, Error, Result};
 use bser_format::header::{BSER_ARRAY, BSER_OBJECT, BSER_SKIP};
@@ -223,7 +224,9 @@ impl<W: Sink> Serializer<W> {
     pub fn put_header(&mut self, body: i64) -> Result<()>
         ensures { Puts W.Sink self.old self.new (front_of body) result }
     {
-        match self.add_header(body) {
+        let mut integer = [0; LONGEST];
+        let len = spell(&mut integer, body);
+        match self.append_parts(&[0, 2, 0, 0, 0, 0], &integer[..len]) {
             Ok(()) => Ok(()),
             Err(_) => Err(self.refusal()),
         }

@@ -142,13 +142,6 @@ impl<W: Sink> Serializer<W> {
         PutRefused
     }
 
-    /// Tells the writer that at most so many bytes will follow.
-    pub(crate) fn expect(&mut self, most: usize)
-        ensures { Sent W.Sink self.old self.new [] }
-    {
-        self.writer.expect(most);
-    }
-
     /// Gives the writer both parts of a piece, if nothing is pending and it takes them at once.
     #[inline(always)]
     pub(crate) fn is_taken_at_once(&mut self, front: &[u8], back: &[u8]) -> bool

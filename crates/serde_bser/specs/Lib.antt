@@ -18,6 +18,7 @@ pub use Rattle.bser_format.specs.EnumName
 pub use Rattle.bser_format.specs.HeaderBytes
 pub use Rattle.bser_format.specs.Named
 pub use Rattle.bser_source.specs.Device
+pub use Rattle.bser_source.specs.Memory
 pub use Rattle.bser_source.specs.Watched
 pub use Rattle.bser_source.specs.Window
 pub use Rattle.bser_deserializer.specs.Seen
