@@ -1,3 +1,6 @@
+mod Spelled
+mod Facts
+mod Whole
 mod Kept
 mod Lengths
 mod Ends

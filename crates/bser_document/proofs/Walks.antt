@@ -286,7 +286,7 @@ keys_length : (ks : List (List ℕ)) → length (key_events ks) ≡ length ks
 keys_length [] = refl
 keys_length (k ∷ ks) = ap suc (keys_length ks)
 
-all_rows : (ks : List (List ℕ)) (rs : List (List (Option Tree))) → IsTemplate ks rs → AllByRecursion (λ r. length r ≡ length ks) rs
+pub all_rows : (ks : List (List ℕ)) (rs : List (List (Option Tree))) → IsTemplate ks rs → AllByRecursion (λ r. length r ≡ length ks) rs
 all_rows [] rs h = subst (AllByRecursion (λ r. length r ≡ 0)) (sym h) tt
 all_rows (k ∷ ks) rs h = h
 

@@ -1,3 +1,6 @@
+pub mod Nodes
+pub mod Spelled
+pub mod Whole
 pub mod DocumentView
 pub mod Spans
 pub mod Read

@@ -1,6 +1,6 @@
 //! What is made of the events of a value.
 ghost use Rattle.std.specs.Prelude.{◌≡◌, true, [], ◌∷◌, ◌++◌, length, OnOk, IfOk};
-ghost use Rattle.bser_document.specs.DocumentView.{Views, ViewsDocument, Takes, SameEvents, Closes, end_of, with_end};
+ghost use Rattle.bser_document.specs.DocumentView.{Views, ViewsValue, Takes, SameEvents, Closes, end_of, with_end};
 ghost use Rattle.bser_document.specs.declared.document.Node.TheVariants as nodes;
 
 use crate::document::{Document, Node};
@@ -29,8 +29,9 @@ impl DocumentBuilder {
         }
     }
 
-    /// What was told.
-    pub fn into_document(self) -> Document
+    /// What was told, which is the whole of a value.
+    pub(crate) fn into_document(self) -> Document
+        requires { ViewsValue self }
         ensures nodes { result.nodes ≡ self.nodes }
         ensures strings { result.strings ≡ self.strings }
     {

@@ -1,4 +1,5 @@
 //! A message, as a list of nodes.
+ghost use Rattle.bser_document.specs.Whole.{TellsTree, HoldsStrings, HoldsNoMore, HasEnds, HasWholeRowsIn, ReadsValue, HoldsValueTree};
 
 /// A part of a message, in the order of reading.
 #[derive(Clone, Copy)]
@@ -69,4 +70,11 @@ pub enum Node {
 pub struct Document {
     pub(crate) nodes: Vec<Node>,
     pub(crate) strings: Vec<u8>,
+    ghost tells: { ∥ TellsTree nodes.items strings.items ∥₁ },
+    ghost within: { ∥ HoldsStrings nodes.items strings.items ∥₁ },
+    ghost total: { HoldsNoMore nodes.items strings.items },
+    ghost ends: { ∥ HasEnds nodes.items strings.items ∥₁ },
+    ghost rows: { ∥ HasWholeRowsIn nodes.items strings.items ∥₁ },
+    ghost reads: { ∥ ReadsValue nodes.items strings.items ∥₁ },
+    ghost values: { ∥ HoldsValueTree nodes.items strings.items ∥₁ },
 }

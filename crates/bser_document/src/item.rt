@@ -3,7 +3,7 @@ ghost use Rattle.std.specs.Prelude.{◌≡◌, List, ℕ, Option, option_map, On
 ghost use Rattle.bser_format.specs.Content.{value};
 ghost use Rattle.bser_format.specs.Tree.{Tree};
 ghost use Rattle.bser_value.specs.Contents.{as_bool, as_i64, as_f64, as_bytes, as_str};
-ghost use Rattle.bser_document.specs.DocumentView.{HoldsDocument, IsInside, piece};
+ghost use Rattle.bser_document.specs.DocumentView.{HoldsDocument, IsInside, piece, value_of};
 ghost use Rattle.bser_document.specs.Holds.{HoldsItem, IsNodeAt, IsPartNode, ShowsNode, kind_of, is_null, as_real_bits, node_tree};
 
 use crate::document::{Document, Node};
@@ -52,7 +52,8 @@ pub struct Item<'d> {
 impl Document {
     /// The whole value.
     pub fn root(&self) -> Item<'_>
-        ensures { (u : Tree) → HoldsDocument self.now (value u) → HoldsItem result u }
+        ensures whole { HoldsItem result (value_of self.now) }
+        ensures held { (u : Tree) → HoldsDocument self.now (value u) → HoldsItem result u }
     {
         Item {
             document: self,

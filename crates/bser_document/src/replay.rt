@@ -1,9 +1,9 @@
 //! A document told to a builder again, and made a `Value`.
 ghost use Rattle.std.specs.Prelude.{◌≡◌, IfOk, OnOk, IsUtf8};
-ghost use Rattle.bser_format.specs.Content.{Content};
+ghost use Rattle.bser_format.specs.Content.{Content, value};
 ghost use Rattle.bser_events.specs.Told.{told};
 ghost use Rattle.bser_value.specs.ValueView.{HoldsValue};
-ghost use Rattle.bser_document.specs.DocumentView.{HoldsDocument, IsText, Within, event_of, piece};
+ghost use Rattle.bser_document.specs.DocumentView.{HoldsDocument, IsText, Within, event_of, piece, value_of};
 ghost use Rattle.bser_document.specs.Tells.{Told};
 
 use crate::document::{Document, Node};
@@ -18,7 +18,9 @@ impl Document {
     /// The `Value` that the document holds: each template as the array of its rows, and of equal
     /// keys the last. The only error is that there is no memory for it.
     pub fn to_value(&self, alloc: Global) -> Result<Value, AllocError>
-        ensures { (c : Content) → HoldsDocument self.now c → IfOk result (λ v. HoldsValue v c) }
+        ensures whole { IfOk result (λ v. HoldsValue v (value (value_of self.now))) }
+        ensures held { (c : Content) → HoldsDocument self.now c
+            → IfOk result (λ v. HoldsValue v c) }
     {
         let mut builder = ValueBuilder::new(alloc);
         self.tell(&mut builder)?;
