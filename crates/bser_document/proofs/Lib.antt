@@ -8,3 +8,5 @@ mod Walks
 mod Tells
 mod Looks
 mod Fields
+mod Paths
+mod Tokens

@@ -5,4 +5,5 @@ pub mod Holds
 pub mod Walks
 pub mod Tells
 pub mod Pairs
+pub mod Pointer
 pub mod Rows

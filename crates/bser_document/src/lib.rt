@@ -6,6 +6,7 @@ pub mod document;
 pub mod entries;
 pub mod item;
 pub mod items;
+pub mod pointer;
 pub mod reading;
 mod replay;
 pub mod rows;
