@@ -10,3 +10,7 @@ mod Looks
 mod Fields
 mod Paths
 mod Tokens
+mod Sorts
+mod Puts
+pub mod Depth
+mod Rising

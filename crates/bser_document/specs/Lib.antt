@@ -7,3 +7,5 @@ pub mod Tells
 pub mod Pairs
 pub mod Pointer
 pub mod Rows
+pub mod Sorted
+pub mod Put

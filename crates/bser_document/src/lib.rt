@@ -7,6 +7,8 @@ pub mod entries;
 pub mod item;
 pub mod items;
 pub mod pointer;
+mod put;
 pub mod reading;
 mod replay;
 pub mod rows;
+mod sorted;
