@@ -11,3 +11,9 @@ mod Walks
 mod Tells
 mod Looks
 mod Fields
+mod Paths
+mod Tokens
+mod Sorts
+mod Puts
+pub mod Depth
+mod Rising

@@ -1,0 +1,27 @@
+-- The parts up to here are put.
+use Rattle.std.proofs.Common.{◌<◌, ◌*◌, ◌+◌}
+use Rattle.bser_format.specs.Measures.{items_depth, entries_depth}
+use Rattle.bser_format.specs.Tree.{entries}
+use Rattle.bser_format.specs.Tree as trees
+use Rattle.bser_document.specs.Sorted.{Lists}
+use Rattle.bser_document.specs.Walks.{HoldsItems}
+use Rattle.bser_document.proofs.Puts.{PuttingItems, PuttingEntries}
+use Rattle.bser_document.proofs.put.+add.Given as goal
+
+abbrev pub decreases-add_item : goal.decreases-add_item
+decreases-add_item g l = l.room * 3 + 1
+
+abbrev pub decreases-add_container : goal.decreases-add_container
+decreases-add_container g l = l.room * 3
+
+abbrev pub decreases-add_items : goal.decreases-add_items
+decreases-add_items g l = l.room * 3 + 2
+
+abbrev pub decreases-add_entries : goal.decreases-add_entries
+decreases-add_entries g l = l.room * 3 + 2
+
+abbrev pub invariant-add_items-loop-item : goal.invariant-add_items-loop-item
+invariant-add_items-loop-item g l = (us : trees.Items) → HoldsItems l.fn.items us → items_depth us < l.fn.room → PuttingItems g.W.Sink us l.fn.room l.item-iterator l.fn.out l.out
+
+abbrev pub invariant-add_entries-loop-key : goal.invariant-add_entries-loop-key
+invariant-add_entries-loop-key g l = (es : trees.Entries) → Lists (entries es) l.sorted.entries → entries_depth es < l.fn.room → PuttingEntries g.W.Sink es l.fn.room l.key-iterator l.fn.out l.out

@@ -1,0 +1,180 @@
+//! Writing an item in the canonical form.
+ghost use Rattle.std.specs.Prelude.{◌≡◌, ◌<◌, Ok, OnOk, IfErr};
+ghost use Rattle.bser_format.specs.Canonical.{IsWritable};
+ghost use Rattle.bser_format.specs.Measures.{depth, items_depth, entries_depth};
+ghost use Rattle.bser_format.specs.Tree.{Tree, array, object, entries};
+ghost use Rattle.bser_format.specs.Tree as trees;
+ghost use Rattle.bser_ser.specs.Ends.{AddsTree, Ends, Stops, text_of};
+ghost use Rattle.bser_document.specs.declared.put.AddError.TheVariants as errors;
+ghost use Rattle.bser_document.specs.Holds.{HoldsItem, ShowsNode};
+ghost use Rattle.bser_document.specs.Put.{AddsItem, IsPlain};
+ghost use Rattle.bser_document.specs.Sorted.{Lists};
+ghost use Rattle.bser_document.specs.Walks.{HoldsItems};
+
+use crate::document::{Document, Node};
+use crate::item::Item;
+use crate::items::Items;
+use bser_format::errors::{Error, Result};
+use bser_ser::{Parts, PutRefused, Serializer};
+use bser_source::device::Sink;
+use std::alloc::{AllocError, Global};
+use std::collections::BTreeMap;
+use std::result;
+
+/// Why a part was not put.
+#[derive(Clone, Copy)]
+pub(crate) enum AddError {
+    /// A put failed, and the serializer keeps the error.
+    Put,
+    /// Out of memory.
+    OutOfMemory,
+}
+
+impl From<PutRefused> for AddError {
+    ghost from_gives = { λ _ e. e ≡ errors.Put };
+
+    fn from(_: PutRefused) -> Self {
+        Self::Put
+    }
+}
+
+impl From<AllocError> for AddError {
+    ghost from_gives = { λ _ e. e ≡ errors.OutOfMemory };
+
+    fn from(_: AllocError) -> Self {
+        Self::OutOfMemory
+    }
+}
+
+/// Puts the canonical text of an item that is less than `room` deep.
+///
+/// The errors are those of the puts, and `OutOfMemory` where there is no memory for the order of
+/// an object's keys. It calls itself once for each level.
+pub(crate) fn put_item<W: Sink>(
+    alloc: Global,
+    item: Item<'_>,
+    room: usize,
+    out: &mut Serializer<W>,
+) -> Result<()>
+    ensures ok { (u : Tree) → HoldsItem item.entry u → depth u < room
+        → OnOk result (Ends W.Sink (text_of (Ok u)) out.old out.new) }
+    ensures writable { (u : Tree) → HoldsItem item.entry u → depth u < room
+        → OnOk result (IsWritable u) }
+    ensures err { (u : Tree) → HoldsItem item.entry u → depth u < room
+        → IfErr result (Stops W.Sink (text_of (Ok u)) out.old out.new) }
+{
+    match add_item(alloc, item, room, out) {
+        Ok(()) => Ok(()),
+        Err(AddError::Put) => Err(out.refusal()),
+        Err(AddError::OutOfMemory) => Err(Error::OutOfMemory),
+    }
+}
+
+/// Puts an item.
+#[cycle(add)]
+fn add_item<W: Sink>(
+    alloc: Global,
+    item: Item<'_>,
+    room: usize,
+    out: &mut Serializer<W>,
+) -> result::Result<(), AddError>
+    ensures { (u : Tree) → HoldsItem item.entry u → depth u < room
+        → AddsItem W.Sink out.old out.new u result }
+{
+    match item.node() {
+        Node::Array { len: _, end: _ }
+        | Node::Object { len: _, end: _ }
+        | Node::Template { len: _, end: _ } => add_container(alloc, item, room, out),
+        node => Ok(item.document.add_plain(node, out)?),
+    }
+}
+
+/// Puts an array or an object.
+#[cycle(add)]
+#[inline(never)]
+fn add_container<W: Sink>(
+    alloc: Global,
+    item: Item<'_>,
+    room: usize,
+    out: &mut Serializer<W>,
+) -> result::Result<(), AddError>
+    ensures { (u : Tree) → HoldsItem item.entry u → depth u < room
+        → AddsItem W.Sink out.old out.new u result }
+{
+    if room == 0 {
+        return Err(AddError::OutOfMemory);
+    }
+    if let Some(items) = item.items() {
+        return add_items(alloc, items, room - 1, out);
+    }
+    match item.sorted(alloc)? {
+        Some(sorted) => add_entries(alloc, &sorted, room - 1, out),
+        None => Err(AddError::OutOfMemory),
+    }
+}
+
+/// Puts an array of these items.
+#[cycle(add)]
+fn add_items<W: Sink>(
+    alloc: Global,
+    items: Items<'_>,
+    room: usize,
+    out: &mut Serializer<W>,
+) -> result::Result<(), AddError>
+    ensures { (us : trees.Items) → HoldsItems items.entry us → items_depth us < room
+        → AddsItem W.Sink out.old out.new (array us) result }
+{
+    let count = items.len();
+    // no list of nodes is longer
+    if count > isize::MAX as usize {
+        return Err(AddError::OutOfMemory);
+    }
+    out.add_seq(count)?;
+    for item in items {
+        add_item(alloc, item, room, out)?;
+    }
+    Ok(())
+}
+
+/// Puts an object of these entries.
+#[cycle(add)]
+fn add_entries<W: Sink>(
+    alloc: Global,
+    sorted: &BTreeMap<&str, Item<'_>>,
+    room: usize,
+    out: &mut Serializer<W>,
+) -> result::Result<(), AddError>
+    ensures { (es : trees.Entries) → Lists (entries es) sorted.entry.now.entries
+        → entries_depth es < room → AddsItem W.Sink out.old out.new (object es) result }
+{
+    out.add_map(sorted.len())?;
+    for (key, item) in sorted {
+        out.add_text_key(*key)?;
+        add_item(alloc, *item, room, out)?;
+    }
+    Ok(())
+}
+
+impl Document {
+    /// Puts a value that is no container, given by its node; a skipped field is null.
+    #[inline(always)]
+    fn add_plain<W: Sink>(
+        &self,
+        node: Node,
+        out: &mut Serializer<W>,
+    ) -> result::Result<(), PutRefused>
+        ensures put { (u : Tree) → ShowsNode u self.now node → IsPlain u
+            → AddsTree W.Sink out.old out.new (Ok u) result }
+        ensures writable { (u : Tree) → ShowsNode u self.now node → IsPlain u
+            → OnOk result (IsWritable u) }
+    {
+        match node {
+            Node::Bool(truth) => out.add_bool(truth),
+            Node::Int(number) => out.add_i64(number),
+            Node::Real(bits) => out.add_real_bits(bits),
+            Node::Bytes { len, at } => out.add_bytes(self.string(len, at)),
+            Node::Text { len, at } => out.add_text(self.text(len, at)),
+            _ => out.add_null(),
+        }
+    }
+}
