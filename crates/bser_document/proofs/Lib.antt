@@ -14,3 +14,4 @@ mod Sorts
 mod Puts
 pub mod Depth
 mod Rising
+mod Alike
