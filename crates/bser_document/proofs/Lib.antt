@@ -17,3 +17,4 @@ mod Sorts
 mod Puts
 pub mod Depth
 mod Rising
+mod Alike

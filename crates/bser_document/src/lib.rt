@@ -11,4 +11,5 @@ mod put;
 pub mod reading;
 mod replay;
 pub mod rows;
+mod same;
 mod sorted;
