@@ -12,3 +12,4 @@ mod Sorts
 mod Puts
 pub mod Depth
 mod Rising
+mod PutPairs
