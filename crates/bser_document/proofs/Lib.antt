@@ -18,3 +18,4 @@ mod Puts
 pub mod Depth
 mod Rising
 mod Alike
+mod PutPairs
