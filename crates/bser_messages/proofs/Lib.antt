@@ -13,3 +13,4 @@ pub mod DescribedReaders
 pub mod Tallies
 pub mod TreeSizes
 pub mod SizeReads
+pub mod ValueSizes
