@@ -19,7 +19,7 @@ use Rattle.bser_deserializer.proofs.Clean.{clean_any}
 use Rattle.bser_deserializer.proofs.Refusals.{by_name}
 use Rattle.bser_messages.specs.Messages.{ReadsMessageAs, BeginsWith, RefusesSlice}
 use Rattle.bser_messages.specs.Limited.{BeginsWithin, RefusesSliceWithin}
-use Rattle.bser_messages.specs.Sizes.{capped, reads_size, HoldsSize, IsSizeOf}
+use Rattle.bser_messages.specs.Sizes.{capped, reads_size, HoldsTreeSize, IsSizeOf}
 use Rattle.bser_messages.specs.MessageSizes.{size_passes, asking_size, MessageSize, MessageSizeWithin, SizeRefused, SizeRefusedWithin}
 use Rattle.bser_messages.specs.Tallies.{Shows, Takes, nothing_told}
 use Rattle.bser_messages.specs.declared.limits.Limits.{Limits}
@@ -28,7 +28,7 @@ use Rattle.bser_messages.specs.declared.sizing.Sizing.{Sizing}
 use Rattle.bser_messages.proofs.Tallies.{tally, all_taken}
 use Rattle.bser_messages.proofs.TreeSizes.{tree_grows}
 
-pub told_read : (before after : Sizing) (s : Size) (old new : State) → Shows before nothing_told → TookAny Takes before after old new → s ≡ after.size → Answers reads_size HoldsSize old new s
+pub told_read : (before after : Sizing) (s : Size) (old new : State) → Shows before nothing_told → TookAny Takes before after old new → s ≡ after.size → Answers reads_size HoldsTreeSize old new s
 told_read before after s old new shows k is =
     let m = tally (events k.tree) nothing_told in
     let shown : Shows after m = all_taken before (events k.tree) after k.told nothing_told shows in
@@ -65,7 +65,7 @@ size_refused e old new h =
 body_shorter : (n c : ℕ) (t : Tree) (b : List ℕ) (m : IsMessage n c t b) → length m.body ≤ length b
 body_shorter n c t b m = let w = m.whole in omega (arith, length_then w, length_then w.second, length_then w.second.second, ap length w.second.second.second)
 
-pub begins_size : (n : ℕ) (bytes : List ℕ) (s : Size) → n ≤ 1024 → BeginsWith n reads_size HoldsSize bytes s → MessageSize n bytes s
+pub begins_size : (n : ℕ) (bytes : List ℕ) (s : Size) → n ≤ 1024 → BeginsWith n reads_size HoldsTreeSize bytes s → MessageSize n bytes s
 begins_size n bytes s few b =
     let w = b.message in
     let t = expand w.tree in
@@ -89,7 +89,7 @@ begins_size n bytes s few b =
       levels = size.levels ∙ omega (arith, few, deep);
     }
 
-pub begins_size_within : (limits : Limits) (bytes : List ℕ) (s : Size) → limits.levels ≤ 1024 → BeginsWithin limits.levels limits.bytes reads_size HoldsSize bytes s → MessageSizeWithin limits bytes s
+pub begins_size_within : (limits : Limits) (bytes : List ℕ) (s : Size) → limits.levels ≤ 1024 → BeginsWithin limits.levels limits.bytes reads_size HoldsTreeSize bytes s → MessageSizeWithin limits bytes s
 unfolding begins_size
 begins_size_within limits bytes s few b = record { whole = begins_size limits.levels bytes s few b.whole; short = b.short }
 

@@ -39,7 +39,7 @@ abbrev pub reads_size : Meaning
 reads_size t = if has_utf8_keys t then Some (value t) else None
 
 -- the size is that of the tree that was read
-pub record HoldsSize (s : Size) (c : Content) : Type 0 where
+pub record HoldsTreeSize (s : Size) (c : Content) : Type 0 where
   pub tree : Tree
   pub same : c ≡ value tree
   pub size : IsSizeOf s tree

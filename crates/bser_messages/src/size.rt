@@ -10,7 +10,7 @@ ghost use Rattle.bser_messages.specs.MessageSizes.{
   SizeRefusedWithin,
   asking_size,
 };
-ghost use Rattle.bser_messages.specs.Sizes.{HoldsSize, reads_size};
+ghost use Rattle.bser_messages.specs.Sizes.{HoldsTreeSize, reads_size};
 
 use crate::limited_slice::from_slice_limited;
 use crate::limits::Limits;
@@ -45,7 +45,7 @@ pub struct Size {
 impl Shape for Size {
     ghost reads = { reads_size };
 
-    ghost holds = { HoldsSize };
+    ghost holds = { HoldsTreeSize };
 
     ghost needs = { owned };
 
