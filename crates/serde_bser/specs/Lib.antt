@@ -65,6 +65,8 @@ pub use Rattle.bser_messages.specs.Streams
 pub use Rattle.bser_messages.specs.Readers
 pub use Rattle.bser_messages.specs.Slices
 pub use Rattle.bser_messages.specs.Descriptions
+pub use Rattle.bser_messages.specs.Sizes
+pub use Rattle.bser_messages.specs.MessageSizes
 pub use Rattle.bser_format.specs.Written
 pub use Rattle.bser_format.specs.Pieces
 pub use Rattle.bser_format.specs.Compact
