@@ -85,3 +85,12 @@ pub use Rattle.bser_value.specs.ValueView
 pub use Rattle.bser_value.specs.Contents
 pub use Rattle.bser_value.specs.Displayed
 pub use Rattle.bser_value.specs.CompactTexts
+pub use Rattle.bser_document.specs.DocumentView
+pub use Rattle.bser_document.specs.Holds as DocumentHolds
+pub use Rattle.bser_document.specs.Pairs as DocumentPairs
+pub use Rattle.bser_document.specs.Pointer as DocumentPointer
+pub use Rattle.bser_document.specs.Read as DocumentRead
+pub use Rattle.bser_document.specs.Rows as DocumentRows
+pub use Rattle.bser_document.specs.Spans as DocumentSpans
+pub use Rattle.bser_document.specs.Tells as DocumentTells
+pub use Rattle.bser_document.specs.Walks as DocumentWalks
