@@ -5,7 +5,7 @@ ghost use Rattle.bser_format.specs.Pieces.{null_piece, bool_piece, integer_piece
 ghost use Rattle.bser_ser.specs.Sent.{Adds, payload_head, string_piece, refusal_of};
 
 use crate::integer::{LONGEST, spell};
-use crate::pending::{append_both, append_front, append_variant, append_variant_of};
+use crate::pending::{append_both, append_variant, append_variant_of};
 use crate::serializer::{PutRefused, Serializer};
 use bser_format::errors::Error;
 use bser_format::header::{
@@ -240,14 +240,21 @@ impl<W: Sink> Serializer<W> {
     }
 
     /// Puts the first n bytes of `bytes` where they wait for the writer.
+    ///
+    /// All are put there and the rest is cut off, since a copy whose length the compiler knows takes
+    /// no call.
     #[inline(always)]
     fn append_pending_front(&mut self, bytes: &[u8], n: usize) -> Result<(), PutRefused>
         requires { n ≤ length bytes.now }
         ensures { Adds W.Sink self.old self.new (take n bytes.now) result }
     {
         self.make_room()?;
-        match append_front(&mut self.pending, bytes, n) {
-            Ok(()) => Ok(()),
+        let before = self.pending.len();
+        match self.pending.extend_from_slice(bytes) {
+            Ok(()) => {
+                self.pending.truncate(before + n);
+                Ok(())
+            }
             Err(_) => Err(self.out_of_memory()),
         }
     }

@@ -168,7 +168,7 @@ fn put_message<W: Sink, T: Serialize>(
     requires { IsBodyLength (T.meaning value.now) len }
     ensures { PutsMessage W.Sink (T.meaning value.now) out.old out.new result }
 {
-    out.writer.expect(len as usize + LONGEST_HEADER);
+    out.expect(len as usize + LONGEST_HEADER);
     out.put_header(len)?;
     value.serialize(alloc, out)
 }
