@@ -11,7 +11,11 @@ mod Walks
 mod Tells
 mod Looks
 mod Fields
+mod Paths
+mod Tokens
 mod Sorts
 mod Puts
 pub mod Depth
 mod Rising
+mod Alike
+mod PutPairs

@@ -1,6 +1,6 @@
 -- Putting an item, part by part.
-use Rattle.std.proofs.Common.{◌≡◌, ℕ, ◌-◌, ◌<◌, ◌^◌, List, [], ◌∷◌, length, Result, Ok, refl, sym, ap, subst, ◌∙◌, arith, suc, append-nil, Some, None, Bor, BTreeMap}
-use Rattle.bser_format.specs.Tree.{Tree, null, boolean, integer, real, bytes, text, array, object, template, no_items, item, items, no_entries, entry, entries}
+use Rattle.std.proofs.Common.{◌≡◌, ℕ, ◌-◌, ◌<◌, ◌^◌, List, [], ◌∷◌, length, Result, Ok, refl, sym, ap, subst, ◌∙◌, arith, suc, append-nil, Some, None, Bor}
+use Rattle.bser_format.specs.Tree.{Tree, null, boolean, integer, real, bytes, text, array, object, template, no_items, item, items, no_entries, entry, entries, entries_of}
 use Rattle.bser_format.specs.Tree as trees
 use Rattle.bser_format.specs.Canonical.{canonical_key, IsCount, IsWritable}
 use Rattle.bser_format.specs.Measures.{depth, items_depth, entries_depth}
@@ -23,8 +23,12 @@ use Rattle.bser_document.specs.declared.item.Item.{Item}
 use Rattle.bser_document.specs.declared.items.Items.{Items}
 use Rattle.bser_document.specs.Holds.{HoldsItem, ShowsNode, emptied, node_tree}
 use Rattle.bser_document.specs.declared.put.AddError.{AddError}
+use Rattle.bser_format.specs.Normal.{last_entries}
+use Rattle.bser_document.specs.declared.entries.Entries.{Entries}
+use Rattle.bser_document.specs.Pairs.{HoldsEntries, FindsEntries}
+use Rattle.bser_document.proofs.Sorts.{entries_back}
 use Rattle.bser_document.specs.Put.{AddsItem, IsPlain}
-use Rattle.bser_document.specs.Sorted.{Lists, FindsSorted}
+use Rattle.bser_document.specs.Sorted.{Lists}
 use Rattle.bser_document.specs.Walks.{HoldsItems, FindsItems, GivesItem, length_of}
 
 -- ---- values that are no containers
@@ -108,16 +112,31 @@ array_added sink room s a b r (array us) h deep added = added us h (omega (arith
 array_added sink room s a b r (object es) h deep added = absurd h
 array_added sink room s a b r (template ks rs) h deep added = absurd h
 
-pub object_added : {S A : Type 0} (sink : Tells S) (room : ℕ) (m : BTreeMap (Bor (List ℕ)) Item) (a b : Serializer S) (r : Result A AddError) (u : Tree) → FindsSorted (as_object u) (Some m) → depth u < room → ((es : trees.Entries) → Lists (entries es) m.entries → entries_depth es < room - 1 → AddsItem sink a b (object es) r) → AddsItem sink a b u r
-object_added sink room m a b r null h deep added = absurd h
-object_added sink room m a b r (boolean v) h deep added = absurd h
-object_added sink room m a b r (integer v) h deep added = absurd h
-object_added sink room m a b r (real v) h deep added = absurd h
-object_added sink room m a b r (bytes l) h deep added = absurd h
-object_added sink room m a b r (text l) h deep added = absurd h
-object_added sink room m a b r (array us) h deep added = absurd h
-object_added sink room m a b r (object es) h deep added = added es h (omega (arith, deep))
-object_added sink room m a b r (template ks rs) h deep added = absurd h
+-- an object, where what it is read from is put
+pub object_added : {S A : Type 0} (sink : Tells S) (room : ℕ) (s : Entries) (a b : Serializer S) (r : Result A AddError) (u : Tree) → FindsEntries (as_object u) (Some s) → depth u < room
+    → ((m : List (List ℕ × Tree)) → HoldsEntries s m → entries_depth (entries_of (last_entries m)) < room - 1 → AddsItem sink a b (object (entries_of (last_entries m))) r) → AddsItem sink a b u r
+object_added sink room s a b r null h deep added = absurd h
+object_added sink room s a b r (boolean v) h deep added = absurd h
+object_added sink room s a b r (integer v) h deep added = absurd h
+object_added sink room s a b r (real v) h deep added = absurd h
+object_added sink room s a b r (bytes l) h deep added = absurd h
+object_added sink room s a b r (text l) h deep added = absurd h
+object_added sink room s a b r (array us) h deep added = absurd h
+object_added sink room s a b r (object es) h deep added =
+    let less : entries_depth es < room - 1 = omega (arith, deep) in
+    subst (λ es. AddsItem sink a b (object es) r) (sym h.same) (added h.spelled h.holds (subst (λ es. entries_depth es < room - 1) h.same less))
+object_added sink room s a b r (template ks rs) h deep added = absurd h
+
+-- entries that rise are put as they are spelled
+pub spelled_added : {S A : Type 0} (sink : Tells S) (room : ℕ) (a b : Serializer S) (r : Result A AddError) (m : List (List ℕ × Tree)) → last_entries m ≡ m → entries_depth (entries_of (last_entries m)) < room
+    → (entries_depth (entries_of m) < room → AddsItem sink a b (object (entries_of m)) r) → AddsItem sink a b (object (entries_of (last_entries m))) r
+spelled_added sink room a b r m same deep added =
+    subst (λ l. AddsItem sink a b (object (entries_of l)) r) (sym same) (added (subst (λ l. entries_depth (entries_of l) < room) same deep))
+
+-- and others in order
+pub sorted_added : {S A : Type 0} (sink : Tells S) (room : ℕ) (es : List (Bor (List ℕ) × Item)) (a b : Serializer S) (r : Result A AddError) (m : List (List ℕ × Tree)) → Lists (last_entries m) es → entries_depth (entries_of (last_entries m)) < room
+    → ((es' : trees.Entries) → Lists (entries es') es → entries_depth es' < room → AddsItem sink a b (object es') r) → AddsItem sink a b (object (entries_of (last_entries m))) r
+sorted_added sink room es a b r m lists deep added = added (entries_of (last_entries m)) (subst (λ l. Lists l es) (sym (entries_back (last_entries m))) lists) deep
 
 -- ---- the trees of items and of entries
 

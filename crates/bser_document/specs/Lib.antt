@@ -8,6 +8,7 @@ pub mod Holds
 pub mod Walks
 pub mod Tells
 pub mod Pairs
+pub mod Pointer
 pub mod Rows
 pub mod Sorted
 pub mod Put

@@ -1,17 +1,19 @@
 //! Writing an item in the canonical form.
-ghost use Rattle.std.specs.Prelude.{◌≡◌, ◌<◌, Ok, OnOk, IfErr};
+ghost use Rattle.std.specs.Prelude.{◌≡◌, ◌<◌, ℕ, List, Ok, OnOk, IfErr};
 ghost use Rattle.bser_format.specs.Canonical.{IsWritable};
 ghost use Rattle.bser_format.specs.Measures.{depth, items_depth, entries_depth};
-ghost use Rattle.bser_format.specs.Tree.{Tree, array, object, entries};
+ghost use Rattle.bser_format.specs.Tree.{Tree, array, object, entries, entries_of};
 ghost use Rattle.bser_format.specs.Tree as trees;
 ghost use Rattle.bser_ser.specs.Ends.{AddsTree, Ends, Stops, text_of};
 ghost use Rattle.bser_document.specs.declared.put.AddError.TheVariants as errors;
 ghost use Rattle.bser_document.specs.Holds.{HoldsItem, ShowsNode};
+ghost use Rattle.bser_document.specs.Pairs.{HoldsEntries};
 ghost use Rattle.bser_document.specs.Put.{AddsItem, IsPlain};
 ghost use Rattle.bser_document.specs.Sorted.{Lists};
 ghost use Rattle.bser_document.specs.Walks.{HoldsItems};
 
 use crate::document::{Document, Node};
+use crate::entries::Entries;
 use crate::item::Item;
 use crate::items::Items;
 use bser_format::errors::{Error, Result};
@@ -107,10 +109,14 @@ fn add_container<W: Sink>(
     if let Some(items) = item.items() {
         return add_items(alloc, items, room - 1, out);
     }
-    match item.sorted(alloc)? {
-        Some(sorted) => add_entries(alloc, &sorted, room - 1, out),
-        None => Err(AddError::OutOfMemory),
+    let Some(entries) = item.entries() else {
+        return Err(AddError::OutOfMemory);
+    };
+    if entries.is_rising() {
+        return add_spelled(alloc, entries, room - 1, out);
     }
+    let sorted = entries.sorted(alloc)?;
+    add_entries(alloc, &sorted, room - 1, out)
 }
 
 /// Puts an array of these items.
@@ -151,6 +157,31 @@ fn add_entries<W: Sink>(
     for (key, item) in sorted {
         out.add_text_key(*key)?;
         add_item(alloc, *item, room, out)?;
+    }
+    Ok(())
+}
+
+/// Puts an object of these entries, whose keys rise.
+#[cycle(add)]
+fn add_spelled<W: Sink>(
+    alloc: Global,
+    entries: Entries<'_>,
+    room: usize,
+    out: &mut Serializer<W>,
+) -> result::Result<(), AddError>
+    ensures { (m : List (List ℕ × Tree)) → HoldsEntries entries.entry m
+        → entries_depth (entries_of m) < room
+        → AddsItem W.Sink out.old out.new (object (entries_of m)) result }
+{
+    let count = entries.len();
+    // no list of nodes is longer
+    if count > isize::MAX as usize {
+        return Err(AddError::OutOfMemory);
+    }
+    out.add_map(count)?;
+    for entry in entries {
+        out.add_text_key(entry.key)?;
+        add_item(alloc, entry.value, room, out)?;
     }
     Ok(())
 }

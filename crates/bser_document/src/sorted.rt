@@ -1,11 +1,11 @@
 //! The entries of an object in rising byte order of their keys.
-ghost use Rattle.std.specs.Prelude.{ℕ, List, IfOk};
+ghost use Rattle.std.specs.Prelude.{◌≡◌, ℕ, List, IfOk, IsTrue, option_map};
 ghost use Rattle.bser_format.specs.Normal.{last_entries};
 ghost use Rattle.bser_format.specs.Tree.{Tree};
 ghost use Rattle.bser_value.specs.Contents.{as_object};
 ghost use Rattle.bser_document.specs.Holds.{HoldsItem};
 ghost use Rattle.bser_document.specs.Pairs.{HoldsEntries};
-ghost use Rattle.bser_document.specs.Sorted.{Lists, FindsSorted};
+ghost use Rattle.bser_document.specs.Sorted.{Lists, FindsSorted, IsAbove};
 
 use crate::entries::Entries;
 use crate::item::Item;
@@ -41,5 +41,31 @@ impl<'d> Entries<'d> {
             sorted.insert(entry.key, entry.value)?;
         }
         Ok(sorted)
+    }
+
+    /// Whether each key is above the one before it.
+    pub(crate) fn is_rising(self) -> bool
+        ensures { (m : List (List ℕ × Tree)) → HoldsEntries self.entry m
+            → IsTrue result → last_entries m ≡ m }
+    {
+        let mut before = None;
+        for entry in self {
+            if !is_above(before, entry.key) {
+                return false;
+            }
+            before = Some(entry.key);
+        }
+        true
+    }
+}
+
+/// Whether a key is above the one before it, where there is one.
+#[inline(always)]
+fn is_above(before: Option<&str>, key: &str) -> bool
+    ensures { IsTrue result → IsAbove (option_map (λ k. k.now) before.entry) key.now }
+{
+    match before {
+        Some(before) => before < key,
+        None => true,
     }
 }

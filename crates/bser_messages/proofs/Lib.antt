@@ -10,3 +10,7 @@ pub mod Readers
 pub mod Nexts
 pub mod Places
 pub mod DescribedReaders
+pub mod Tallies
+pub mod TreeSizes
+pub mod SizeReads
+pub mod ValueSizes

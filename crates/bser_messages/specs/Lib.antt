@@ -5,3 +5,6 @@ pub mod Streams
 pub mod Readers
 pub mod Slices
 pub mod Descriptions
+pub mod Sizes
+pub mod MessageSizes
+pub mod Tallies

@@ -13,4 +13,6 @@ pub mod message;
 pub mod next;
 mod progress;
 pub mod reader_messages;
+pub mod size;
+mod sizing;
 pub mod slice_messages;

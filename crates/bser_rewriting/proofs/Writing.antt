@@ -1,6 +1,7 @@
--- A refusal to write is a refusal of the whole.
-use Rattle.std.proofs.Common.{◌≡◌, Result, Ok, IfErr, inr}
+-- A message that was read, as the tree of its value; and an error of writing, which is one of the whole.
+use Rattle.std.proofs.Common.{◌≡◌, ℕ, List, Option, Result, Ok, IfErr, inr}
 use Rattle.std.proofs.lemmas.Result.{IfErr-weaker}
+use Rattle.bser_format.specs.Content.{Content}
 use Rattle.bser_format.specs.Tree.{Tree}
 use Rattle.bser_format.specs.ReadsAny.{reads_value}
 use Rattle.bser_format.specs.declared.errors.Error.{Error}
@@ -9,8 +10,21 @@ use Rattle.bser_ser.specs.Stopped.{Tells}
 use Rattle.bser_messages.specs.Messages.{TookMessage}
 use Rattle.bser_value.specs.ValueView.{tree_of, HoldsValue}
 use Rattle.bser_value.specs.declared.value.Value.{Value}
-use Rattle.bser_rewriting.specs.Canon.{Gives, RefusesRewriting}
+use Rattle.bser_rewriting.specs.Canon.{Gives, IsReadAs, RefusesRewriting}
 
-pub writing_refused : {R W A : Type 0} (form : Tree → Tree) (source : Gives R) (sink : Tells W) (old new : R) (before after : W) (value : Value) (r : Result A Error) → TookMessage 128 reads_value HoldsValue (source.remaining old) (source.remaining new) value → source.failures new ≡ source.failures old → IfErr r (Missed sink (Ok (form (tree_of value))) before after) → IfErr r (RefusesRewriting form source sink old new before after)
-writing_refused form source sink old new before after value r read kept h =
-    IfErr-weaker r _ _ (λ e missed. inr (record { value = value; read = read; kept = kept; missed = missed })) h
+pub value_read : (v : Value) (c : Content) → HoldsValue v c → IsReadAs (tree_of v) c
+value_read v c h = record { same = h.same; values = h.tree }
+
+pub read_value : (v : Value) (c : Content) → IsReadAs (tree_of v) c → HoldsValue v c
+read_value v c h = record { same = h.same; tree = h.values }
+
+-- what was taken as a value of a type was taken as the tree of that value
+took_as : {A : Type 0} (n : ℕ) (holds : A → Content → Type 0) (tree : A → Tree) (old new : Option (List ℕ)) (v : A) → ((c : Content) → holds v c → IsReadAs (tree v) c) → TookMessage n reads_value holds old new v → TookMessage n reads_value IsReadAs old new (tree v)
+took_as n holds tree old new v is h = record { text = h.text; bytes = h.bytes; content = h.content; message = h.message; held = is h.content h.held }
+
+pub took_value : (old new : Option (List ℕ)) (v : Value) → TookMessage 128 reads_value HoldsValue old new v → TookMessage 128 reads_value IsReadAs old new (tree_of v)
+took_value old new v h = took_as 128 HoldsValue tree_of old new v (value_read v) h
+
+pub writing_refused : {R W A : Type 0} (form : Tree → Tree) (source : Gives R) (sink : Tells W) (old new : R) (before after : W) (u : Tree) (r : Result A Error) → TookMessage 128 reads_value IsReadAs (source.remaining old) (source.remaining new) u → source.failures new ≡ source.failures old → IfErr r (Missed sink (Ok (form u)) before after) → IfErr r (RefusesRewriting form source sink old new before after)
+writing_refused form source sink old new before after u r read kept h =
+    IfErr-weaker r _ _ (λ e missed. inr (record { tree = u; read = read; kept = kept; missed = missed })) h

@@ -1,7 +1,7 @@
 //! One message in, and its canonical or its compact message out.
 ghost use Rattle.std.specs.Prelude.{OnOk, IfErr};
 ghost use Rattle.bser_format.specs.Compact.{fold_templates};
-ghost use Rattle.bser_rewriting.specs.Canon.{Rewrote, RefusesRewriting, canonical};
+ghost use Rattle.bser_rewriting.specs.Canon.{Rewrote, RefusesRewriting, ValueIsItsTree, canonical};
 
 use bser_format::errors::Result;
 use bser_messages::message::from_reader;
@@ -19,7 +19,7 @@ use std::alloc::Global;
 /// failure then. Where reading is refused, nothing is written; where writing is refused, the reader
 /// counted no failure, and the writer took a beginning of the message, or nothing where its body
 /// could not be measured.
-#[tactic(auto, using(crate::proofs::Writing::writing_refused))]
+#[tactic(auto, using(crate::proofs::Writing::writing_refused, crate::proofs::Writing::took_value))]
 pub fn canon<R: Source, W: Sink>(alloc: Global, reader: &mut R, writer: &mut W) -> Result<()>
     ensures ok { OnOk result
         (Rewrote canonical R.Source W.Sink reader.old reader.new writer.old writer.new) }
@@ -32,7 +32,7 @@ pub fn canon<R: Source, W: Sink>(alloc: Global, reader: &mut R, writer: &mut W) 
 
 /// As [`canon`], but writes the compact message of the value. No message that reads as the value is
 /// shorter.
-#[tactic(auto, using(crate::proofs::Writing::writing_refused))]
+#[tactic(auto, using(crate::proofs::Writing::writing_refused, crate::proofs::Writing::took_value))]
 pub fn canon_compact<R: Source, W: Sink>(
     alloc: Global,
     reader: &mut R,
@@ -46,3 +46,9 @@ pub fn canon_compact<R: Source, W: Sink>(
     let read: Value = from_reader(alloc, reader)?;
     serialize_compact(alloc, writer, &read)
 }
+
+/// A `Value` holds what was read exactly where its tree does: so what the clauses above say of a
+/// tree they say of the `Value` that the message reads as.
+pub fn value_is_its_tree()
+    ensures { ValueIsItsTree }
+{}

@@ -6,5 +6,6 @@ pub mod Ends
 pub mod Texts
 pub mod Writable
 pub mod Messages
+pub mod Gap
 pub mod Structs
 pub mod AllBut

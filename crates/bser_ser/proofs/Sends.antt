@@ -4,7 +4,7 @@ use Rattle.std.proofs.lemmas.List.{append-nil}
 use Rattle.bser_source.specs.Device.{one_more}
 use Rattle.bser_format.specs.declared.errors.Error.{Error}
 use Rattle.bser_format.specs.declared.errors.Error.TheVariants.{Io}
-use Rattle.bser_ser.specs.Sent.{Sent, Refused}
+use Rattle.bser_ser.specs.Sent.{Sent, Refused, reason}
 use Rattle.bser_ser.specs.Stopped.{Tells, Stopped, Accounts}
 use Rattle.bser_ser.specs.declared.serializer.Serializer.{Serializer}
 
@@ -25,6 +25,20 @@ Sent-both both a b c xs ys s t = record {
 
 pub Sent-none : {S : Type 0} {sink : Tells S} → ((s : S) → sink.took s s []) → (a : Serializer S) → Sent sink a a []
 Sent-none none a = record { taken = []; took_it = none a.writer; grew = append-nil a.pending.items; kept = refl; reason_kept = refl }
+
+-- after what put nothing, more is pending
+pub Sent-more : {S : Type 0} {sink : Tells S} (a b c : Serializer S) (xs : List ℕ) → Sent sink a b [] → c.writer ≡ b.writer → c.fault ≡ b.fault → c.pending.items ≡ b.pending.items ++ xs → Sent sink a c xs
+Sent-more {sink = sink} a b c xs s same kept more = record {
+  taken = s.taken;
+  took_it = subst (λ w. sink.took a.writer w s.taken) (sym same) s.took_it;
+  grew = ap (λ zs. zs ++ xs) (sym (append-nil a.pending.items) ∙ s.grew) ∙ (append_assoc s.taken b.pending.items xs ∙ ap (λ zs. s.taken ++ zs) (sym more));
+  kept = ap sink.failures same ∙ s.kept;
+  reason_kept = ap reason kept ∙ s.reason_kept;
+}
+
+-- a call of the writer that took nothing
+pub Sent-told : {S : Type 0} {sink : Tells S} (a : Serializer S) (writer : S) → sink.took a.writer writer [] → sink.failures writer ≡ sink.failures a.writer → Sent sink a (record a { writer = writer }) []
+Sent-told a writer took kept = record { taken = []; took_it = took; grew = append-nil a.pending.items; kept = kept; reason_kept = refl }
 
 module _ {S : Type 0} (sink : Tells S) (both : Joins sink) where
   stopped_after : (a b c : S) (xs bytes : List ℕ) (e : _) → sink.took a b xs → Stopped sink b c bytes e → Stopped sink a c (xs ++ bytes) e

@@ -19,6 +19,11 @@ front_of len = 0x00 ∷ 0x02 ∷ (to_le_bytes w32 0 ++ least_integer len)
 abbrev pub message_of : Result Tree Error → Result (List ℕ) Error
 message_of m = map_ok canonical_message m
 
+-- there is a text, and these bytes are followed by it
+abbrev pub FollowedBy : Result (List ℕ) Error → List ℕ → List ℕ → Type 0
+FollowedBy (Err e) bytes all = ⊥
+FollowedBy (Ok text) bytes all = all ≡ bytes ++ text
+
 -- there is a tree, and its canonical body has this length, which an i64 holds
 abbrev pub IsBodyLength : Result Tree Error → ℤ → Type 0
 IsBodyLength (Err e) n = ⊥

@@ -2,11 +2,10 @@
 ghost use Rattle.std.specs.Prelude.{◌≡◌, ◌<◌, ◌≤◌, ◌^◌, ◌∷◌, ◌++◌, [], length, take};
 ghost use Rattle.bser_format.specs.Canonical.{least_integer, least_count};
 ghost use Rattle.bser_format.specs.Pieces.{null_piece, bool_piece, integer_piece, real_piece, text_piece, bytes_piece, key_piece, array_head, object_head, template_tag, newtype_variant_head};
-ghost use Rattle.bser_ser.specs.Message.{front_of};
 ghost use Rattle.bser_ser.specs.Sent.{Adds, payload_head, string_piece, refusal_of};
 
 use crate::integer::{LONGEST, spell};
-use crate::pending::{append_both, append_front, append_variant, append_variant_of};
+use crate::pending::{append_both, append_variant, append_variant_of};
 use crate::serializer::{PutRefused, Serializer};
 use bser_format::errors::Error;
 use bser_format::header::{
@@ -181,15 +180,6 @@ impl<W: Sink> Serializer<W> {
         }
     }
 
-    /// Puts the header of a message whose body has this many bytes.
-    pub(crate) fn add_front(&mut self, body: i64) -> Result<(), PutRefused>
-        ensures { Adds W.Sink self.old self.new (front_of body) result }
-    {
-        let mut integer = [0; LONGEST];
-        let len = spell(&mut integer, body);
-        self.append_parts(&[0, 2, 0, 0, 0, 0], &integer[..len])
-    }
-
     /// Puts a container's tag and its count.
     #[inline(always)]
     fn add_head(&mut self, tag: u8, count: usize) -> Result<(), PutRefused>
@@ -229,30 +219,18 @@ impl<W: Sink> Serializer<W> {
 
     /// Puts a piece.
     #[inline(always)]
-    fn append(&mut self, piece: &[u8]) -> Result<(), PutRefused>
+    pub(crate) fn append(&mut self, piece: &[u8]) -> Result<(), PutRefused>
         ensures { Adds W.Sink self.old self.new piece.now result }
     {
         if self.is_taken_at_once(piece, &[]) {
             return Ok(());
         }
-        self.append_pending(piece)
-    }
-
-    /// Puts a piece where it waits for the writer.
-    #[inline(always)]
-    fn append_pending(&mut self, piece: &[u8]) -> Result<(), PutRefused>
-        ensures { Adds W.Sink self.old self.new piece.now result }
-    {
-        self.make_room()?;
-        match self.pending.extend_from_slice(piece) {
-            Ok(()) => Ok(()),
-            Err(_) => Err(self.out_of_memory()),
-        }
+        self.append_pending_front(piece, piece.len())
     }
 
     /// Puts a piece that is given in two parts.
     #[inline]
-    fn append_parts(&mut self, head: &[u8], end: &[u8]) -> Result<(), PutRefused>
+    pub(crate) fn append_parts(&mut self, head: &[u8], end: &[u8]) -> Result<(), PutRefused>
         ensures { Adds W.Sink self.old self.new (head.now ++ end.now) result }
     {
         if self.is_taken_at_once(head, end) {
@@ -262,14 +240,21 @@ impl<W: Sink> Serializer<W> {
     }
 
     /// Puts the first n bytes of `bytes` where they wait for the writer.
+    ///
+    /// All are put there and the rest is cut off, since a copy whose length the compiler knows takes
+    /// no call.
     #[inline(always)]
     fn append_pending_front(&mut self, bytes: &[u8], n: usize) -> Result<(), PutRefused>
         requires { n ≤ length bytes.now }
         ensures { Adds W.Sink self.old self.new (take n bytes.now) result }
     {
         self.make_room()?;
-        match append_front(&mut self.pending, bytes, n) {
-            Ok(()) => Ok(()),
+        let before = self.pending.len();
+        match self.pending.extend_from_slice(bytes) {
+            Ok(()) => {
+                self.pending.truncate(before + n);
+                Ok(())
+            }
             Err(_) => Err(self.out_of_memory()),
         }
     }

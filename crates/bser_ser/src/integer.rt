@@ -13,6 +13,7 @@ pub const LONGEST: usize = 9;
 #[inline]
 pub fn spell(buf: &mut [u8], v: i64) -> usize
     requires { LONGEST ≤ length buf.old }
+    ensures least { 2 ≤ result }
     ensures bound { result ≤ LONGEST }
     ensures spelled { take result buf.new ≡ least_integer v }
 {

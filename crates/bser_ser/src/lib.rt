@@ -26,6 +26,7 @@ pub use crate::serializer::{PutRefused, Serializer};
 use bser_format::errors::Result;
 pub use bser_source::count::CountWrite;
 use bser_source::device::Sink;
+pub use bser_source::memory::InMemory;
 use std::alloc::Global;
 
 /// A value that can be written.

@@ -1,21 +1,33 @@
 //! Whole messages.
-ghost use Rattle.std.specs.Prelude.{OnOk, IfOk, IfErr};
-ghost use Rattle.bser_ser.specs.Ends.{CanBeWritten};
-ghost use Rattle.bser_ser.specs.Message.{IsBodyLength, PutsMessage, SendsMessage, IsUnmeasured, Wrote, Missed};
+ghost use Rattle.std.specs.Prelude.{◌≡◌, ◌≤◌, ◌++◌, length, drop, Ok, OnOk, IfOk, IfErr};
+ghost use Rattle.bser_ser.specs.Ends.{CanBeWritten, text_of};
+ghost use Rattle.bser_ser.specs.declared.message.TheConstants.{SHORTEST_HEADER};
+ghost use Rattle.bser_ser.specs.Message.{message_of, front_of, FollowedBy, IsBodyLength, PutsMessage, SendsMessage, IsUnmeasured, Wrote, Missed};
 ghost use Rattle.bser_ser.specs.Sent.{writer_of};
 ghost use Rattle.bser_ser.specs.Stopped.{TookSome};
 
 use crate::Serialize;
+use crate::integer::{LONGEST, spell};
 use crate::serializer::Serializer;
 use bser_format::errors::{Complaint, Error, Result};
 use bser_source::count::CountWrite;
 use bser_source::device::Sink;
-use std::alloc::Global;
+use bser_source::memory::InMemory;
+use std::alloc::{AllocError, Global};
+
+/// The most bytes that a header takes: magic, capabilities and the longest integer.
+const LONGEST_HEADER: usize = 6 + LONGEST;
+
+/// The bytes of the shortest header.
+const SHORTEST_HEADER: usize = 8;
+
+/// The bytes for which a new vector has room.
+const FIRST_ROOM: usize = 128;
 
 /// Writes one message with the value as its body, to a borrowed writer.
 ///
 /// The value is gone through twice: once to measure its body, and once to write it; the body is not
-/// kept. Where measuring fails, the writer has taken nothing. Then the value has no tree, and the
+/// kept. In between the writer is told how long the message is. Where measuring fails, the writer has taken nothing. Then the value has no tree, and the
 /// error is the one that its type's `meaning` gives, as `SerU64TooBig` for a `u64` above
 /// `i64::MAX`; its body is longer than `i64::MAX` bytes (`SerCustom` `CountTooGreat`); or memory
 /// runs out (`OutOfMemory`). Writing itself fails with the writer's own error (`Io`), of kind
@@ -53,6 +65,64 @@ pub fn serialize<W: Sink, T: Serialize>(
         Ok(()) => Ok(out.into_writer()),
         Err(error) => Err((out.into_writer(), error)),
     }
+}
+
+/// The value's message in a new vector.
+///
+/// The value is gone through once. It fails where the value has no tree, with the error that its
+/// type's `meaning` gives, as `SerU64TooBig` for a `u64` above `i64::MAX`; where its body is longer
+/// than `i64::MAX` bytes (`SerCustom` `CountTooGreat`); and where memory runs out, that of the
+/// vector included (`OutOfMemory`). No other error comes.
+pub fn to_vec<T: Serialize>(alloc: Global, value: &T) -> Result<Vec<u8>>
+    ensures ok { IfOk result (λ message. message_of (T.meaning value.now) ≡ Ok message.items) }
+    ensures writable { OnOk result (CanBeWritten (T.meaning value.now)) }
+    ensures err { IfErr result (IsUnmeasured (T.meaning value.now)) }
+{
+    let mut gap = Vec::with_capacity(alloc, FIRST_ROOM)?;
+    gap.extend_from_slice(&[0; SHORTEST_HEADER])?;
+    let mut message = with_body(alloc, gap, value)?;
+    match i64::try_from(message.len() - SHORTEST_HEADER) {
+        Ok(body) => {
+            put_in_gap(&mut message, body)?;
+            Ok(message)
+        }
+        Err(_) => Err(Error::ser_custom(Complaint::CountTooGreat)),
+    }
+}
+
+/// These bytes and then the value's body.
+fn with_body<T: Serialize>(alloc: Global, bytes: Vec<u8>, value: &T) -> Result<Vec<u8>>
+    ensures ok { IfOk result (λ all. FollowedBy (text_of (T.meaning value.now))
+        bytes.items all.items) }
+    ensures writable { OnOk result (CanBeWritten (T.meaning value.now)) }
+    ensures err { IfErr result (IsUnmeasured (T.meaning value.now)) }
+{
+    let mut out = Serializer::new(alloc, InMemory::new(bytes));
+    match value.serialize(alloc, &mut out) {
+        Ok(()) => {}
+        Err(Error::Io(_)) => return Err(Error::OutOfMemory),
+        Err(error) => return Err(error),
+    }
+    match out.finish() {
+        Ok(memory) => Ok(memory.into_inner()),
+        Err(_) => Err(Error::OutOfMemory),
+    }
+}
+
+/// Puts the header of a body of this length where the gap before it is. Where the header is longer
+/// than the gap, the body is moved up.
+fn put_in_gap(message: &mut Vec<u8>, body: i64) -> std::result::Result<(), AllocError>
+    requires { SHORTEST_HEADER ≤ length message.old.items }
+    ensures ok { OnOk result (message.new.items ≡ front_of body
+        ++ drop SHORTEST_HEADER message.old.items) }
+{
+    let mut header = [0, 2, 0, 0, 0, 0, 0, 0, 0, 0, 0, 0, 0, 0, 0];
+    let len = 6 + spell(&mut header[6..], body);
+    let more = len - SHORTEST_HEADER;
+    message.extend_from_slice(&header[..more])?;
+    message.rotate_right(more);
+    message.slice_mut(..len).copy_from_slice(&header[..len]);
+    Ok(())
 }
 
 /// The length of the value's body.
@@ -98,6 +168,7 @@ fn put_message<W: Sink, T: Serialize>(
     requires { IsBodyLength (T.meaning value.now) len }
     ensures { PutsMessage W.Sink (T.meaning value.now) out.old out.new result }
 {
-    out.put_front(len)?;
+    out.expect(len as usize + LONGEST_HEADER);
+    out.put_header(len)?;
     value.serialize(alloc, out)
 }

@@ -1,5 +1,5 @@
 //! The bytes that a writer has still to take.
-ghost use Rattle.std.specs.Prelude.{◌≡◌, ◌≤◌, [], ◌∷◌, ◌++◌, length, take, drop, OnOk, IfErr};
+ghost use Rattle.std.specs.Prelude.{◌≡◌, ◌≤◌, [], ◌∷◌, ◌++◌, length, drop, OnOk, IfErr};
 ghost use Rattle.bser_format.specs.Canonical.{least_integer};
 ghost use Rattle.bser_format.specs.declared.errors.Error.TheVariants.{Io};
 ghost use Rattle.bser_ser.specs.Sent.{Appends, payload_head};
@@ -25,21 +25,6 @@ pub fn append_both(pending: &mut Vec<u8>, front: &[u8], back: &[u8]) -> Result<(
         pending.truncate(before);
         return Err(AllocError);
     }
-    Ok(())
-}
-
-/// Appends the first n of these bytes, or nothing.
-///
-/// All are appended and the rest is cut off, since a copy whose length the compiler knows takes no
-/// call.
-#[inline(always)]
-pub fn append_front(pending: &mut Vec<u8>, bytes: &[u8], n: usize) -> Result<(), AllocError>
-    requires { n ≤ length bytes.now }
-    ensures { Appends pending.old.items pending.new.items (take n bytes.now) result }
-{
-    let before = pending.len();
-    pending.extend_from_slice(bytes)?;
-    pending.truncate(before + n);
     Ok(())
 }
 

@@ -4,12 +4,13 @@ ghost use Rattle.bser_format.specs.Canonical.{IsWritableText};
 ghost use Rattle.bser_format.specs.Pieces.{null_piece, bool_piece, integer_piece, real_piece, text_piece, bytes_piece, key_piece, array_head, object_head, template_tag, newtype_variant_head, tuple_variant_head, struct_variant_head};
 ghost use Rattle.bser_format.specs.declared.errors.Collection.TheVariants.{Sequence, Map};
 ghost use Rattle.bser_ser.specs.Message.{front_of};
-ghost use Rattle.bser_ser.specs.Sent.{Puts, PutsOr, PutsHead, IsTooBig, IsTooMany, IsCounted, payload_head};
+ghost use Rattle.bser_ser.specs.Sent.{Puts, PutsOr, PutsHead, IsTooBig, IsTooMany, IsCounted, payload_head, skip_piece};
 
 use crate::adds::Parts;
+use crate::integer::{LONGEST, spell};
 use crate::serializer::Serializer;
 use bser_format::errors::{Collection, Complaint, Error, Result};
-use bser_format::header::{BSER_ARRAY, BSER_OBJECT};
+use bser_format::header::{BSER_ARRAY, BSER_OBJECT, BSER_SKIP};
 use bser_source::device::Sink;
 
 /// Each put appends its piece, or nothing where it fails.
@@ -169,6 +170,18 @@ impl<W: Sink> Serializer<W> {
         }
     }
 
+    /// Puts what stands in a template's row in the place of a field that the row does not have.
+    ///
+    /// Nothing checks that a row's field is due.
+    pub fn put_skip(&mut self) -> Result<()>
+        ensures { Puts W.Sink self.old self.new skip_piece result }
+    {
+        match self.append(&[BSER_SKIP]) {
+            Ok(()) => Ok(()),
+            Err(_) => Err(self.refusal()),
+        }
+    }
+
     /// Puts the beginning of an enum's variant with one value, which follows.
     pub fn put_newtype_variant(&mut self, name: &str) -> Result<()>
         ensures { Puts W.Sink self.old self.new (newtype_variant_head name.now) result }
@@ -203,11 +216,17 @@ impl<W: Sink> Serializer<W> {
         self.put_variant_of(name, BSER_OBJECT, count)
     }
 
-    /// Puts the header of a message whose body has this many bytes.
-    pub(crate) fn put_front(&mut self, body: i64) -> Result<()>
+    /// Puts the header of a message: the magic, no capabilities, and the body's length in its least
+    /// size, 8 to 15 bytes.
+    ///
+    /// `body` is the number of bytes of the one value that follows. Nothing checks it. A reader
+    /// refuses a message whose body has another length, and one whose length is negative.
+    pub fn put_header(&mut self, body: i64) -> Result<()>
         ensures { Puts W.Sink self.old self.new (front_of body) result }
     {
-        match self.add_front(body) {
+        let mut integer = [0; LONGEST];
+        let len = spell(&mut integer, body);
+        match self.append_parts(&[0, 2, 0, 0, 0, 0], &integer[..len]) {
             Ok(()) => Ok(()),
             Err(_) => Err(self.refusal()),
         }

@@ -142,6 +142,17 @@ impl<W: Sink> Serializer<W> {
         PutRefused
     }
 
+    /// Tells the writer that at most so many bytes follow, and makes room for those of them that will
+    /// be pending.
+    pub(crate) fn expect(&mut self, most: usize)
+        ensures { Sent W.Sink self.old self.new [] }
+    {
+        self.writer.expect(most);
+        if !self.is_taken_at_once(&[], &[]) {
+            let _ = self.pending.reserve(most.min(MOST_PENDING));
+        }
+    }
+
     /// Gives the writer both parts of a piece, if nothing is pending and it takes them at once.
     #[inline(always)]
     pub(crate) fn is_taken_at_once(&mut self, front: &[u8], back: &[u8]) -> bool

@@ -2,6 +2,7 @@ pub mod Device
 pub mod Watched
 pub mod Sinks
 pub mod Counting
+pub mod Memory
 pub mod Failures
 pub mod Refs
 pub mod Window

@@ -19,3 +19,9 @@ Appends-both None b c xs ys p q = tt
 Appends-both (Some a) None c xs ys p q = absurd p
 Appends-both (Some a) (Some b) None xs ys p q = absurd q
 Appends-both (Some a) (Some b) (Some c) xs ys p q = rw (q, p) (append_assoc a xs ys)
+
+pub append-none : (old : List ℕ) → old ≡ old ++ []
+append-none old = sym (append-nil old)
+
+pub append-both : (a b c xs ys : List ℕ) → b ≡ a ++ xs → c ≡ b ++ ys → c ≡ a ++ (xs ++ ys)
+append-both a b c xs ys p q = rw (q, p) (append_assoc a xs ys)

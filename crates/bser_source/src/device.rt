@@ -62,8 +62,8 @@ pub trait Sink {
 
     /// Takes all of `front` and then of `back`, or answers false and takes nothing.
     ///
-    /// A sink that can do so without a call that may fail, as one that only counts, saves its
-    /// caller the copy into a buffer. Every other sink answers false, as here.
+    /// A sink that keeps bytes in memory, or only counts them, so saves its caller the copy into a
+    /// buffer. Every other sink answers false, as here.
     fn take_at_once(&mut self, front: &[u8], back: &[u8]) -> bool
         ensures taken { took self.old self.new (if result then front.now ++ back.now else []) }
         ensures failures { failures self.new ≡ failures self.old }
@@ -71,6 +71,16 @@ pub trait Sink {
         let _ = front;
         let _ = back;
         false
+    }
+
+    /// Is told that at most so many bytes will follow, and takes nothing.
+    ///
+    /// A sink may make room for them. Every other one does nothing, as here.
+    fn expect(&mut self, most: usize)
+        ensures taken { took self.old self.new [] }
+        ensures failures { failures self.new ≡ failures self.old }
+    {
+        let _ = most;
     }
 
     ghost took_nothing: { (s : Self) → took s s [] };
@@ -192,6 +202,10 @@ impl<S: Sink> Sink for &mut S {
 
     fn take_at_once(&mut self, front: &[u8], back: &[u8]) -> bool {
         (**self).take_at_once(front, back)
+    }
+
+    fn expect(&mut self, most: usize) {
+        (**self).expect(most);
     }
 
     ghost took_nothing = { λ s. (refl, S.took_nothing s.now) };

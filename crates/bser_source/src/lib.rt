@@ -6,6 +6,7 @@ pub mod count;
 pub mod device;
 pub mod io_read;
 mod lending;
+pub mod memory;
 mod pull;
 pub mod read;
 pub mod reference;

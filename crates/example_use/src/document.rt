@@ -1,6 +1,5 @@
 //! Any message, as it is spelled.
-use bser_document::document::Document;
-use bser_document::item::Item;
+use serde_bser::document::{Document, Item};
 use serde_bser::errors::Result;
 use serde_bser::from_slice;
 use std::alloc::Global;

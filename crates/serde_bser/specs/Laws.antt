@@ -10,6 +10,7 @@ use Rattle.bser_format.specs.Measures.{depth, nodes}
 use Rattle.bser_format.specs.Canonical.{canonical_body, canonical_message, IsWritable}
 use Rattle.bser_format.specs.ValueTree.{IsValueTree}
 use Rattle.bser_format.specs.WrittenOut.{written_out, row_objects}
+use Rattle.bser_messages.specs.Sizes.{key_bytes}
 
 -- the body is at most i64::MAX bytes
 abbrev pub BodyFits : Tree → Type 0
@@ -84,6 +85,11 @@ LeastLength = (n c : ℕ) (u v : Tree) (b : List ℕ) → IsMessage n c u b → 
 -- a value has at most two values for each byte of its body
 abbrev pub NodesBound : Type 0
 NodesBound = (n : ℕ) (u v : Tree) (b : List ℕ) → Spells n u b → ReadsAs u v → nodes v ≤ 2 * length b
+
+-- a value has no more values, bytes of keys and levels than the tree that reads as it, its templates
+-- written out
+abbrev pub SizeBoundsValue : Type 0
+SizeBoundsValue = (t v : Tree) → ReadsAs t v → (nodes v ≤ nodes (expand t)) × (key_bytes v ≤ key_bytes (expand t)) × (depth v ≤ depth (expand t))
 
 -- the canonical body is at most the square of the body's length
 abbrev pub BodyBound : Type 0

@@ -18,6 +18,7 @@ pub use Rattle.bser_format.specs.EnumName
 pub use Rattle.bser_format.specs.HeaderBytes
 pub use Rattle.bser_format.specs.Named
 pub use Rattle.bser_source.specs.Device
+pub use Rattle.bser_source.specs.Memory
 pub use Rattle.bser_source.specs.Watched
 pub use Rattle.bser_source.specs.Window
 pub use Rattle.bser_deserializer.specs.Seen
@@ -64,6 +65,8 @@ pub use Rattle.bser_messages.specs.Streams
 pub use Rattle.bser_messages.specs.Readers
 pub use Rattle.bser_messages.specs.Slices
 pub use Rattle.bser_messages.specs.Descriptions
+pub use Rattle.bser_messages.specs.Sizes
+pub use Rattle.bser_messages.specs.MessageSizes
 pub use Rattle.bser_format.specs.Written
 pub use Rattle.bser_format.specs.Pieces
 pub use Rattle.bser_format.specs.Compact
@@ -82,3 +85,12 @@ pub use Rattle.bser_value.specs.ValueView
 pub use Rattle.bser_value.specs.Contents
 pub use Rattle.bser_value.specs.Displayed
 pub use Rattle.bser_value.specs.CompactTexts
+pub use Rattle.bser_document.specs.DocumentView
+pub use Rattle.bser_document.specs.Holds as DocumentHolds
+pub use Rattle.bser_document.specs.Pairs as DocumentPairs
+pub use Rattle.bser_document.specs.Pointer as DocumentPointer
+pub use Rattle.bser_document.specs.Read as DocumentRead
+pub use Rattle.bser_document.specs.Rows as DocumentRows
+pub use Rattle.bser_document.specs.Spans as DocumentSpans
+pub use Rattle.bser_document.specs.Tells as DocumentTells
+pub use Rattle.bser_document.specs.Walks as DocumentWalks

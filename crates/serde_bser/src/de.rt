@@ -20,6 +20,7 @@ pub use bser_messages::limited_slice::from_slice_limited;
 pub use bser_messages::limits::Limits;
 pub use bser_messages::message::{from_reader, from_reader_within, from_slice, from_slice_within};
 pub use bser_messages::next::from_reader_limited;
+pub use bser_messages::size::{Size, size_of, size_of_limited};
 pub use bser_source::io_read::IoRead;
 pub use bser_source::read::DeRead;
 pub use bser_source::slice_read::SliceRead;

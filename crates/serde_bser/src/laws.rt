@@ -3,7 +3,7 @@
 
 ghost use Rattle.bser_format.specs.GrammarLaws.{OneFront};
 ghost use Rattle.serde_bser.specs.CompactLaws.{CompactIsMessage, CompactIsNoDeeper, CompactIsNoLonger, CompactIsTheFront, CompactIsWritable, CompactMeaningStays, CompactReadsAsItself, EqualCompactMessages, FoldedStandsForTheSame, LeastCompact, ShortCompactIsWritable};
-ghost use Rattle.serde_bser.specs.Laws.{BodyBound, CanonicalIsMessage, CanonicalIsTheFront, DepthBound, EqualMessages, LeastLength, MeaningStays, NodesBound, ReadIsValueTree, ShortBodiesFit, StandsForItself, TwiceIsOnce, ValueIsReturned, ValueReadsAsItself, WrittenIsMessage, WrittenIsTheFront, WrittenOutIsOneTree, WrittenOutIsSpelled, WrittenOutReadsAlike};
+ghost use Rattle.serde_bser.specs.Laws.{BodyBound, CanonicalIsMessage, CanonicalIsTheFront, DepthBound, EqualMessages, LeastLength, MeaningStays, NodesBound, ReadIsValueTree, ShortBodiesFit, SizeBoundsValue, StandsForItself, TwiceIsOnce, ValueIsReturned, ValueReadsAsItself, WrittenIsMessage, WrittenIsTheFront, WrittenOutIsOneTree, WrittenOutIsSpelled, WrittenOutReadsAlike};
 
 /// A byte list begins with at most one message, of one tree and one number of capabilities.
 pub fn one_front()
@@ -62,6 +62,12 @@ pub fn nodes_and_depth()
     ensures depth { DepthBound }
     ensures body { BodyBound }
     ensures fits { ShortBodiesFit }
+{}
+
+/// A value has no more values, bytes of keys and levels than the message's tree, its templates written
+/// out. So [`size_of`](crate::de::size_of) tells before at most how large a `Value` will be.
+pub fn size_bounds_value()
+    ensures { SizeBoundsValue }
 {}
 
 /// A template's spelling, written out as an array of objects, spells one tree with one level more,

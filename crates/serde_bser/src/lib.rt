@@ -13,6 +13,15 @@ pub mod prelude;
 pub mod ser;
 pub mod stream;
 
+pub mod document {
+    //! Any message as it is spelled, and looking into it.
+    pub use bser_document::document::Document;
+    pub use bser_document::entries::{Entries, Entry};
+    pub use bser_document::item::{Item, Kind};
+    pub use bser_document::items::Items;
+    pub use bser_document::rows::{Row, Rows};
+}
+
 pub mod value {
     //! Values of any kind, and their shortest messages.
     pub use bser_value::compact::serialize_compact;

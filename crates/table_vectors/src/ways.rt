@@ -1,6 +1,5 @@
 //! The ways of reading one message as a type.
 use crate::shown::Shown;
-use bser_document::document::Document;
 use bser_format::errors::Error;
 use bser_messages::message::from_slice_within;
 use bser_types::deserialize::{Deserialize, DeserializeOwned};
@@ -9,6 +8,7 @@ use bser_vectors::devices::Plan;
 use bser_vectors::notation::code;
 use bser_vectors::notation::text::Text;
 use bser_vectors::ways::read_by_plan_within;
+use serde_bser::document::Document;
 use std::alloc::{AllocError, Global};
 use std::fmt;
 

@@ -20,12 +20,10 @@ mod table;
 
 use crate::rows::{Bytes, Files};
 use anyhow::{Context, Result, bail};
-use bser_document::document::Document;
-use bser_document::item::Item;
-use bser_document::rows::Rows;
 use serde_bser::bytestring::ByteString;
 use serde_bser::de::{Deserialize, DeserializeOwned, Ignored};
 use serde_bser::device::Watched;
+use serde_bser::document::{Document, Item, Rows};
 use serde_bser::ser::{serialize, serialize_compact};
 use serde_bser::value::Value;
 use serde_bser::{from_reader, from_slice};

@@ -1,11 +1,13 @@
 -- The parts up to here are put.
-use Rattle.std.proofs.Common.{◌<◌, ◌*◌, ◌+◌}
+use Rattle.std.proofs.Common.{ℕ, List, ◌<◌, ◌*◌, ◌+◌}
 use Rattle.bser_format.specs.Measures.{items_depth, entries_depth}
-use Rattle.bser_format.specs.Tree.{entries}
+use Rattle.bser_format.specs.Tree.{Tree, entries, entries_of}
 use Rattle.bser_format.specs.Tree as trees
+use Rattle.bser_document.specs.Pairs.{HoldsEntries}
 use Rattle.bser_document.specs.Sorted.{Lists}
 use Rattle.bser_document.specs.Walks.{HoldsItems}
 use Rattle.bser_document.proofs.Puts.{PuttingItems, PuttingEntries}
+use Rattle.bser_document.proofs.PutPairs.{PuttingSpelled}
 use Rattle.bser_document.proofs.put.+add.Given as goal
 
 abbrev pub decreases-add_item : goal.decreases-add_item
@@ -25,3 +27,9 @@ invariant-add_items-loop-item g l = (us : trees.Items) → HoldsItems l.fn.items
 
 abbrev pub invariant-add_entries-loop-key : goal.invariant-add_entries-loop-key
 invariant-add_entries-loop-key g l = (es : trees.Entries) → Lists (entries es) l.sorted.entries → entries_depth es < l.fn.room → PuttingEntries g.W.Sink es l.fn.room l.key-iterator l.fn.out l.out
+
+abbrev pub decreases-add_spelled : goal.decreases-add_spelled
+decreases-add_spelled g l = l.room * 3 + 2
+
+abbrev pub invariant-add_spelled-loop-entry : goal.invariant-add_spelled-loop-entry
+invariant-add_spelled-loop-entry g l = (m : List (List ℕ × Tree)) → HoldsEntries l.fn.entries m → entries_depth (entries_of m) < l.fn.room → PuttingSpelled g.W.Sink m l.fn.room l.entry-iterator l.fn.out l.out
