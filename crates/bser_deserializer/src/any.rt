@@ -8,7 +8,7 @@ ghost use Rattle.bser_deserializer.specs.State.{refused};
 use crate::cursor::Cursor;
 use crate::deserializer::{Deserializer, Due};
 use bser_bunser::refusal::Answer;
-use bser_events::builder::{Builder, tell};
+use bser_events::builder::{Builder, taken, tell};
 use bser_events::event::Event;
 use bser_events::frame::Frame;
 use bser_events::reading::read_value;
@@ -25,8 +25,11 @@ impl<R: DeRead> Deserializer<R> {
     ///
     /// The keys of objects have to be UTF-8; a key that is expected by itself need not be. The
     /// error is the first one in the order of reading, as the plain reader answers it. A builder
-    /// that gets no memory, and no room for the containers that are open or for a string over a
+    /// that takes no more, and no room for the containers that are open or for a string over a
     /// reader, are [`Error::OutOfMemory`]. After an error no clause says what the builder is.
+    ///
+    /// A row's beginning and end, and its keys, have no bytes of their own. A key that is expected
+    /// by itself is placed as if under no text's tag.
     pub fn read_any<B: Builder>(&mut self, builder: &mut B) -> Answer<()>
         ensures found { OnOk result (AnyTold B.takes builder.old builder.new self.old self.new) }
         ensures kept { OnOk result (Keeps self.old self.new) }
@@ -42,16 +45,16 @@ impl<R: DeRead> Deserializer<R> {
         }
     }
 
-    /// Tells the builder an event.
+    /// Tells the builder an event, which began at `start` and ends where reading is.
     #[inline(always)]
-    fn tell<B: Builder>(&mut self, builder: &mut B, event: Event<'_>) -> Answer<()>
+    fn tell<B: Builder>(&mut self, builder: &mut B, event: Event<'_>, start: usize) -> Answer<()>
         ensures ok { OnOk result (B.takes builder.old (told event.entry) builder.new) }
         ensures same { OnOk result (self.new.state ≡ self.old.state) }
         ensures kept { OnOk result (Keeps self.old self.new) }
         ensures reason { OnErr result (self.new.refusal ≡ Error.OutOfMemory) }
         ensures err { OnErr result (self.new.state ≡ refused self.old.state) }
     {
-        tell(&mut self.bunser, builder, event)
+        tell(&mut self.bunser, builder, event, start, false)
     }
 
     /// Reads a value, and reports it. Nothing is expected then.
@@ -91,9 +94,10 @@ impl<R: DeRead> Deserializer<R> {
         if self.bunser.buffered()[0] != BSER_SKIP {
             return self.tell_value(frames, scratch, builder);
         }
+        let start = taken(&self.bunser);
         self.bunser.consume(1);
         self.due = Due::Nothing;
-        self.tell(builder, Event::Null)
+        self.tell(builder, Event::Null, start)
     }
 
     /// Reads a row, as if one was expected, and reports it as the object of its keys and fields.
@@ -112,12 +116,14 @@ impl<R: DeRead> Deserializer<R> {
         }
         self.due = Due::Nothing;
         let len = self.keys.len();
-        self.tell(builder, Event::Object { len })?;
+        let start = taken(&self.bunser);
+        self.tell(builder, Event::Object { len }, start)?;
         for place in 0..len {
             self.tell_name(place, builder)?;
             self.tell_field(frames, scratch, builder)?;
         }
-        self.tell(builder, Event::Close)
+        let end = taken(&self.bunser);
+        self.tell(builder, Event::Close, end)
     }
 
     /// Tells the key at this place.
@@ -132,7 +138,8 @@ impl<R: DeRead> Deserializer<R> {
         ensures err { OnErr result (self.new.state ≡ refused self.old.state) }
     {
         let key = R::Lent::kept_text(&self.keys[place]);
-        tell(&mut self.bunser, builder, Event::Key(key))
+        let start = taken(&self.bunser);
+        tell(&mut self.bunser, builder, Event::Key(key), start, false)
     }
 
     /// Reads the key that is expected, and reports it: a text where it is UTF-8, and else bytes.
@@ -142,10 +149,11 @@ impl<R: DeRead> Deserializer<R> {
         ensures kept { OnOk result (Keeps self.old self.new) }
         ensures refused { OnErr result (RefusesAny self.old self.new) }
     {
+        let start = taken(&self.bunser);
         let bytes = self.read_bytes(scratch)?;
         match as_text(bytes.get_ref()) {
-            Some(text) => self.tell(builder, Event::Text(text)),
-            None => self.tell(builder, Event::Bytes(bytes.get_ref())),
+            Some(text) => self.tell(builder, Event::Text(text), start),
+            None => self.tell(builder, Event::Bytes(bytes.get_ref()), start),
         }
     }
 }

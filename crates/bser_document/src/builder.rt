@@ -1,11 +1,12 @@
 //! What is made of the events of a value.
-ghost use Rattle.std.specs.Prelude.{◌≡◌, true, [], ◌∷◌, ◌++◌, length, OnOk, IfOk};
+ghost use Rattle.std.specs.Prelude.{◌≡◌, true, false, [], ◌∷◌, ◌++◌, length, OnOk, IfOk};
+ghost use Rattle.bser_events.specs.Told.{told};
 ghost use Rattle.bser_document.specs.DocumentView.{Views, ViewsValue, Takes, SameEvents, Closes, end_of, with_end};
 ghost use Rattle.bser_document.specs.declared.document.Node.TheVariants as nodes;
 
 use crate::document::{Document, Node};
-use bser_events::builder::Builder;
-use bser_events::event::Event;
+use bser_events::builder::{Builder, Stop};
+use bser_events::event::{Event, Place};
 use std::alloc::{AllocError, Global};
 
 /// Gathers the nodes.
@@ -115,17 +116,12 @@ fn ended(node: Node, last: usize) -> Node
     }
 }
 
-impl Builder for DocumentBuilder {
-    ghost takes = { Takes };
-
-    ghost memory = { true };
-
-    ghost BYTES = { true };
-
-    const BYTES: bool = true;
-
+impl DocumentBuilder {
+    /// Takes an event.
     #[inline(always)]
-    fn take(&mut self, event: Event<'_>) -> Result<(), AllocError> {
+    fn put_event(&mut self, event: Event<'_>) -> Result<(), AllocError>
+        ensures { OnOk result (Takes self.old (told event.entry) self.new) }
+    {
         match event {
             Event::Null => self.put(Node::Null),
             Event::Skip => self.put(Node::Skip),
@@ -157,8 +153,31 @@ impl Builder for DocumentBuilder {
             Event::Close => self.close(),
         }
     }
+}
 
-    fn bytes_passed(&mut self, _len: usize) -> Result<(), AllocError> {
+impl Builder for DocumentBuilder {
+    ghost takes = { Takes };
+
+    ghost stops = { true };
+
+    ghost asks = { false };
+
+    ghost bytes = { true };
+
+    #[inline(always)]
+    fn wants_bytes(&self) -> bool {
+        true
+    }
+
+    #[inline(always)]
+    fn take(&mut self, event: Event<'_>, _place: Place) -> Result<(), Stop> {
+        match self.put_event(event) {
+            Ok(()) => Ok(()),
+            Err(_) => Err(Stop::Memory),
+        }
+    }
+
+    fn bytes_passed(&mut self, _len: usize, _place: Place) -> Result<(), Stop> {
         Ok(())
     }
 }

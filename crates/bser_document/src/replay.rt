@@ -1,14 +1,15 @@
 //! A document told to a builder again, and made a `Value`.
-ghost use Rattle.std.specs.Prelude.{◌≡◌, IfOk, OnOk, IsUtf8};
+ghost use Rattle.std.specs.Prelude.{◌≡◌, true, IfOk, IfErr, OnOk, OnErr, IsUtf8};
 ghost use Rattle.bser_format.specs.Content.{Content, value};
 ghost use Rattle.bser_events.specs.Told.{told};
+ghost use Rattle.bser_events.specs.declared.builder.Stop.TheVariants.{Asked};
 ghost use Rattle.bser_value.specs.ValueView.{HoldsValue};
 ghost use Rattle.bser_document.specs.DocumentView.{HoldsDocument, IsText, Within, event_of, piece, value_of};
 ghost use Rattle.bser_document.specs.Tells.{Told};
 
 use crate::document::{Document, Node};
-use bser_events::builder::Builder;
-use bser_events::event::Event;
+use bser_events::builder::{Builder, Stop};
+use bser_events::event::{Event, Place};
 use bser_source::text::as_text;
 use bser_value::builder::ValueBuilder;
 use bser_value::value::Value;
@@ -23,7 +24,10 @@ impl Document {
             → IfOk result (λ v. HoldsValue v c) }
     {
         let mut builder = ValueBuilder::new(alloc);
-        self.tell(&mut builder)?;
+        match self.tell(&mut builder) {
+            Ok(()) => {}
+            Err(_) => return Err(AllocError),
+        }
         match builder.into_value() {
             Some(value) => Ok(value),
             None => Ok(Value::Null),
@@ -31,11 +35,16 @@ impl Document {
     }
 
     /// Tells a builder all that was told when the document was read, and in the same order.
-    pub fn tell<B: Builder>(&self, builder: &mut B) -> Result<(), AllocError>
-        ensures { OnOk result (Told B.takes self.now builder.old builder.new) }
+    ///
+    /// A document keeps no places: each starts and ends at 0. Nor does it keep the tags of keys,
+    /// which are told as if under no text's tag. The error is that of the builder.
+    pub fn tell<B: Builder>(&self, builder: &mut B) -> Result<(), Stop>
+        ensures told { OnOk result (Told B.takes self.now builder.old builder.new) }
+        ensures stops { OnErr result (B.stops ≡ true) }
+        ensures asked { IfErr result (λ stop. stop ≡ Asked → B.asks ≡ true) }
     {
         for node in &self.nodes {
-            builder.take(self.event(*node))?;
+            builder.take(self.event(*node), place(*node))?;
         }
         Ok(())
     }
@@ -73,5 +82,19 @@ impl Document {
             Some(text) => text,
             None => "",
         }
+    }
+}
+
+/// No place, of a node of this kind.
+#[inline(always)]
+fn place(node: Node) -> Place {
+    let is_text = match node {
+        Node::Text { .. } => true,
+        _ => false,
+    };
+    Place {
+        start: 0,
+        end: 0,
+        is_text,
     }
 }

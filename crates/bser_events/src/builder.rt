@@ -1,63 +1,117 @@
 //! What makes something of a value, each event of which is reported to it.
-ghost use Rattle.std.specs.Prelude.{◌≡◌, ℕ, Bool, true, false, List, length, OnOk, OnErr};
+ghost use Rattle.std.specs.Prelude.{◌≡◌, ℕ, Bool, true, false, List, length, pos, OnOk, OnErr, IfErr};
 ghost use Rattle.bser_format.specs.declared.errors.Error.TheVariants.{OutOfMemory};
-ghost use Rattle.bser_bunser.specs.Calls.{Closes};
+ghost use Rattle.bser_bunser.specs.Calls.{Closes, bytes_taken};
 ghost use Rattle.bser_events.specs.Events as events;
 ghost use Rattle.bser_events.specs.Told.{told};
+ghost use Rattle.bser_events.specs.declared.builder.Stop.TheVariants.{Asked};
 
-use crate::event::Event;
+use crate::event::{Event, Place};
 use crate::refusal::{Fault, refuse_with};
 use bser_bunser::bunser::Bunser;
 use bser_bunser::refusal::Answer;
 use bser_source::read::DeRead;
-use std::alloc::AllocError;
+
+/// Why a builder takes no more.
+#[derive(Debug, Clone, Copy, PartialEq, Eq)]
+pub enum Stop {
+    /// There is no memory for what is reported.
+    Memory,
+    /// The builder wants no more.
+    Asked,
+}
 
 /// What makes something of the events of a value, as they are read.
 pub trait Builder {
     // it took this event
     ghost takes: { Self → events.Event → Self → Type 0 };
 
-    // whether an event may run out of memory
-    ghost memory: { Bool };
+    // whether it may take no more, for either reason
+    ghost stops: { Bool };
+
+    // whether it may want no more
+    ghost asks: { Bool };
 
     // whether the bytes of byte strings are wanted
-    ghost BYTES: { Bool };
+    ghost bytes: { Bool };
 
-    /// Whether the bytes of byte strings are wanted. Where they are not, [`Builder::bytes_passed`]
-    /// takes the place of those that are not buffered whole.
-    const BYTES: bool;
+    /// Whether the bytes of byte strings are wanted, at any time. Where they are not,
+    /// [`Builder::bytes_passed`] takes the place of those that are not buffered whole.
+    fn wants_bytes(&self) -> bool
+        ensures { result ≡ Self.bytes };
 
-    /// Takes an event. The only error is that there is no memory.
-    fn take(&mut self, event: Event<'_>) -> Result<(), AllocError>
+    /// Takes an event, which stands at this place. An error ends the reading: there is no memory,
+    /// or the builder wants no more.
+    fn take(&mut self, event: Event<'_>, place: Place) -> Result<(), Stop>
         ensures ok { OnOk result (Self.takes self.old (told event.entry) self.new) }
-        ensures err { OnErr result (Self.memory ≡ true) };
+        ensures err { OnErr result (Self.stops ≡ true) }
+        ensures asked { IfErr result (λ stop. stop ≡ Asked → Self.asks ≡ true) };
 
     /// Takes a byte string of `len` bytes, which were passed over: the bytes of byte strings are
-    /// not wanted. The only error is that there is no memory.
-    fn bytes_passed(&mut self, len: usize) -> Result<(), AllocError>
-        ensures ok { OnOk result (BYTES ≡ false
+    /// not wanted. It stands at this place, with its head. The errors are those of [`Self::take`].
+    fn bytes_passed(&mut self, len: usize, place: Place) -> Result<(), Stop>
+        ensures ok { OnOk result (bytes ≡ false
             → (s : List ℕ) → length s ≡ len → takes self.old (events.bytes s) self.new) }
-        ensures err { OnErr result (memory ≡ true) };
+        ensures err { OnErr result (stops ≡ true) }
+        ensures asked { IfErr result (λ stop. stop ≡ Asked → asks ≡ true) };
 }
 
-/// Reports an event to the builder. Where it has no memory for it, the reader fails with out of
-/// memory.
+/// How many bytes were taken, at most `i64::MAX`.
+#[inline(always)]
+pub fn taken<R: DeRead>(bunser: &Bunser<R>) -> usize
+    ensures { pos result ≡ bytes_taken bunser.now }
+{
+    bunser.read_count() as usize
+}
+
+/// The place from `start` on to where reading is.
+#[inline(always)]
+pub fn place_from<R: DeRead>(bunser: &Bunser<R>, start: usize, is_text: bool) -> Place
+    ensures start { result.start ≡ start }
+    ensures end { pos result.end ≡ bytes_taken bunser.now }
+    ensures text { result.is_text ≡ is_text }
+{
+    Place {
+        start,
+        end: taken(bunser),
+        is_text,
+    }
+}
+
+/// Reports an event to the builder, which began at `start` and ends where reading is. Where the
+/// builder takes no more, the reader fails with out of memory.
 #[inline(always)]
 pub fn tell<R: DeRead, B: Builder>(
     bunser: &mut Bunser<R>,
     builder: &mut B,
     event: Event<'_>,
+    start: usize,
+    is_text: bool,
 ) -> Answer<()>
     ensures ok { OnOk result (B.takes builder.old (told event.entry) builder.new) }
     ensures same { OnOk result (bunser.new ≡ bunser.old) }
     ensures err { OnErr result (Closes bunser.old bunser.new) }
     ensures reason { OnErr result (bunser.new.refusal ≡ OutOfMemory) }
-    ensures memory { OnErr result (B.memory ≡ true) }
+    ensures stops { OnErr result (B.stops ≡ true) }
 {
-    match builder.take(event) {
+    let place = place_from(bunser, start, is_text);
+    match builder.take(event, place) {
         Ok(()) => Ok(()),
         Err(_) => Err(refuse_with(bunser, Fault::Memory)),
     }
+}
+
+/// Reports the end of a container to the builder, where reading is.
+#[inline(always)]
+pub fn tell_close<R: DeRead, B: Builder>(bunser: &mut Bunser<R>, builder: &mut B) -> Answer<()>
+    ensures ok { OnOk result (B.takes builder.old events.close builder.new) }
+    ensures same { OnOk result (bunser.new ≡ bunser.old) }
+    ensures err { OnErr result (Closes bunser.old bunser.new) }
+    ensures reason { OnErr result (bunser.new.refusal ≡ OutOfMemory) }
+    ensures stops { OnErr result (B.stops ≡ true) }
+{
+    let end = taken(bunser);
+    tell(bunser, builder, Event::Close, end, false)
 }
 
 /// Any value, of which nothing is kept: an unknown field of an object, as a rule.
@@ -70,19 +124,50 @@ pub struct Ignored;
 impl Builder for Ignored {
     ghost takes = { λ _ _ _. Unit {0} };
 
-    ghost memory = { false };
+    ghost stops = { false };
 
-    ghost BYTES = { false };
+    ghost asks = { false };
 
-    const BYTES: bool = false;
+    ghost bytes = { false };
 
     #[inline(always)]
-    fn take(&mut self, _event: Event<'_>) -> Result<(), AllocError> {
+    fn wants_bytes(&self) -> bool {
+        false
+    }
+
+    #[inline(always)]
+    fn take(&mut self, _event: Event<'_>, _place: Place) -> Result<(), Stop> {
         Ok(())
     }
 
     #[inline(always)]
-    fn bytes_passed(&mut self, _len: usize) -> Result<(), AllocError> {
+    fn bytes_passed(&mut self, _len: usize, _place: Place) -> Result<(), Stop> {
         Ok(())
+    }
+}
+
+/// A `&mut` to a builder is one.
+impl<B: Builder> Builder for &mut B {
+    ghost takes = { λ a e b. (b.ghost_name ≡ a.ghost_name) × B.takes a.now e b.now };
+
+    ghost stops = { B.stops };
+
+    ghost asks = { B.asks };
+
+    ghost bytes = { B.bytes };
+
+    #[inline(always)]
+    fn wants_bytes(&self) -> bool {
+        (**self).wants_bytes()
+    }
+
+    #[inline(always)]
+    fn take(&mut self, event: Event<'_>, place: Place) -> Result<(), Stop> {
+        (**self).take(event, place)
+    }
+
+    #[inline(always)]
+    fn bytes_passed(&mut self, len: usize, place: Place) -> Result<(), Stop> {
+        (**self).bytes_passed(len, place)
     }
 }

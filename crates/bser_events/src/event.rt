@@ -1,5 +1,19 @@
 //! What is found in a value, in the order of reading.
 
+/// Where an event stands, by how many bytes of the source were taken before it.
+///
+/// A container stands where its head does. The head of a template is its tag, the tag of its keys
+/// and their count; that of its rows is their count. The end of a container has no bytes.
+#[derive(Debug, Clone, Copy, PartialEq, Eq)]
+pub struct Place {
+    /// How many bytes were taken before its first byte.
+    pub start: usize,
+    /// How many bytes were taken before what follows it.
+    pub end: usize,
+    /// Whether it is a string or a key, under the tag of a text.
+    pub is_text: bool,
+}
+
 /// A scalar, a string, or the beginning or the end of a container.
 #[derive(Clone, Copy)]
 pub enum Event<'s> {

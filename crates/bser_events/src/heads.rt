@@ -1,10 +1,11 @@
 //! The first token of a value, where only so many levels are left.
-ghost use Rattle.std.specs.Prelude.{◌≡◌, ◌<◌, true, false, IfOk, OnOk, OnErr};
+ghost use Rattle.std.specs.Prelude.{◌≡◌, ◌<◌, pos, true, false, IfOk, OnOk, OnErr};
 ghost use Rattle.bser_format.specs.Errors.{error_of};
-ghost use Rattle.bser_bunser.specs.Calls.{TakesToken, Keeps, Closes};
+ghost use Rattle.bser_bunser.specs.Calls.{TakesToken, Keeps, Closes, bytes_taken};
 ghost use Rattle.bser_bunser.specs.Tokens.{LengthFits};
 ghost use Rattle.bser_events.specs.Found.{IsContainer, LevelsFor, NoToken};
 
+use crate::builder::taken;
 use crate::refusal::{Fault, refuse_with};
 use bser_bunser::bunser::Bunser;
 use bser_bunser::prefix::Token;
@@ -13,17 +14,21 @@ use bser_format::errors::{Error, Kind, ReadCause};
 use bser_format::header::{BSER_ARRAY, BSER_OBJECT, BSER_TEMPLATE};
 use bser_source::read::DeRead;
 
-/// Takes a token. A container where no level is left is an error before its count is looked at.
+/// Takes a token, and tells how many bytes were taken before it. A container where no level is left
+/// is an error before its count is looked at.
 #[inline(always)]
-pub fn token_within<R: DeRead>(bunser: &mut Bunser<R>, levels: usize) -> Answer<Token>
-    ensures ok { IfOk result (λ t. TakesToken t bunser.old bunser.new) }
-    ensures fits { IfOk result (λ t. LengthFits t) }
-    ensures level { IfOk result (λ t. IsContainer t → 0 < levels) }
+pub fn token_within<R: DeRead>(bunser: &mut Bunser<R>, levels: usize) -> Answer<(Token, usize)>
+    ensures ok { IfOk result (λ p. TakesToken p.0 bunser.old bunser.new) }
+    ensures start { IfOk result (λ p. pos p.1 ≡ bytes_taken bunser.old) }
+    ensures fits { IfOk result (λ p. LengthFits p.0) }
+    ensures level { IfOk result (λ p. IsContainer p.0 → 0 < levels) }
     ensures kept { OnOk result (Keeps bunser.old bunser.new) }
     ensures err { OnErr result (NoToken levels bunser.old bunser.new) }
 {
+    let start = taken(bunser);
     check_level(bunser, levels)?;
-    bunser.token()
+    let token = bunser.token()?;
+    Ok((token, start))
 }
 
 /// Fails at the tag of a container where no level is left.

@@ -15,7 +15,7 @@ ghost use Rattle.bser_events.specs.Found.{
   value_rest,
 };
 
-use crate::builder::{Builder, tell};
+use crate::builder::{Builder, taken, tell};
 use crate::event::Event;
 use crate::frame::{Frame, Parts};
 use crate::pieces::scalar;
@@ -28,13 +28,14 @@ use bser_format::errors::Kind;
 use bser_format::header::{BSER_ARRAY, BSER_SKIP};
 use bser_source::read::DeRead;
 
-/// Reads what follows a token where a value begins, and tells it. Answers the container that it
-/// opens, of which the parts are left.
+/// Reads what follows a token that began at `start`, where a value begins, and tells it. Answers
+/// the container that it opens, of which the parts are left.
 #[inline(never)]
 pub fn read_after<R: DeRead, B: Builder>(
     bunser: &mut Bunser<R>,
     token: Token,
     levels: usize,
+    start: usize,
     scratch: &mut Vec<u8>,
     builder: &mut B,
 ) -> Answer<Option<Frame>>
@@ -46,48 +47,50 @@ pub fn read_after<R: DeRead, B: Builder>(
     ensures inside { IfOk result (λ f. IsInside levels f) }
     ensures kept { OnOk result (Keeps bunser.old bunser.new) }
     ensures err { OnErr result
-        (RefusesTelling B.memory (value_rest levels token) bunser.old bunser.new) }
+        (RefusesTelling B.stops (value_rest levels token) bunser.old bunser.new) }
 {
     if let Some(event) = scalar(token) {
-        tell(bunser, builder, event)?;
+        tell(bunser, builder, event, start, false)?;
         return Ok(None);
     }
     match token {
         Token::Str { is_text, len } => {
             if is_text {
-                read_text(bunser, len, scratch, builder)?;
+                read_text(bunser, len, start, scratch, builder)?;
             } else {
-                read_bytes(bunser, len, scratch, builder)?;
+                read_bytes(bunser, len, start, scratch, builder)?;
             }
             Ok(None)
         }
         Token::Array { len } => {
-            tell(bunser, builder, Event::Array { len })?;
+            tell(bunser, builder, Event::Array { len }, start, false)?;
             Ok(Some(Frame {
                 levels: levels - 1,
                 parts: Parts::Items(len),
             }))
         }
         Token::Object { len } => {
-            tell(bunser, builder, Event::Object { len })?;
+            tell(bunser, builder, Event::Object { len }, start, false)?;
             Ok(Some(Frame {
                 levels: levels - 1,
                 parts: Parts::Entries(len),
             }))
         }
         Token::Template => {
-            let frame = read_table(bunser, levels - 1, scratch, builder)?;
+            let frame = read_table(bunser, levels - 1, start, scratch, builder)?;
             Ok(Some(frame))
         }
         _ => Err(refuse_with(bunser, Fault::Tag(Kind::NextItem, BSER_SKIP))),
     }
 }
 
-/// Reads a template's list of keys and the count of its rows, and tells them.
+/// Reads the list of keys and the count of rows of a template that began at `start`, and tells
+/// them.
 #[inline(never)]
 fn read_table<R: DeRead, B: Builder>(
     bunser: &mut Bunser<R>,
     levels: usize,
+    start: usize,
     scratch: &mut Vec<u8>,
     builder: &mut B,
 ) -> Answer<Frame>
@@ -96,7 +99,7 @@ fn read_table<R: DeRead, B: Builder>(
     ensures inside { IfOk result (λ f. f.levels ≡ levels) }
     ensures small { IfOk result (λ f. IsSmall f.parts) }
     ensures kept { OnOk result (Keeps bunser.old bunser.new) }
-    ensures err { OnErr result (RefusesTelling B.memory (table_at levels) bunser.old bunser.new) }
+    ensures err { OnErr result (RefusesTelling B.stops (table_at levels) bunser.old bunser.new) }
 {
     bunser.fill(1)?;
     let byte = bunser.buffered()[0];
@@ -108,13 +111,15 @@ fn read_table<R: DeRead, B: Builder>(
     }
     bunser.consume(1);
     let width = bunser.count()?;
-    tell(bunser, builder, Event::Template { len: width })?;
+    let head = Event::Template { len: width };
+    tell(bunser, builder, head, start, false)?;
     read_keys(bunser, width, scratch, builder)?;
+    let begun = taken(bunser);
     let rows = bunser.count()?;
     if lacks_keys(width, rows) {
         return Err(refuse_with(bunser, Fault::Rows));
     }
-    tell(bunser, builder, Event::Rows { len: rows })?;
+    tell(bunser, builder, Event::Rows { len: rows }, begun, false)?;
     Ok(Frame {
         levels,
         parts: Parts::Rows {
@@ -145,7 +150,7 @@ fn read_keys<R: DeRead, B: Builder>(
     ensures ok { OnOk result
         (TellsKeys B.takes count bunser.old bunser.new builder.old builder.new) }
     ensures kept { OnOk result (Keeps bunser.old bunser.new) }
-    ensures err { OnErr result (RefusesTelling B.memory (keys_at count) bunser.old bunser.new) }
+    ensures err { OnErr result (RefusesTelling B.stops (keys_at count) bunser.old bunser.new) }
 {
     for _ in 0..count {
         read_key(bunser, Kind::TemplateKey, scratch, builder)?;

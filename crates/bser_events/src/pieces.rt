@@ -10,7 +10,7 @@ ghost use Rattle.bser_events.specs.Pieces.{
   IsFirst,
 };
 
-use crate::event::Event;
+use crate::event::{Event, Place};
 use crate::frame::Part;
 use bser_bunser::prefix::{Prefix, Token, token_prefix};
 use bser_source::text::as_text;
@@ -22,6 +22,20 @@ pub struct Piece<'s> {
     pub event: Event<'s>,
     /// How many bytes it has.
     pub len: usize,
+    /// Whether it is a string under the tag of a text.
+    pub is_text: bool,
+}
+
+impl Piece<'_> {
+    /// Its place, where so many bytes were taken before it.
+    #[inline(always)]
+    pub fn place(&self, start: usize) -> Place {
+        Place {
+            start,
+            end: start.saturating_add(self.len),
+            is_text: self.is_text,
+        }
+    }
 }
 
 /// The piece that is expected, at the start of these bytes.
@@ -36,12 +50,17 @@ pub fn due_piece(due: Part, bytes: &[u8]) -> Option<Piece<'_>>
     };
     let Token::Str { is_text, len: size } = value else {
         let event = due_scalar(due, value)?;
-        return Some(Piece { event, len });
+        return Some(Piece {
+            event,
+            len,
+            is_text: false,
+        });
     };
     let event = due_string(due, is_text, first(&bytes[len..], size)?)?;
     Some(Piece {
         event,
         len: len + size,
+        is_text,
     })
 }
 

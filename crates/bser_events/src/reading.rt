@@ -7,7 +7,7 @@ ghost use Rattle.bser_format.specs.declared.errors.Error.TheVariants.{OutOfMemor
 ghost use Rattle.bser_bunser.specs.Calls.{Keeps, Closes};
 ghost use Rattle.bser_events.specs.Found.{TellsValue, TellsDueKey, RefusesValue, RefusesTelling};
 
-use crate::builder::{Builder, tell};
+use crate::builder::{Builder, taken, tell, tell_close};
 use crate::event::Event;
 use crate::frame::{Frame, Part, Parts};
 use crate::heads::{check_working, token_within};
@@ -24,8 +24,8 @@ use bser_source::read::DeRead;
 ///
 /// The keys of its objects have to be UTF-8. The error is the first one in the order of reading, as
 /// the plain reader answers it. A container where no level is left is
-/// `Error::DeRecursionLimitExceeded`, before its count is looked at. A builder that gets no memory,
-/// a scratch over a reader and `frames` that do not grow are `Error::OutOfMemory`; `frames` with
+/// `Error::DeRecursionLimitExceeded`, before its count is looked at. A builder that takes no more, a
+/// scratch over a reader and `frames` that do not grow are `Error::OutOfMemory`; `frames` with
 /// room for as many containers as there are levels need not grow. After an error each later call of
 /// `bunser` fails, and no clause says what the builder is.
 ///
@@ -44,7 +44,7 @@ pub fn read_value<R: DeRead, B: Builder>(
         (TellsValue B.takes levels bunser.old bunser.new builder.old builder.new) }
     ensures kept { OnOk result (Keeps bunser.old bunser.new) }
     ensures refused { OnErr result
-        (RefusesValue B.memory (vec_capacity frames.old) levels bunser.old bunser.new) }
+        (RefusesValue B.stops (vec_capacity frames.old) levels bunser.old bunser.new) }
 {
     check_working(bunser)?;
     frames.clear();
@@ -58,7 +58,8 @@ pub fn read_value<R: DeRead, B: Builder>(
             let Some(piece) = due_piece(wanted, &bytes[at..]) else {
                 break;
             };
-            if builder.take(piece.event).is_err() {
+            let place = piece.place(taken(bunser).saturating_add(at));
+            if builder.take(piece.event, place).is_err() {
                 return Err(refuse_with(bunser, Fault::Memory));
             }
             at += piece.len;
@@ -69,17 +70,17 @@ pub fn read_value<R: DeRead, B: Builder>(
             let Some(outer) = frames.pop() else {
                 return Ok(());
             };
-            tell(bunser, builder, Event::Close)?;
+            tell_close(bunser, builder)?;
             frame = outer;
             continue;
         };
         read_due_key(bunser, due, scratch, builder)?;
-        let token = token_within(bunser, frame.levels)?;
+        let (token, start) = token_within(bunser, frame.levels)?;
         if is_skipped(due, token) {
-            tell(bunser, builder, Event::Skip)?;
+            tell(bunser, builder, Event::Skip, start, false)?;
             continue;
         }
-        let Some(inner) = read_after(bunser, token, frame.levels, scratch, builder)? else {
+        let Some(inner) = read_after(bunser, token, frame.levels, start, scratch, builder)? else {
             continue;
         };
         push_frame(bunser, frames, frame)?;
@@ -120,7 +121,7 @@ fn read_due_key<R: DeRead, B: Builder>(
     ensures kept { OnOk result (Keeps bunser.old bunser.new) }
     ensures entry { OnErr result (due ≡ Part.Entry) }
     ensures err { OnErr result
-        (RefusesTelling B.memory (text_of kinds.MapKey) bunser.old bunser.new) }
+        (RefusesTelling B.stops (text_of kinds.MapKey) bunser.old bunser.new) }
 {
     match due {
         Part::Entry => read_key(bunser, Kind::MapKey, scratch, builder),

@@ -1,5 +1,6 @@
 //! Adding up the size of what is told.
 ghost use Rattle.std.specs.Prelude.{◌≡◌, true, false, OnOk};
+ghost use Rattle.bser_events.specs.Told.{told};
 ghost use Rattle.bser_messages.specs.Tallies.{
   Counts,
   Shows,
@@ -14,8 +15,8 @@ ghost use Rattle.bser_messages.specs.Tallies.{
 };
 
 use crate::size::Size;
-use bser_events::builder::Builder;
-use bser_events::event::Event;
+use bser_events::builder::{Builder, Stop};
+use bser_events::event::{Event, Place};
 use std::alloc::{AllocError, Global};
 
 /// The size of what was told up to now.
@@ -119,17 +120,12 @@ impl Sizing {
     }
 }
 
-impl Builder for Sizing {
-    ghost takes = { Takes };
-
-    ghost memory = { true };
-
-    ghost BYTES = { false };
-
-    const BYTES: bool = false;
-
+impl Sizing {
+    /// Counts what an event brings.
     #[inline(always)]
-    fn take(&mut self, event: Event<'_>) -> Result<(), AllocError> {
+    fn add_event(&mut self, event: Event<'_>) -> Result<(), AllocError>
+        ensures { OnOk result (Takes self.old (told event.entry) self.new) }
+    {
         match event {
             Event::Array { .. } | Event::Object { .. } => self.open()?,
             Event::Template { .. } => {
@@ -143,9 +139,32 @@ impl Builder for Sizing {
         }
         Ok(())
     }
+}
+
+impl Builder for Sizing {
+    ghost takes = { Takes };
+
+    ghost stops = { true };
+
+    ghost asks = { false };
+
+    ghost bytes = { false };
 
     #[inline(always)]
-    fn bytes_passed(&mut self, _len: usize) -> Result<(), AllocError> {
+    fn wants_bytes(&self) -> bool {
+        false
+    }
+
+    #[inline(always)]
+    fn take(&mut self, event: Event<'_>, _place: Place) -> Result<(), Stop> {
+        match self.add_event(event) {
+            Ok(()) => Ok(()),
+            Err(_) => Err(Stop::Memory),
+        }
+    }
+
+    #[inline(always)]
+    fn bytes_passed(&mut self, _len: usize, _place: Place) -> Result<(), Stop> {
         self.add_values(1);
         Ok(())
     }

@@ -1,14 +1,15 @@
 //! What is made of the events of a value.
-ghost use Rattle.std.specs.Prelude.{◌≡◌, true, [], ◌∷◌, ◌++◌, Some, OnOk, option_map};
+ghost use Rattle.std.specs.Prelude.{◌≡◌, true, false, [], ◌∷◌, ◌++◌, Some, OnOk, option_map};
 ghost use Rattle.bser_format.specs.Tree.{Tree, bytes, text};
+ghost use Rattle.bser_events.specs.Told.{told};
 ghost use Rattle.bser_value.specs.Made.{unread, read_as, in_array, in_object, in_keys};
 ghost use Rattle.bser_value.specs.Shows.{Shows, Takes, Gives, Names, Opens, Closes};
 ghost use Rattle.bser_value.specs.ValueView.{tree_of};
 
 use crate::building::Building;
 use crate::value::Value;
-use bser_events::builder::Builder;
-use bser_events::event::Event;
+use bser_events::builder::{Builder, Stop};
+use bser_events::event::{Event, Place};
 use bser_format::bytestring::ByteString;
 use std::alloc::{AllocError, Global};
 use std::mem;
@@ -132,17 +133,12 @@ impl ValueBuilder {
     }
 }
 
-impl Builder for ValueBuilder {
-    ghost takes = { Takes };
-
-    ghost memory = { true };
-
-    ghost BYTES = { true };
-
-    const BYTES: bool = true;
-
+impl ValueBuilder {
+    /// Takes an event.
     #[inline(always)]
-    fn take(&mut self, event: Event<'_>) -> Result<(), AllocError> {
+    fn put_event(&mut self, event: Event<'_>) -> Result<(), AllocError>
+        ensures { OnOk result (Takes self.old (told event.entry) self.new) }
+    {
         match event {
             Event::Null | Event::Skip => self.put(Value::Null),
             Event::Bool(truth) => self.put(Value::Bool(truth)),
@@ -158,8 +154,31 @@ impl Builder for ValueBuilder {
             Event::Close => self.close(),
         }
     }
+}
 
-    fn bytes_passed(&mut self, _len: usize) -> Result<(), AllocError> {
+impl Builder for ValueBuilder {
+    ghost takes = { Takes };
+
+    ghost stops = { true };
+
+    ghost asks = { false };
+
+    ghost bytes = { true };
+
+    #[inline(always)]
+    fn wants_bytes(&self) -> bool {
+        true
+    }
+
+    #[inline(always)]
+    fn take(&mut self, event: Event<'_>, _place: Place) -> Result<(), Stop> {
+        match self.put_event(event) {
+            Ok(()) => Ok(()),
+            Err(_) => Err(Stop::Memory),
+        }
+    }
+
+    fn bytes_passed(&mut self, _len: usize, _place: Place) -> Result<(), Stop> {
         Ok(())
     }
 }

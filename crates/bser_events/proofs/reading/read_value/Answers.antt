@@ -85,10 +85,10 @@ parts-preserved-in_default-due g c =
     let m = ran g.B.Builder.takes _ _ _ _ _ _ _ _ _ _ _ _ _ _ _ _ _ _ c.parts.invariant.midway c.next-due.ensures.counted c.buffered-bytes.ensures c.pieces.invariant.run c.consume.ensures.window in
     let out = ran_out g.B.Builder.takes _ _ _ _ _ _ _ _ _ _ _ same c.in_default-due.is m in
     record {
-      midway = midway_popped g.B.Builder.takes _ _ c.pieces.frame c.in-Some-pop.outer _ _ _ _ _ _ _ _ around out.next.1 (same_window _ _ c.in_ok-tell.ensures.same) c.in_ok-tell.ensures.ok (all_left g.B.Builder.takes _ _ _ _ _ _ _ _ _ out);
+      midway = midway_popped g.B.Builder.takes _ _ c.pieces.frame c.in-Some-pop.outer _ _ _ _ _ _ _ _ around out.next.1 (same_window _ _ c.in_ok-tell_close.ensures.same) c.in_ok-tell_close.ensures.ok (all_left g.B.Builder.takes _ _ _ _ _ _ _ _ _ out);
       deep = deep_popped c.args.levels c.parts.frame c.in-Some-pop.outer _ _ around c.parts.invariant.deep;
       room = omega (arith, c.parts.invariant.room, c.in-Some-pop.ensures.capacity);
-      kept = ap (λ (s : Seen). s.refusal) c.in_ok-tell.ensures.same ∙ c.consume.ensures.kept ∙ c.parts.invariant.kept;
+      kept = ap (λ (s : Seen). s.refusal) c.in_ok-tell_close.ensures.same ∙ c.consume.ensures.kept ∙ c.parts.invariant.kept;
     }
 
 pub returns-in_err-read_due_key-clause-refused : goal.returns-in_err-read_due_key-clause-refused
@@ -125,10 +125,10 @@ parts-preserved-then-is_skipped g c =
     let m1 = midway_key g.B.Builder.takes _ c.in-Some-due.due n _ _ _ _ _ _ _ c.in_ok-read_due_key.ensures.ok m0 in
     let is = rw c.if-is_skipped.true at c.is_skipped.ensures in
     record {
-      midway = midway_at g.B.Builder.takes _ _ _ _ _ _ _ (same_window _ _ c.in_ok-tell-2.ensures.same) (midway_skip g.B.Builder.takes _ c.in-Some-due.due n c.in_ok-token.token _ _ _ _ _ _ _ is c.in_ok-token.ensures.ok c.in_ok-tell-2.ensures.ok m1);
+      midway = midway_at g.B.Builder.takes _ _ _ _ _ _ _ (same_window _ _ c.in_ok-tell.ensures.same) (midway_skip g.B.Builder.takes _ c.in-Some-due.due n c.in_ok-token.token _ _ _ _ _ _ _ is c.in_ok-token.ensures.ok c.in_ok-tell.ensures.ok m1);
       deep = deep_taken c.args.levels c.parts.frame.levels c.pieces.frame.levels c.parts.frame.parts c.pieces.frame.parts _ c.pieces.invariant.levels (λ s. c.pieces.invariant.small (c.next-due.ensures.small s)) c.parts.invariant.deep;
       room = c.parts.invariant.room;
-      kept = ap (λ (s : Seen). s.refusal) c.in_ok-tell-2.ensures.same ∙ c.in_ok-token.ensures.kept ∙ c.in_ok-read_due_key.ensures.kept ∙ c.consume.ensures.kept ∙ c.parts.invariant.kept;
+      kept = ap (λ (s : Seen). s.refusal) c.in_ok-tell.ensures.same ∙ c.in_ok-token.ensures.kept ∙ c.in_ok-read_due_key.ensures.kept ∙ c.consume.ensures.kept ∙ c.parts.invariant.kept;
     }
 
 pub returns-in_err-inner-clause-refused : goal.returns-in_err-inner-clause-refused
