@@ -1,6 +1,6 @@
 mod Spelled
 mod Facts
-mod Whole
+pub mod Whole
 mod Kept
 mod Lengths
 mod Ends

@@ -3,6 +3,7 @@ ghost use Rattle.std.specs.Prelude.{OnOk, IfErr};
 ghost use Rattle.bser_format.specs.Compact.{fold_templates};
 ghost use Rattle.bser_rewriting.specs.Canon.{Rewrote, RefusesRewriting, ValueIsItsTree, canonical};
 
+use bser_document::document::Document;
 use bser_format::errors::Result;
 use bser_messages::message::from_reader;
 use bser_ser::message::serialize_to;
@@ -11,27 +12,28 @@ use bser_value::compact::serialize_compact;
 use bser_value::value::Value;
 use std::alloc::Global;
 
-/// Reads the reader's next message, of at most 128 levels, as a `Value`, and writes the canonical
-/// message of that value. What follows the message is left in the reader.
+/// Reads the reader's next message, of at most 128 levels, and writes the canonical message of its
+/// value. What follows the message is left in the reader. The memory that it takes is linear in the
+/// length of the message that is read, since no `Value` is made.
 ///
 /// Answers `Ok` exactly where a front of the bytes left is such a message, want of memory, faults
 /// that the reader or the writer counted and a body above `i64::MAX` bytes aside; neither counts a
 /// failure then. Where reading is refused, nothing is written; where writing is refused, the reader
 /// counted no failure, and the writer took a beginning of the message, or nothing where its body
 /// could not be measured.
-#[tactic(auto, using(crate::proofs::Writing::writing_refused, crate::proofs::Writing::took_value))]
+#[tactic(auto, using(crate::proofs::Writing::writing_refused, crate::proofs::Writing::took_document))]
 pub fn canon<R: Source, W: Sink>(alloc: Global, reader: &mut R, writer: &mut W) -> Result<()>
     ensures ok { OnOk result
         (Rewrote canonical R.Source W.Sink reader.old reader.new writer.old writer.new) }
     ensures refused { IfErr result
         (RefusesRewriting canonical R.Source W.Sink reader.old reader.new writer.old writer.new) }
 {
-    let value: Value = from_reader(alloc, reader)?;
-    serialize_to(alloc, writer, &value)
+    let read: Document = from_reader(alloc, reader)?;
+    serialize_to(alloc, writer, &read)
 }
 
 /// As [`canon`], but writes the compact message of the value. No message that reads as the value is
-/// shorter.
+/// shorter. It makes a `Value`, which may take far more memory than the message has bytes.
 #[tactic(auto, using(crate::proofs::Writing::writing_refused, crate::proofs::Writing::took_value))]
 pub fn canon_compact<R: Source, W: Sink>(
     alloc: Global,
