@@ -60,6 +60,8 @@ fn print_values(rt: &HostRuntime, bytes: &[u8]) -> Result<()> {
     )?;
     let (total, largest) = document::sizes(alloc, bytes)?;
     println!(rt; "bytes in files: {total}, in the largest {largest}")?;
+    let small = document::small_value(alloc, bytes)?.is_some();
+    println!(rt; "a small value: {small}")?;
     let short = events::is_short(alloc, bytes);
     println!(rt; "at most 100 bytes: {short}")?;
     Ok(())
