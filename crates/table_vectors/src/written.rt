@@ -2,7 +2,7 @@
 use anyhow::{Result, ensure};
 use bser_vectors::notation::parse_value;
 use serde_bser::device::Watched;
-use serde_bser::ser::{serialize, serialize_compact};
+use serde_bser::ser::{serialize, serialize_compact, to_vec};
 use serde_bser::value::Value;
 use sha2::{Digest, Sha256};
 use std::alloc::{AllocError, Global};
@@ -18,6 +18,10 @@ pub fn compare_written(
     ensure!(
         is_written(alloc, &value, canonical)?,
         "another answer, written"
+    );
+    ensure!(
+        is_shown(alloc, &to_vec(alloc, &value)?, canonical)?,
+        "another answer, written to a vector"
     );
     ensure!(
         is_written_compactly(alloc, &value, compact)?,

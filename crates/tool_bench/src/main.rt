@@ -5,12 +5,14 @@
 //! which has no template. Without arguments each operation is done once with an answer of a few
 //! files.
 //!
-//! `serialize` writes a `Value` to memory, `serialize-compact` does so in the compact form, and
-//! `value` and `value-reader` read one; they print the length and a checksum of its message.
+//! `serialize` writes a `Value` to memory, `to-vec` does so without measuring it first,
+//! `serialize-compact` does so in the compact form, and `value` and `value-reader` read one; they
+//! print the length and a checksum of its message.
 //! `typed-lent`, `typed-owned` and `typed-reader` read the files as structs, and print how many
 //! there are and the sum of their fields. `document` and `document-reader` read a `Document` and
 //! print how many files it has; `document-lookup` looks up two numbers of each file as well, and
-//! prints their sum. `skip` keeps nothing. The operations on a `reader` read from a reader over the
+//! prints their sum; `document-write` writes one to memory. `canon` reads a message from a reader and
+//! writes its canonical message, as `bser_canon` does. `skip` keeps nothing. The operations on a `reader` read from a reader over the
 //! bytes, the others from the bytes themselves.
 #![tactic(auto)]
 
@@ -20,11 +22,12 @@ mod table;
 
 use crate::rows::{Bytes, Files};
 use anyhow::{Context, Result, bail};
+use bser_rewriting::engine::canon;
 use serde_bser::bytestring::ByteString;
 use serde_bser::de::{Deserialize, DeserializeOwned, Ignored};
 use serde_bser::device::Watched;
 use serde_bser::document::{Document, Item, Rows};
-use serde_bser::ser::{serialize, serialize_compact};
+use serde_bser::ser::{InMemory, serialize, serialize_compact, to_vec};
 use serde_bser::value::Value;
 use serde_bser::{from_reader, from_slice};
 use std::alloc::Global;
@@ -37,8 +40,9 @@ const FEW: usize = 3;
 const MANY: usize = 500;
 
 /// What is done.
-const OPERATIONS: [&str; 11] = [
+const OPERATIONS: [&str; 14] = [
     "serialize",
+    "to-vec",
     "serialize-compact",
     "value",
     "value-reader",
@@ -48,6 +52,8 @@ const OPERATIONS: [&str; 11] = [
     "document",
     "document-reader",
     "document-lookup",
+    "document-write",
+    "canon",
     "skip",
 ];
 
@@ -93,6 +99,7 @@ fn message_of(rt: &HostRuntime, file: &str) -> Result<Vec<u8>> {
 fn repeated(alloc: Global, operation: &str, message: &[u8], count: u32) -> Result<String> {
     match operation {
         "serialize" => written_often(alloc, message, count),
+        "to-vec" => made_often(alloc, message, count),
         "serialize-compact" => compact_often(alloc, message, count),
         "value" => value_told(alloc, read_often(alloc, message, count)),
         "value-reader" => value_told(alloc, copied_often(alloc, message, count)),
@@ -104,6 +111,8 @@ fn repeated(alloc: Global, operation: &str, message: &[u8], count: u32) -> Resul
         "document" => document_told(alloc, read_often(alloc, message, count)),
         "document-reader" => document_told(alloc, copied_often(alloc, message, count)),
         "document-lookup" => looked_up_often(alloc, message, count),
+        "document-write" => document_written_often(alloc, message, count),
+        "canon" => rewritten_often(alloc, message, count),
         "skip" => skip_told(alloc, read_often(alloc, message, count)),
         _ => bail!("unknown operation {operation}"),
     }
@@ -145,6 +154,38 @@ fn written_often(alloc: Global, message: &[u8], count: u32) -> Result<String> {
     let mut last = Vec::new(alloc);
     for _ in 0..count {
         last = written(alloc, &value)?;
+    }
+    bytes_told(alloc, &last)
+}
+
+// Makes the message of the message's document `count` times, and tells of the last one.
+fn document_written_often(alloc: Global, message: &[u8], count: u32) -> Result<String> {
+    let document: Document = from_slice(alloc, message)?;
+    let mut last = Vec::new(alloc);
+    for _ in 0..count {
+        last = to_vec(alloc, &document)?;
+    }
+    bytes_told(alloc, &last)
+}
+
+// Writes the canonical message of the message `count` times, each time to memory of its own, and
+// tells of what was written last.
+fn rewritten_often(alloc: Global, message: &[u8], count: u32) -> Result<String> {
+    let mut last = Vec::new(alloc);
+    for _ in 0..count {
+        let mut writer = InMemory::new(Vec::new(alloc));
+        canon(alloc, &mut Watched::new(message), &mut writer)?;
+        last = writer.into_inner();
+    }
+    bytes_told(alloc, &last)
+}
+
+// Makes the message of the message's value `count` times, and tells of the last one.
+fn made_often(alloc: Global, message: &[u8], count: u32) -> Result<String> {
+    let value: Value = from_slice(alloc, message)?;
+    let mut last = Vec::new(alloc);
+    for _ in 0..count {
+        last = to_vec(alloc, &value)?;
     }
     bytes_told(alloc, &last)
 }
