@@ -10,3 +10,5 @@ pub mod Readers
 pub mod Nexts
 pub mod Places
 pub mod DescribedReaders
+pub mod Tellings
+pub mod Skips

@@ -1,5 +1,5 @@
 -- Where a refusal lies.
-use Rattle.std.proofs.Common.{◌≡◌, ◌≤◌, ℕ, min, true, false, refl, sym, ap, ◌∙◌, arith}
+use Rattle.std.proofs.Common.{◌≡◌, ◌≤◌, ℕ, true, false, sym, ap, ◌∙◌, arith}
 use Rattle.std.specs.Prelude.{ℤ, pos, negsuc, Bool, if◌then◌else◌}
 use Rattle.bser_format.specs.declared.errors.Error.{Error}
 use Rattle.bser_messages.specs.declared.description.Description.{Description}

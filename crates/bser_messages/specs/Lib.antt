@@ -5,3 +5,5 @@ pub mod Streams
 pub mod Readers
 pub mod Slices
 pub mod Descriptions
+pub mod Watched
+pub mod Told
