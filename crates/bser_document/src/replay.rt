@@ -25,7 +25,7 @@ impl Document {
     {
         let mut builder = ValueBuilder::new(alloc);
         match self.tell(&mut builder) {
-            Ok(()) => {}
+            Ok(()) => (),
             Err(_) => return Err(AllocError),
         }
         match builder.into_value() {

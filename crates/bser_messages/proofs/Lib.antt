@@ -14,3 +14,5 @@ pub mod Tallies
 pub mod TreeSizes
 pub mod SizeReads
 pub mod ValueSizes
+pub mod Tellings
+pub mod Skips

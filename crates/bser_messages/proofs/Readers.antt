@@ -15,7 +15,7 @@ use Rattle.bser_messages.proofs.Sources.{reader_fresh, fresh_left, reader_excuse
 use Rattle.bser_messages.specs.Limited.{TookWithin, ReadsWithin, RefusesWithin, RefusesReaderWithin}
 
 -- where nothing was buffered nor announced, nothing past what was taken left the reader
-reader_gave : (a t : Window) (text : List ℕ) → a.buffered ≡ [] → a.limit ≡ 0 → Took a (with_limit a.limit t) text → Consumes a.beyond t.beyond text
+pub reader_gave : (a t : Window) (text : List ℕ) → a.buffered ≡ [] → a.limit ≡ 0 → Took a (with_limit a.limit t) text → Consumes a.beyond t.beyond text
 reader_gave a t text empty none took =
     let within : length t.buffered ≤ max (a.limit - t.count) 0 = took.within 0 (let w : length a.buffered ≤ max (a.limit - a.count) (0 + length text) = omega (arith, ap length empty) in w) in
     let over : t.buffered ≡ [] = nil_from_length t.buffered (omega (arith, within, none)) in

@@ -112,7 +112,7 @@ unlimited_refused n reads asks needs e a b (inr h) = h.refused
 
 -- ---- before bytes came to be buffered
 
-before_took : (k : ℕ) (a b t : Window) (text : List ℕ) → Grown k a b → k ≤ length text → Took b (with_limit b.limit t) text → Took a (with_limit a.limit t) text
+pub before_took : (k : ℕ) (a b t : Window) (text : List ℕ) → Grown k a b → k ≤ length text → Took b (with_limit b.limit t) text → Took a (with_limit a.limit t) text
 before_took k a b t text grown le took =
     let same : with_limit b.limit t ≡ with_limit a.limit t = ap (λ l. with_limit l t) grown.limit in
     rw (← same) (took_grown a b (with_limit b.limit t) k text grown le took)

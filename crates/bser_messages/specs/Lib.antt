@@ -8,3 +8,5 @@ pub mod Descriptions
 pub mod Sizes
 pub mod MessageSizes
 pub mod Tallies
+pub mod Watched
+pub mod Told

@@ -2,8 +2,9 @@
 //!
 //! [`from_slice`] and [`from_reader`] read one message as a value of a type that is
 //! [`Deserialize`](de::Deserialize); [`ser::to_vec`], [`ser::serialize`] and [`ser::serialize_to`]
-//! write one. Those of [`describe`] read one too, and describe an error for people. The modules of
-//! the crates below are here under the names that users know.
+//! write one. Those of [`describe`] read one too, and describe an error for people, and those of
+//! [`tell`] report one to a builder, event by event. The modules of the crates below are here under
+//! the names that users know.
 #![tactic(auto)]
 
 pub mod de;
@@ -12,6 +13,7 @@ pub mod laws;
 pub mod prelude;
 pub mod ser;
 pub mod stream;
+pub mod tell;
 
 pub mod document {
     //! Any message as it is spelled, and looking into it.

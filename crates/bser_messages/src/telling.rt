@@ -1,0 +1,130 @@
+//! Whole messages, told to a builder event by event.
+ghost use Rattle.std.specs.Prelude.{◌≡◌, ◌≤◌, false, length, Some, None, IfOk, IfErr, OnOk};
+ghost use Rattle.bser_format.specs.Errors.{error_of};
+ghost use Rattle.bser_deserializer.specs.declared.deserializer.TheConstants.{MOST_LEVELS};
+ghost use Rattle.bser_messages.specs.Messages.{Same};
+ghost use Rattle.bser_messages.specs.Told.{
+  BeginsTold,
+  HasPlace,
+  IsNextTold,
+  IsReasonOf,
+  KnowsHeader,
+  NextUntold,
+  SliceUntold,
+  StopsLate,
+};
+
+use crate::counted::Counted;
+use crate::description::description_of;
+use crate::limits::Limits;
+use crate::progress::Progress;
+use crate::told::{Header, Reason, Untold};
+use crate::told_message::tell_message;
+use crate::watched::Watched;
+use bser_deserializer::deserializer::Deserializer;
+use bser_deserializer::note::Note;
+use bser_events::builder::Builder;
+use bser_format::errors::{Error, ReadCause};
+use bser_source::device::Source;
+use bser_source::io_read::IoRead;
+use bser_source::read::DeRead;
+use bser_source::slice_read::SliceRead;
+use std::alloc::Global;
+
+/// Tells the builder the message at the start of `bytes`, within these limits, event by event, and
+/// answers what its header tells. What follows the message is ignored.
+///
+/// The keys of its objects have to be UTF-8. Each event's place counts the bytes from the start of
+/// the message. The error is the first one in the order of reading, as
+/// [`from_slice_limited`](crate::limited_slice::from_slice_limited) answers it for an `Ignored`; or
+/// out of memory, for the containers that are open or by the builder; or that the builder wanted no
+/// more. After an error no clause says what the builder is.
+pub fn from_slice<B: Builder>(
+    alloc: Global,
+    limits: Limits,
+    bytes: &[u8],
+    builder: &mut B,
+) -> Result<Header, Untold>
+    requires { limits.levels ≤ MOST_LEVELS }
+    ensures found { IfOk result (BeginsTold limits B.takes bytes.now builder.old builder.new) }
+    ensures failed { IfErr result (λ e. SliceUntold limits B.asks bytes.now e.reason) }
+    ensures header { IfErr result (KnowsHeader (Some bytes.now)) }
+    ensures late { IfErr result StopsLate }
+    ensures place { IfErr result HasPlace }
+    ensures given { IfErr result (λ e. e.given ≡ length bytes.now) }
+{
+    let mut from = Deserializer::unread(alloc, SliceRead::new(bytes));
+    let mut watched = Watched::new(builder);
+    let answer = tell_message(limits, &mut from, &mut watched);
+    let asked = watched.has_asked();
+    let _builder = watched.into_inner();
+    match answer {
+        Ok(header) => Ok(header),
+        Err(cut) => Err(cut.untold(Progress::of(&from), asked, bytes.len())),
+    }
+}
+
+/// Tells the builder the reader's next message, within these limits, event by event, and answers
+/// what its header tells, or `None` where no byte is left.
+///
+/// As [`from_slice`], with the errors of
+/// [`next_message_limited`](crate::next::next_message_limited) for an `Ignored`. What follows the
+/// message is left in the reader.
+pub fn next_message<S: Source, B: Builder>(
+    alloc: Global,
+    limits: Limits,
+    reader: &mut S,
+    builder: &mut B,
+) -> Result<Option<Header>, Untold>
+    requires { limits.levels ≤ MOST_LEVELS }
+    ensures found { IfOk result (IsNextTold limits B.takes
+        (S.remaining reader.old) (S.remaining reader.new) builder.old builder.new) }
+    ensures kept { OnOk result (Same S.failures reader.old reader.new) }
+    ensures failed { IfErr result (λ e.
+        NextUntold limits B.asks S.Source reader.old reader.new e.reason) }
+    ensures header { IfErr result (KnowsHeader (S.remaining reader.old)) }
+    ensures late { IfErr result StopsLate }
+    ensures place { IfErr result HasPlace }
+{
+    let mut read = IoRead::new(Counted::new(reader));
+    match read.peek() {
+        Ok(_first) => {
+            let mut from = Deserializer::unread(alloc, read);
+            let mut watched = Watched::new(builder);
+            let answer = tell_message(limits, &mut from, &mut watched);
+            let asked = watched.has_asked();
+            let _builder = watched.into_inner();
+            let progress = Progress::of(&from);
+            let counted = from.into_inner().into_inner();
+            let given = counted.given();
+            let _reader = counted.into_inner();
+            match answer {
+                Ok(header) => Ok(Some(header)),
+                Err(cut) => Err(cut.untold(progress, asked, given)),
+            }
+        }
+        Err(cause) => {
+            let _reader = read.into_inner().into_inner();
+            match cause {
+                ReadCause::Eof => Ok(None),
+                other => Err(unread(other)),
+            }
+        }
+    }
+}
+
+/// The error of a reader that failed before the first byte of a message.
+#[cold]
+#[inline(never)]
+fn unread(cause: ReadCause) -> Untold
+    ensures reason { IsReasonOf false (error_of cause) 0 result.reason }
+    ensures header { result.header ≡ None }
+    ensures given { result.given ≡ 0 }
+{
+    let cause = Error::de_reader_error(cause);
+    Untold {
+        reason: Reason::Failed(description_of(cause, 0, 0, 0, Note::NONE)),
+        header: None,
+        given: 0,
+    }
+}
