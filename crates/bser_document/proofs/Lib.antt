@@ -13,3 +13,5 @@ mod Puts
 pub mod Depth
 mod Rising
 mod PutPairs
+mod Orders
+mod RowsPut

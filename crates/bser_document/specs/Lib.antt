@@ -8,3 +8,4 @@ pub mod Pairs
 pub mod Rows
 pub mod Sorted
 pub mod Put
+pub mod Order

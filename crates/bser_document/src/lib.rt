@@ -6,6 +6,7 @@ pub mod document;
 pub mod entries;
 pub mod item;
 pub mod items;
+mod order;
 mod put;
 pub mod reading;
 mod replay;
