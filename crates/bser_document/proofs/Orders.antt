@@ -1,8 +1,7 @@
 -- The keys of a template in rising order, and the fields of a row by their places.
 use Rattle.std.proofs.Common.{◌≡◌, ◌≤◌, ◌<◌, ◌+◌, ℕ, zero, suc, List, [], ◌∷◌, ◌++◌, length, map, drop, get_or, fold, Option, Some, None, refl, sym, ap, subst, ◌∙◌, arith, append_assoc, append-nil, Ordering, Less, Equal, Greater, nat_cmp, Bor}
-use Rattle.std.proofs.lemmas.List.{drop_all, length-append}
+use Rattle.std.proofs.lemmas.List.{drop_all}
 use Rattle.std.proofs.lemmas.Option.{same_Some}
-use Rattle.std.specs.List.{AllZip}
 use Rattle.std.specs.Map.{keys_of}
 use Rattle.std.specs.Ordering.{match_ordering}
 use Rattle.std.specs.Cmp.Lexicographic.{slice_cmp}
@@ -13,11 +12,10 @@ use Rattle.bser_format.specs.Tree.{Tree, null, Fields, no_fields, skip, field, f
 use Rattle.bser_deserializer.specs.WholeRows.{FieldsHaveWholeRows}
 use Rattle.bser_events.specs.Events as told
 use Rattle.bser_document.specs.declared.document.Document.{Document}
-use Rattle.bser_document.specs.declared.item.Item.{Item}
 use Rattle.bser_document.specs.declared.rows.Rows.{Rows}
 use Rattle.bser_document.specs.declared.rows.Row.{Row}
 use Rattle.bser_document.specs.Holds.{HoldsItem, tree, skipped, field_ends}
-use Rattle.bser_document.specs.Order.{placed_from, last_places, shown, value_at, item_at, AreAt, FindsField}
+use Rattle.bser_document.specs.Order.{placed_from, last_places, shown, value_at, item_at, AreAt}
 use Rattle.bser_document.specs.Pairs.{IsKeyAt}
 use Rattle.bser_document.specs.Rows.{Pair, HoldsRow, HoldsRows}
 use Rattle.bser_document.specs.Spans.{FieldLies, FieldsLie, tree_ends, Lies}

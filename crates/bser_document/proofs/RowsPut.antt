@@ -1,19 +1,17 @@
 -- Putting the rows of a template.
-use Rattle.std.proofs.Common.{◌≡◌, ℕ, suc, ◌+◌, ◌-◌, ◌<◌, ◌≤◌, ◌^◌, List, [], ◌∷◌, length, map, Option, Some, None, Result, Ok, refl, sym, ap, subst, ◌∙◌, arith, Bor}
+use Rattle.std.proofs.Common.{◌≡◌, ℕ, suc, ◌-◌, ◌<◌, ◌≤◌, ◌^◌, List, [], ◌∷◌, length, Some, None, Result, Ok, refl, sym, ap, subst, ◌∙◌, arith, Bor}
 use Rattle.std.specs.Map.{keys_of}
-use Rattle.bser_format.specs.Tree.{Tree, null, boolean, integer, real, bytes, text, array, object, template, item, items, entries_of}
+use Rattle.bser_format.specs.Tree.{Tree, array, items}
 use Rattle.bser_format.specs.Canonical.{canonical_key, IsCount, IsWritable}
-use Rattle.bser_format.specs.Measures.{depth, items_depth, entries_depth}
+use Rattle.bser_format.specs.Measures.{depth, items_depth}
 use Rattle.bser_format.specs.Normal.{last_entries}
 use Rattle.bser_format.specs.Pieces.{array_head, object_head}
-use Rattle.bser_format.specs.Written.{array_tree}
 use Rattle.bser_format.specs.declared.errors.Error.{Error}
 use Rattle.bser_ser.specs.Ends.{Ends, Stops, text_of, CanBeWritten}
 use Rattle.bser_ser.specs.Sent.{Sent, Refused, IsExcuse}
 use Rattle.bser_ser.specs.Stopped.{Tells}
 use Rattle.bser_ser.specs.declared.serializer.Serializer.{Serializer}
 use Rattle.bser_ser.proofs.Sends.{Joins}
-use Rattle.bser_ser.proofs.Ends.{Stops-first, Stops-second}
 use Rattle.bser_ser.proofs.Texts.{ItemsPut, items_start, items_more, items_put, items_writable, items_stop}
 use Rattle.bser_document.specs.declared.item.Item.{Item}
 use Rattle.bser_document.specs.declared.put.AddError.{AddError}

@@ -1,5 +1,5 @@
 -- Each field is found behind the one before it.
-use Rattle.std.proofs.Common.{rules, refl, sym, subst, suc, arith, ◌≡◌, ◌-◌, ◌+◌}
+use Rattle.std.proofs.Common.{refl, sym, subst, suc, arith, ◌≡◌, ◌-◌, ◌+◌}
 use Rattle.bser_document.specs.Order.{AreAt}
 use Rattle.bser_document.proofs.Orders.{none_noted, one_noted, all_noted}
 use Rattle.bser_document.proofs.order.RowFields.read.Goals as goal

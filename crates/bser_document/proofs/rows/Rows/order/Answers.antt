@@ -1,5 +1,4 @@
 -- Each key is put in with its place.
-use Rattle.std.proofs.Common.{rules}
 use Rattle.bser_document.proofs.Orders.{one_place, all_places}
 use Rattle.bser_document.proofs.rows.Rows.order.Goals as goal
 
