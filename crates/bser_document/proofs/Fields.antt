@@ -189,7 +189,7 @@ field_found r place at less step ks m h =
         (walk n next ks fs l (omega (arith, less)) (omega (arith, count)) (field_lies d from t fs lie).1 later w.1 to (omega (arith, is, length-append (tree_ends t from) (fields_ends (first_fields n fs) next))))
 
 -- the keys of a row are those of its template
-row_keys : (ks : List (List ℕ)) (fs : Fields) (m : List Pair) → length (fields fs) ≡ length ks → normal_entries (expand_fields ks fs) ≡ Some m → map (λ p. p.0) m ≡ ks
+pub row_keys : (ks : List (List ℕ)) (fs : Fields) (m : List Pair) → length (fields fs) ≡ length ks → normal_entries (expand_fields ks fs) ≡ Some m → map (λ p. p.0) m ≡ ks
 row_keys [] fs m full e = ap (map (λ p. p.0)) (sym (same_Some [] m e))
 row_keys (k ∷ ks) no_fields m full e = absurd (omega (arith, full))
 row_keys (k ∷ ks) (skip fs) m full e = next_read k (Some null) (normal_entries (expand_fields ks fs)) m e λ u l first later same. ap (map (λ p. p.0)) (sym same) ∙ ap (λ l. k ∷ l) (row_keys ks fs l (omega (arith, full)) later)
@@ -207,7 +207,7 @@ no_field r place past ks m h =
 
 -- ---- the place of a key
 
-key_lies : (d : Document) (ks : List (List ℕ)) (at n : ℕ) → KeysLie d ks at → n < length ks → (k : List ℕ) × (b : List Event) × (xs : List (Option ℕ)) × Lies d (at + n) (told.key k ∷ b) xs × (drop n ks ≡ k ∷ drop (suc n) ks)
+pub key_lies : (d : Document) (ks : List (List ℕ)) (at n : ℕ) → KeysLie d ks at → n < length ks → (k : List ℕ) × (b : List Event) × (xs : List (Option ℕ)) × Lies d (at + n) (told.key k ∷ b) xs × (drop n ks ≡ k ∷ drop (suc n) ks)
 key_lies d [] at n h less = absurd (omega (arith, less))
 key_lies d (k ∷ ks) at zero h less =
     let here : at ≡ at + 0 = omega arith in

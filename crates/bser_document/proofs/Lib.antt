@@ -19,3 +19,5 @@ pub mod Depth
 mod Rising
 mod Alike
 mod PutPairs
+mod Orders
+mod RowsPut

@@ -151,7 +151,7 @@ entries_whole : (es : trees.Entries) → written_entries plain_bytes whole (entr
 entries_whole no_entries = refl
 entries_whole (entry k t es) = ap (entry_before k (Ok t)) (entries_whole es)
 
-array_whole : (us : trees.Items) → array_tree whole (items us) ≡ Ok (array us)
+pub array_whole : (us : trees.Items) → array_tree whole (items us) ≡ Ok (array us)
 array_whole us = ap (map_ok array) (items_whole us)
 
 object_whole : (es : trees.Entries) → object_tree plain_bytes whole (entries es) ≡ Ok (object es)

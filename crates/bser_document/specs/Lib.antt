@@ -12,3 +12,4 @@ pub mod Pointer
 pub mod Rows
 pub mod Sorted
 pub mod Put
+pub mod Order

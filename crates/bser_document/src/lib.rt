@@ -7,6 +7,7 @@ pub mod entries;
 pub mod item;
 pub mod items;
 pub mod pointer;
+mod order;
 mod put;
 pub mod reading;
 mod replay;

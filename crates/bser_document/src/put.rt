@@ -1,5 +1,6 @@
 //! Writing an item in the canonical form.
-ghost use Rattle.std.specs.Prelude.{◌≡◌, ◌<◌, ℕ, List, Ok, OnOk, IfErr};
+ghost use Rattle.std.specs.Prelude.{◌≡◌, ◌<◌, ◌≤◌, ℕ, List, Ok, OnOk, IfErr};
+ghost use Rattle.std.specs.Map.{keys_of};
 ghost use Rattle.bser_format.specs.Canonical.{IsWritable};
 ghost use Rattle.bser_format.specs.Measures.{depth, items_depth, entries_depth};
 ghost use Rattle.bser_format.specs.Tree.{Tree, array, object, entries, entries_of};
@@ -7,8 +8,10 @@ ghost use Rattle.bser_format.specs.Tree as trees;
 ghost use Rattle.bser_ser.specs.Ends.{AddsTree, Ends, Stops, text_of};
 ghost use Rattle.bser_document.specs.declared.put.AddError.TheVariants as errors;
 ghost use Rattle.bser_document.specs.Holds.{HoldsItem, ShowsNode};
+ghost use Rattle.bser_document.specs.Order.{shown, last_places, HoldsFields, FindsField};
 ghost use Rattle.bser_document.specs.Pairs.{HoldsEntries};
 ghost use Rattle.bser_document.specs.Put.{AddsItem, IsPlain};
+ghost use Rattle.bser_document.specs.Rows.{HoldsRows, Pair, row_object, row_objects};
 ghost use Rattle.bser_document.specs.Sorted.{Lists};
 ghost use Rattle.bser_document.specs.Walks.{HoldsItems};
 
@@ -16,6 +19,8 @@ use crate::document::{Document, Node};
 use crate::entries::Entries;
 use crate::item::Item;
 use crate::items::Items;
+use crate::order::RowFields;
+use crate::rows::Rows;
 use bser_format::errors::{Error, Result};
 use bser_ser::{Parts, PutRefused, Serializer};
 use bser_source::device::Sink;
@@ -106,6 +111,9 @@ fn add_container<W: Sink>(
     if room == 0 {
         return Err(AddError::OutOfMemory);
     }
+    if let Some(rows) = item.rows() {
+        return add_rows(alloc, rows, room - 1, out);
+    }
     if let Some(items) = item.items() {
         return add_items(alloc, items, room - 1, out);
     }
@@ -184,6 +192,72 @@ fn add_spelled<W: Sink>(
         add_item(alloc, entry.value, room, out)?;
     }
     Ok(())
+}
+
+/// Puts an array of the objects of these rows.
+#[cycle(add)]
+fn add_rows<W: Sink>(
+    alloc: Global,
+    rows: Rows<'_>,
+    room: usize,
+    out: &mut Serializer<W>,
+) -> result::Result<(), AddError>
+    ensures { (ks : List (List ℕ)) (ms : List (List Pair)) → HoldsRows rows.entry ks ms
+        → items_depth (row_objects ms) < room
+        → AddsItem W.Sink out.old out.new (array (row_objects ms)) result }
+{
+    let count = rows.len();
+    // no list of nodes is longer
+    if count > isize::MAX as usize {
+        return Err(AddError::OutOfMemory);
+    }
+    let order = rows.order(alloc)?;
+    let mut fields = RowFields::new(alloc, rows.document);
+    out.add_seq(count)?;
+    for row in rows {
+        fields.read(row)?;
+        add_row(alloc, &order, &fields, room.saturating_sub(1), out)?;
+    }
+    Ok(())
+}
+
+/// Puts an object of the fields of a row, in the order of their keys.
+#[cycle(add)]
+fn add_row<W: Sink>(
+    alloc: Global,
+    order: &BTreeMap<&str, usize>,
+    fields: &RowFields<'_>,
+    room: usize,
+    out: &mut Serializer<W>,
+) -> result::Result<(), AddError>
+    ensures { (m : List Pair) → shown order.entry.now.entries ≡ last_places (keys_of m)
+        → HoldsFields fields.entry.now m → depth (row_object m) ≤ room
+        → AddsItem W.Sink out.old out.new (row_object m) result }
+{
+    out.add_map(order.len())?;
+    for (key, place) in order {
+        out.add_text_key(*key)?;
+        add_field(alloc, fields.get(*place), room, out)?;
+    }
+    Ok(())
+}
+
+/// Puts a field, and null where there is none.
+#[cycle(add)]
+#[inline(always)]
+fn add_field<W: Sink>(
+    alloc: Global,
+    field: Option<Item<'_>>,
+    room: usize,
+    out: &mut Serializer<W>,
+) -> result::Result<(), AddError>
+    ensures { (u : Tree) → FindsField u field.entry → depth u < room
+        → AddsItem W.Sink out.old out.new u result }
+{
+    match field {
+        Some(item) => add_item(alloc, item, room, out),
+        None => Ok(out.add_null()?),
+    }
 }
 
 impl Document {

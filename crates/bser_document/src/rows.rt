@@ -12,19 +12,19 @@ use crate::item::{Item, Keys};
 /// The rows of a template that are still to come.
 #[derive(Clone, Copy)]
 pub struct Rows<'d> {
-    document: &'d Document,
+    pub(crate) document: &'d Document,
     at: usize,
     left: usize,
-    keys: Keys,
+    pub(crate) keys: Keys,
 }
 
 /// A row of a template.
 #[derive(Clone, Copy)]
 pub struct Row<'d> {
-    document: &'d Document,
-    at: usize,
+    pub(crate) document: &'d Document,
+    pub(crate) at: usize,
     // how many fields it has
-    len: usize,
+    pub(crate) len: usize,
 }
 
 impl<'d> Iterator for Rows<'d> {

@@ -1,15 +1,20 @@
 -- A container is put as its parts are.
-use Rattle.std.proofs.Common.{rules, arith, ◌-◌, ◌≡◌, ◌<◌, ◌^◌, length, refl, sym, subst}
+use Rattle.std.proofs.Common.{rules, arith, ◌-◌}
 use Rattle.std.proofs.lemmas.Result.{err_from_is_err_and}
 use Rattle.bser_format.specs.Tree.{entries}
 use Rattle.bser_ser.specs.Sent.{refusal_of}
 use Rattle.bser_document.specs.Put.{error_of}
 use Rattle.bser_document.proofs.Puts.{none_put, array_added, object_added, spelled_added, sorted_added, items_begun, item_more, item_stops, items_all, entries_begun, entry_more, entry_stops, key_stops, entries_all, lists_length}
 use Rattle.bser_document.proofs.PutPairs.{spelled_begun, spelled_more, spelled_stops, spelled_key_stops, spelled_all}
+use Rattle.bser_document.proofs.RowsPut.{rows_added, row_added, rows_begun, row_more, row_stops, rows_all, fields_begun, field_more, field_stops, field_key_stops, fields_all, last_length}
+use Rattle.bser_document.specs.Order.{value_at}
+use Rattle.bser_document.specs.Rows.{row_object, row_objects}
+use Rattle.bser_format.specs.Tree.{array}
+use Rattle.bser_format.specs.declared.errors.Error.TheVariants.{OutOfMemory}
 use Rattle.bser_document.proofs.put.+add.Goals as goal
 
-pub add_container-returns-in-Some : goal.add_container-returns-in-Some
-add_container-returns-in-Some g t c u h deep = array_added g.W.Sink c.args.room c.in-Some.items c.args.out.now c.add_items.new.out c.add_items.result u (rw c.in-Some.is at c.items.ensures u h) deep c.add_items.ensures
+pub add_container-returns-in-Some-items : goal.add_container-returns-in-Some-items
+add_container-returns-in-Some-items g t c u h deep = array_added g.W.Sink c.args.room c.in-Some-items.items c.args.out.now c.add_items.new.out c.add_items.result u (rw c.in-Some-items.is at c.items.ensures u h) deep c.add_items.ensures
 
 pub add_container-returns-then-is_rising : goal.add_container-returns-then-is_rising
 add_container-returns-then-is_rising g t c u h deep =
@@ -90,3 +95,63 @@ add_spelled-returns-in_err-add_item g t c m h deep =
 pub add_spelled-returns : goal.add_spelled-returns
 add_spelled-returns g t c m h deep =
     spelled_all g.W.Sink m c.args.room c.loop-entry.entry-iterator c.next.new.self c.args.out.now c.loop-entry.out c.in-None.ensures.steps (omega (arith, c.len-count.ensures m h, c.if-count.false)) (c.loop-entry.invariant m h deep)
+
+pub add_container-returns-in-Some : goal.add_container-returns-in-Some
+add_container-returns-in-Some g t c u h deep =
+    rows_added g.W.Sink c.args.item c.args.room c.in-Some.rows c.args.out.now c.add_rows.new.out c.add_rows.result u (rw c.in-Some.is at c.rows.ensures u h) deep c.add_rows.ensures
+
+pub add_rows-returns-in_err-order : goal.add_rows-returns-in_err-order
+add_rows-returns-in_err-order g t c ks ms h deep =
+    let p = err_from_is_err_and c.from_residual.result c.from_residual.ensures.1 in
+    rw (p.1, p.2) (none_put g.W.Sink g.met.W.Sink.took_nothing (array (row_objects ms)) c.args.out.now)
+
+pub add_rows-loop-row-init : goal.add_rows-loop-row-init
+add_rows-loop-row-init g t c ks ms h deep = rows_begun g.W.Sink ks ms c.args.room c.args.rows c.into_iter-row-iterator.result c.len-count.result c.args.out.now c.add_seq.new.self h deep (search rules) (c.len-count.ensures ks ms h) c.in_ok-add_seq.ensures.0
+
+pub add_rows-returns-in_err-read : goal.add_rows-returns-in_err-read
+add_rows-returns-in_err-read g t c ks ms h deep =
+    let p = err_from_is_err_and c.from_residual-in_err-read.result c.from_residual-in_err-read.ensures.1 in
+    rw (p.1, p.2) (row_stops g.W.Sink g.met.W.Sink.took_both ks ms c.args.room c.loop-row.row-iterator c.next.new.self c.in-Some.row c.args.out.now c.loop-row.out c.loop-row.out OutOfMemory c.in-Some.ensures.steps
+    (λ m row less. none_put g.W.Sink g.met.W.Sink.took_nothing (row_object m) c.loop-row.out) (c.loop-row.invariant ks ms h deep))
+
+pub add_rows-loop-row-preserved : goal.add_rows-loop-row-preserved
+add_rows-loop-row-preserved g t c ks ms h deep =
+    row_more g.W.Sink g.met.W.Sink.took_both ks ms c.args.room c.loop-row.row-iterator c.next.new.self c.in-Some.row c.args.out.now c.loop-row.out c.add_row.new.out c.in-Some.ensures.steps
+    (λ m row less. row_added c.in-Some.row ks m c.in_ok-order.order.entries row (c.in_ok-order.ensures ks ms h) λ order. c.in_ok-add_row.ensures m order (c.in_ok-read.ensures ks m row) (omega (arith, less, c.saturating_sub.ensures))) (c.loop-row.invariant ks ms h deep)
+
+pub add_rows-returns-in_err-add_row : goal.add_rows-returns-in_err-add_row
+add_rows-returns-in_err-add_row g t c ks ms h deep =
+    let p = err_from_is_err_and c.from_residual-in_err-add_row.result c.from_residual-in_err-add_row.ensures.1 in
+    rw (p.1, p.2) (row_stops g.W.Sink g.met.W.Sink.took_both ks ms c.args.room c.loop-row.row-iterator c.next.new.self c.in-Some.row c.args.out.now c.loop-row.out c.add_row.new.out (error_of c.in_err-add_row.field-0.0 c.add_row.new.out) c.in-Some.ensures.steps
+    (λ m row less. row_added c.in-Some.row ks m c.in_ok-order.order.entries row (c.in_ok-order.ensures ks ms h) λ order. c.in_err-add_row.ensures m order (c.in_ok-read.ensures ks m row) (omega (arith, less, c.saturating_sub.ensures))) (c.loop-row.invariant ks ms h deep))
+
+pub add_rows-returns : goal.add_rows-returns
+add_rows-returns g t c ks ms h deep =
+    rows_all g.W.Sink ks ms c.args.room c.loop-row.row-iterator c.next.new.self c.args.out.now c.loop-row.out c.in-None.ensures.steps (omega (arith, c.len-count.ensures ks ms h, c.if-count.false)) (c.loop-row.invariant ks ms h deep)
+
+pub add_row-loop-key-init : goal.add_row-loop-key-init
+add_row-loop-key-init g t c m is found deep = fields_begun g.W.Sink m c.args.room c.args.order.now.entries c.into_iter-key-iterator.result c.len.result c.args.out.now c.add_map.new.self is deep (search rules) c.len.ensures.len c.in_ok-add_map.ensures.0
+
+pub add_row-returns-in_err-add_text_key : goal.add_row-returns-in_err-add_text_key
+add_row-returns-in_err-add_text_key g t c m is found deep =
+    let p = err_from_is_err_and c.from_residual-in_err-add_text_key.result c.from_residual-in_err-add_text_key.ensures.1 in
+    rw (p.1, p.2) (field_key_stops g.W.Sink g.met.W.Sink.took_both m c.args.room c.loop-key.key-iterator c.next.new.self (c.in-Some.key.now, c.in-Some.place.now) c.args.out.now c.loop-key.out c.add_text_key.new.self (refusal_of c.add_text_key.new.self)
+    c.in-Some.ensures.steps c.in_err-add_text_key.ensures.0 c.in_err-add_text_key.ensures.1 (c.loop-key.invariant m is found deep))
+
+pub add_row-loop-key-preserved : goal.add_row-loop-key-preserved
+add_row-loop-key-preserved g t c m is found deep =
+    field_more g.W.Sink g.met.W.Sink.took_both m c.args.room c.loop-key.key-iterator c.next.new.self (c.in-Some.key.now, c.in-Some.place.now) c.args.out.now c.loop-key.out c.add_text_key.new.self c.add_field.new.out
+    c.in-Some.ensures.steps (search rules) c.in_ok-add_text_key.ensures.0 (c.in_ok-add_field.ensures (value_at m c.in-Some.place.now) (c.get.ensures m found)) (c.loop-key.invariant m is found deep)
+
+pub add_row-returns-in_err-add_field : goal.add_row-returns-in_err-add_field
+add_row-returns-in_err-add_field g t c m is found deep =
+    let p = err_from_is_err_and c.from_residual-in_err-add_field.result c.from_residual-in_err-add_field.ensures.1 in
+    rw (p.1, p.2) (field_stops g.W.Sink g.met.W.Sink.took_both m c.args.room c.loop-key.key-iterator c.next.new.self (c.in-Some.key.now, c.in-Some.place.now) c.args.out.now c.loop-key.out c.add_text_key.new.self c.add_field.new.out (error_of c.in_err-add_field.field-0.0 c.add_field.new.out)
+    c.in-Some.ensures.steps c.in_ok-add_text_key.ensures.0 (c.in_err-add_field.ensures (value_at m c.in-Some.place.now) (c.get.ensures m found)) (c.loop-key.invariant m is found deep))
+
+pub add_row-returns : goal.add_row-returns
+add_row-returns g t c m is found deep =
+    fields_all g.W.Sink m c.args.room c.loop-key.key-iterator c.args.out.now c.loop-key.out (search rules) (omega (arith, last_length m c.args.order.now.entries is, c.len.ensures.len, c.len.ensures.small)) (c.loop-key.invariant m is found deep)
+
+pub add_rows-returns-then-count : goal.add_rows-returns-then-count
+add_rows-returns-then-count g t c ks ms h deep = none_put g.W.Sink g.met.W.Sink.took_nothing (array (row_objects ms)) c.args.out.now
