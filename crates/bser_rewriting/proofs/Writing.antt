@@ -1,12 +1,12 @@
 -- A message that was read, as the tree of its value; and an error of writing, which is one of the whole.
-use Rattle.std.proofs.Common.{◌≡◌, ℕ, List, Option, Result, Ok, IfErr, refl, ap, subst, ◌∙◌, inr}
+use Rattle.std.proofs.Common.{◌≡◌, ℕ, List, Option, Result, Ok, Err, OnOk, IfErr, refl, ap, subst, ◌∙◌, inr}
 use Rattle.std.proofs.lemmas.Result.{IfErr-weaker}
 use Rattle.bser_format.specs.Content.{Content, value}
 use Rattle.bser_format.specs.Tree.{Tree}
 use Rattle.bser_format.specs.ReadsAny.{reads_value}
 use Rattle.bser_format.specs.ValueTree.{IsValueTree}
 use Rattle.bser_format.specs.declared.errors.Error.{Error}
-use Rattle.bser_ser.specs.Message.{Missed}
+use Rattle.bser_ser.specs.Message.{Missed, Wrote}
 use Rattle.bser_ser.specs.Stopped.{Tells}
 use Rattle.bser_messages.specs.Messages.{TookMessage}
 use Rattle.bser_value.specs.ValueView.{tree_of, HoldsValue}
@@ -14,7 +14,7 @@ use Rattle.bser_value.specs.declared.value.Value.{Value}
 use Rattle.bser_document.specs.declared.document.Document.{Document}
 use Rattle.bser_document.specs.DocumentView.{HoldsDocument, value_of}
 use Rattle.bser_document.proofs.Whole.{document_value}
-use Rattle.bser_rewriting.specs.Canon.{Gives, IsReadAs, RefusesRewriting}
+use Rattle.bser_rewriting.specs.Canon.{Gives, IsReadAs, RefusesRewriting, Rewrote, canonical}
 
 pub value_read : (v : Value) (c : Content) → HoldsValue v c → IsReadAs (tree_of v) c
 value_read v c h = record { same = h.same; values = h.tree }
@@ -37,6 +37,15 @@ took_value old new v h = took_as 128 HoldsValue tree_of old new v (value_read v)
 
 pub took_document : (old new : Option (List ℕ)) (d : Document) → TookMessage 128 reads_value HoldsDocument old new d → TookMessage 128 reads_value IsReadAs old new (value_of d)
 took_document old new d h = took_as 128 HoldsDocument value_of old new d (document_read d) h
+
+on_ok : {A E P Q : Type 0} (r : Result A E) → (P → Q) → OnOk r P → OnOk r Q
+on_ok (Ok x) f h = f h
+on_ok (Err e) f h = h
+
+-- a document was read, and its message written
+pub document_rewritten : {R W A : Type 0} (source : Gives R) (sink : Tells W) (old new : R) (before after : W) (d : Document) (r : Result A Error) → TookMessage 128 reads_value HoldsDocument (source.remaining old) (source.remaining new) d → source.failures new ≡ source.failures old → OnOk r (Wrote sink (Ok (value_of d)) before after) → OnOk r (Rewrote canonical source sink old new before after)
+document_rewritten source sink old new before after d r read kept h =
+    on_ok r (λ w. record { tree = value_of d; read = took_document (source.remaining old) (source.remaining new) d read; kept = kept; written = w.0; short = w.1.0 }) h
 
 pub writing_refused : {R W A : Type 0} (form : Tree → Tree) (source : Gives R) (sink : Tells W) (old new : R) (before after : W) (u : Tree) (r : Result A Error) → TookMessage 128 reads_value IsReadAs (source.remaining old) (source.remaining new) u → source.failures new ≡ source.failures old → IfErr r (Missed sink (Ok (form u)) before after) → IfErr r (RefusesRewriting form source sink old new before after)
 writing_refused form source sink old new before after u r read kept h =
