@@ -6,7 +6,7 @@ ghost use Rattle.bser_format.specs.Measures.{depth, items_depth, entries_depth};
 ghost use Rattle.bser_format.specs.SameTree.{same_tree, same_items, same_entries};
 ghost use Rattle.bser_format.specs.Tree.{Tree, entries};
 ghost use Rattle.bser_format.specs.Tree as trees;
-ghost use Rattle.bser_document.specs.DocumentView.{HoldsDocument};
+ghost use Rattle.bser_document.specs.DocumentView.{HoldsDocument, value_of};
 ghost use Rattle.bser_document.specs.Holds.{HoldsItem};
 ghost use Rattle.bser_document.specs.Put.{IsPlain};
 ghost use Rattle.bser_document.specs.Sorted.{Lists};
@@ -21,7 +21,9 @@ use std::collections::BTreeMap;
 impl Document {
     /// Whether both documents hold the same value, as [`Item::same_content`] says it.
     pub fn same_content(&self, alloc: Global, other: &Document) -> Result<bool, AllocError>
-        ensures { (u v : Tree) → HoldsDocument self.now (value u)
+        ensures whole { IfOk result
+            (λ same. Decides same (value_of self.now ≡ value_of other.now)) }
+        ensures held { (u v : Tree) → HoldsDocument self.now (value u)
             → HoldsDocument other.now (value v) → IfOk result (λ same. Decides same (u ≡ v)) }
     {
         self.root().same_content(alloc, other.root())
