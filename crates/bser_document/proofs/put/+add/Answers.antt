@@ -1,5 +1,5 @@
 -- A container is put as its parts are.
-use Rattle.std.proofs.Common.{rules, arith, ◌-◌, ◌≡◌, ◌<◌, ◌^◌, length, refl, sym, subst}
+use Rattle.std.proofs.Common.{rules, arith, ◌-◌}
 use Rattle.std.proofs.lemmas.Result.{err_from_is_err_and}
 use Rattle.bser_format.specs.Tree.{entries}
 use Rattle.bser_ser.specs.Sent.{refusal_of}
