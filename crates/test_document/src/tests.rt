@@ -2,9 +2,11 @@
 mod answers;
 mod items;
 mod kinds;
+mod pointer;
 mod rows;
+mod same;
 
-use bser_document::document::Document;
+use serde_bser::document::Document;
 use serde_bser::from_slice;
 use std::alloc::Global;
 use std::process::Abort;

@@ -2,5 +2,6 @@
 mod bytestrings;
 mod checks;
 mod described;
+mod memory;
 mod printed;
 mod writing;

@@ -1,8 +1,8 @@
 //! What is answered to messages, and the values that documents hold.
-use bser_document::document::Document;
 use bser_vectors::devices::Plan;
 use bser_vectors::notation::is_answer;
 use bser_vectors::ways::read_by_plan;
+use serde_bser::document::Document;
 use serde_bser::errors::Result;
 use serde_bser::from_slice;
 use serde_bser::value::Value;

@@ -1,8 +1,6 @@
 //! The items and the entries of a document.
 use super::document;
-use bser_document::entries::Entries;
-use bser_document::item::{Item, Kind};
-use bser_document::items::Items;
+use serde_bser::document::{Entries, Item, Items, Kind};
 use std::process::Abort;
 
 /// Two rows over the keys "abc", "def" and "ghi", the last field of the first row skipped.

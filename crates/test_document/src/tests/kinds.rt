@@ -1,6 +1,6 @@
 //! What the values of a document are.
 use super::document;
-use bser_document::item::{Item, Kind};
+use serde_bser::document::{Item, Kind};
 use std::fmt::Debug;
 use std::process::Abort;
 

@@ -1,7 +1,6 @@
 //! The rows of a template, whose fields are found by place.
 use super::document;
-use bser_document::item::Item;
-use bser_document::rows::{Row, Rows};
+use serde_bser::document::{Item, Row, Rows};
 use std::process::Abort;
 
 /// Two rows over the keys "a", "b" and "a" again: an array of an integer, a skipped field and 3,

@@ -1,7 +1,7 @@
 //! What the tests of all modules check: texts, bytes and messages.
 use bser_format::errors::Result;
 use bser_ser::Serialize;
-use bser_ser::message::serialize;
+use bser_ser::message::{serialize, to_vec};
 use bser_source::device::Watched;
 use std::alloc::Global;
 use std::fmt::{Debug, Display};
@@ -44,7 +44,7 @@ pub fn message<T: Serialize>(alloc: Global, value: &T) -> Result<Vec<u8>> {
     }
 }
 
-/// The value is written as a message of these bytes.
+/// The value is written as a message of these bytes, to a writer and in a vector.
 pub fn check_written<T: Serialize + Drop>(
     rt: &impl Abort,
     alloc: Global,
@@ -53,4 +53,6 @@ pub fn check_written<T: Serialize + Drop>(
 ) {
     let found = message(alloc, &value).expect(rt, "the value is written");
     check_bytes(rt, &found, expected);
+    let made = to_vec(alloc, &value).expect(rt, "the value is written");
+    check_bytes(rt, &made, expected);
 }
