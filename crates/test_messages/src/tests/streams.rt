@@ -3,6 +3,7 @@
 mod lengths;
 mod readers;
 mod slices;
+mod telling;
 
 use bser_messages::limits::Limits;
 use std::alloc::Global;

@@ -1,0 +1,221 @@
+//! Messages that are told to a builder, which counts the events and looks at their places.
+ghost use Rattle.std.specs.Prelude.{◌≤◌, true};
+
+use super::{FIVE, MIXED, NUMBERS, VERSION};
+use crate::tests::ROWS;
+use bser_source::device::{Source, Watched};
+use bser_vectors::devices::{Plan, PlannedReader};
+use serde_bser::tell::{
+    Builder, Event, Header, Limits, Place, Stop, Untold, from_slice, next_message,
+};
+use std::alloc::Global;
+use std::process::Abort;
+use std::rt::HostRuntime;
+
+/// Takes at most so many events of a message, and looks at their places.
+#[derive(Drop)]
+struct Witness<'m> {
+    message: &'m [u8],
+    most: usize,
+    taken: usize,
+    /// Where the last event ended.
+    end: usize,
+    /// Whether each event began where the last one ended, and each string stood before its end.
+    in_place: bool,
+}
+
+impl<'m> Witness<'m> {
+    /// Takes at most `most` events of this message.
+    fn new(message: &'m [u8], most: usize) -> Self {
+        Witness {
+            message,
+            most,
+            taken: 0,
+            end: 0,
+            in_place: true,
+        }
+    }
+
+    /// Whether these bytes stand right before this place.
+    fn has_before(&self, string: &[u8], end: usize) -> bool {
+        match self.message.get(end.saturating_sub(string.len())..end) {
+            Some(bytes) => bytes == string,
+            None => false,
+        }
+    }
+
+    /// Whether the event stands at this place.
+    fn is_at(&self, event: Event<'_>, place: Place) -> bool {
+        let stands = match event {
+            Event::Bytes(string) => self.has_before(string, place.end),
+            Event::Text(string) | Event::Key(string) => {
+                self.has_before(string.as_bytes(), place.end)
+            }
+            Event::Close => place.start == place.end,
+            _ => place.start < place.end,
+        };
+        stands && (self.taken == 0 || place.start == self.end)
+    }
+}
+
+impl Builder for Witness<'_> {
+    ghost takes = { λ _ _ _. Unit {0} };
+
+    ghost stops = { true };
+
+    ghost asks = { true };
+
+    ghost bytes = { true };
+
+    fn wants_bytes(&self) -> bool {
+        true
+    }
+
+    fn take(&mut self, event: Event<'_>, place: Place) -> Result<(), Stop> {
+        if self.taken >= self.most {
+            return Err(Stop::Asked);
+        }
+        self.in_place = self.in_place && self.is_at(event, place);
+        self.taken = self.taken.saturating_add(1);
+        self.end = place.end;
+        Ok(())
+    }
+
+    fn bytes_passed(&mut self, _len: usize, _place: Place) -> Result<(), Stop> {
+        Ok(())
+    }
+}
+
+/// Any number of events.
+const ALL: usize = usize::MAX;
+
+/// What the headers of messages of one digit's length tell, where the body has so many bytes.
+fn short_header(len: usize) -> Header {
+    Header {
+        capabilities: 0,
+        start: 8,
+        len,
+    }
+}
+
+/// Checks that so many events of a message are told, each in its place, and the last before the
+/// message's end.
+fn check_told(rt: &impl Abort, alloc: Global, message: &[u8], events: usize) {
+    let mut witness = Witness::new(message, ALL);
+    let answer = from_slice(alloc, Limits::new(), message, &mut witness);
+    let header = answer.expect(rt, "the message is told");
+    assert_eq!(rt; header.message_length(), message.len());
+    assert_eq!(rt; witness.taken, events);
+    assert_eq!(rt; witness.end, message.len());
+    assert!(rt; witness.in_place);
+}
+
+#[test]
+fn each_event_is_told_in_its_place(rt: HostRuntime) {
+    check_told(&rt, rt.alloc(), VERSION, 4);
+    check_told(&rt, rt.alloc(), ROWS, 12);
+}
+
+/// Checks how an error is printed.
+fn check_error<T: Drop>(
+    rt: &impl Abort,
+    alloc: Global,
+    answer: Result<T, Untold>,
+    expected: &str,
+) -> Untold {
+    match answer {
+        Ok(_) => rt.abort(),
+        Err(error) => {
+            let printed = format!(in alloc; "{error}").expect(rt, "memory is left");
+            assert_eq!(rt; printed.as_str(), expected);
+            error
+        }
+    }
+}
+
+#[test]
+fn a_builder_that_wants_no_more_is_named(rt: HostRuntime) {
+    let alloc = rt.alloc();
+    let mut witness = Witness::new(ROWS, 2);
+    let answer = from_slice(alloc, Limits::new(), ROWS, &mut witness);
+    let error = check_error(&rt, alloc, answer, "stopped by the builder, at byte 27");
+    assert_eq!(rt; error.given, ROWS.len());
+    assert_eq!(rt; witness.taken, 2);
+}
+
+/// A reader that gives these bytes one by one.
+fn one_by_one(bytes: &[u8]) -> Watched<PlannedReader<'_>> {
+    Watched::new(PlannedReader::new(bytes, Plan::pieces(1)))
+}
+
+/// Tells the reader's next message, to a builder that takes at most `most` events.
+fn tell_next<S: Source>(
+    alloc: Global,
+    limits: Limits,
+    reader: &mut S,
+    most: usize,
+) -> Result<Option<Header>, Untold>
+    requires { limits.levels ≤ 1024 }
+{
+    next_message(alloc, limits, reader, &mut Witness::new(b"", most))
+}
+
+/// Checks that the next message is told, and what its header tells.
+fn check_next<S: Source>(rt: &impl Abort, alloc: Global, reader: &mut S, expected: Option<Header>) {
+    let answer = tell_next(alloc, Limits::new(), reader, ALL);
+    assert!(rt; answer.expect(rt, "the message is told") == expected);
+}
+
+#[test]
+fn the_messages_of_a_reader_are_told_in_turn(rt: HostRuntime) {
+    let mut reader = one_by_one(NUMBERS);
+    check_next(&rt, rt.alloc(), &mut reader, Some(short_header(5)));
+    check_next(&rt, rt.alloc(), &mut reader, Some(short_header(3)));
+    check_next(&rt, rt.alloc(), &mut reader, None);
+}
+
+/// Checks how the first message fails, and that the reader is at the next one then.
+fn check_skipped(
+    rt: &impl Abort,
+    alloc: Global,
+    bytes: &[u8],
+    limits: Limits,
+    expected: &str,
+    next: Header,
+)
+    requires { limits.levels ≤ 1024 }
+{
+    let mut reader = one_by_one(bytes);
+    let error = check_error(
+        rt,
+        alloc,
+        tell_next(alloc, limits, &mut reader, 0),
+        expected,
+    );
+    assert!(rt;
+        error
+            .skip_rest(alloc, &mut reader)
+            .expect(rt, "the reader gives all")
+    );
+    check_next(rt, alloc, &mut reader, Some(next));
+}
+
+#[test]
+fn a_message_is_passed_over_after_its_error(rt: HostRuntime) {
+    let stopped = "stopped by the builder, at byte 10";
+    check_skipped(&rt, rt.alloc(), MIXED, FIVE, stopped, short_header(3));
+    let long = "5 bytes announced, and at most 4 are taken, at byte 8";
+    let four = Limits {
+        levels: 128,
+        bytes: 4,
+    };
+    check_skipped(&rt, rt.alloc(), NUMBERS, four, long, short_header(3));
+}
+
+#[test]
+fn a_message_that_is_cut_has_no_rest(rt: HostRuntime) {
+    let mut reader = one_by_one(&MIXED[..9]);
+    let answer = tell_next(rt.alloc(), Limits::new(), &mut reader, ALL);
+    let error = check_error(&rt, rt.alloc(), answer, "end of input, at byte 9");
+    assert!(rt; error.skip_rest(rt.alloc(), &mut reader).is_err());
+}
