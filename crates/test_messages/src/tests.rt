@@ -3,6 +3,7 @@ mod compact;
 mod memory;
 mod promises;
 mod rewriting;
+mod sizes;
 mod streams;
 
 use serde_bser::errors::Result;
