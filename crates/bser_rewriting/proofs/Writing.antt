@@ -45,7 +45,7 @@ on_ok (Err e) f h = h
 -- a document was read, and its message written
 pub document_rewritten : {R W A : Type 0} (source : Gives R) (sink : Tells W) (old new : R) (before after : W) (d : Document) (r : Result A Error) → TookMessage 128 reads_value HoldsDocument (source.remaining old) (source.remaining new) d → source.failures new ≡ source.failures old → OnOk r (Wrote sink (Ok (value_of d)) before after) → OnOk r (Rewrote canonical source sink old new before after)
 document_rewritten source sink old new before after d r read kept h =
-    on_ok r (λ w. record { tree = value_of d; read = took_document (source.remaining old) (source.remaining new) d read; kept = kept; written = w.0; short = w.1.0 }) h
+    on_ok r (λ w. record { tree = value_of d; read = took_document (source.remaining old) (source.remaining new) d read; kept = kept; written = w.0; short = w.1 }) h
 
 pub writing_refused : {R W A : Type 0} (form : Tree → Tree) (source : Gives R) (sink : Tells W) (old new : R) (before after : W) (u : Tree) (r : Result A Error) → TookMessage 128 reads_value IsReadAs (source.remaining old) (source.remaining new) u → source.failures new ≡ source.failures old → IfErr r (Missed sink (Ok (form u)) before after) → IfErr r (RefusesRewriting form source sink old new before after)
 writing_refused form source sink old new before after u r read kept h =

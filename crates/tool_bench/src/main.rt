@@ -12,7 +12,8 @@
 //! there are and the sum of their fields. `document` and `document-reader` read a `Document` and
 //! print how many files it has; `document-lookup` looks up two numbers of each file as well, and
 //! prints their sum; `document-write` writes one to memory. `canon` reads a message from a reader and
-//! writes its canonical message, as `bser_canon` does. `skip` keeps nothing. The operations on a `reader` read from a reader over the
+//! writes its canonical message, as `bser_canon` does. `skip` keeps nothing. `size` adds up what the message
+//! stands for, and prints it. The operations on a `reader` read from a reader over the
 //! bytes, the others from the bytes themselves.
 #![tactic(auto)]
 
@@ -24,7 +25,7 @@ use crate::rows::{Bytes, Files};
 use anyhow::{Context, Result, bail};
 use bser_rewriting::engine::canon;
 use serde_bser::bytestring::ByteString;
-use serde_bser::de::{Deserialize, DeserializeOwned, Ignored};
+use serde_bser::de::{Deserialize, DeserializeOwned, Ignored, Size};
 use serde_bser::device::Watched;
 use serde_bser::document::{Document, Item, Rows};
 use serde_bser::ser::{InMemory, serialize, serialize_compact, to_vec};
@@ -40,7 +41,7 @@ const FEW: usize = 3;
 const MANY: usize = 500;
 
 /// What is done.
-const OPERATIONS: [&str; 14] = [
+const OPERATIONS: [&str; 15] = [
     "serialize",
     "to-vec",
     "serialize-compact",
@@ -55,6 +56,7 @@ const OPERATIONS: [&str; 14] = [
     "document-write",
     "canon",
     "skip",
+    "size",
 ];
 
 fn main(rt: HostRuntime) -> Result<()> {
@@ -114,6 +116,7 @@ fn repeated(alloc: Global, operation: &str, message: &[u8], count: u32) -> Resul
         "document-write" => document_written_often(alloc, message, count),
         "canon" => rewritten_often(alloc, message, count),
         "skip" => skip_told(alloc, read_often(alloc, message, count)),
+        "size" => size_told(alloc, read_often(alloc, message, count)),
         _ => bail!("unknown operation {operation}"),
     }
 }
@@ -280,6 +283,13 @@ fn number_of(field: Option<Item<'_>>) -> i64 {
 fn skip_told(alloc: Global, skipped: Result<Ignored>) -> Result<String> {
     let _skipped = skipped?;
     Ok(String::from_str(alloc, "skipped")?)
+}
+
+fn size_told(alloc: Global, size: Result<Size>) -> Result<String> {
+    let size = size?;
+    let (values, keys, depth) = (size.values, size.key_bytes, size.depth);
+    let line = format!(in alloc; "{values} values, {keys} bytes of keys, {depth} levels")?;
+    Ok(line)
 }
 
 fn bytes_told(alloc: Global, bytes: &[u8]) -> Result<String> {
