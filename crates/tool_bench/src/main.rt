@@ -7,14 +7,14 @@
 //!
 //! `serialize` writes a `Value` to memory, `to-vec` does so without measuring it first,
 //! `serialize-compact` does so in the compact form, and `value` and `value-reader` read one; they
-//! print the length and a checksum of its message.
-//! `typed-lent`, `typed-owned` and `typed-reader` read the files as structs, and print how many
-//! there are and the sum of their fields. `document` and `document-reader` read a `Document` and
-//! print how many files it has; `document-lookup` looks up two numbers of each file as well, and
-//! prints their sum; `document-write` writes one to memory. `canon` reads a message from a reader and
-//! writes its canonical message, as `bser_canon` does. `skip` keeps nothing. `size` adds up what the message
-//! stands for, and prints it. The operations on a `reader` read from a reader over the
-//! bytes, the others from the bytes themselves.
+//! print the length and a checksum of its message. `typed-lent`, `typed-owned` and `typed-reader`
+//! read the files as structs, and print how many there are and the sum of their fields. `document`
+//! and `document-reader` read a `Document` and print how many files it has; `document-lookup` looks
+//! up two numbers of each file as well, and prints their sum; `document-write` writes one to
+//! memory. `canon` reads a message from a reader and writes its canonical message, as `bser_canon`
+//! does. `skip` keeps nothing. `size` adds up what the message stands for, and prints it. The
+//! operations on a `reader`, and `canon`, read from a reader over the bytes, the others from the
+//! bytes themselves.
 #![tactic(auto)]
 
 mod files;
