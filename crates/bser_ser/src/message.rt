@@ -27,12 +27,13 @@ const FIRST_ROOM: usize = 128;
 /// Writes one message with the value as its body, to a borrowed writer.
 ///
 /// The value is gone through twice: once to measure its body, and once to write it; the body is not
-/// kept. In between the writer is told how long the message is. Where measuring fails, the writer has taken nothing. Then the value has no tree, and the
-/// error is the one that its type's `meaning` gives, as `SerU64TooBig` for a `u64` above
-/// `i64::MAX`; its body is longer than `i64::MAX` bytes (`SerCustom` `CountTooGreat`); or memory
-/// runs out (`OutOfMemory`). Writing itself fails with the writer's own error (`Io`), of kind
-/// `WriteZero` where it took nothing, or with `OutOfMemory`; the writer has then taken a beginning
-/// of the message. It counts a failure only for an `Io`.
+/// kept. In between the writer is told how long the message is. Where measuring fails, the writer
+/// has taken nothing. Then the value has no tree, and the error is the one that its type's
+/// `meaning` gives, as `SerU64TooBig` for a `u64` above `i64::MAX`; its body is longer than
+/// `i64::MAX` bytes (`SerCustom` `CountTooGreat`); or memory runs out (`OutOfMemory`). Writing
+/// itself fails with the writer's own error (`Io`), of kind `WriteZero` where it took nothing, or
+/// with `OutOfMemory`; the writer has then taken a beginning of the message. It counts a failure
+/// only for an `Io`.
 pub fn serialize_to<W: Sink, T: Serialize>(alloc: Global, writer: &mut W, value: &T) -> Result<()>
     ensures ok { OnOk result (Wrote W.Sink (T.meaning value.now) writer.old writer.new) }
     ensures err { IfErr result (Missed W.Sink (T.meaning value.now) writer.old writer.new) }

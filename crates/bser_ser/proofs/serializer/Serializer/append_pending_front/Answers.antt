@@ -1,4 +1,4 @@
-use Rattle.std.proofs.Common.{rules, ◌≡◌, ◌+◌, ◌≤◌, ◌++◌, length, take, arith, refl, ap, ◌∙◌, length-append}
+use Rattle.std.proofs.Common.{rules, ◌≡◌, ◌+◌, ◌≤◌, ◌++◌, length, take, arith, refl, ◌∙◌, length-append}
 use Rattle.std.proofs.Math.Seq.{take-append-add}
 use Rattle.bser_ser.specs.declared.serializer.TheConstants.{MOST_PENDING}
 use Rattle.bser_ser.proofs.Sends.{Sent-more}
