@@ -16,11 +16,11 @@ use std::alloc::Global;
 /// value. What follows the message is left in the reader. The memory that it takes is linear in the
 /// length of the message that is read, since no `Value` is made.
 ///
-/// Answers `Ok` exactly where a front of the bytes left is such a message, want of memory, faults
-/// that the reader or the writer counted and a body above `i64::MAX` bytes aside; neither counts a
-/// failure then. Where reading is refused, nothing is written; where writing is refused, the reader
-/// counted no failure, and the writer took a beginning of the message, or nothing where its body
-/// could not be measured.
+/// Answers `Ok` exactly where the bytes left begin with such a message, but for out of memory, I/O
+/// errors that the reader or the writer counted, and a body above `i64::MAX` bytes; neither counts a
+/// failure then. Where reading fails, nothing is written. Where writing fails, the reader counted no
+/// failure, and the writer took a beginning of the message, or nothing where its body could not be
+/// measured.
 #[tactic(auto, using(crate::proofs::Writing::writing_refused, crate::proofs::Writing::took_document))]
 pub fn canon<R: Source, W: Sink>(alloc: Global, reader: &mut R, writer: &mut W) -> Result<()>
     ensures ok { OnOk result
