@@ -9,3 +9,4 @@ pub mod Values
 pub mod Fixed
 pub mod Counted
 pub mod Heads
+pub mod Announced

@@ -90,6 +90,14 @@ impl<R: DeRead> Bunser<R> {
         i64::try_from(self.read.read_count()).unwrap_or(i64::MAX)
     }
 
+    /// How many bytes were taken. Bytes that are only buffered are not counted.
+    #[inline(always)]
+    pub fn taken(&self) -> usize
+        ensures { result ≡ self.now.window.count }
+    {
+        self.read.read_count()
+    }
+
     /// Takes the last error, or [`ReadCause::Failed`] where none is kept.
     ///
     /// It belongs after an answer of [`Refused`].

@@ -1,5 +1,5 @@
 -- Whatever is due is read and told: values, fields and keys.
-use Rattle.std.proofs.Common.{◌≡◌, ◌⊎◌, inl, inr, ℕ, zero, suc, ◌≤◌, Bool, true, false, cond, List, [], ◌∷◌, ◌++◌, length, get_or, Option, Some, None, refl, sym, ap, subst, ◌∙◌, append-nil, length-append, arith, IsUtf8}
+use Rattle.std.proofs.Common.{◌≡◌, ◌⊎◌, inl, inr, ℕ, zero, suc, ◌-◌, ◌≤◌, ◌^◌, min, Bool, true, false, cond, List, [], ◌∷◌, ◌++◌, length, get_or, Option, Some, None, refl, sym, ap, subst, ◌∙◌, append-nil, length-append, arith, IsUtf8}
 use Rattle.std.specs.Str.{is_utf8}
 use Rattle.std.proofs.lemmas.Bool.{ne_eqb}
 use Rattle.std.proofs.lemmas.Str.{is_utf8-from_IsUtf8, IsUtf8-from_is_utf8}
@@ -27,7 +27,8 @@ use Rattle.bser_bunser.specs.Refusal.{Fails}
 use Rattle.bser_events.specs.Events as events
 use Rattle.bser_events.specs.Events.{Event, TakesAll}
 use Rattle.bser_events.specs.Found as found
-use Rattle.bser_events.proofs.Takings.{takes_one}
+use Rattle.bser_events.specs.Places.{Placed, reading_at}
+use Rattle.bser_events.proofs.Takings.{takes_one, takes_anywhere}
 use Rattle.bser_deserializer.specs.declared.due.Due as code
 use Rattle.bser_deserializer.specs.declared.due.Due.TheVariants as due
 use Rattle.bser_deserializer.specs.Dues.{due_of, name_at}
@@ -97,6 +98,12 @@ value_field takes n a b c before after filled v = record {
   took = took_grown a b c 1 v.text filled.grown (spelled_some n v.tree v.text v.spelled) v.took;
   told = v.told;
 }
+
+-- the same field, where buffering a byte moved nothing
+pub field_from : {B : Type 0} (takes : ℕ × B → Event → ℕ × B → Type 0) (n : ℕ) (a b c : Window) (before : B) (after : ℕ × B)
+    → Filled 1 a b → TookField takes n (reading_at b, before) after a c → TookField takes n (reading_at a, before) after a c
+field_from takes n a b c before after filled f =
+    subst (λ k. TookField takes n (min k (2 ^ 64 - 1), before) after a c) filled.grown.count f
 
 -- a skip
 pub skipped_field : {B : Type 0} (takes : B → Event → B → Type 0) (n : ℕ) (held : List ℕ) (a b c d : Window) (before after : B)
@@ -265,3 +272,18 @@ any_bytes_key held takes s m z v t before after is a same bad end told =
       state = a.state;
       told = takes_one takes before after (events.bytes t) told;
     })
+
+-- ---- builders that do not look at places
+
+pub any_told : {B : Type 0} (takes : B → Event → B → Type 0) (before after : ℕ × B) (s z : State) → TookAny (Placed (λ x e p y. takes x e y)) before after s z → TookAny takes before.1 after.1 s z
+any_told takes before after s z k = record {
+  tree = k.tree;
+  text = k.text;
+  filled = k.filled;
+  spelled = k.spelled;
+  rows = k.rows;
+  keys = k.keys;
+  took = k.took;
+  state = k.state;
+  told = takes_anywhere takes before after (events.events k.tree) k.told;
+}

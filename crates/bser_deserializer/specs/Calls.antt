@@ -16,8 +16,10 @@ use Rattle.bser_source.specs.Window.{Window}
 use Rattle.bser_bunser.specs.Names.{Names}
 use Rattle.bser_bunser.specs.Refusal.{Fails}
 use Rattle.bser_events.specs.Events.{Event}
+use Rattle.bser_events.specs.Places.{Placed, reading_at}
+use Rattle.bser_events.specs.declared.event.Place.{Place}
 use Rattle.bser_deserializer.specs.Access.{OpensItems, OpensPairs, RefusesItems, RefusesPairs, KeysOutside, IsItemsHead, after_closing}
-use Rattle.bser_deserializer.specs.Any.{TookAny, TookValue, TookField}
+use Rattle.bser_deserializer.specs.Any.{TookAny, TookValue, TookField, TellsName}
 use Rattle.bser_deserializer.specs.Askings.{asking_bytes, asking_ignored, asking_integer}
 use Rattle.bser_deserializer.specs.Holds.{HoldsNumber}
 use Rattle.bser_deserializer.specs.HoldsTexts.{HoldsBytes}
@@ -158,28 +160,33 @@ KeysGivenBack h old new = (k : ℕ) → KeysOutside (wanted_items old.state.keys
 
 -- ---- whatever is expected
 
--- what was expected was taken and reported
-abbrev pub AnyTold : {B : Type 0} → (B → Event → B → Type 0) → B → B → Seen → Seen → Type 0
-AnyTold takes before after old new = TookAny takes before after old.state new.state
+-- what was expected was taken and reported, its places in order from where reading was to where it is
+abbrev pub AnyTold : {B : Type 0} → (B → Event → Place → B → Type 0) → B → B → Seen → Seen → Type 0
+AnyTold takes before after old new = TookAny (Placed takes) (reading_at old.state.source, before) (reading_at new.state.source, after) old.state new.state
 
 -- the key that was expected was taken and reported
-abbrev pub KeyTold : {B : Type 0} → (B → Event → B → Type 0) → B → B → Seen → Seen → Type 0
+abbrev pub KeyTold : {B : Type 0} → (B → Event → Place → B → Type 0) → B → B → Seen → Seen → Type 0
 KeyTold = AnyTold
 
 -- a row was taken as if it was expected, and reported
-abbrev pub RowTold : {B : Type 0} → (B → Event → B → Type 0) → B → B → Seen → Seen → Type 0
+abbrev pub RowTold : {B : Type 0} → (B → Event → Place → B → Type 0) → B → B → Seen → Seen → Type 0
 RowTold takes before after old new =
-    TookAny takes before after (awaiting (row_due old.state.keys) old.state) new.state
+    TookAny (Placed takes) (reading_at old.state.source, before) (reading_at new.state.source, after) (awaiting (row_due old.state.keys) old.state) new.state
 
 -- a value was taken and reported
-abbrev pub ValueTold : {B : Type 0} → (B → Event → B → Type 0) → B → B → Seen → Seen → Type 0
+abbrev pub ValueTold : {B : Type 0} → (B → Event → Place → B → Type 0) → B → B → Seen → Seen → Type 0
 ValueTold takes before after old new =
-    TookValue takes old.state.levels before after old.state.source new.state.source
+    TookValue (Placed takes) old.state.levels (reading_at old.state.source, before) (reading_at new.state.source, after) old.state.source new.state.source
 
 -- a row's field was taken and reported
-abbrev pub FieldTold : {B : Type 0} → (B → Event → B → Type 0) → B → B → Seen → Seen → Type 0
+abbrev pub FieldTold : {B : Type 0} → (B → Event → Place → B → Type 0) → B → B → Seen → Seen → Type 0
 FieldTold takes before after old new =
-    TookField takes old.state.levels before after old.state.source new.state.source
+    TookField (Placed takes) old.state.levels (reading_at old.state.source, before) (reading_at new.state.source, after) old.state.source new.state.source
+
+-- the key at this place of a row's keys was reported
+abbrev pub NameTold : {B : Type 0} → (B → Event → Place → B → Type 0) → ℕ → B → B → Seen → Seen → Type 0
+NameTold takes place before after old new =
+    TellsName (Placed takes) place old.state.keys (reading_at old.state.source, before) (reading_at new.state.source, after)
 
 -- what is expected, whatever it is, gives the first error
 abbrev pub RefusesAny : Seen → Seen → Type 0

@@ -1,8 +1,9 @@
 //! Reading what is expected, whatever it is, reported to a builder.
-ghost use Rattle.std.specs.Prelude.{◌≡◌, ◌<◌, length, OnOk, OnErr};
+ghost use Rattle.std.specs.Prelude.{◌≡◌, ◌≤◌, ◌<◌, length, OnOk, OnErr};
 ghost use Rattle.bser_events.specs.Told.{told};
-ghost use Rattle.bser_deserializer.specs.Any.{TellsName, IsKeyDue};
-ghost use Rattle.bser_deserializer.specs.Calls.{Keeps, HasFailed, TookDue, AnyTold, KeyTold, RowTold, ValueTold, FieldTold, RefusesAny, RefusesRow, NamesValue, NamesField};
+ghost use Rattle.bser_events.specs.Places.{Placed, reading_at};
+ghost use Rattle.bser_deserializer.specs.Any.{IsKeyDue};
+ghost use Rattle.bser_deserializer.specs.Calls.{Keeps, HasFailed, TookDue, AnyTold, KeyTold, NameTold, RowTold, ValueTold, FieldTold, RefusesAny, RefusesRow, NamesValue, NamesField};
 ghost use Rattle.bser_deserializer.specs.State.{refused};
 
 use crate::cursor::Cursor;
@@ -48,7 +49,9 @@ impl<R: DeRead> Deserializer<R> {
     /// Tells the builder an event, which began at `start` and ends where reading is.
     #[inline(always)]
     fn tell<B: Builder>(&mut self, builder: &mut B, event: Event<'_>, start: usize) -> Answer<()>
-        ensures ok { OnOk result (B.takes builder.old (told event.entry) builder.new) }
+        requires begun { start ≤ reading_at self.old.state.source }
+        ensures ok { OnOk result (Placed B.takes (start, builder.old) (told event.entry)
+            (reading_at self.new.state.source, builder.new)) }
         ensures same { OnOk result (self.new.state ≡ self.old.state) }
         ensures kept { OnOk result (Keeps self.old self.new) }
         ensures reason { OnErr result (self.new.refusal ≡ Error.OutOfMemory) }
@@ -130,8 +133,8 @@ impl<R: DeRead> Deserializer<R> {
     #[inline(always)]
     fn tell_name<B: Builder>(&mut self, place: usize, builder: &mut B) -> Answer<()>
         requires { place < length self.old.state.keys }
-        ensures ok { OnOk result (TellsName B.takes place
-            self.old.state.keys builder.old builder.new) }
+        ensures ok { OnOk result
+            (NameTold B.takes place builder.old builder.new self.old self.new) }
         ensures same { OnOk result (self.new.state ≡ self.old.state) }
         ensures kept { OnOk result (Keeps self.old self.new) }
         ensures reason { OnErr result (self.new.refusal ≡ Error.OutOfMemory) }

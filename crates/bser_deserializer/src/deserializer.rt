@@ -244,6 +244,14 @@ impl<R: DeRead> Deserializer<R> {
         self.info.start
     }
 
+    /// How many containers are open. A template that is read as an array of objects counts as that
+    /// array, and its row as an object.
+    pub fn opened(&self) -> usize
+        ensures { result ≡ self.now.state.opened }
+    {
+        self.opened
+    }
+
     /// Gives the byte source back, as far as it was read.
     #[inline(always)]
     pub fn into_inner(self) -> R

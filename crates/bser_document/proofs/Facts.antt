@@ -67,7 +67,7 @@ mutual
   rows_rows-prop no_rows = Unit-prop
   rows_rows-prop (row fs rs) = ×_prop (fields_rows-prop fs) (rows_rows-prop rs)
 
-  fields_rows-prop : (fs : Fields) → IsProp (FieldsHaveWholeRows fs)
+  pub fields_rows-prop : (fs : Fields) → IsProp (FieldsHaveWholeRows fs)
   fields_rows-prop no_fields = Unit-prop
   fields_rows-prop (skip fs) = fields_rows-prop fs
   fields_rows-prop (field t fs) = ×_prop (HasWholeRows-prop t) (fields_rows-prop fs)

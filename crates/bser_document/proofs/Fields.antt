@@ -149,9 +149,9 @@ first_fields_lie d n fs at h =
     front_lies d at (field_events (first_fields n fs)) e.0 (fields_ends (first_fields n fs) at) x.0
     (subst (Lies d at (field_events (first_fields n fs) ++ e.0)) x.1 (subst (λ l. Lies d at l (fields_ends fs at)) e.1 h))
 
-pub field_found : (r : Row) (place at : ℕ) → place < r.len → ((fs : Fields) → FieldsLie r.document.now fs r.at → length (fields fs) ≡ place → at ≡ r.at + length (fields_ends fs r.at)) → (ks : List (List ℕ)) (m : List Pair) → HoldsRow r ks m
-    → FindsItem (field_there place m) (Some (record { document = r.document; at = at; keys = None }))
-field_found r place at less step ks m h =
+pub field_found : (r : Row) (place at : ℕ) (keyed : ∥ Unit {0} ∥₁) → place < r.len → ((fs : Fields) → FieldsLie r.document.now fs r.at → length (fields fs) ≡ place → at ≡ r.at + length (fields_ends fs r.at)) → (ks : List (List ℕ)) (m : List Pair) → HoldsRow r ks m
+    → FindsItem (field_there place m) (Some (record { document = r.document; at = at; keys = None; row = keyed }))
+field_found r place at keyed less step ks m h =
     walk place r.at ks h.spelled m (omega (arith, less, long)) h.count h.lie h.value h.whole at
     (step (first_fields place h.spelled) (first_fields_lie d place h.spelled r.at h.lie) (first_count place h.spelled (omega (arith, less, long, count))))
   where
@@ -165,27 +165,27 @@ field_found r place at less step ks m h =
     count = h.count
 
     walk : (n from : ℕ) (ks : List (List ℕ)) (fs : Fields) (m : List Pair) → n < length ks → length (fields fs) ≡ length ks → FieldsLie d fs from → normal_entries (expand_fields ks fs) ≡ Some m → FieldsHaveWholeRows fs → (to : ℕ) → to ≡ from + length (fields_ends (first_fields n fs) from)
-        → FindsItem (field_there n m) (Some (record { document = r.document; at = to; keys = None }))
+        → FindsItem (field_there n m) (Some (record { document = r.document; at = to; keys = None; row = keyed }))
     walk n from [] fs m less count lie v w to is = absurd (omega (arith, less))
     walk n from (k ∷ ks) no_fields m less count lie v w to is = absurd (omega (arith, count))
     walk zero from (k ∷ ks) (skip fs) m less count lie v w to is =
         let here : to ≡ from = omega (arith, is) in
         next_read k (Some null) (normal_entries (expand_fields ks fs)) m v λ u l first later same.
-        subst (λ m. FindsItem (field_there 0 m) (Some (record { document = r.document; at = to; keys = None }))) same
+        subst (λ m. FindsItem (field_there 0 m) (Some (record { document = r.document; at = to; keys = None; row = keyed }))) same
         (record { part = skipped; lies = (refl, subst (FieldLies d None) (sym here) (skip_lies d from fs lie).0); value = first; whole = tt; texts = h.texts })
     walk zero from (k ∷ ks) (field t fs) m less count lie v w to is =
         let here : to ≡ from = omega (arith, is) in
         next_read k (normal (expand t)) (normal_entries (expand_fields ks fs)) m v λ u l first later same.
-        subst (λ m. FindsItem (field_there 0 m) (Some (record { document = r.document; at = to; keys = None }))) same
+        subst (λ m. FindsItem (field_there 0 m) (Some (record { document = r.document; at = to; keys = None; row = keyed }))) same
         (record { part = tree t; lies = (refl, subst (TreeLies d t) (sym here) (field_lies d from t fs lie).0); value = first; whole = w.0; texts = h.texts })
     walk (suc n) from (k ∷ ks) (skip fs) m less count lie v w to is =
         next_read k (Some null) (normal_entries (expand_fields ks fs)) m v λ u l first later same.
-        subst (λ m. FindsItem (field_there (suc n) m) (Some (record { document = r.document; at = to; keys = None }))) same
+        subst (λ m. FindsItem (field_there (suc n) m) (Some (record { document = r.document; at = to; keys = None; row = keyed }))) same
         (walk n (from + 1) ks fs l (omega (arith, less)) (omega (arith, count)) (skip_lies d from fs lie).1 later w to (omega (arith, is)))
     walk (suc n) from (k ∷ ks) (field t fs) m less count lie v w to is =
         let next : ℕ = from + length (tree_ends t from) in
         next_read k (normal (expand t)) (normal_entries (expand_fields ks fs)) m v λ u l first later same.
-        subst (λ m. FindsItem (field_there (suc n) m) (Some (record { document = r.document; at = to; keys = None }))) same
+        subst (λ m. FindsItem (field_there (suc n) m) (Some (record { document = r.document; at = to; keys = None; row = keyed }))) same
         (walk n next ks fs l (omega (arith, less)) (omega (arith, count)) (field_lies d from t fs lie).1 later w.1 to (omega (arith, is, length-append (tree_ends t from) (fields_ends (first_fields n fs) next))))
 
 -- the keys of a row are those of its template

@@ -1,5 +1,5 @@
 -- What the first node of a value says of it.
-use Rattle.std.proofs.Common.{◌≡◌, ◌≤◌, ◌<◌, ℕ, ◌+◌, List, [], ◌∷◌, ◌++◌, length, zero, suc, map, drop, get_or, Option, Some, None, refl, sym, ap, subst, ◌∙◌, arith, Bor, option_map}
+use Rattle.std.proofs.Common.{◌≡◌, ◌≤◌, ◌<◌, ℕ, ◌+◌, List, [], ◌∷◌, ◌++◌, length, zero, suc, map, drop, get_or, Option, Some, None, refl, sym, ap, subst, ◌∙◌, arith, Bor, option_map, true, false}
 use Rattle.std.specs.Prelude.{IsUtf8, MatchOption}
 use Rattle.std.specs.List.{AllByRecursion}
 use Rattle.std.proofs.lemmas.Option.{same_Some}
@@ -17,10 +17,11 @@ use Rattle.bser_document.specs.declared.document.Node.{Node}
 use Rattle.bser_document.specs.declared.document.Node.TheVariants as nodes
 use Rattle.bser_document.specs.declared.item.Item.{Item}
 use Rattle.bser_document.specs.declared.item.Keys.{Keys}
-use Rattle.bser_document.specs.DocumentView.{IsInside, Within, piece, event_of, end_of, HoldsDocument}
+use Rattle.bser_document.specs.declared.item.Kind.TheVariants as kinds
+use Rattle.bser_document.specs.DocumentView.{IsInside, Within, piece, event_of, HoldsDocument}
 use Rattle.bser_document.proofs.Ends.{whole_ends}
 use Rattle.bser_document.specs.Spans.{Lies, TreeLies, tree_ends}
-use Rattle.bser_document.specs.Holds.{Part, tree, skipped, row_of, part_value, HoldsItem, HasTexts, TellsFirst, IsNodeAt, IsPartNode, ShowsNode, first_event, part_event, event_tree, node_tree, emptied, kind_of, is_null, as_real_bits}
+use Rattle.bser_document.specs.Holds.{Part, tree, skipped, row_of, part_value, HoldsItem, IsPart, HasTexts, TellsFirst, IsNodeAt, IsPartNode, ShowsNode, first_event, part_event, event_tree, node_tree, emptied, kind_of, is_null, as_real_bits}
 use Rattle.bser_value.specs.Contents.{as_bool, as_i64, as_f64, as_bytes, as_str}
 
 abbrev pub Begins : Tree → Type 0
@@ -85,7 +86,7 @@ within_at s (x ∷ ns) (suc at) n h is less = within_at s ns at n h.1 is (omega 
 
 -- a node that was found
 pub found_at : (d : Document) (at : ℕ) (n : Node) → at < length d.nodes.items → ((z : Node) → n ≡ get_or d.nodes.items at z) → IsNodeAt d at n
-found_at d at n less is = (node_at d at n less is, λ h. within_at d.strings.items d.nodes.items at n h is less)
+found_at d at n less is = (node_at d at n less is, λ h. within_at d.strings.items d.nodes.items at n h is less, λ past. absurd (omega (arith, less, past)))
 
 -- the node of an item
 pub plain_first : (i : Item) (n : Node) → i.keys ≡ None → IsNodeAt i.document.now i.at n → IsPartNode i n
@@ -129,16 +130,28 @@ kind_of_emptied (array ts) = refl
 kind_of_emptied (object es) = refl
 kind_of_emptied (template ks rs) = refl
 
-pub is_null_emptied : (t : Tree) → is_null (emptied t) ≡ is_null t
-is_null_emptied null = refl
-is_null_emptied (boolean v) = refl
-is_null_emptied (integer v) = refl
-is_null_emptied (real v) = refl
-is_null_emptied (bytes s) = refl
-is_null_emptied (text s) = refl
-is_null_emptied (array ts) = refl
-is_null_emptied (object es) = refl
-is_null_emptied (template ks rs) = refl
+-- null is the only value of its kind
+pub null_kind : (u : Tree) → kind_of u ≡ kinds.Null → true ≡ is_null u
+null_kind null e = refl
+null_kind (boolean v) e = absurd cc
+null_kind (integer v) e = absurd cc
+null_kind (real v) e = absurd cc
+null_kind (bytes s) e = absurd cc
+null_kind (text s) e = absurd cc
+null_kind (array ts) e = absurd cc
+null_kind (object es) e = absurd cc
+null_kind (template ks rs) e = absurd cc
+
+pub other_kind : (u : Tree) → (kind_of u ≡ kinds.Null → ⊥) → false ≡ is_null u
+other_kind null never = absurd (never refl)
+other_kind (boolean v) never = refl
+other_kind (integer v) never = refl
+other_kind (real v) never = refl
+other_kind (bytes s) never = refl
+other_kind (text s) never = refl
+other_kind (array ts) never = refl
+other_kind (object es) never = refl
+other_kind (template ks rs) never = refl
 
 pub as_bool_emptied : (t : Tree) → as_bool (emptied t) ≡ as_bool t
 as_bool_emptied null = refl
@@ -270,20 +283,19 @@ text_there d n l a b r is same found u h =
 
 -- ---- the whole document
 
-pub root_holds : (i : Item) → i.at ≡ 0 → i.keys ≡ None → (u : Tree) → HoldsDocument i.document.now (value u) → HoldsItem i u
-root_holds i first none u h =
-    let d : Document = i.document.now in
+pub root_holds : (d : Document) (u : Tree) → HoldsDocument d (value u) → IsPart d None 0 u
+root_holds d u h =
     let whole : value u ≡ value h.read = h.same in
     let same : u ≡ h.read = cc in
     record {
       part = tree h.tree;
       lies = (
-        none,
+        refl,
         record {
           after = [];
-          here = ap (λ n. map (event_of d.strings.items) (drop n d.nodes.items)) first ∙ h.views.shows.same ∙ sym (append-nil (events h.tree));
+          here = h.views.shows.same ∙ sym (append-nil (events h.tree));
           behind = [];
-          ends = ap (λ n. map end_of (drop n d.nodes.items)) first ∙ h.views.ends ∙ whole_ends h.tree ∙ ap (tree_ends h.tree) (sym first) ∙ sym (append-nil (tree_ends h.tree i.at));
+          ends = h.views.ends ∙ whole_ends h.tree ∙ sym (append-nil (tree_ends h.tree 0));
         },
       );
       value = h.normal ∙ ap Some (sym same);

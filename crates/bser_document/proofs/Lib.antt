@@ -1,4 +1,6 @@
 mod Spelled
+pub mod Readings
+mod Places
 mod Facts
 pub mod Whole
 mod Kept
@@ -8,6 +10,7 @@ mod Holds
 mod Read
 mod Lies
 mod Walks
+mod Keyed
 mod Tells
 mod Looks
 mod Fields
@@ -21,3 +24,5 @@ mod Alike
 mod PutPairs
 mod Orders
 mod RowsPut
+mod Shown
+mod Messages

@@ -98,7 +98,7 @@ no_entry s r none [] h = tt
 no_entry s r none (p ∷ m) h = let e = pairs_left s (p ∷ m) h in absurd (omega (arith, e, none))
 
 -- an object's key, its value, and the entries behind it
-entry_lies : (d : Document) (at : ℕ) (k : List ℕ) (t : Tree) (es : trees.Entries) → EntriesLie d (entry k t es) at → (b : List Event) × Lies d at (told.key k ∷ b) (None ∷ tree_ends t (at + 1)) × TreeLies d t (at + 1) × EntriesLie d es (at + 1 + length (tree_ends t (at + 1)))
+pub entry_lies : (d : Document) (at : ℕ) (k : List ℕ) (t : Tree) (es : trees.Entries) → EntriesLie d (entry k t es) at → (b : List Event) × Lies d at (told.key k ∷ b) (None ∷ tree_ends t (at + 1)) × TreeLies d t (at + 1) × EntriesLie d es (at + 1 + length (tree_ends t (at + 1)))
 entry_lies d at k t es h =
     let xs : List (Option ℕ) = tree_ends t (at + 1) in
     let n : ℕ = at + length (None ∷ xs) in
@@ -109,15 +109,15 @@ entry_lies d at k t es h =
     let same : n ≡ at + 1 + length xs = omega arith in
     (events t, both, value, subst (EntriesLie d es) same rest)
 
-pub next_entry : (s : Entries) (name : Bor (List ℕ)) (at next left : ℕ) → s.key ≡ None → left ≡ s.left - 1 → (s.left ≡ 0 → ⊥) → IsKeyAt s.document.now s.at name.now → (s.at + 1 ≤ length s.document.now.nodes.items → at ≡ s.at + 1)
+pub next_entry : (s : Entries) (name : Bor (List ℕ)) (at next left : ℕ) (keyed : ∥ Unit {0} ∥₁) → s.key ≡ None → left ≡ s.left - 1 → (s.left ≡ 0 → ⊥) → IsKeyAt s.document.now s.at name.now → (s.at + 1 ≤ length s.document.now.nodes.items → at ≡ s.at + 1)
     → ((p : Option Tree) → FieldLies s.document.now p at → next ≡ at + length (field_ends p at)) → (m : List (List ℕ × Tree)) → HoldsEntries s m
-    → GivesEntry m (Some (record { key = name; value = record { document = s.document; at = at; keys = None } })) (record { document = s.document; at = next; left = left; key = s.key })
-next_entry s name at next left none less some key place step m h = of_pairs h.pairs h.lie h.count h.value h.whole
+    → GivesEntry m (Some (record { key = name; value = record { document = s.document; at = at; keys = None; row = keyed } })) (record { document = s.document; at = next; left = left; key = s.key })
+next_entry s name at next left keyed none less some key place step m h = of_pairs h.pairs h.lie h.count h.value h.whole
   where
     d : Document
     d = s.document.now
 
-    of_pairs : (p : Pairs) → PairsLie d s.key s.at p → s.left ≡ pairs_count p → pairs_value p ≡ Some m → PairsAreWhole p → GivesEntry m (Some (record { key = name; value = record { document = s.document; at = at; keys = None } })) (record { document = s.document; at = next; left = left; key = s.key })
+    of_pairs : (p : Pairs) → PairsLie d s.key s.at p → s.left ≡ pairs_count p → pairs_value p ≡ Some m → PairsAreWhole p → GivesEntry m (Some (record { key = name; value = record { document = s.document; at = at; keys = None; row = keyed } })) (record { document = s.document; at = next; left = left; key = s.key })
     of_pairs (pairs_of no_entries) l count v w = absurd (some count)
     of_pairs (pairs_of (entry k t es)) l count v w =
         let e = entry_lies d s.at k t es l.1 in
@@ -126,24 +126,24 @@ next_entry s name at next left none less some key place step m h = of_pairs h.pa
         let value : TreeLies d t at = subst (TreeLies d t) (sym to) e.2 in
         let behind : next ≡ s.at + 1 + length (tree_ends t (s.at + 1)) = step (Some t) value ∙ ap (λ n. n + length (tree_ends t n)) to in
         next_read k (normal (expand t)) (normal_entries (expand_entries es)) m v λ u rest first later same.
-        subst (λ m. GivesEntry m (Some (record { key = name; value = record { document = s.document; at = at; keys = None } })) (record { document = s.document; at = next; left = left; key = s.key })) same (
+        subst (λ m. GivesEntry m (Some (record { key = name; value = record { document = s.document; at = at; keys = None; row = keyed } })) (record { document = s.document; at = next; left = left; key = s.key })) same (
           key h.texts k e.0 (None ∷ tree_ends t (s.at + 1)) e.1,
           record { part = tree t; lies = (refl, value); value = first; whole = w.0; texts = h.texts },
           record { pairs = pairs_of es; lie = (l.0, subst (EntriesLie d es) (sym behind) e.3); count = omega (arith, less, count); value = later; whole = w.1; texts = h.texts },
         )
     of_pairs (fields_under ks fs) l count v w = let e : None ≡ Some l.key_at = sym none ∙ l.some in absurd cc
 
-pub next_field : (s : Entries) (place : ℕ) (name : Bor (List ℕ)) (key next left : ℕ) → s.key ≡ Some place → left ≡ s.left - 1 → (s.left ≡ 0 → ⊥) → IsKeyAt s.document.now place name.now → (place + 1 ≤ length s.document.now.nodes.items → key ≡ place + 1)
+pub next_field : (s : Entries) (place : ℕ) (name : Bor (List ℕ)) (key next left : ℕ) (keyed : ∥ Unit {0} ∥₁) → s.key ≡ Some place → left ≡ s.left - 1 → (s.left ≡ 0 → ⊥) → IsKeyAt s.document.now place name.now → (place + 1 ≤ length s.document.now.nodes.items → key ≡ place + 1)
     → ((p : Option Tree) → FieldLies s.document.now p s.at → next ≡ s.at + length (field_ends p s.at)) → (m : List (List ℕ × Tree)) → HoldsEntries s m
-    → GivesEntry m (Some (record { key = name; value = record { document = s.document; at = s.at; keys = None } })) (record { document = s.document; at = next; left = left; key = Some key })
-next_field s place name key next left there less some named to step m h = of_pairs h.pairs h.lie h.count h.value h.whole
+    → GivesEntry m (Some (record { key = name; value = record { document = s.document; at = s.at; keys = None; row = keyed } })) (record { document = s.document; at = next; left = left; key = Some key })
+next_field s place name key next left keyed there less some named to step m h = of_pairs h.pairs h.lie h.count h.value h.whole
   where
     d : Document
     d = s.document.now
 
     of_fields : (k : List ℕ) (ks : List (List ℕ)) (p : Option Tree) (fs : Fields) (o : Option Tree) (part : Part) → KeysLie d (k ∷ ks) place → PartLies d None s.at part → FieldLies d p s.at → FieldsLie d fs (s.at + length (field_ends p s.at)) → s.left ≡ suc (length ks) → length (fields fs) ≡ length ks
         → part_value part ≡ o → cond (is_utf8 k) (option_and_then (λ u. option_map (λ l. (k, u) ∷ l) (normal_entries (expand_fields ks fs))) o) None ≡ Some m → PartIsWhole part → PairsAreWhole (fields_under ks fs)
-        → GivesEntry m (Some (record { key = name; value = record { document = s.document; at = s.at; keys = None } })) (record { document = s.document; at = next; left = left; key = Some key })
+        → GivesEntry m (Some (record { key = name; value = record { document = s.document; at = s.at; keys = None; row = keyed } })) (record { document = s.document; at = next; left = left; key = Some key })
     of_fields k ks p fs o part keys here field' rest count full value v whole later' =
         let first : Lies d place (told.key k ∷ []) (None ∷ []) = front_lies d place (told.key k ∷ []) (key_events ks) (None ∷ []) (keys_ends ks (place + 1)) keys in
         let behind : KeysLie d ks (place + 1) = rest_lies d place (told.key k ∷ []) (key_events ks) (None ∷ []) (keys_ends ks (place + 1)) refl keys in
@@ -151,7 +151,7 @@ next_field s place name key next left there less some named to step m h = of_pai
         let on : key ≡ place + 1 = to (omega (arith, within)) in
         let after : next ≡ s.at + length (field_ends p s.at) = step p field' in
         next_read k o (normal_entries (expand_fields ks fs)) m v λ u l there' later same.
-        subst (λ m. GivesEntry m (Some (record { key = name; value = record { document = s.document; at = s.at; keys = None } })) (record { document = s.document; at = next; left = left; key = Some key })) same (
+        subst (λ m. GivesEntry m (Some (record { key = name; value = record { document = s.document; at = s.at; keys = None; row = keyed } })) (record { document = s.document; at = next; left = left; key = Some key })) same (
           named h.texts k [] (None ∷ []) first,
           record { part = part; lies = here; value = value ∙ there'; whole = whole; texts = h.texts },
           record {
@@ -164,7 +164,7 @@ next_field s place name key next left there less some named to step m h = of_pai
           },
         )
 
-    of_pairs : (p : Pairs) → PairsLie d s.key s.at p → s.left ≡ pairs_count p → pairs_value p ≡ Some m → PairsAreWhole p → GivesEntry m (Some (record { key = name; value = record { document = s.document; at = s.at; keys = None } })) (record { document = s.document; at = next; left = left; key = Some key })
+    of_pairs : (p : Pairs) → PairsLie d s.key s.at p → s.left ≡ pairs_count p → pairs_value p ≡ Some m → PairsAreWhole p → GivesEntry m (Some (record { key = name; value = record { document = s.document; at = s.at; keys = None; row = keyed } })) (record { document = s.document; at = next; left = left; key = Some key })
     of_pairs (pairs_of es) l count v w = let e : None ≡ Some place = sym l.0 ∙ there in absurd cc
     of_pairs (fields_under [] fs) l count v w = absurd (some count)
     of_pairs (fields_under (k ∷ ks) no_fields) l count v w = let full = l.count in absurd (omega (arith, full))

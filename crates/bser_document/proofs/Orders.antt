@@ -14,8 +14,9 @@ use Rattle.bser_events.specs.Events as told
 use Rattle.bser_document.specs.declared.document.Document.{Document}
 use Rattle.bser_document.specs.declared.rows.Rows.{Rows}
 use Rattle.bser_document.specs.declared.rows.Row.{Row}
-use Rattle.bser_document.specs.Holds.{HoldsItem, tree, skipped, field_ends}
-use Rattle.bser_document.specs.Order.{placed_from, last_places, shown, value_at, item_at, AreAt}
+use Rattle.bser_document.specs.Holds.{tree, skipped, field_ends}
+use Rattle.bser_document.specs.Order.{placed_from, last_places, shown, value_at, AreAt}
+use Rattle.bser_document.specs.Parts.{IsPart}
 use Rattle.bser_document.specs.Pairs.{IsKeyAt}
 use Rattle.bser_document.specs.Rows.{Pair, HoldsRow, HoldsRows}
 use Rattle.bser_document.specs.Spans.{FieldLies, FieldsLie, tree_ends, Lies}
@@ -132,7 +133,7 @@ none_noted r ks m places n none all h = record {
   same = refl;
 }
 
-placed_behind : (d : Bor Document) (done : List Pair) (places : List ℕ) (p : Pair) (at : ℕ) → AreAt d done places → HoldsItem (item_at d at) p.1 → AreAt d (done ++ p ∷ []) (places ++ at ∷ [])
+placed_behind : (d : Bor Document) (done : List Pair) (places : List ℕ) (p : Pair) (at : ℕ) → AreAt d done places → IsPart d.now None at p.1 → AreAt d (done ++ p ∷ []) (places ++ at ∷ [])
 placed_behind d [] [] p at h i = (i, tt)
 placed_behind d [] (x ∷ places) p at h i = absurd h
 placed_behind d (q ∷ done) [] p at h i = absurd h
@@ -142,7 +143,7 @@ pub one_noted : (d : Bor Document) (m : List Pair) (places after : List ℕ) (at
 one_noted d m places after at next n l less is step h =
     of_fields h.keys h.holds.spelled h.left h.holds.long h.holds.count h.holds.lie h.holds.value h.holds.whole h.same
   where
-    noted : (p : Pair) (ks : List (List ℕ)) (left : List Pair) → HoldsItem (item_at d at) p.1 → HoldsRow (record { document = d; at = next; len = l }) ks left → m ≡ h.done ++ p ∷ left → Noted d m after next l
+    noted : (p : Pair) (ks : List (List ℕ)) (left : List Pair) → IsPart d.now None at p.1 → HoldsRow (record { document = d; at = next; len = l }) ks left → m ≡ h.done ++ p ∷ left → Noted d m after next l
     noted p ks left item row same = record {
       done = h.done ++ p ∷ [];
       found = subst (AreAt d (h.done ++ p ∷ [])) (sym is) (placed_behind d h.done places p at h.found item);
@@ -179,11 +180,11 @@ all_noted d m places at n none h = of_keys h.keys h.left h.holds h.same
 
 -- ---- a field
 
-pub field_is : (d : Bor Document) (m : List Pair) (places : List ℕ) (n x : ℕ) → n < length places → x ≡ get_or places n x → AreAt d m places → HoldsItem (item_at d x) (value_at m n)
+pub field_is : (d : Bor Document) (m : List Pair) (places : List ℕ) (n x : ℕ) → n < length places → x ≡ get_or places n x → AreAt d m places → IsPart d.now None x (value_at m n)
 field_is d [] [] n x less is h = absurd (omega (arith, less))
 field_is d [] (y ∷ places) n x less is h = absurd h
 field_is d (p ∷ m) [] n x less is h = absurd h
-field_is d (p ∷ m) (y ∷ places) zero x less is h = subst (λ x. HoldsItem (item_at d x) p.1) (sym is) h.0
+field_is d (p ∷ m) (y ∷ places) zero x less is h = subst (λ x. IsPart d.now None x p.1) (sym is) h.0
 field_is d (p ∷ m) (y ∷ places) (suc n) x less is h = field_is d m places n x (omega (arith, less)) is h.1
 
 pub no_field_is : (d : Bor Document) (m : List Pair) (places : List ℕ) (n : ℕ) → length places ≤ n → AreAt d m places → value_at m n ≡ null

@@ -21,7 +21,7 @@ use Rattle.bser_document.proofs.Lengths.{value_long}
 use Rattle.bser_document.proofs.Kept.{all_taken, as_document}
 
 -- what a document keeps is its events
-kept_long : (n : ℕ) (d : Document) (t : Tree) (b : List ℕ) → ViewsDocument d (events t) → Spells n t b → length d.nodes.items + length d.strings.items ≤ length b
+pub kept_long : (n : ℕ) (d : Document) (t : Tree) (b : List ℕ) → ViewsDocument d (events t) → Spells n t b → length d.nodes.items + length d.strings.items ≤ length b
 kept_long n d t b v h = omega (arith, ap length v.shows.same, length-map d.nodes.items (event_of d.strings.items), v.shows.total, value_long n t b h)
 
 -- all that was told is a whole value

@@ -18,11 +18,11 @@ abbrev entry_members : Entries → List Member → List Member
 entry_members no_entries ms = ms
 entry_members (entry k t es) ms = a_key k ∷ a_value t ∷ entry_members es ms
 
-abbrev key_members : List (List ℕ) → List Member → List Member
+abbrev pub key_members : List (List ℕ) → List Member → List Member
 key_members [] ms = ms
 key_members (k ∷ ks) ms = a_key k ∷ key_members ks ms
 
-abbrev field_members : Fields → List Member → List Member
+abbrev pub field_members : Fields → List Member → List Member
 field_members no_fields ms = ms
 field_members (skip fs) ms = a_skip ∷ field_members fs ms
 field_members (field t fs) ms = a_value t ∷ field_members fs ms
@@ -45,7 +45,7 @@ keys_found : (ks : List (List ℕ)) (n : ℕ) (ms : List Member) → keys_among 
 keys_found [] n ms = refl
 keys_found (k ∷ ks) n ms = ap (λ l. k ∷ l) (keys_found ks n ms)
 
-fields_found : (fs : Fields) (ms : List Member) → fields_from (length (fields fs)) (field_members fs ms) ≡ fs
+pub fields_found : (fs : Fields) (ms : List Member) → fields_from (length (fields fs)) (field_members fs ms) ≡ fs
 fields_found no_fields ms = refl
 fields_found (skip fs) ms = ap skip (fields_found fs ms)
 fields_found (field t fs) ms = ap (field t) (fields_found fs ms)
@@ -70,23 +70,23 @@ rows_behind k n (j ∷ ks) ms = rows_behind k n ks ms
 
 -- ---- events
 
-back_append : (a b : List Event) (s : Frames) → tell_back (a ++ b) s ≡ tell_back a (tell_back b s)
+pub back_append : (a b : List Event) (s : Frames) → tell_back (a ++ b) s ≡ tell_back a (tell_back b s)
 back_append [] b s = refl
 back_append (e ∷ a) b s = ap (tell e) (back_append a b s)
 
-abbrev at : List Member → Frames → Frames
+abbrev pub at : List Member → Frames → Frames
 at ms s = record { inner = ms; around = s.around }
 
 -- inside one more container
 abbrev inside : Frames → Frames
 inside s = record { inner = []; around = s.inner ∷ s.around }
 
-keys_back : (ks : List (List ℕ)) (s : Frames) → tell_back (key_events ks) s ≡ at (key_members ks s.inner) s
+pub keys_back : (ks : List (List ℕ)) (s : Frames) → tell_back (key_events ks) s ≡ at (key_members ks s.inner) s
 keys_back [] s = refl
 keys_back (k ∷ ks) s = ap (before (a_key k)) (keys_back ks s)
 
 mutual
-  tree_back : (t : Tree) → HasWholeRows t → (s : Frames) → tell_back (events t) s ≡ before (a_value t) s
+  pub tree_back : (t : Tree) → HasWholeRows t → (s : Frames) → tell_back (events t) s ≡ before (a_value t) s
   tree_back null h s = refl
   tree_back (boolean v) h s = refl
   tree_back (integer v) h s = refl
@@ -125,7 +125,7 @@ mutual
   rows_back (row fs rs) h s =
       back_append (field_events fs) (row_events rs) s ∙ ap (tell_back (field_events fs)) (rows_back rs h.1 s) ∙ fields_back fs h.0 (at (row_members rs s.inner) s)
 
-  fields_back : (fs : Fields) → FieldsHaveWholeRows fs → (s : Frames) → tell_back (field_events fs) s ≡ at (field_members fs s.inner) s
+  pub fields_back : (fs : Fields) → FieldsHaveWholeRows fs → (s : Frames) → tell_back (field_events fs) s ≡ at (field_members fs s.inner) s
   fields_back no_fields h s = refl
   fields_back (skip fs) h s = ap (before a_skip) (fields_back fs h s)
   fields_back (field t fs) h s =

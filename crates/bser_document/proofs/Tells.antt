@@ -7,7 +7,9 @@ use Rattle.bser_format.specs.Tree.{Tree}
 use Rattle.bser_format.specs.Content.{Content, value}
 use Rattle.bser_format.specs.ValueTree.{IsValueTree}
 use Rattle.bser_events.specs.Events.{Event, events, TakesAll, none as no_more}
-use Rattle.bser_events.proofs.Takings.{takes_one, takes_then}
+use Rattle.bser_events.specs.Places.{Placed}
+use Rattle.bser_events.specs.declared.event.Place.{Place}
+use Rattle.bser_events.proofs.Takings.{takes_one, takes_then, takes_anywhere}
 use Rattle.bser_value.specs.declared.value.Value.{Value}
 use Rattle.bser_value.specs.declared.builder.ValueBuilder.{ValueBuilder}
 use Rattle.bser_value.specs.Made.{unread, read_as}
@@ -44,21 +46,31 @@ one_told takes d ms k z e before mid after same less' tells' taken front h =
     subst (λ l. TakesAll takes before l after) (sym (ap (map (event_of s)) (take_more ns k z less) ∙ map_push (event_of s) (take k ns) n ∙ ap (λ x. map (event_of s) (take k ns) ++ x ∷ []) (sym (tells w))))
     (takes_then takes before mid after (map (event_of s) (take k ns)) (e ∷ []) (front h) (takes_one takes mid after e taken))
 
-pub all_told : {B : Type 0} (takes : B → Event → B → Type 0) (d : Document) (k : ℕ) (before after : B) → length d.nodes.items ≤ k → FrontTold takes d k before after → Told takes d before after
+pub all_told : {B : Type 0} (takes : B → Event → Place → B → Type 0) (d : Document) (k : ℕ) (before after : B) → length d.nodes.items ≤ k → FrontTold (Placed takes) d k (0, before) (0, after) → Told takes d before after
 all_told takes d k before after past front t views =
-    subst (λ l. TakesAll takes before l after) (ap (map (event_of d.strings.items)) (take_all k d.nodes.items past) ∙ views.shows.same) (front views.shows.within)
+    subst (λ l. TakesAll (Placed takes) (0, before) l (0, after)) (ap (map (event_of d.strings.items)) (take_all k d.nodes.items past) ∙ views.shows.same) (front views.shows.within)
+
+-- an event at no place
+pub placed_nowhere : {B : Type 0} (takes : B → Event → Place → B → Type 0) (e : Event) (p : Place) (before after : B) → p.start ≡ 0 → p.end ≡ 0 → takes before e p after → Placed takes (0, before) e (0, after)
+placed_nowhere takes e p before after first last took = record {
+  place = p;
+  behind = omega (arith, first);
+  forwards = omega (arith, first, last);
+  end = sym last;
+  took = took;
+}
 
 -- the value is what the document holds
-pub value_made : (d : Document) (before after : ValueBuilder) (r : Option Value) → Shows before unread → Told Takes d before after → ((t : Tree) → Shows after (read_as t) → option_map tree_of r ≡ Some t) → (c : Content) (h : HoldsDocument d c) → option_map tree_of r ≡ Some h.read
+pub value_made : (d : Document) (before after : ValueBuilder) (r : Option Value) → Shows before unread → Told (λ x e p y. Takes x e y) d before after → ((t : Tree) → Shows after (read_as t) → option_map tree_of r ≡ Some t) → (c : Content) (h : HoldsDocument d c) → option_map tree_of r ≡ Some h.read
 value_made d before after r shows tells whole c h =
-    whole h.read (all_taken before (events h.tree) after (tells h.tree h.views) unread (read_as h.read) shows (made h.tree h.rows h.read unread h.normal))
+    whole h.read (all_taken before (events h.tree) after (takes_anywhere Takes (0, before) (0, after) (events h.tree) (tells h.tree h.views)) unread (read_as h.read) shows (made h.tree h.rows h.read unread h.normal))
 
-pub value_held : (d : Document) (before after : ValueBuilder) (r : Option Value) (v : Value) → r ≡ Some v → Shows before unread → Told Takes d before after → ((t : Tree) → Shows after (read_as t) → option_map tree_of r ≡ Some t) → (c : Content) → HoldsDocument d c → HoldsValue v c
+pub value_held : (d : Document) (before after : ValueBuilder) (r : Option Value) (v : Value) → r ≡ Some v → Shows before unread → Told (λ x e p y. Takes x e y) d before after → ((t : Tree) → Shows after (read_as t) → option_map tree_of r ≡ Some t) → (c : Content) → HoldsDocument d c → HoldsValue v c
 value_held d before after r v is shows tells whole c h =
     let same : tree_of v ≡ h.read = same_Some (tree_of v) h.read (ap (option_map tree_of) (sym is) ∙ value_made d before after r shows tells whole c h) in
     record { same = h.same ∙ ap value (sym same); tree = subst IsValueTree (sym same) h.values }
 
-pub value_some : (d : Document) (before after : ValueBuilder) (r : Option Value) → r ≡ None → Shows before unread → Told Takes d before after → ((t : Tree) → Shows after (read_as t) → option_map tree_of r ≡ Some t) → (c : Content) → HoldsDocument d c → ⊥
+pub value_some : (d : Document) (before after : ValueBuilder) (r : Option Value) → r ≡ None → Shows before unread → Told (λ x e p y. Takes x e y) d before after → ((t : Tree) → Shows after (read_as t) → option_map tree_of r ≡ Some t) → (c : Content) → HoldsDocument d c → ⊥
 value_some d before after r is shows tells whole c h =
     let e : option_map tree_of None ≡ Some h.read = ap (option_map tree_of) (sym is) ∙ value_made d before after r shows tells whole c h in
     cc

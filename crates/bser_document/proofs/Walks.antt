@@ -22,7 +22,8 @@ use Rattle.bser_document.specs.declared.items.Items.{Items}
 use Rattle.bser_document.specs.DocumentView.{event_of, end_of}
 use Rattle.bser_document.specs.Spans.{around, tree_ends, items_ends, entries_ends, keys_ends, rows_ends, fields_ends, Lies, TreeLies, ItemsLie, KeysLie, RowsLie, FieldsLie, FieldLies}
 use Rattle.bser_document.specs.Holds.{Part, tree, skipped, row_of, PartLies, RowLies, HoldsItem, HasTexts, IsNodeAt, IsPartNode, PartIsWhole, ShowsNode, first_event, part_event, part_value, node_tree, emptied, stepped, part_ends, field_ends}
-use Rattle.bser_document.specs.Walks.{Parts, items_of, rows_of, parts_value, parts_count, PartsLie, PartsAreWhole, HoldsItems, FindsItems, GivesItem, length_of, RowsBegin}
+use Rattle.bser_document.specs.Walks.{Parts, items_of, rows_of, parts_value, parts_count, PartsLie, PartsAreWhole, AreParts, HoldsItems, FindsItems, GivesItem, length_of, RowsBegin}
+use Rattle.bser_document.specs.Parts.{IsPart, IsRowIfKeyed, AreRowsIfKeyed}
 use Rattle.bser_document.proofs.Ends.{Adds, both_add, single, tree_adds, items_add, keys_add, rows_add, fields_add}
 use Rattle.bser_document.proofs.Holds.{first_lies}
 use Rattle.bser_document.proofs.Lies.{adds_length, front_lies, rest_lies, inner_lies, lies_within}
@@ -136,15 +137,20 @@ pub no_next : (s r : Items) → s.left ≡ 0 → (us : trees.Items) → HoldsIte
 no_next s r none no_items h = tt
 no_next s r none (item u us) h = let e = count_left s (item u us) h in absurd (omega (arith, e, none))
 
-pub next_is : (s : Items) (at left : ℕ) → left ≡ s.left - 1 → (s.left ≡ 0 → ⊥)
+-- the first part is this one, and the others begin behind it
+abbrev pub Gives : Document → Option Keys → ℕ → ℕ → ℕ → trees.Items → Type 0
+Gives d keys at next left no_items = ⊥
+Gives d keys at next left (item u us) = IsPart d keys at u × AreParts d keys next left us
+
+pub next_part : (s : Items) (at left : ℕ) → left ≡ s.left - 1 → (s.left ≡ 0 → ⊥)
     → ((p : Part) → PartLies s.document.now s.keys s.at p → at ≡ s.at + length (part_ends p s.at)) → (us : trees.Items) → HoldsItems s us
-    → GivesItem us (Some (record { document = s.document; at = s.at; keys = s.keys })) (record { document = s.document; at = at; left = left; keys = s.keys })
-next_is s at left less some step us h = of_parts h.parts h.lie h.count h.value h.whole
+    → Gives s.document.now s.keys s.at at left us
+next_part s at left less some step us h = of_parts h.parts h.lie h.count h.value h.whole
   where
     d : Document
     d = s.document.now
 
-    of_parts : (p : Parts) → PartsLie d s.keys s.at p → s.left ≡ parts_count p → parts_value p ≡ Some us → PartsAreWhole p → GivesItem us (Some (record { document = s.document; at = s.at; keys = s.keys })) (record { document = s.document; at = at; left = left; keys = s.keys })
+    of_parts : (p : Parts) → PartsLie d s.keys s.at p → s.left ≡ parts_count p → parts_value p ≡ Some us → PartsAreWhole p → Gives d s.keys s.at at left us
     of_parts (items_of no_items) l count v w = absurd (some count)
     of_parts (items_of (item t ts)) l count v w =
         let n : ℕ = s.at + length (tree_ends t s.at) in
@@ -152,7 +158,7 @@ next_is s at left less some step us h = of_parts h.parts h.lie h.count h.value h
         let rest : ItemsLie d ts n = rest_lies d s.at (events t) (item_events ts) (tree_ends t s.at) (items_ends ts n) (adds_length (events t) (tree_ends t) (tree_adds t) s.at) l.1 in
         let to : at ≡ n = step (tree t) (l.0, here) in
         then_some (λ u. option_map (item u) (normal_items (expand_items ts))) (normal (expand t)) us v λ u first f. map_some (item u) (normal_items (expand_items ts)) us f λ vs later same.
-        subst (λ us. GivesItem us (Some (record { document = s.document; at = s.at; keys = s.keys })) (record { document = s.document; at = at; left = left; keys = s.keys })) same (
+        subst (λ us. Gives d s.keys s.at at left us) same (
           record { part = tree t; lies = (l.0, here); value = first; whole = w.0; texts = h.texts },
           record { parts = items_of ts; lie = (l.0, subst (ItemsLie d ts) (sym to) rest); count = omega (arith, less, count); value = later; whole = w.1; texts = h.texts },
         )
@@ -164,10 +170,19 @@ next_is s at left less some step us h = of_parts h.parts h.lie h.count h.value h
         let lies : RowLies d s.keys s.at ks fs = record { keys_at = l.keys_at; some = l.some; shows = l.shows; count = l.count.0; lie = here } in
         let to : at ≡ n = step (row_of ks fs) lies in
         then_some (λ u. option_map (item u) (normal_items (expand_rows ks rs))) (normal (object (expand_fields ks fs))) us v λ u first f. map_some (item u) (normal_items (expand_rows ks rs)) us f λ vs later same.
-        subst (λ us. GivesItem us (Some (record { document = s.document; at = s.at; keys = s.keys })) (record { document = s.document; at = at; left = left; keys = s.keys })) same (
+        subst (λ us. Gives d s.keys s.at at left us) same (
           record { part = row_of ks fs; lies = lies; value = first; whole = w.0; texts = h.texts },
           record { parts = rows_of ks rs; lie = record { keys_at = l.keys_at; some = l.some; shows = l.shows; count = l.count.1; lie = subst (RowsLie d rs) (sym to) rest }; count = omega (arith, less, count); value = later; whole = w.1; texts = h.texts },
         )
+
+pub next_is : (s : Items) (at left : ℕ) (one : ∥ IsRowIfKeyed s.document.now s.keys s.at ∥₁) (others : ∥ AreRowsIfKeyed s.document.now s.keys at left ∥₁) → left ≡ s.left - 1 → (s.left ≡ 0 → ⊥)
+    → ((p : Part) → PartLies s.document.now s.keys s.at p → at ≡ s.at + length (part_ends p s.at)) → (us : trees.Items) → HoldsItems s us
+    → GivesItem us (Some (record { document = s.document; at = s.at; keys = s.keys; row = one })) (record { document = s.document; at = at; left = left; keys = s.keys; rows = others })
+next_is s at left one others less some step us h = given us (next_part s at left less some step us h)
+  where
+    given : (us : trees.Items) → Gives s.document.now s.keys s.at at left us → GivesItem us (Some (record { document = s.document; at = s.at; keys = s.keys; row = one })) (record { document = s.document; at = at; left = left; keys = s.keys; rows = others })
+    given no_items g = absurd g
+    given (item u us) g = g
 
 -- ---- the items of an array
 
@@ -224,7 +239,7 @@ no_array d n f g u h = no_array_inside u (ap as_array (sym h.same) ∙ no_array_
 
 -- the items of an array that is read
 array_holds : (i : Item) (ts us : trees.Items) (len at : ℕ) → len ≡ length (items ts) → (i.at + 1 ≤ length i.document.now.nodes.items → at ≡ i.at + 1) → i.keys ≡ None → TreeLies i.document.now (array ts) i.at → normal_items (expand_items ts) ≡ Some us
-    → PartsAreWhole (items_of ts) → HasTexts i.document.now → HoldsItems (record { document = i.document; at = at; left = len; keys = None }) us
+    → PartsAreWhole (items_of ts) → HasTexts i.document.now → AreParts i.document.now None at len us
 array_holds i ts us len at count place none h v whole texts =
     let d : Document = i.document.now in
     let w = lies_within d i.at (told.open_array (length (items ts))) (item_events ts ++ told.close ∷ []) (tree_ends (array ts) i.at) h in
@@ -232,20 +247,20 @@ array_holds i ts us len at count place none h v whole texts =
     let inner : ItemsLie d ts (i.at + 1) = inner_lies d i.at (told.open_array (length (items ts))) (item_events ts) (items_ends ts) (adds_length (item_events ts) (items_ends ts) (items_add ts) (i.at + 1)) h in
     record { parts = items_of ts; lie = (refl, subst (ItemsLie d ts) (sym to) inner); count = count; value = v; whole = whole; texts = texts }
 
-pub array_items : (i : Item) (n : Node) (len end at : ℕ) → n ≡ nodes.Array len end → IsPartNode i n → (i.at + 1 ≤ length i.document.now.nodes.items → at ≡ i.at + 1)
-    → (u : Tree) → HoldsItem i u → FindsItems (as_array u) (Some (record { document = i.document; at = at; left = len; keys = None }))
-array_items i n len end at is first place u h = of_part h.part h.lies h.value h.whole
+pub array_items : (i : Item) (n : Node) (len end at : ℕ) (keyed : ∥ Unit {0} ∥₁) → n ≡ nodes.Array len end → IsPartNode i n → (i.at + 1 ≤ length i.document.now.nodes.items → at ≡ i.at + 1)
+    → (u : Tree) → HoldsItem i u → FindsItems (as_array u) (Some (record { document = i.document; at = at; left = len; keys = None; rows = keyed }))
+array_items i n len end at keyed is first place u h = of_part h.part h.lies h.value h.whole
   where
     begins : (p : Part) → PartLies i.document.now i.keys i.at p → told.open_array len ≡ part_event p
     begins p l = ap (event_of i.document.now.strings.items) (sym is) ∙ first p l
 
-    of_part : (p : Part) → PartLies i.document.now i.keys i.at p → part_value p ≡ Some u → PartIsWhole p → FindsItems (as_array u) (Some (record { document = i.document; at = at; left = len; keys = None }))
+    of_part : (p : Part) → PartLies i.document.now i.keys i.at p → part_value p ≡ Some u → PartIsWhole p → FindsItems (as_array u) (Some (record { document = i.document; at = at; left = len; keys = None; rows = keyed }))
     of_part (tree t) l v w =
         let a = is_array t len (begins (tree t) l) in
         let here : TreeLies i.document.now (array a.0) i.at = subst (λ t. TreeLies i.document.now t i.at) a.1 l.1 in
         let whole : PartsAreWhole (items_of a.0) = subst HasWholeRows a.1 w in
         map_some array (normal_items (expand_items a.0)) u (ap (λ t. normal (expand t)) (sym a.1) ∙ v) λ us made same.
-        subst (λ u. FindsItems (as_array u) (Some (record { document = i.document; at = at; left = len; keys = None }))) same (array_holds i a.0 us len at a.2 place l.0 here made whole h.texts)
+        subst (λ u. FindsItems (as_array u) (Some (record { document = i.document; at = at; left = len; keys = None; rows = keyed }))) same (array_holds i a.0 us len at a.2 place l.0 here made whole h.texts)
     of_part skipped l v w = let e = begins skipped l in absurd cc
     of_part (row_of ks fs) l v w = let e = begins (row_of ks fs) l in absurd cc
 
@@ -291,25 +306,26 @@ all_rows [] rs h = subst (AllByRecursion (λ r. length r ≡ 0)) (sym h) tt
 all_rows (k ∷ ks) rs h = h
 
 -- what is inside a template: its keys, the count of its rows, and the rows
-abbrev template_inner : List (List ℕ) → Rows → List Event
+abbrev pub template_inner : List (List ℕ) → Rows → List Event
 template_inner ks rs = key_events ks ++ (told.open_rows (length (rows rs)) ∷ row_events rs)
 
-abbrev rows_inner : Rows → ℕ → List (Option ℕ)
+abbrev pub rows_inner : Rows → ℕ → List (Option ℕ)
 rows_inner rs n = None ∷ rows_ends rs (n + 1)
 
-abbrev inner_ends : List (List ℕ) → Rows → ℕ → List (Option ℕ)
+abbrev pub inner_ends : List (List ℕ) → Rows → ℕ → List (Option ℕ)
 inner_ends ks rs n = keys_ends ks n ++ rows_inner rs (n + length (keys_ends ks n))
 
-template_events : (ks : List (List ℕ)) (rs : Rows) → events (template ks rs) ≡ told.open_template (length ks) ∷ (template_inner ks rs ++ told.close ∷ [])
+pub template_events : (ks : List (List ℕ)) (rs : Rows) → events (template ks rs) ≡ told.open_template (length ks) ∷ (template_inner ks rs ++ told.close ∷ [])
 template_events ks rs = ap (λ l. told.open_template (length ks) ∷ l) (sym (append_assoc (key_events ks) (told.open_rows (length (rows rs)) ∷ row_events rs) (told.close ∷ [])))
 
-inner_adds : (ks : List (List ℕ)) (rs : Rows) → Adds (template_inner ks rs) (inner_ends ks rs)
+pub inner_adds : (ks : List (List ℕ)) (rs : Rows) → Adds (template_inner ks rs) (inner_ends ks rs)
 inner_adds ks rs =
     both_add (key_events ks) (told.open_rows (length (rows rs)) ∷ row_events rs) (keys_ends ks) (rows_inner rs) (keys_add ks)
     (both_add (told.open_rows (length (rows rs)) ∷ []) (row_events rs) (λ n. None ∷ []) (rows_ends rs) (single (told.open_rows (length (rows rs))) (λ m. refl)) (rows_add rs))
 
 pub rows_begin : (i : Item) (len at head body : ℕ) (n : Node) (left : ℕ) → (i.at + 1 ≤ length i.document.now.nodes.items → at ≡ i.at + 1) → (at + len ≤ length i.document.now.nodes.items → head ≡ at + len) → (head + 1 ≤ length i.document.now.nodes.items → body ≡ head + 1)
-    → IsNodeAt i.document.now head n → ((k : ℕ) → n ≡ nodes.Rows k → left ≡ k) → RowsBegin i len (record { document = i.document; at = body; left = left; keys = Some (record { at = at; len = len }) })
+    → IsNodeAt i.document.now head n → ((k : ℕ) → n ≡ nodes.Rows k → left ≡ k)
+    → (ks : List (List ℕ)) (rs : Rows) (us : trees.Items) → len ≡ length ks → TreeLies i.document.now (template ks rs) i.at → HasWholeRows (template ks rs) → HasTexts i.document.now → normal_items (expand_rows ks rs) ≡ Some us → AreParts i.document.now (Some (record { at = at; len = len })) body left us
 rows_begin i len at head body n left first second third is counts ks rs us long h w texts v =
     let d : Document = i.document.now in
     let whole : Lies d i.at (told.open_template (length ks) ∷ (template_inner ks rs ++ told.close ∷ [])) (tree_ends (template ks rs) i.at) = subst (λ l. Lies d i.at l (tree_ends (template ks rs) i.at)) (template_events ks rs) h in

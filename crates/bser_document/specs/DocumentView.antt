@@ -1,5 +1,5 @@
 -- The events that a document keeps.
-use Rattle.std.specs.Prelude.{◌≡◌, List, [], ◌∷◌, ◌++◌, map, Some}
+use Rattle.std.specs.Prelude.{◌≡◌, ℕ, ◌+◌, List, [], ◌∷◌, ◌++◌, length, map, Some}
 use Rattle.bser_format.specs.Tree.{Tree}
 use Rattle.bser_format.specs.Expand.{expand}
 use Rattle.bser_format.specs.Normal.{normal}
@@ -52,3 +52,7 @@ pub record HoldsDocument (d : Document) (c : Content) : Type 0 where
 -- the value that a document holds
 abbrev pub value_of : Document → Tree
 value_of d = value_in d.nodes.items d.strings.items
+
+-- how many nodes a document has, and how many bytes of strings
+abbrev pub weight_of : Document → ℕ
+weight_of d = length d.nodes.items + length d.strings.items

@@ -1,69 +1,21 @@
 -- What an item holds.
-use Rattle.std.specs.Prelude.{◌≡◌, ℕ, ◌+◌, Bool, true, false, List, [], ◌∷◌, length, Option, Some, None}
-use Rattle.std.specs.List.{AllByRecursion}
-use Rattle.bser_format.specs.Tree.{Tree, null, boolean, integer, real, bytes, text, array, object, template, no_items, items, no_entries, entries, Fields, fields}
-use Rattle.bser_format.specs.Expand.{expand, expand_fields}
-use Rattle.bser_format.specs.Normal.{normal}
-use Rattle.bser_deserializer.specs.WholeRows.{HasWholeRows, FieldsHaveWholeRows}
+use Rattle.std.specs.Prelude.{◌≡◌, ◌≤◌, ◌⊎◌, ℕ, ◌+◌, Bool, true, false, List, [], ◌∷◌, length, Option, Some, None}
+use Rattle.bser_format.specs.Tree.{Tree, null, boolean, integer, real, bytes, text, array, object, template, no_items, items, no_entries, entries}
 use Rattle.bser_events.specs.Events as told
 use Rattle.bser_events.specs.Events.{Event}
 use Rattle.bser_document.specs.declared.document.Document.{Document}
 use Rattle.bser_document.specs.declared.document.Node.{Node}
+use Rattle.bser_document.specs.declared.document.Node.TheVariants as nodes
 use Rattle.bser_document.specs.declared.item.Item.{Item}
-use Rattle.bser_document.specs.declared.item.Keys.{Keys}
 use Rattle.bser_document.specs.declared.item.Kind.{Kind}
 use Rattle.bser_document.specs.declared.item.Kind.TheVariants as kinds
 use Rattle.bser_document.specs.DocumentView.{Within, event_of}
-use Rattle.bser_document.specs.Spans.{Lies, tree_ends, fields_ends, TreeLies, KeysLie, FieldsLie, FieldLies}
-
--- a value, a skipped field, or a row with its keys
-pub data Part : Type 0 where
-  tree : Tree → Part
-  skipped : Part
-  row_of : List (List ℕ) → Fields → Part
-
--- what a part means, as it is read
-abbrev pub part_value : Part → Option Tree
-part_value (tree t) = normal (expand t)
-part_value skipped = Some null
-part_value (row_of ks fs) = normal (object (expand_fields ks fs))
-
--- each row inside has a field for each key
-abbrev pub PartIsWhole : Part → Type 0
-PartIsWhole (tree t) = HasWholeRows t
-PartIsWhole skipped = Unit {0}
-PartIsWhole (row_of ks fs) = FieldsHaveWholeRows fs
-
--- these keys are those of a template of the document
-pub record ShowsKeys (d : Document) (k : Keys) (ks : List (List ℕ)) : Type 0 where
-  pub count : k.len ≡ length ks
-  pub lie : KeysLie d ks k.at
-
--- the fields of a row begin at this place
-pub record RowLies (d : Document) (keys : Option Keys) (at : ℕ) (ks : List (List ℕ)) (fs : Fields) : Type 0 where
-  pub keys_at : Keys
-  pub some : keys ≡ Some keys_at
-  pub shows : ShowsKeys d keys_at ks
-  pub count : length (fields fs) ≡ length ks
-  pub lie : FieldsLie d fs at
-
--- the part begins at this place, where a row's keys are these
-abbrev pub PartLies : Document → Option Keys → ℕ → Part → Type 0
-PartLies d keys at (tree t) = (keys ≡ None) × TreeLies d t at
-PartLies d keys at skipped = (keys ≡ None) × FieldLies d None at
-PartLies d keys at (row_of ks fs) = RowLies d keys at ks fs
-
--- each text and each key of the document is UTF-8
-abbrev pub HasTexts : Document → Type 0
-HasTexts d = AllByRecursion (Within d.strings.items) d.nodes.items
+pub use Rattle.bser_document.specs.Parts.{Part, tree, skipped, row_of, part_value, PartIsWhole, ShowsKeys, RowLies, PartLies, HasTexts, IsPart, part_read}
+use Rattle.bser_document.specs.Spans.{Lies, tree_ends, fields_ends}
 
 -- an item is this value, as it is read
-pub record HoldsItem (i : Item) (u : Tree) : Type 0 where
-  pub part : Part
-  pub lies : PartLies i.document.now i.keys i.at part
-  pub value : part_value part ≡ Some u
-  pub whole : PartIsWhole part
-  pub texts : HasTexts i.document.now
+abbrev pub HoldsItem : Item → Tree → Type 0
+HoldsItem i u = IsPart i.document.now i.keys i.at u
 
 -- ---- kinds
 
@@ -97,7 +49,15 @@ TellsFirst d at n = (e : Event) (es : List Event) (ends : List (Option ℕ)) →
 
 -- the node at this place, or null behind the last
 abbrev pub IsNodeAt : Document → ℕ → Node → Type 0
-IsNodeAt d at n = TellsFirst d at n × (HasTexts d → Within d.strings.items n)
+IsNodeAt d at n = TellsFirst d at n × (HasTexts d → Within d.strings.items n) × (length d.nodes.items ≤ at → n ≡ nodes.Null)
+
+-- the node of an item that is no row is the one at its place
+abbrev pub IsOwnNode : Item → Node → Type 0
+IsOwnNode i n = i.keys ≡ None → IsNodeAt i.document.now i.at n
+
+-- an item is spelled as a template of so many keys
+abbrev pub HasTemplateNode : Item → ℕ → Type 0
+HasTemplateNode i len = (end : ℕ) × (i.keys ≡ None) × IsNodeAt i.document.now i.at (nodes.Template len end)
 
 -- the value that a node tells, a container being empty
 abbrev pub event_tree : Event → Tree
@@ -163,3 +123,17 @@ abbrev pub part_ends : Part → ℕ → List (Option ℕ)
 part_ends (tree t) n = tree_ends t n
 part_ends skipped n = None ∷ []
 part_ends (row_of ks fs) n = fields_ends fs n
+
+-- ---- items at which no value begins
+
+-- no value begins here, and no row
+abbrev pub HasNoValue : Item → Type 0
+HasNoValue i = (i.keys ≡ None) × ((n : Node) → IsNodeAt i.document.now i.at n → node_tree i.document.now.strings.items n ≡ null)
+
+-- an item is read as this value, and as null where no value begins
+abbrev pub IsReadAs : Item → Tree → Type 0
+IsReadAs i u = HoldsItem i u ⊎ (HasNoValue i × (u ≡ null))
+
+-- the value that an item is read as
+abbrev pub item_value : Item → Tree
+item_value i = part_read i.document.now i.keys i.at

@@ -4,6 +4,7 @@ pub mod Whole
 pub mod DocumentView
 pub mod Spans
 pub mod Read
+pub mod Parts
 pub mod Holds
 pub mod Walks
 pub mod Tells
@@ -13,3 +14,4 @@ pub mod Rows
 pub mod Sorted
 pub mod Put
 pub mod Order
+pub mod Messages

@@ -7,7 +7,7 @@ use Rattle.bser_format.specs.Tree.{Tree, null}
 use Rattle.bser_document.specs.declared.document.Document.{Document}
 use Rattle.bser_document.specs.declared.item.Item.{Item}
 use Rattle.bser_document.specs.declared.order.RowFields.{RowFields}
-use Rattle.bser_document.specs.Holds.{HoldsItem}
+use Rattle.bser_document.specs.Holds.{HoldsItem, IsPart}
 use Rattle.bser_document.specs.Rows.{Pair}
 
 -- each key with its place, from this one on
@@ -29,13 +29,9 @@ value_at [] n = null
 value_at (p ∷ m) zero = p.1
 value_at (p ∷ m) (suc n) = value_at m n
 
--- the item of the value that begins at this place
-abbrev pub item_at : Bor Document → ℕ → Item
-item_at d at = record { document = d; at = at; keys = None }
-
 -- the values of these pairs begin at these places
 abbrev pub AreAt : Bor Document → List Pair → List ℕ → Type 0
-AreAt d m places = AllZip (λ p at. HoldsItem (item_at d at) p.1) m places
+AreAt d m places = AllZip (λ p at. IsPart d.now None at p.1) m places
 
 -- the fields of a row are found
 abbrev pub HoldsFields : RowFields → List Pair → Type 0

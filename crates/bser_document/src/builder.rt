@@ -156,7 +156,7 @@ impl DocumentBuilder {
 }
 
 impl Builder for DocumentBuilder {
-    ghost takes = { Takes };
+    ghost takes = { λ a e _ b. Takes a e b };
 
     ghost stops = { true };
 

@@ -6,8 +6,8 @@ ghost use Rattle.bser_value.specs.Contents.{as_array};
 ghost use Rattle.bser_document.specs.DocumentView.{end_of};
 ghost use Rattle.bser_document.specs.declared.document.Node.TheVariants as nodes;
 ghost use Rattle.bser_document.specs.Spans.{FieldLies, FieldsLie, fields_ends};
-ghost use Rattle.bser_document.specs.Holds.{HoldsItem, PartLies, Part, part_ends, field_ends, stepped};
-ghost use Rattle.bser_document.specs.Walks.{HoldsItems, FindsItems, HasKeys, length_of, RowsBegin};
+ghost use Rattle.bser_document.specs.Holds.{HasTemplateNode, HoldsItem, PartLies, Part, part_ends, field_ends, stepped};
+ghost use Rattle.bser_document.specs.Parts.{AreRowsIfKeyed};
 
 use crate::document::{Document, Node};
 use crate::item::{Item, Keys};
@@ -20,6 +20,7 @@ pub struct Items<'d> {
     pub(crate) left: usize,
     // the keys of the rows, and none for an array's items
     pub(crate) keys: Option<Keys>,
+    ghost rows: { ∥ AreRowsIfKeyed document.now keys at left ∥₁ },
 }
 
 impl<'d> Iterator for Items<'d> {
@@ -48,6 +49,8 @@ impl<'d> Iterator for Items<'d> {
 }
 
 impl<'d> Items<'d> {
+    ghost use Rattle.bser_document.specs.Walks.{HoldsItems, length_of};
+
     /// How many items are still to come.
     pub fn len(&self) -> usize
         ensures { (us : trees.Items) → HoldsItems self.now us → result ≡ length_of us }
@@ -57,6 +60,8 @@ impl<'d> Items<'d> {
 }
 
 impl<'d> Item<'d> {
+    ghost use Rattle.bser_document.specs.Walks.{FindsItems, HasKeys, RowsBegin, length_of};
+
     /// The items of an array, of a template its rows, and `None` for all else.
     pub fn items(self) -> Option<Items<'d>>
         ensures { (u : Tree) → HoldsItem self.entry u → FindsItems (as_array u) result }
@@ -86,6 +91,7 @@ impl<'d> Item<'d> {
 
     /// The rows of a template of so many keys.
     pub(crate) fn all_rows(self, len: usize) -> Items<'d>
+        requires { HasTemplateNode self len }
         ensures begin { RowsBegin self.entry len result }
         ensures keys { HasKeys result }
     {

@@ -2,11 +2,14 @@
 #![tactic(auto)]
 
 mod builder;
+mod display;
 pub mod document;
 pub mod entries;
 pub mod item;
 pub mod items;
+mod message;
 mod order;
+mod plain;
 pub mod pointer;
 mod put;
 pub mod reading;

@@ -61,7 +61,20 @@ impl<'d> RowFields<'d> {
 impl<'d> Rows<'d> {
     /// The keys in rising byte order, each once, with the last of its places. The error is that
     /// there is no memory for them.
-    pub(crate) fn order(self, alloc: Global) -> Result<BTreeMap<&'d str, usize>, AllocError>
+    pub(crate) fn order(self, alloc: Global) -> Result<Vec<(&'d str, usize)>, AllocError>
+        ensures { (ks : List (List ℕ)) (ms : List (List Pair)) → HoldsRows self.entry ks ms
+            → IfOk result (λ order. shown order.items ≡ last_places ks) }
+    {
+        let places = self.places(alloc)?;
+        let mut order = Vec::with_capacity(alloc, places.len())?;
+        for (key, place) in &places {
+            order.push((*key, *place))?;
+        }
+        Ok(order)
+    }
+
+    /// The same as a map.
+    fn places(self, alloc: Global) -> Result<BTreeMap<&'d str, usize>, AllocError>
         ensures { (ks : List (List ℕ)) (ms : List (List Pair)) → HoldsRows self.entry ks ms
             → IfOk result (λ places. shown places.entries ≡ last_places ks) }
     {

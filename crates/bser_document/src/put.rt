@@ -7,7 +7,7 @@ ghost use Rattle.bser_format.specs.Tree.{Tree, array, object, entries, entries_o
 ghost use Rattle.bser_format.specs.Tree as trees;
 ghost use Rattle.bser_ser.specs.Ends.{AddsTree, Ends, Stops, text_of};
 ghost use Rattle.bser_document.specs.declared.put.AddError.TheVariants as errors;
-ghost use Rattle.bser_document.specs.Holds.{HoldsItem, ShowsNode};
+ghost use Rattle.bser_document.specs.Holds.{HoldsItem, IsReadAs, ShowsNode};
 ghost use Rattle.bser_document.specs.Order.{shown, last_places, HoldsFields, FindsField};
 ghost use Rattle.bser_document.specs.Pairs.{HoldsEntries};
 ghost use Rattle.bser_document.specs.Put.{AddsItem, IsPlain};
@@ -63,11 +63,11 @@ pub(crate) fn put_item<W: Sink>(
     room: usize,
     out: &mut Serializer<W>,
 ) -> Result<()>
-    ensures ok { (u : Tree) → HoldsItem item.entry u → depth u < room
+    ensures ok { (u : Tree) → IsReadAs item.entry u → depth u < room
         → OnOk result (Ends W.Sink (text_of (Ok u)) out.old out.new) }
-    ensures writable { (u : Tree) → HoldsItem item.entry u → depth u < room
+    ensures writable { (u : Tree) → IsReadAs item.entry u → depth u < room
         → OnOk result (IsWritable u) }
-    ensures err { (u : Tree) → HoldsItem item.entry u → depth u < room
+    ensures err { (u : Tree) → IsReadAs item.entry u → depth u < room
         → IfErr result (Stops W.Sink (text_of (Ok u)) out.old out.new) }
 {
     match add_item(alloc, item, room, out) {
@@ -79,13 +79,14 @@ pub(crate) fn put_item<W: Sink>(
 
 /// Puts an item.
 #[cycle(add)]
+#[inline(always)]
 fn add_item<W: Sink>(
     alloc: Global,
     item: Item<'_>,
     room: usize,
     out: &mut Serializer<W>,
 ) -> result::Result<(), AddError>
-    ensures { (u : Tree) → HoldsItem item.entry u → depth u < room
+    ensures { (u : Tree) → IsReadAs item.entry u → depth u < room
         → AddsItem W.Sink out.old out.new u result }
 {
     match item.node() {
@@ -225,19 +226,20 @@ fn add_rows<W: Sink>(
 #[cycle(add)]
 fn add_row<W: Sink>(
     alloc: Global,
-    order: &BTreeMap<&str, usize>,
+    order: &[(&str, usize)],
     fields: &RowFields<'_>,
     room: usize,
     out: &mut Serializer<W>,
 ) -> result::Result<(), AddError>
-    ensures { (m : List Pair) → shown order.entry.now.entries ≡ last_places (keys_of m)
+    ensures { (m : List Pair) → shown order.entry.now ≡ last_places (keys_of m)
         → HoldsFields fields.entry.now m → depth (row_object m) ≤ room
         → AddsItem W.Sink out.old out.new (row_object m) result }
 {
     out.add_map(order.len())?;
-    for (key, place) in order {
-        out.add_text_key(*key)?;
-        add_field(alloc, fields.get(*place), room, out)?;
+    for entry in order.iter() {
+        let (key, place) = *entry;
+        out.add_text_key(key)?;
+        add_field(alloc, fields.get(place), room, out)?;
     }
     Ok(())
 }

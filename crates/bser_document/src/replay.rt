@@ -87,7 +87,10 @@ impl Document {
 
 /// No place, of a node of this kind.
 #[inline(always)]
-fn place(node: Node) -> Place {
+fn place(node: Node) -> Place
+    ensures start { result.start ≡ 0 }
+    ensures end { result.end ≡ 0 }
+{
     let is_text = match node {
         Node::Text { .. } => true,
         _ => false,

@@ -2,6 +2,7 @@ pub mod Takings
 pub mod Leads
 pub mod Begins
 pub mod Midways
+pub mod Placings
 pub mod Texts
 pub mod Tables
 pub mod Measures

@@ -81,11 +81,6 @@ Deep levels (f ∷ fs) = (length fs + f.levels ≤ levels) × IsSmall f.parts ×
 pub pushed : (all fs : List Frame) (f : Frame) → all ≡ fs ++ f ∷ [] → reverse all ≡ f ∷ reverse fs
 pushed all fs f e = ap reverse e ∙ reverse-append fs (f ∷ [])
 
-pub none_left : (all fs : List Frame) (n : ℕ) → all ≡ fs ++ [] → fs ≡ take (n - 1) all → n ≡ 0 → reverse all ≡ []
-none_left all fs n whole rest last =
-    let no_rest : fs ≡ [] = rest ∙ ap (λ k. take (k - 1) all) last in
-    ap reverse (whole ∙ ap (λ l. l ++ []) no_rest)
-
 -- the container around the innermost
 pub deep_popped : (levels : ℕ) (f g : Frame) (fs all : List Frame) → all ≡ g ∷ fs → Deep levels (f ∷ all) → Deep levels (g ∷ fs)
 deep_popped levels f g fs all around deep = subst (Deep levels) around deep.2

@@ -104,31 +104,31 @@ pub piece_within : (due : Part) (at n : ℕ) (e : Event) (bytes : List ℕ) → 
 piece_within due at n e bytes inside is = let le = due_within due n e _ (subst (λ l. DueInFront due l n e) (rest_whole at bytes) is) in omega (arith, inside, le, length-drop at bytes)
 
 -- nothing was taken yet
-pub run_begins : {Y B : Type 0} (takes : B → Event → B → Type 0) (whole : Reader Y) (Next : Reader Y → List Event → Type 0) (a b : Window) (before after : B)
-    → Midway takes whole Next a b before after → Midway takes whole Next a (consumed 0 b) before after
-run_begins takes whole Next a b before after m = subst (λ w. Midway takes whole Next a w before after) (sym same) m
+pub run_begins : {Y B : Type 0} (takes : B → Event → B → Type 0) (whole : Reader Y) (Next : Reader Y → List Event → Type 0) (a b : Window) (before : B) (after : Window → B)
+    → Midway takes whole Next a b before (after b) → Midway takes whole Next a (consumed 0 b) before (after (consumed 0 b))
+run_begins takes whole Next a b before after m = subst (λ w. Midway takes whole Next a w before (after w)) (sym same) m
   where
     same : consumed 0 b ≡ b
     same = ap (λ k. record b { count = k }) (let e : b.count + 0 ≡ b.count = omega arith in e)
 
 -- what was taken of the buffered bytes, and is not counted yet
-pub ran_at : {Y B : Type 0} (takes : B → Event → B → Type 0) (whole : Reader Y) (ev : Y → List Event) (first d : Option Part) (n m at : ℕ) (p o q : Parts) (fs : List Frame) (bytes : List ℕ)
+pub ran_at : {Y B : Type 0} (takes : B → Event → B → Type 0) (whole : Reader Y) (ev : Y → List Event) (first d : Option Part) (n m at : ℕ) (p o q : Parts) (fs : List Frame)
     (a b : Window) (before mid after : B)
-    → Midway takes whole (Leads ev (frame_of n p ∷ fs)) a b before mid → CountsDown p o first → bytes ≡ b.buffered
-    → ((w : Window) → w.buffered ≡ bytes → Midway takes whole (AwaitsNext ev first n o fs) a w before mid → Midway takes whole (AwaitsNext ev d m q fs) a (consumed at w) before after)
+    → Midway takes whole (Leads ev (frame_of n p ∷ fs)) a b before mid → CountsDown p o first
+    → (Midway takes whole (AwaitsNext ev first n o fs) a b before mid → Midway takes whole (AwaitsNext ev d m q fs) a (consumed at b) before after)
     → Midway takes whole (AwaitsNext ev d m q fs) a (consumed at b) before after
-ran_at takes whole ev first d n m at p o q fs bytes a b before mid after m0 counted same run =
-    run b (sym same) (midway_next takes whole ev first n p o fs a b before mid counted m0)
+ran_at takes whole ev first d n m at p o q fs a b before mid after m0 counted run =
+    run (midway_next takes whole ev first n p o fs a b before mid counted m0)
 
 -- the same, once it is counted
-pub ran : {Y B : Type 0} (takes : B → Event → B → Type 0) (whole : Reader Y) (ev : Y → List Event) (first d : Option Part) (n m at : ℕ) (p o q : Parts) (fs : List Frame) (bytes : List ℕ)
-    (a b c : Window) (before mid after : B)
-    → Midway takes whole (Leads ev (frame_of n p ∷ fs)) a b before mid → CountsDown p o first → bytes ≡ b.buffered
-    → ((w : Window) → w.buffered ≡ bytes → Midway takes whole (AwaitsNext ev first n o fs) a w before mid → Midway takes whole (AwaitsNext ev d m q fs) a (consumed at w) before after)
-    → c ≡ consumed at b → Midway takes whole (AwaitsNext ev d m q fs) a c before after
-ran takes whole ev first d n m at p o q fs bytes a b c before mid after m0 counted same run end =
-    subst (λ w. Midway takes whole (AwaitsNext ev d m q fs) a w before after) (sym end)
-    (ran_at takes whole ev first d n m at p o q fs bytes a b before mid after m0 counted same run)
+pub ran : {Y B : Type 0} (takes : B → Event → B → Type 0) (whole : Reader Y) (ev : Y → List Event) (first d : Option Part) (n m at : ℕ) (p o q : Parts) (fs : List Frame)
+    (a b c : Window) (before mid : B) (after : Window → B)
+    → Midway takes whole (Leads ev (frame_of n p ∷ fs)) a b before mid → CountsDown p o first
+    → (Midway takes whole (AwaitsNext ev first n o fs) a b before mid → Midway takes whole (AwaitsNext ev d m q fs) a (consumed at b) before (after (consumed at b)))
+    → c ≡ consumed at b → Midway takes whole (AwaitsNext ev d m q fs) a c before (after c)
+ran takes whole ev first d n m at p o q fs a b c before mid after m0 counted run end =
+    subst (λ w. Midway takes whole (AwaitsNext ev d m q fs) a w before (after w)) (sym end)
+    (ran_at takes whole ev first d n m at p o q fs a b before mid (after (consumed at b)) m0 counted run)
 
 -- something is due then
 pub ran_due : {Y B : Type 0} (takes : B → Event → B → Type 0) (whole : Reader Y) (ev : Y → List Event) (d e : Option Part) (due : Part) (n : ℕ) (q : Parts) (fs : List Frame)

@@ -16,6 +16,8 @@ use Rattle.bser_bunser.specs.declared.prefix.Token.{Token}
 use Rattle.bser_bunser.specs.declared.prefix.Token.TheVariants as tokens
 use Rattle.bser_events.specs.Events as told
 use Rattle.bser_events.specs.Events.{Event, key, key_events, TakesAll, events, close}
+use Rattle.bser_events.specs.Places.{Placed, reading_at}
+use Rattle.bser_events.specs.declared.event.Place.{Place}
 use Rattle.bser_events.specs.Frames.{Left, parts_of, Fits, left_events, IsSmall}
 use Rattle.bser_events.specs.declared.frame.Part.{Part}
 use Rattle.bser_events.specs.declared.frame.Part.TheVariants.{Entry}
@@ -117,39 +119,41 @@ pub record Refuses {X : Type 0} (wants : Type 0) (r : Reader X) (e : Error) (old
 
 -- ---- what callers see: bunser before and after, and the builder before and after
 
+-- places are in order, from where reading was, or from a start before it, to where it is
+
 -- a value with so many levels was read and reported
-abbrev pub TellsValue : {B : Type 0} → (B → Event → B → Type 0) → ℕ → Seen → Seen → B → B → Type 0
-TellsValue takes levels old new before after = Found takes (with_text_keys levels) events old.window new.window before after
+abbrev pub TellsValue : {B : Type 0} → (B → Event → Place → B → Type 0) → ℕ → Seen → Seen → B → B → Type 0
+TellsValue takes levels old new before after = Found (Placed takes) (with_text_keys levels) events old.window new.window (reading_at old.window, before) (reading_at new.window, after)
 
 -- so many keys of a template were read and reported
-abbrev pub TellsKeys : {B : Type 0} → (B → Event → B → Type 0) → ℕ → Seen → Seen → B → B → Type 0
-TellsKeys takes count old new before after = Found takes (keys_at count) key_events old.window new.window before after
+abbrev pub TellsKeys : {B : Type 0} → (B → Event → Place → B → Type 0) → ℕ → Seen → Seen → B → B → Type 0
+TellsKeys takes count old new before after = Found (Placed takes) (keys_at count) key_events old.window new.window (reading_at old.window, before) (reading_at new.window, after)
 
 -- a key was read and reported
-abbrev pub TellsKey : {B : Type 0} → (B → Event → B → Type 0) → Kind → Seen → Seen → B → B → Type 0
-TellsKey takes kind old new before after = Found takes (text_of kind) (λ s. key s ∷ []) old.window new.window before after
+abbrev pub TellsKey : {B : Type 0} → (B → Event → Place → B → Type 0) → Kind → Seen → Seen → B → B → Type 0
+TellsKey takes kind old new before after = Found (Placed takes) (text_of kind) (λ s. key s ∷ []) old.window new.window (reading_at old.window, before) (reading_at new.window, after)
 
 -- a key was read and reported where an entry is expected, and else nothing changed
-abbrev pub TellsDueKey : {B : Type 0} → (B → Event → B → Type 0) → Part → Seen → Seen → B → B → Type 0
-TellsDueKey takes due old new before after = KeyFound takes due old.window new.window before after
+abbrev pub TellsDueKey : {B : Type 0} → (B → Event → Place → B → Type 0) → Part → Seen → Seen → B → B → Type 0
+TellsDueKey takes due old new before after = KeyFound (Placed takes) due old.window new.window (reading_at old.window, before) (reading_at new.window, after)
 
 -- so many bytes were read and reported as a text
-abbrev pub TellsText : {B : Type 0} → (B → Event → B → Type 0) → ℕ → Seen → Seen → B → B → Type 0
-TellsText takes len old new before after = Found takes (text_bytes len) (λ s. told.text s ∷ []) old.window new.window before after
+abbrev pub TellsText : {B : Type 0} → (B → Event → Place → B → Type 0) → ℕ → ℕ → Seen → Seen → B → B → Type 0
+TellsText takes len start old new before after = Found (Placed takes) (text_bytes len) (λ s. told.text s ∷ []) old.window new.window (start, before) (reading_at new.window, after)
 
 -- so many bytes were read, or passed over, and reported as a byte string
-abbrev pub TellsBytes : {B : Type 0} → (B → Event → B → Type 0) → ℕ → Seen → Seen → B → B → Type 0
-TellsBytes takes len old new before after = Found takes (front len) (λ s. told.bytes s ∷ []) old.window new.window before after
+abbrev pub TellsBytes : {B : Type 0} → (B → Event → Place → B → Type 0) → ℕ → ℕ → Seen → Seen → B → B → Type 0
+TellsBytes takes len start old new before after = Found (Placed takes) (front len) (λ s. told.bytes s ∷ []) old.window new.window (start, before) (reading_at new.window, after)
 
 -- a template was opened, of which this frame is left
-abbrev pub OpensTemplate : {B : Type 0} → (B → Event → B → Type 0) → ℕ → Frame → Seen → Seen → B → B → Type 0
-OpensTemplate takes levels f old new before after = Opened takes (table_at levels) f old.window new.window before after
+abbrev pub OpensTemplate : {B : Type 0} → (B → Event → Place → B → Type 0) → ℕ → Frame → ℕ → Seen → Seen → B → B → Type 0
+OpensTemplate takes levels f start old new before after = Opened (Placed takes) (table_at levels) f old.window new.window (start, before) (reading_at new.window, after)
 
 -- what follows this token was read and reported, or it opened a container, of which this frame is
 -- left
-abbrev pub TellsRest : {B : Type 0} → (B → Event → B → Type 0) → ℕ → Token → Option Frame → Seen → Seen → B → B → Type 0
-TellsRest takes levels t f old new before after =
-    FoundOrOpened takes (value_rest levels t) old.window new.window before after f
+abbrev pub TellsRest : {B : Type 0} → (B → Event → Place → B → Type 0) → ℕ → Token → Option Frame → ℕ → Seen → Seen → B → B → Type 0
+TellsRest takes levels t f start old new before after =
+    FoundOrOpened (Placed takes) (value_rest levels t) old.window new.window (start, before) (reading_at new.window, after) f
 
 -- no token was taken: the error is that of one where so many levels are left
 abbrev pub NoToken : ℕ → Seen → Seen → Type 0

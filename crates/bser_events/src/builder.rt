@@ -1,8 +1,9 @@
 //! What makes something of a value, each event of which is reported to it.
-ghost use Rattle.std.specs.Prelude.{◌≡◌, ℕ, Bool, true, false, List, length, pos, OnOk, OnErr, IfErr};
+ghost use Rattle.std.specs.Prelude.{◌≡◌, ◌≤◌, ℕ, Bool, true, false, List, length, OnOk, OnErr, IfErr};
 ghost use Rattle.bser_format.specs.declared.errors.Error.TheVariants.{OutOfMemory};
-ghost use Rattle.bser_bunser.specs.Calls.{Closes, bytes_taken};
+ghost use Rattle.bser_bunser.specs.Calls.{Closes};
 ghost use Rattle.bser_events.specs.Events as events;
+ghost use Rattle.bser_events.specs.Places.{Placed, reading_at};
 ghost use Rattle.bser_events.specs.Told.{told};
 ghost use Rattle.bser_events.specs.declared.builder.Stop.TheVariants.{Asked};
 
@@ -23,8 +24,10 @@ pub enum Stop {
 
 /// What makes something of the events of a value, as they are read.
 pub trait Builder {
-    // it took this event
-    ghost takes: { Self → events.Event → Self → Type 0 };
+    ghost use Rattle.bser_events.specs.declared.event.Place.{Place};
+
+    // it took this event, which stands at this place
+    ghost takes: { Self → events.Event → Place → Self → Type 0 };
 
     // whether it may take no more, for either reason
     ghost stops: { Bool };
@@ -40,35 +43,37 @@ pub trait Builder {
     fn wants_bytes(&self) -> bool
         ensures { result ≡ Self.bytes };
 
-    /// Takes an event, which stands at this place. An error ends the reading: there is no memory,
-    /// or the builder wants no more.
+    /// Takes an event, which stands at this place, whose end is not before its start. An error
+    /// ends the reading: there is no memory, or the builder wants no more.
     fn take(&mut self, event: Event<'_>, place: Place) -> Result<(), Stop>
-        ensures ok { OnOk result (Self.takes self.old (told event.entry) self.new) }
+        requires forwards { place.start ≤ place.end }
+        ensures ok { OnOk result (Self.takes self.old (told event.entry) place self.new) }
         ensures err { OnErr result (Self.stops ≡ true) }
         ensures asked { IfErr result (λ stop. stop ≡ Asked → Self.asks ≡ true) };
 
     /// Takes a byte string of `len` bytes, which were passed over: the bytes of byte strings are
     /// not wanted. It stands at this place, with its head. The errors are those of [`Self::take`].
     fn bytes_passed(&mut self, len: usize, place: Place) -> Result<(), Stop>
+        requires forwards { place.start ≤ place.end }
         ensures ok { OnOk result (bytes ≡ false
-            → (s : List ℕ) → length s ≡ len → takes self.old (events.bytes s) self.new) }
+            → (s : List ℕ) → length s ≡ len → takes self.old (events.bytes s) place self.new) }
         ensures err { OnErr result (stops ≡ true) }
         ensures asked { IfErr result (λ stop. stop ≡ Asked → asks ≡ true) };
 }
 
-/// How many bytes were taken, at most `i64::MAX`.
+/// How many bytes were taken.
 #[inline(always)]
 pub fn taken<R: DeRead>(bunser: &Bunser<R>) -> usize
-    ensures { pos result ≡ bytes_taken bunser.now }
+    ensures { result ≡ reading_at bunser.now.window }
 {
-    bunser.read_count() as usize
+    bunser.taken()
 }
 
 /// The place from `start` on to where reading is.
 #[inline(always)]
 pub fn place_from<R: DeRead>(bunser: &Bunser<R>, start: usize, is_text: bool) -> Place
     ensures start { result.start ≡ start }
-    ensures end { pos result.end ≡ bytes_taken bunser.now }
+    ensures end { result.end ≡ reading_at bunser.now.window }
     ensures text { result.is_text ≡ is_text }
 {
     Place {
@@ -78,8 +83,8 @@ pub fn place_from<R: DeRead>(bunser: &Bunser<R>, start: usize, is_text: bool) ->
     }
 }
 
-/// Reports an event to the builder, which began at `start` and ends where reading is. Where the
-/// builder takes no more, the reader fails with out of memory.
+/// Reports an event to the builder, which began at `start`, where reading was, and ends where it
+/// is. Where the builder takes no more, the reader fails with out of memory.
 #[inline(always)]
 pub fn tell<R: DeRead, B: Builder>(
     bunser: &mut Bunser<R>,
@@ -88,7 +93,9 @@ pub fn tell<R: DeRead, B: Builder>(
     start: usize,
     is_text: bool,
 ) -> Answer<()>
-    ensures ok { OnOk result (B.takes builder.old (told event.entry) builder.new) }
+    requires begun { start ≤ reading_at bunser.old.window }
+    ensures ok { OnOk result (Placed B.takes (start, builder.old) (told event.entry)
+        (reading_at bunser.new.window, builder.new)) }
     ensures same { OnOk result (bunser.new ≡ bunser.old) }
     ensures err { OnErr result (Closes bunser.old bunser.new) }
     ensures reason { OnErr result (bunser.new.refusal ≡ OutOfMemory) }
@@ -104,7 +111,8 @@ pub fn tell<R: DeRead, B: Builder>(
 /// Reports the end of a container to the builder, where reading is.
 #[inline(always)]
 pub fn tell_close<R: DeRead, B: Builder>(bunser: &mut Bunser<R>, builder: &mut B) -> Answer<()>
-    ensures ok { OnOk result (B.takes builder.old events.close builder.new) }
+    ensures ok { OnOk result (Placed B.takes (reading_at bunser.old.window, builder.old)
+        events.close (reading_at bunser.new.window, builder.new)) }
     ensures same { OnOk result (bunser.new ≡ bunser.old) }
     ensures err { OnErr result (Closes bunser.old bunser.new) }
     ensures reason { OnErr result (bunser.new.refusal ≡ OutOfMemory) }
@@ -122,7 +130,7 @@ pub fn tell_close<R: DeRead, B: Builder>(bunser: &mut Bunser<R>, builder: &mut B
 pub struct Ignored;
 
 impl Builder for Ignored {
-    ghost takes = { λ _ _ _. Unit {0} };
+    ghost takes = { λ _ _ _ _. Unit {0} };
 
     ghost stops = { false };
 
@@ -148,7 +156,7 @@ impl Builder for Ignored {
 
 /// A `&mut` to a builder is one.
 impl<B: Builder> Builder for &mut B {
-    ghost takes = { λ a e b. (b.ghost_name ≡ a.ghost_name) × B.takes a.now e b.now };
+    ghost takes = { λ a e p b. (b.ghost_name ≡ a.ghost_name) × B.takes a.now e p b.now };
 
     ghost stops = { B.stops };
 

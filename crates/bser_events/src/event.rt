@@ -2,13 +2,16 @@
 
 /// Where an event stands, by how many bytes of the source were taken before it.
 ///
+/// What is reported of a value stands in order: no place begins before the last one ended, or ends
+/// past the bytes that were taken.
+///
 /// A container stands where its head does. The head of a template is its tag, the tag of its keys
 /// and their count; that of its rows is their count. The end of a container has no bytes.
 #[derive(Debug, Clone, Copy, PartialEq, Eq)]
 pub struct Place {
     /// How many bytes were taken before its first byte.
     pub start: usize,
-    /// How many bytes were taken before what follows it.
+    /// How many bytes were taken before what follows it, at least `start`.
     pub end: usize,
     /// Whether it is a string or a key, under the tag of a text.
     pub is_text: bool,

@@ -1,9 +1,10 @@
 //! The first token of a value, where only so many levels are left.
-ghost use Rattle.std.specs.Prelude.{◌≡◌, ◌<◌, pos, true, false, IfOk, OnOk, OnErr};
+ghost use Rattle.std.specs.Prelude.{◌≡◌, ◌<◌, true, false, IfOk, OnOk, OnErr};
 ghost use Rattle.bser_format.specs.Errors.{error_of};
-ghost use Rattle.bser_bunser.specs.Calls.{TakesToken, Keeps, Closes, bytes_taken};
+ghost use Rattle.bser_bunser.specs.Calls.{TakesToken, Keeps, Closes};
 ghost use Rattle.bser_bunser.specs.Tokens.{LengthFits};
 ghost use Rattle.bser_events.specs.Found.{IsContainer, LevelsFor, NoToken};
+ghost use Rattle.bser_events.specs.Places.{reading_at};
 
 use crate::builder::taken;
 use crate::refusal::{Fault, refuse_with};
@@ -19,7 +20,7 @@ use bser_source::read::DeRead;
 #[inline(always)]
 pub fn token_within<R: DeRead>(bunser: &mut Bunser<R>, levels: usize) -> Answer<(Token, usize)>
     ensures ok { IfOk result (λ p. TakesToken p.0 bunser.old bunser.new) }
-    ensures start { IfOk result (λ p. pos p.1 ≡ bytes_taken bunser.old) }
+    ensures start { IfOk result (λ p. p.1 ≡ reading_at bunser.old.window) }
     ensures fits { IfOk result (λ p. LengthFits p.0) }
     ensures level { IfOk result (λ p. IsContainer p.0 → 0 < levels) }
     ensures kept { OnOk result (Keeps bunser.old bunser.new) }

@@ -1,10 +1,12 @@
 //! Reading one value by one loop, reported to a builder event by event.
 #![tactic(auto)]
 
+mod around;
 pub mod builder;
 pub mod event;
 pub mod frame;
 mod heads;
+mod outermost;
 mod parts;
 mod pieces;
 pub mod reading;

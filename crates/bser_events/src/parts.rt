@@ -1,5 +1,5 @@
 //! What follows a token where a value begins.
-ghost use Rattle.std.specs.Prelude.{◌≡◌, ◌≢◌, ◌<◌, true, false, MatchBool, IfOk, OnOk, OnErr};
+ghost use Rattle.std.specs.Prelude.{◌≡◌, ◌≢◌, ◌≤◌, ◌<◌, true, false, MatchBool, IfOk, OnOk, OnErr};
 ghost use Rattle.bser_bunser.specs.Calls.{Keeps};
 ghost use Rattle.bser_bunser.specs.Tokens.{LengthFits};
 ghost use Rattle.bser_events.specs.Frames.{IsSmall};
@@ -14,6 +14,7 @@ ghost use Rattle.bser_events.specs.Found.{
   table_at,
   value_rest,
 };
+ghost use Rattle.bser_events.specs.Places.{reading_at};
 
 use crate::builder::{Builder, taken, tell};
 use crate::event::Event;
@@ -42,8 +43,9 @@ pub fn read_after<R: DeRead, B: Builder>(
     requires working { bunser.old.window.failed ≡ false }
     requires fits { LengthFits token }
     requires level { IsContainer token → 0 < levels }
+    requires begun { start ≤ reading_at bunser.old.window }
     ensures ok { IfOk result (λ f.
-        TellsRest B.takes levels token f bunser.old bunser.new builder.old builder.new) }
+        TellsRest B.takes levels token f start bunser.old bunser.new builder.old builder.new) }
     ensures inside { IfOk result (λ f. IsInside levels f) }
     ensures kept { OnOk result (Keeps bunser.old bunser.new) }
     ensures err { OnErr result
@@ -94,8 +96,9 @@ fn read_table<R: DeRead, B: Builder>(
     scratch: &mut Vec<u8>,
     builder: &mut B,
 ) -> Answer<Frame>
+    requires begun { start ≤ reading_at bunser.old.window }
     ensures ok { IfOk result (λ f.
-        OpensTemplate B.takes levels f bunser.old bunser.new builder.old builder.new) }
+        OpensTemplate B.takes levels f start bunser.old bunser.new builder.old builder.new) }
     ensures inside { IfOk result (λ f. f.levels ≡ levels) }
     ensures small { IfOk result (λ f. IsSmall f.parts) }
     ensures kept { OnOk result (Keeps bunser.old bunser.new) }

@@ -1,5 +1,5 @@
 //! Pieces of a value that are buffered whole.
-ghost use Rattle.std.specs.Prelude.{◌≡◌, ◌≢◌, ⊤, MatchBool, MatchOption};
+ghost use Rattle.std.specs.Prelude.{◌≡◌, ◌≢◌, ◌+◌, ◌-◌, ◌^◌, min, ⊤, MatchBool, MatchOption};
 ghost use Rattle.bser_events.specs.Told.{told};
 ghost use Rattle.bser_events.specs.Pieces.{
   DueInFront,
@@ -29,7 +29,10 @@ pub struct Piece<'s> {
 impl Piece<'_> {
     /// Its place, where so many bytes were taken before it.
     #[inline(always)]
-    pub fn place(&self, start: usize) -> Place {
+    pub fn place(&self, start: usize) -> Place
+        ensures start { result.start ≡ start }
+        ensures end { result.end ≡ min (start + self.now.len) (2 ^ 64 - 1) }
+    {
         Place {
             start,
             end: start.saturating_add(self.len),

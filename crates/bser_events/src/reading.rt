@@ -7,10 +7,12 @@ ghost use Rattle.bser_format.specs.declared.errors.Error.TheVariants.{OutOfMemor
 ghost use Rattle.bser_bunser.specs.Calls.{Keeps, Closes};
 ghost use Rattle.bser_events.specs.Found.{TellsValue, TellsDueKey, RefusesValue, RefusesTelling};
 
+use crate::around::{pop_frame, push_frame};
 use crate::builder::{Builder, taken, tell, tell_close};
 use crate::event::Event;
 use crate::frame::{Frame, Part, Parts};
 use crate::heads::{check_working, token_within};
+use crate::outermost::Outermost;
 use crate::parts::read_after;
 use crate::pieces::{due_piece, is_skipped};
 use crate::refusal::{Fault, refuse_with};
@@ -50,7 +52,9 @@ pub fn read_value<R: DeRead, B: Builder>(
     frames.clear();
     let parts = Parts::Items(1);
     let mut frame = Frame { levels, parts };
+    let mut outermost = Outermost::new(frame);
     'parts: loop {
+        let begun = taken(bunser);
         let bytes = bunser.buffered();
         let mut at = 0;
         let mut due = frame.parts.next();
@@ -58,7 +62,7 @@ pub fn read_value<R: DeRead, B: Builder>(
             let Some(piece) = due_piece(wanted, &bytes[at..]) else {
                 break;
             };
-            let place = piece.place(taken(bunser).saturating_add(at));
+            let place = piece.place(begun.saturating_add(at));
             if builder.take(piece.event, place).is_err() {
                 return Err(refuse_with(bunser, Fault::Memory));
             }
@@ -67,7 +71,7 @@ pub fn read_value<R: DeRead, B: Builder>(
         }
         bunser.consume(at);
         let Some(due) = due else {
-            let Some(outer) = frames.pop() else {
+            let Some(outer) = pop_frame(&mut outermost, frames) else {
                 return Ok(());
             };
             tell_close(bunser, builder)?;
@@ -83,29 +87,9 @@ pub fn read_value<R: DeRead, B: Builder>(
         let Some(inner) = read_after(bunser, token, frame.levels, start, scratch, builder)? else {
             continue;
         };
-        push_frame(bunser, frames, frame)?;
+        push_frame(bunser, &mut outermost, frames, frame)?;
         frame = inner;
     }
-}
-
-/// Keeps an open container, in which another was opened.
-#[inline(always)]
-fn push_frame<R: DeRead>(
-    bunser: &mut Bunser<R>,
-    frames: &mut Vec<Frame>,
-    frame: Frame,
-) -> Answer<()>
-    ensures pushed { OnOk result (frames.new.items ≡ frames.old.items ++ frame ∷ []) }
-    ensures same { OnOk result (bunser.new ≡ bunser.old) }
-    ensures room { OnOk result (vec_capacity frames.old ≤ vec_capacity frames.new) }
-    ensures full { OnErr result (vec_capacity frames.old ≤ length frames.old.items) }
-    ensures reason { OnErr result (bunser.new.refusal ≡ OutOfMemory) }
-    ensures state { OnErr result (Closes bunser.old bunser.new) }
-{
-    if frames.push(frame).is_err() {
-        return Err(refuse_with(bunser, Fault::Memory));
-    }
-    Ok(())
 }
 
 /// Reads the key of an entry, where one is expected, and reports it.

@@ -1,8 +1,9 @@
 //! Strings and keys, read and reported.
-ghost use Rattle.std.specs.Prelude.{◌≡◌, ◌<◌, ◌^◌, OnOk, OnErr};
+ghost use Rattle.std.specs.Prelude.{◌≡◌, ◌≤◌, ◌<◌, ◌^◌, OnOk, OnErr};
 ghost use Rattle.bser_format.specs.Named.{front, text_of};
 ghost use Rattle.bser_bunser.specs.Calls.{Keeps};
 ghost use Rattle.bser_events.specs.Found.{TellsText, TellsBytes, TellsKey, RefusesTelling, text_bytes};
+ghost use Rattle.bser_events.specs.Places.{reading_at};
 
 use crate::builder::{Builder, place_from, taken, tell};
 use crate::event::Event;
@@ -24,8 +25,10 @@ pub fn read_text<R: DeRead, B: Builder>(
     scratch: &mut Vec<u8>,
     builder: &mut B,
 ) -> Answer<()>
-    requires { len < 2 ^ 63 }
-    ensures ok { OnOk result (TellsText B.takes len bunser.old bunser.new builder.old builder.new) }
+    requires len { len < 2 ^ 63 }
+    requires begun { start ≤ reading_at bunser.old.window }
+    ensures ok { OnOk result
+        (TellsText B.takes len start bunser.old bunser.new builder.old builder.new) }
     ensures kept { OnOk result (Keeps bunser.old bunser.new) }
     ensures err { OnErr result (RefusesTelling B.stops (text_bytes len) bunser.old bunser.new) }
 {
@@ -46,9 +49,10 @@ pub fn read_bytes<R: DeRead, B: Builder>(
     scratch: &mut Vec<u8>,
     builder: &mut B,
 ) -> Answer<()>
-    requires { len < 2 ^ 63 }
+    requires len { len < 2 ^ 63 }
+    requires begun { start ≤ reading_at bunser.old.window }
     ensures ok { OnOk result
-        (TellsBytes B.takes len bunser.old bunser.new builder.old builder.new) }
+        (TellsBytes B.takes len start bunser.old bunser.new builder.old builder.new) }
     ensures kept { OnOk result (Keeps bunser.old bunser.new) }
     ensures err { OnErr result (RefusesTelling B.stops (front len) bunser.old bunser.new) }
 {

@@ -1,5 +1,5 @@
 -- A message that was told, and one that was not.
-use Rattle.std.proofs.Common.{◌≡◌, ℕ, ◌-◌, ◌≤◌, ◌<◌, ◌^◌, min, Bool, true, List, [], ◌∷◌, ◌++◌, Option, None, Some, length, length-append, append-nil, refl, sym, ap, subst, ◌∙◌, arith, inl, inr}
+use Rattle.std.proofs.Common.{◌≡◌, ℕ, ◌+◌, ◌-◌, ◌≤◌, ◌<◌, ◌^◌, min, Bool, true, List, [], ◌∷◌, ◌++◌, Option, None, Some, length, length-append, append-nil, refl, sym, ap, subst, ◌∙◌, arith, inl, inr}
 use Rattle.std.specs.Prelude.{pos, if◌then◌else◌, IsTrue, IfSome}
 use Rattle.std.specs.Borrow.{GName, MutBor}
 use Rattle.std.specs.Io.KnownBytes as known_bytes
@@ -22,6 +22,8 @@ use Rattle.bser_source.proofs.Windows.{left_took, left_grown}
 use Rattle.bser_bunser.specs.Names.{Names}
 use Rattle.bser_bunser.specs.Refusal.{Fails}
 use Rattle.bser_events.specs.Events.{Event, TakesAll, events, none, more}
+use Rattle.bser_events.specs.Places.{Placed, reading_at}
+use Rattle.bser_events.specs.declared.event.Place.{Place}
 use Rattle.bser_deserializer.specs.Any.{TookAny}
 use Rattle.bser_deserializer.specs.Askings.{asking_ignored}
 use Rattle.bser_deserializer.specs.Reading.{Answers, owned}
@@ -46,12 +48,14 @@ use Rattle.bser_messages.proofs.Within.{before_took, head_refused_within, value_
 -- ---- through a builder that is watched
 
 -- events that one builder took by way of another
-pub told_through : {B W : Type 0} (takes : B → Event → B → Type 0) (of : W → MutBor B) (a b : W) (es : List Event)
-    → TakesAll (λ x e y. ((of y).ghost_name ≡ (of x).ghost_name) × takes (of x).now e (of y).now) a es b → ((of b).ghost_name ≡ (of a).ghost_name) × TakesAll takes (of a).now es (of b).now
-told_through takes of a b es (none m) = (refl, none (of a).now)
+pub told_through : {B W : Type 0} (takes : B → Event → Place → B → Type 0) (of : W → MutBor B) (a b : ℕ × W) (es : List Event)
+    → TakesAll (Placed (λ x e p y. ((of y).ghost_name ≡ (of x).ghost_name) × takes (of x).now e p (of y).now)) a es b
+    → ((of b.1).ghost_name ≡ (of a.1).ghost_name) × TakesAll (Placed takes) (a.0, (of a.1).now) es (b.0, (of b.1).now)
+told_through takes of a b es (none m) = (refl, none (m.0, (of m.1).now))
 told_through takes of a b es (more m n o e rest first after) =
-    let p = told_through takes of n b rest after in
-    (p.0 ∙ first.0, more (of a).now (of n).now (of b).now e rest first.1 p.1)
+    let p = told_through takes of n o rest after in
+    let one : Placed takes (m.0, (of m.1).now) e (n.0, (of n.1).now) = record { place = first.place; behind = first.behind; forwards = first.forwards; end = first.end; took = first.took.1 } in
+    (p.0 ∙ first.took.0, more (m.0, (of m.1).now) (n.0, (of n.1).now) (o.0, (of o.1).now) e rest one p.1)
 
 -- ---- what was told of a value
 
@@ -101,13 +105,13 @@ header_there n a s h begins fresh tells =
       front = λ x known. (let r = left_took a (with_limit a.limit s.source) head.text x head.took known in (r.0, r.2));
     }
 
-pub message_told : {B : Type 0} (limits : Limits) (takes : B → Event → B → Type 0) (before after : B) (h : Header) (a : Window) (s t : State)
-    → Begins limits.levels a s → a.count ≡ 0 → Tells h s → h.len ≤ limits.bytes → TookAny takes before after s t → IsAtEnd t → ReadsTold limits takes a t.source before after h
+pub message_told : {B : Type 0} (limits : Limits) (takes : B → Event → Place → B → Type 0) (before after : B) (h : Header) (a : Window) (s t : State)
+    → Begins limits.levels a s → a.count ≡ 0 → Tells h s → h.len ≤ limits.bytes → TookAny (Placed takes) (reading_at s.source, before) (reading_at t.source, after) s t → IsAtEnd t → ReadsTold limits takes a t.source before after h
 unfolding told_answers
 message_told limits takes before after h a s t begins fresh tells short k over =
     let n = limits.levels in
     let head = begins.took in
-    let body : ReadsBody n reads_ignored (λ (v : Unit {0}) c. Unit {0}) a t tt = record { begun = s; begins = begins; answers = told_answers takes before after s t k } in
+    let body : ReadsBody n reads_ignored (λ (v : Unit {0}) c. Unit {0}) a t tt = record { begun = s; begins = begins; answers = told_answers (Placed takes) (reading_at s.source, before) (reading_at t.source, after) s t k } in
     let p = read_text n reads_ignored (λ (v : Unit {0}) c. Unit {0}) a t tt body over in
     let m = p.0.message in
     let small : length (head.text ++ k.text) < 2 ^ 63 = subst (λ l. length l < 2 ^ 63) p.1 m.message.short in
@@ -119,6 +123,9 @@ message_told limits takes before after h a s t begins fresh tells short k over =
     let size = body_size n h.capabilities k.tree (head.text ++ k.text) message s.capabilities head.size head.text [] k.text head.head (append-nil (head.text ++ k.text)) in
     let len = head_size n a s h begins tells in
     let start = head_start n a s h begins fresh tells in
+    let headed : s.source.count ≡ length head.text = omega (arith, fresh, head.took.count) in
+    let begun : reading_at s.source ≡ h.start = omega (arith, headed, start, head_length s.capabilities head.size head.text head.head) in
+    let read : t.source.count ≡ length head.text + length k.text = omega (arith, headed, k.took.count) in
     record {
       text = head.text ++ k.text;
       took = subst (Took a (with_limit a.limit t.source)) p.1 p.0.took;
@@ -129,7 +136,11 @@ message_told limits takes before after h a s t begins fresh tells short k over =
         body = omega (arith, size.0, len);
         whole = omega (arith, size.1, len, start);
         keys = k.keys;
-        told = k.told;
+        told = record {
+          end = reading_at t.source;
+          within = omega (arith, read, length-append head.text k.text);
+          told = subst (λ z. TakesAll (Placed takes) (z, before) (events k.tree) (reading_at t.source, after)) begun k.told;
+        };
       };
     }
 
@@ -160,24 +171,24 @@ body_untold limits h a s t begins tells (inr (short, refused)) =
     message_refused limits.levels limits.bytes reads_ignored (Some asking_ignored) owned t.refusal a t.state.source
     (value_refused_within limits.levels limits.bytes h.len reads_ignored (Some asking_ignored) owned t.refusal a s.state t.state begins (sym tells.len) short refused)
 
-pub end_untold : {B : Type 0} (limits : Limits) (takes : B → Event → B → Type 0) (before after : B) (h : Header) (e : Error) (a : Window) (s t : State)
-    → Begins limits.levels a s → a.count ≡ 0 → Tells h s → h.len ≤ limits.bytes → TookAny takes before after s t → (IsAtEnd t → IsTrue t.source.failed) → e ≡ not_at_end t
+pub end_untold : {B : Type 0} (limits : Limits) (takes : B → Event → Place → B → Type 0) (before after : B) (h : Header) (e : Error) (a : Window) (s t : State)
+    → Begins limits.levels a s → a.count ≡ 0 → Tells h s → h.len ≤ limits.bytes → TookAny (Placed takes) (reading_at s.source, before) (reading_at t.source, after) s t → (IsAtEnd t → IsTrue t.source.failed) → e ≡ not_at_end t
     → RefusesWithin limits.levels limits.bytes reads_ignored (Some asking_ignored) owned e a t.source
 end_untold limits takes before after h e a s t begins fresh tells short k failed name =
     end_refused_within limits.levels limits.bytes reads_ignored (Some asking_ignored) (λ (v : Unit {0}) c. Unit {0}) owned e a t tt fresh
-    (body_read limits.levels limits.bytes h.len reads_ignored (λ (v : Unit {0}) c. Unit {0}) a s t tt begins (sym tells.len) short (told_answers takes before after s t k))
+    (body_read limits.levels limits.bytes h.len reads_ignored (λ (v : Unit {0}) c. Unit {0}) a s t tt begins (sym tells.len) short (told_answers (Placed takes) (reading_at s.source, before) (reading_at t.source, after) s t k))
     failed name
 
 -- ---- to one who holds the slice or the reader
 
-pub slice_told : {B : Type 0} (limits : Limits) (takes : B → Event → B → Type 0) (bytes : List ℕ) (before after : B) (h : Header) (a t : Window) → a ≡ slice_fresh bytes
+pub slice_told : {B : Type 0} (limits : Limits) (takes : B → Event → Place → B → Type 0) (bytes : List ℕ) (before after : B) (h : Header) (a t : Window) → a ≡ slice_fresh bytes
     → ReadsTold limits takes a t before after h → BeginsTold limits takes bytes before after h
 slice_told limits takes bytes before after h a t fresh r =
     let k = subst (λ w. ReadsTold limits takes w t before after h) fresh r in
     let p = left_took (slice_fresh bytes) (with_limit 0 t) k.text (bytes ++ []) k.took refl in
     record { text = k.text; rest = p.0; front = sym (append-nil bytes) ∙ p.2; tells = k.tells }
 
-pub reader_told : {B : Type 0} (limits : Limits) (takes : B → Event → B → Type 0) (old new : Option (List ℕ)) (before after : B) (h : Header) (a b t : Window)
+pub reader_told : {B : Type 0} (limits : Limits) (takes : B → Event → Place → B → Type 0) (old new : Option (List ℕ)) (before after : B) (h : Header) (a b t : Window)
     → a.buffered ≡ [] → a.limit ≡ 0 → a.beyond ≡ old → t.beyond ≡ new → Grown 1 a b
     → ReadsTold limits takes b t before after h → TookTold limits takes old new before after h
 reader_told limits takes old new before after h a b t empty unlimited p q grown r =
@@ -186,31 +197,31 @@ reader_told limits takes old new before after h a b t empty unlimited p q grown 
     rw (sym p, sym q) (record { text = r.text; bytes = reader_gave a t r.text empty unlimited took; tells = r.tells })
 
 -- what was told to a builder by way of another
-pub tells_through : {B W : Type 0} (limits : Limits) (takes : B → Event → B → Type 0) (of : W → MutBor B) (a b : W) (h : Header) (text : List ℕ)
-    → TellsMessage limits (λ x e y. ((of y).ghost_name ≡ (of x).ghost_name) × takes (of x).now e (of y).now) a b h text
+pub tells_through : {B W : Type 0} (limits : Limits) (takes : B → Event → Place → B → Type 0) (of : W → MutBor B) (a b : W) (h : Header) (text : List ℕ)
+    → TellsMessage limits (λ x e p y. ((of y).ghost_name ≡ (of x).ghost_name) × takes (of x).now e p (of y).now) a b h text
     → ((of b).ghost_name ≡ (of a).ghost_name) × TellsMessage limits takes (of a).now (of b).now h text
 tells_through limits takes of a b h text k =
-    let p = told_through takes of a b (events k.tree) k.told in
-    (p.0, record { tree = k.tree; message = k.message; short = k.short; body = k.body; whole = k.whole; keys = k.keys; told = p.1 })
+    let p = told_through takes of (h.start, a) (k.told.end, b) (events k.tree) k.told.told in
+    (p.0, record { tree = k.tree; message = k.message; short = k.short; body = k.body; whole = k.whole; keys = k.keys; told = record { end = k.told.end; within = k.told.within; told = p.1 } })
 
-pub slice_through : {B W : Type 0} (limits : Limits) (takes : B → Event → B → Type 0) (of : W → MutBor B) (bytes : List ℕ) (x y : W) (before after : B) (h : Header) (a t : Window) → a ≡ slice_fresh bytes
+pub slice_through : {B W : Type 0} (limits : Limits) (takes : B → Event → Place → B → Type 0) (of : W → MutBor B) (bytes : List ℕ) (x y : W) (before after : B) (h : Header) (a t : Window) → a ≡ slice_fresh bytes
     → (of x).now ≡ before → ((of y).ghost_name ≡ (of x).ghost_name → (of y).now ≡ after)
-    → ReadsTold limits (λ b e c. ((of c).ghost_name ≡ (of b).ghost_name) × takes (of b).now e (of c).now) a t x y h → BeginsTold limits takes bytes before after h
+    → ReadsTold limits (λ b e p c. ((of c).ghost_name ≡ (of b).ghost_name) × takes (of b).now e p (of c).now) a t x y h → BeginsTold limits takes bytes before after h
 slice_through limits takes of bytes x y before after h a t fresh first last r =
-    let k = slice_told limits (λ b e c. ((of c).ghost_name ≡ (of b).ghost_name) × takes (of b).now e (of c).now) bytes x y h a t fresh r in
+    let k = slice_told limits (λ b e p c. ((of c).ghost_name ≡ (of b).ghost_name) × takes (of b).now e p (of c).now) bytes x y h a t fresh r in
     let p = tells_through limits takes of x y h k.text k.tells in
     rw (sym first, sym (last p.0)) (record { text = k.text; rest = k.rest; front = k.front; tells = p.1 })
 
-pub reader_through : {B W : Type 0} (limits : Limits) (takes : B → Event → B → Type 0) (of : W → MutBor B) (old new : Option (List ℕ)) (x y : W) (before after : B) (h : Header) (a b t : Window)
+pub reader_through : {B W : Type 0} (limits : Limits) (takes : B → Event → Place → B → Type 0) (of : W → MutBor B) (old new : Option (List ℕ)) (x y : W) (before after : B) (h : Header) (a b t : Window)
     → a.buffered ≡ [] → a.limit ≡ 0 → a.beyond ≡ old → t.beyond ≡ new → Grown 1 a b → (of x).now ≡ before → ((of y).ghost_name ≡ (of x).ghost_name → (of y).now ≡ after)
-    → ReadsTold limits (λ d e c. ((of c).ghost_name ≡ (of d).ghost_name) × takes (of d).now e (of c).now) b t x y h → TookTold limits takes old new before after h
+    → ReadsTold limits (λ d e p c. ((of c).ghost_name ≡ (of d).ghost_name) × takes (of d).now e p (of c).now) b t x y h → TookTold limits takes old new before after h
 reader_through limits takes of old new x y before after h a b t empty unlimited p q grown first last r =
-    let k = reader_told limits (λ d e c. ((of c).ghost_name ≡ (of d).ghost_name) × takes (of d).now e (of c).now) old new x y h a b t empty unlimited p q grown r in
+    let k = reader_told limits (λ d e p c. ((of c).ghost_name ≡ (of d).ghost_name) × takes (of d).now e p (of c).now) old new x y h a b t empty unlimited p q grown r in
     let through = tells_through limits takes of x y h k.text k.tells in
     rw (sym first, sym (last through.0)) (record { text = k.text; bytes = k.bytes; tells = through.1 })
 
 -- where a message was told, the reader counted no failure
-pub none_failed : {B : Type 0} (limits : Limits) (takes : B → Event → B → Type 0) (x y : B) (h : Header) (a b t : Window) (before after : ℕ) → a.failures ≡ before → t.failures ≡ after → Grown 1 a b
+pub none_failed : {B : Type 0} (limits : Limits) (takes : B → Event → Place → B → Type 0) (x y : B) (h : Header) (a b t : Window) (before after : ℕ) → a.failures ≡ before → t.failures ≡ after → Grown 1 a b
     → ReadsTold limits takes b t x y h → after ≡ before
 none_failed limits takes x y h a b t before after p q grown r = sym q ∙ r.took.failures ∙ grown.failures ∙ p
 

@@ -5,6 +5,7 @@ pub mod Streams
 pub mod Readers
 pub mod Slices
 pub mod Descriptions
+pub mod Paths
 pub mod Sizes
 pub mod MessageSizes
 pub mod Tallies

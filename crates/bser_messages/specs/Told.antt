@@ -11,7 +11,9 @@ use Rattle.bser_format.specs.declared.errors.ReadCause.TheVariants.{Eof, Reader}
 use Rattle.bser_source.specs.Device.{Blamed}
 use Rattle.bser_source.specs.Window.{Window, Took, with_limit}
 use Rattle.bser_source.specs.declared.device.Source as source
-use Rattle.bser_events.specs.Events.{Event, TakesAll, events}
+use Rattle.bser_events.specs.Events.{Event, events}
+use Rattle.bser_events.specs.Places.{TakesWithin}
+use Rattle.bser_events.specs.declared.event.Place.{Place}
 use Rattle.bser_deserializer.specs.Askings.{asking_ignored}
 use Rattle.bser_deserializer.specs.Calls.{AnyTold, RefusesAny}
 use Rattle.bser_deserializer.specs.Reading.{owned}
@@ -29,37 +31,37 @@ use Rattle.bser_messages.specs.declared.told.Untold.{Untold}
 -- ---- what is told
 
 -- the text is a message within the limits, of which h tells, and the builder took the events of the
--- tree that it spells, each once and in order
-pub record TellsMessage {B : Type 0} (limits : Limits) (takes : B → Event → B → Type 0) (before after : B) (h : Header) (text : List ℕ) : Type 0 where
+-- tree that it spells, each once and in order, at places in order from the body's start to its end
+pub record TellsMessage {B : Type 0} (limits : Limits) (takes : B → Event → Place → B → Type 0) (before after : B) (h : Header) (text : List ℕ) : Type 0 where
   pub tree : Tree
   pub message : IsMessage limits.levels h.capabilities tree text
   pub short : length message.body ≤ limits.bytes
   pub body : h.len ≡ length message.body
   pub whole : h.start + h.len ≡ length text
   pub keys : HasTextKeys tree
-  pub told : TakesAll takes before (events tree) after
+  pub told : TakesWithin takes h.start (length text) before (events tree) after
 
 -- a prefix of the bytes is such a message
-pub record BeginsTold {B : Type 0} (limits : Limits) (takes : B → Event → B → Type 0) (bytes : List ℕ) (before after : B) (h : Header) : Type 0 where
+pub record BeginsTold {B : Type 0} (limits : Limits) (takes : B → Event → Place → B → Type 0) (bytes : List ℕ) (before after : B) (h : Header) : Type 0 where
   pub text : List ℕ
   pub rest : List ℕ
   pub front : bytes ≡ text ++ rest
   pub tells : TellsMessage limits takes before after h text
 
 -- exactly such a message was taken
-pub record TookTold {B : Type 0} (limits : Limits) (takes : B → Event → B → Type 0) (old new : Option (List ℕ)) (before after : B) (h : Header) : Type 0 where
+pub record TookTold {B : Type 0} (limits : Limits) (takes : B → Event → Place → B → Type 0) (old new : Option (List ℕ)) (before after : B) (h : Header) : Type 0 where
   pub text : List ℕ
   pub bytes : Consumes old new text
   pub tells : TellsMessage limits takes before after h text
 
 -- such a message was taken from a source, and no byte past it
-pub record ReadsTold {B : Type 0} (limits : Limits) (takes : B → Event → B → Type 0) (old new : Window) (before after : B) (h : Header) : Type 0 where
+pub record ReadsTold {B : Type 0} (limits : Limits) (takes : B → Event → Place → B → Type 0) (old new : Window) (before after : B) (h : Header) : Type 0 where
   pub text : List ℕ
   pub took : Took old (with_limit old.limit new) text
   pub tells : TellsMessage limits takes before after h text
 
 -- the next message was told, or nothing was left, and the builder took nothing
-abbrev pub IsNextTold : {B : Type 0} → Limits → (B → Event → B → Type 0) → Option (List ℕ) → Option (List ℕ) → B → B → Option Header → Type 0
+abbrev pub IsNextTold : {B : Type 0} → Limits → (B → Event → Place → B → Type 0) → Option (List ℕ) → Option (List ℕ) → B → B → Option Header → Type 0
 IsNextTold limits takes old new before after None = IsAtEnd old × (after ≡ before)
 IsNextTold limits takes old new before after (Some h) = TookTold limits takes old new before after h
 
@@ -140,7 +142,7 @@ SkipFails rest told old new e =
 -- ---- over a deserializer
 
 -- exactly one message of a deserializer was told
-abbrev pub MessageTold : {B : Type 0} → Limits → (B → Event → B → Type 0) → B → B → Seen → Seen → Header → Type 0
+abbrev pub MessageTold : {B : Type 0} → Limits → (B → Event → Place → B → Type 0) → B → B → Seen → Seen → Header → Type 0
 MessageTold limits takes before after old new h =
     ReadsTold limits takes old.state.source new.state.source before after h
 
@@ -150,7 +152,7 @@ MessageUntold limits old new e =
     RefusesWithin limits.levels limits.bytes reads_ignored (Some asking_ignored) owned e old.state.source new.state.source
 
 -- a body of at most m bytes was told
-abbrev pub BodyTold : {B : Type 0} → ℕ → ℕ → (B → Event → B → Type 0) → B → B → Seen → Seen → Type 0
+abbrev pub BodyTold : {B : Type 0} → ℕ → ℕ → (B → Event → Place → B → Type 0) → B → B → Seen → Seen → Type 0
 BodyTold m len takes before after old new = (len ≤ m) × AnyTold takes before after old new
 
 -- the body is too long, and not looked at

@@ -2,6 +2,8 @@
 ghost use Rattle.std.specs.Prelude.{◌≡◌, option_map};
 ghost use Rattle.bser_messages.specs.Descriptions.{at_most, cause_of, field_of, is_early_end, note_of, place_in, place_of};
 
+use crate::locating::Target;
+use crate::progress::Progress;
 pub use bser_deserializer::note::{FieldName, Finding, Note, Wanted};
 use bser_format::errors::{Error, Kind, Message, ReadCause};
 use bser_format::header::{
@@ -19,26 +21,29 @@ pub struct Description {
     place: usize,
     // where the body began
     start: usize,
+    // how many containers the type had opened
+    pub(crate) opened: usize,
     note: Note,
 }
 
-/// Describes an error with this cause, after `count` bytes of an input of `len` bytes of which the
-/// body began at `start`. An early end is at the end of the input, and nothing is behind it.
-pub fn description_of(cause: Error, count: i64, start: i64, len: usize, note: Note) -> Description
+/// Describes an error with this cause, after so much progress in an input of `len` bytes. An early
+/// end is at the end of the input, and nothing is behind it.
+pub(crate) fn description_of(cause: Error, progress: Progress, len: usize) -> Description
     ensures cause { cause_of result ≡ cause }
-    ensures place { place_of result ≡ place_in cause count len }
-    ensures note { note_of result ≡ note }
+    ensures place { place_of result ≡ place_in cause progress.count len }
+    ensures note { note_of result ≡ progress.note }
 {
     let place = if ends_early(&cause) {
         len
     } else {
-        place_within(count, len)
+        place_within(progress.count, len)
     };
     Description {
         cause,
         place,
-        start: usize::try_from(start).unwrap_or(0),
-        note,
+        start: usize::try_from(progress.start).unwrap_or(0),
+        opened: progress.opened,
+        note: progress.note,
     }
 }
 
@@ -83,6 +88,22 @@ impl Description {
         ensures { result ≡ place_of self.now }
     {
         self.place
+    }
+
+    /// Which part of the message the error is about. `failed` is how many bytes lie before the error
+    /// of a message that is malformed, where this one is.
+    pub(crate) fn target(&self, failed: Option<usize>) -> Target<'_> {
+        match (self.note.finding, &self.cause) {
+            (Some(Finding::Missing | Finding::Repeated), _) => match self.field() {
+                Some(name) => Target::Field(name),
+                None => Target::Last,
+            },
+            (Some(Finding::Stray { .. }), _) => Target::Next,
+            (Some(_), _) => Target::Last,
+            (None, Error::DeRecursionLimitExceeded { .. }) => Target::Innermost,
+            (None, _) if failed == Some(self.place) => Target::Innermost,
+            (None, _) => Target::Last,
+        }
     }
 
     /// What was found, where more is known than the cause says.

@@ -8,15 +8,25 @@ use bser_deserializer::note::Note;
 use bser_format::errors::Error;
 use bser_source::read::DeRead;
 
-/// How many bytes a deserializer took, where the body began, and what it notes beside the error.
+/// How many bytes a deserializer took, where the body began, how many containers are open, and what
+/// it notes beside the error.
 #[derive(Clone, Copy)]
 pub(crate) struct Progress {
-    count: i64,
-    start: i64,
-    note: Note,
+    pub(crate) count: i64,
+    pub(crate) start: i64,
+    pub(crate) opened: usize,
+    pub(crate) note: Note,
 }
 
 impl Progress {
+    /// Nothing was read.
+    pub(crate) const NONE: Progress = Progress {
+        count: 0,
+        start: 0,
+        opened: 0,
+        note: Note::NONE,
+    };
+
     /// How far this deserializer came.
     #[cold]
     #[inline(never)]
@@ -28,6 +38,7 @@ impl Progress {
         Progress {
             count: from.read_count(),
             start: from.start(),
+            opened: from.opened(),
             note: from.note(),
         }
     }
@@ -40,6 +51,6 @@ impl Progress {
         ensures place { place_of result ≡ place_in cause self.count len }
         ensures note { note_of result ≡ self.note }
     {
-        description_of(cause, self.count, self.start, len, self.note)
+        description_of(cause, self, len)
     }
 }

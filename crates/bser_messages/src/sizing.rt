@@ -142,7 +142,7 @@ impl Sizing {
 }
 
 impl Builder for Sizing {
-    ghost takes = { Takes };
+    ghost takes = { λ a e _ b. Takes a e b };
 
     ghost stops = { true };
 

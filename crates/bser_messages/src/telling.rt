@@ -22,7 +22,6 @@ use crate::told::{Header, Reason, Untold};
 use crate::told_message::tell_message;
 use crate::watched::Watched;
 use bser_deserializer::deserializer::Deserializer;
-use bser_deserializer::note::Note;
 use bser_events::builder::Builder;
 use bser_format::errors::{Error, ReadCause};
 use bser_source::device::Source;
@@ -35,7 +34,8 @@ use std::alloc::Global;
 /// answers what its header tells. What follows the message is ignored.
 ///
 /// The keys of its objects have to be UTF-8. Each event's place counts the bytes from the start of
-/// the message. The error is the first one in the order of reading, as
+/// the message; places are in order, from the body's start to the message's end. The error is the
+/// first one in the order of reading, as
 /// [`from_slice_limited`](crate::limited_slice::from_slice_limited) answers it for an `Ignored`; or
 /// out of memory, for the containers that are open or by the builder; or that the builder wanted no
 /// more. After an error no clause says what the builder is.
@@ -123,7 +123,7 @@ fn unread(cause: ReadCause) -> Untold
 {
     let cause = Error::de_reader_error(cause);
     Untold {
-        reason: Reason::Failed(description_of(cause, 0, 0, 0, Note::NONE)),
+        reason: Reason::Failed(description_of(cause, Progress::NONE, 0)),
         header: None,
         given: 0,
     }

@@ -43,7 +43,7 @@ impl<B: Builder> Watched<B> {
 impl<B: Builder> Builder for Watched<B> {
     ghost use Rattle.bser_messages.specs.Watched.{builder_of};
 
-    ghost takes = { λ a e b. B.takes (builder_of a) e (builder_of b) };
+    ghost takes = { λ a e p b. B.takes (builder_of a) e p (builder_of b) };
 
     ghost stops = { B.stops };
 

@@ -1,3 +1,5 @@
 pub mod Lines
 pub mod Words
 pub mod Writing
+pub mod Sent
+pub mod Slices

@@ -5,7 +5,6 @@ use Rattle.std.specs.declared.env.FillError.{FillError}
 use Rattle.std.specs.declared.env.FillError.TheVariants.{NotPresent, TooLong}
 use Rattle.std.specs.declared.io.Error as io
 use Rattle.bser_format.specs.declared.errors.Error.{Error}
-use Rattle.bser_format.specs.declared.errors.Error.TheVariants.{Io, OutOfMemory}
 use Rattle.bser_ser.specs.Stopped.{Tells}
 use Rattle.bser_rewriting.specs.Canon.{Gives, Rewrote, RefusesRewriting}
 use Rattle.bser_rewriting.specs.Arguments.{asks_compact, form_of, in_form}

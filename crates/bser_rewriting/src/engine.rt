@@ -3,14 +3,18 @@ ghost use Rattle.std.specs.Prelude.{OnOk, IfErr};
 ghost use Rattle.bser_format.specs.Compact.{fold_templates};
 ghost use Rattle.bser_rewriting.specs.Canon.{Rewrote, RefusesRewriting, ValueIsItsTree, canonical};
 
+use crate::buffered::serialize_buffered;
 use bser_document::document::Document;
 use bser_format::errors::Result;
 use bser_messages::message::from_reader;
-use bser_ser::message::serialize_to;
 use bser_source::device::{Sink, Source};
 use bser_value::compact::serialize_compact;
 use bser_value::value::Value;
 use std::alloc::Global;
+
+/// How many bytes of a message are made in memory at most for each node of a document and each byte
+/// of its strings.
+const BYTES_A_PART: usize = 16;
 
 /// Reads the reader's next message, of at most 128 levels, and writes the canonical message of its
 /// value. What follows the message is left in the reader. The memory that it takes is linear in the
@@ -29,7 +33,8 @@ pub fn canon<R: Source, W: Sink>(alloc: Global, reader: &mut R, writer: &mut W) 
         (RefusesRewriting canonical R.Source W.Sink reader.old reader.new writer.old writer.new) }
 {
     let read: Document = from_reader(alloc, reader)?;
-    serialize_to(alloc, writer, &read)
+    let most = read.weight().saturating_mul(BYTES_A_PART);
+    serialize_buffered(alloc, writer, &read, most)
 }
 
 /// As [`canon`], but writes the compact message of the value. No message that reads as the value is

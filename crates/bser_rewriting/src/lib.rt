@@ -2,7 +2,10 @@
 //! engine of `bser_canon`, and that program over any streams.
 #![tactic(auto)]
 
+mod buffered;
 pub mod engine;
 pub mod process;
 pub mod program;
+mod room;
+pub mod slice;
 pub mod standard;

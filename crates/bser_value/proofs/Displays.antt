@@ -1,12 +1,15 @@
 -- Lemmas on what is written of a value's parts, one after another.
-use Rattle.std.proofs.Common.{◌≡◌, ℕ, List, [], ◌∷◌, map, Option, Some, None, String, Vec, BTreeMap, Result, IsOk, IfSome, codes, refl, ap, ◌∙◌, rules}
+use Rattle.std.proofs.Common.{◌≡◌, ℕ, List, [], ◌∷◌, Option, Some, None, String, Vec, BTreeMap, Result, IsOk, IfSome, codes, refl, ap, ◌∙◌}
 use Rattle.std.proofs.Output.{then_text_assoc, has_written_append}
 use Rattle.std.specs.Fmt.{IsPlainFormatter, HasWritten, DisplaysOnOk, ◌++?◌, comma_space, debug_items}
 use Rattle.std.specs.declared.alloc.Global.{Global}
 use Rattle.std.specs.declared.fmt.Error.{Error}
 use Rattle.std.specs.declared.fmt.Formatter.{Formatter}
-use Rattle.bser_value.specs.declared.value.Value.{Value, Array, Object, the_lemmas}
-use Rattle.bser_value.specs.Displayed.{entry_text, displayed, member_text}
+use Rattle.bser_value.specs.declared.value.Value.{Value, Array, Object}
+use Rattle.bser_value.specs.TreeText.{tree_text, item_texts, entry_texts}
+use Rattle.bser_value.specs.Displayed.{displayed, member_text}
+use Rattle.bser_value.specs.ValueView.{items_view, entries_view}
+use Rattle.bser_value.proofs.Views.{tree_of-Array, tree_of-Object}
 
 module _ {W : Type 0} (took : W → List ℕ → W → Type 0) where
   -- g is f after writing the text in o
@@ -31,22 +34,18 @@ module _ {X : Type 0} (text : X → Option (List ℕ)) where
   part_more done whole before x rest e =
       then_text_assoc done (Some before ++? text x) _ ∙ ap (λ o. done ++? o) (then_text_assoc (Some before) (text x) _) ∙ e
 
--- the texts of parts that are already texts
-texts-items : (lead : List ℕ) (vs : List Value) → debug_items (λ text. text) lead (map displayed vs) ≡ debug_items displayed lead vs
+-- the texts of items and of entries, by their trees
+texts-items : (lead : List ℕ) (vs : List Value) → item_texts lead (items_view vs) ≡ debug_items displayed lead vs
 texts-items lead [] = refl
 texts-items lead (v ∷ vs) = ap (λ o. Some lead ++? displayed v ++? o) (texts-items comma_space vs)
 
-texts-entries : (lead : List ℕ) (es : List (String Global × Value)) → debug_items entry_text lead (map (λ e. (e.0, displayed e.1)) es) ≡ debug_items member_text lead es
+texts-entries : (lead : List ℕ) (es : List (String Global × Value)) → entry_texts lead (entries_view es) ≡ debug_items member_text lead es
 texts-entries lead [] = refl
 texts-entries lead (e ∷ es) = ap (λ o. Some lead ++? member_text e ++? o) (texts-entries comma_space es)
 
 -- one level of the text of an array and of an object
 pub displayed-Array : (v : Vec Value Global) → displayed (Array v) ≡ Some (codes "[") ++? debug_items displayed [] v.items ++? Some (codes "]")
-displayed-Array v =
-    let level : displayed (Array v) ≡ Some (codes "[") ++? debug_items (λ text. text) [] (map displayed v.items) ++? Some (codes "]") = search (rules, the_lemmas) in
-    level ∙ ap (λ o. Some (codes "[") ++? o ++? Some (codes "]")) (texts-items [] v.items)
+displayed-Array v = ap tree_text (tree_of-Array v) ∙ ap (λ o. Some (codes "[") ++? o ++? Some (codes "]")) (texts-items [] v.items)
 
 pub displayed-Object : (m : BTreeMap (String Global) Value) → displayed (Object m) ≡ Some (codes "{") ++? debug_items member_text [] m.entries ++? Some (codes "}")
-displayed-Object m =
-    let level : displayed (Object m) ≡ Some (codes "{") ++? debug_items entry_text [] (map (λ e. (e.0, displayed e.1)) m.entries) ++? Some (codes "}") = search (rules, the_lemmas) in
-    level ∙ ap (λ o. Some (codes "{") ++? o ++? Some (codes "}")) (texts-entries [] m.entries)
+displayed-Object m = ap tree_text (tree_of-Object m) ∙ ap (λ o. Some (codes "{") ++? o ++? Some (codes "}")) (texts-entries [] m.entries)

@@ -1,8 +1,10 @@
 pub mod ValueView
 pub mod Contents
+pub mod TreeText
 pub mod Displayed
 pub mod Made
 pub mod Gathered
 pub mod Places
+pub mod Around
 pub mod Shows
 pub mod CompactTexts

@@ -1,10 +1,11 @@
 -- What a builder shows of the containers that are open.
-use Rattle.std.specs.Prelude.{◌≡◌, ℕ, ◌+◌, ◌≤◌, List, [], ◌∷◌, ◌++◌, length, map, take, drop, reverse, Option, Some, option_map, string_bytes}
+use Rattle.std.specs.Prelude.{◌≡◌, ◌⊎◌, ℕ, ◌+◌, ◌≤◌, ◌<◌, List, [], ◌∷◌, ◌++◌, length, map, take, drop, reverse, Option, Some, option_map, string_bytes}
 use Rattle.std.specs.List.{AllZip, zip}
 use Rattle.bser_format.specs.Tree.{Tree, array, object, entries_of}
 use Rattle.bser_format.specs.Normal.{last_entries}
 use Rattle.bser_events.specs.Events.{Event}
 use Rattle.bser_value.specs.Made.{Open, whole, in_array, in_object, in_keys, in_rows, Stack, built, make, put, named, give, opened, closed, inside}
+use Rattle.bser_value.specs.Around.{around_of}
 use Rattle.bser_value.specs.Gathered.{all_items}
 use Rattle.bser_value.specs.Places.{ArePlaces}
 use Rattle.bser_value.specs.ValueView.{tree_of, items_view, entry_trees}
@@ -25,18 +26,33 @@ pub record ShowsKeys (t : Table) (ks : List (List ℕ)) : Type 0 where
   pub rows : all_items t.rows ≡ []
   pub place : t.place ≡ 0
 
+-- the fields of a row as an object
+abbrev pub row_tree : List (List ℕ) → Table → Tree
+row_tree ks t = object (entries_of (last_entries (zip ks (map tree_of (take t.count t.fields.items)))))
+
 -- the rows that were read, and of the next one the fields before its place
 pub record ShowsRows (t : Table) (ks : List (List ℕ)) (ts : List Tree) (es : List (List ℕ × Tree)) (ls : List (List ℕ)) : Type 0 where
   pub keys : HasKeys t ks
   pub rows : map tree_of (all_items t.rows) ≡ ts
   pub within : t.place ≤ length t.fields.items
+  pub part : 0 < t.place → t.place < t.count
   pub entries : es ≡ last_entries (zip ks (map tree_of (take t.place t.fields.items)))
   pub left : ls ≡ drop t.place ks
+
+-- the rows that were read, of which the last has all its fields and is no object yet
+pub record ShowsLast (t : Table) (ks : List (List ℕ)) (ts : List Tree) (es : List (List ℕ × Tree)) (ls : List (List ℕ)) : Type 0 where
+  pub keys : HasKeys t ks
+  pub rows : map tree_of (all_items t.rows) ++ row_tree ks t ∷ [] ≡ ts
+  pub some : 0 < t.place
+  pub place : t.place ≡ t.count
+  pub within : t.place ≤ length t.fields.items
+  pub entries : es ≡ []
+  pub left : ls ≡ ks
 
 -- a template shows its keys, or its rows
 abbrev pub ShowsTable : Table → Open → Type 0
 ShowsTable t (in_keys ks) = ShowsKeys t ks
-ShowsTable t (in_rows ks ts es ls) = ShowsRows t ks ts es ls
+ShowsTable t (in_rows ks ts es ls) = ShowsRows t ks ts es ls ⊎ ShowsLast t ks ts es ls
 ShowsTable t _ = ⊥
 
 -- what is being read shows this
@@ -50,7 +66,7 @@ ShowsOpen _ _ = ⊥
 -- the innermost and those around it, of which the last is the next
 pub record Shows (b : ValueBuilder) (s : Stack) : Type 0 where
   pub inner : ShowsOpen b.inner s.inner
-  pub around : AllZip ShowsOpen (reverse b.around.items) s.around
+  pub around : AllZip ShowsOpen (reverse (around_of b.around)) s.around
 
 -- ---- steps
 
@@ -106,7 +122,7 @@ pub record PutsRow (old new : Table) : Type 0 where
   pub row : Value
   pub rows : all_items new.rows ≡ all_items old.rows ++ row ∷ []
   pub tree : (ks : List (List ℕ)) → HasKeys old ks → old.count ≤ length old.fields.items
-      → tree_of row ≡ object (entries_of (last_entries (zip ks (map tree_of (take old.count old.fields.items)))))
+      → tree_of row ≡ row_tree ks old
 
 -- the rows of a template of which all was read
 abbrev pub BuildsRows : Table → List Value → Type 0

@@ -2,10 +2,12 @@
 ghost use Rattle.std.specs.Prelude.{◌≡◌, true, false, [], ◌∷◌, ◌++◌, Some, OnOk, option_map};
 ghost use Rattle.bser_format.specs.Tree.{Tree, bytes, text};
 ghost use Rattle.bser_events.specs.Told.{told};
+ghost use Rattle.bser_value.specs.Around.{around_of};
 ghost use Rattle.bser_value.specs.Made.{unread, read_as, in_array, in_object, in_keys};
 ghost use Rattle.bser_value.specs.Shows.{Shows, Takes, Gives, Names, Opens, Closes};
 ghost use Rattle.bser_value.specs.ValueView.{tree_of};
 
+use crate::around::Around;
 use crate::building::Building;
 use crate::value::Value;
 use bser_events::builder::{Builder, Stop};
@@ -20,8 +22,8 @@ pub struct ValueBuilder {
     alloc: Global,
     /// What is being read.
     inner: Building,
-    /// The containers around it, the outermost first.
-    around: Vec<Building>,
+    /// The containers around it.
+    around: Around,
 }
 
 impl ValueBuilder {
@@ -32,7 +34,7 @@ impl ValueBuilder {
         ValueBuilder {
             alloc,
             inner: Building::Whole { value: None },
-            around: Vec::new(alloc),
+            around: Around::new(alloc),
         }
     }
 
@@ -55,9 +57,9 @@ impl ValueBuilder {
     fn begin(&mut self, container: Building) -> Result<(), AllocError>
         ensures inner { OnOk result (self.new.inner ≡ container) }
         ensures around { OnOk result
-            (self.new.around.items ≡ self.old.around.items ++ self.old.inner ∷ []) }
+            (around_of self.new.around ≡ around_of self.old.around ++ self.old.inner ∷ []) }
     {
-        Ok(self.around.push(mem::replace(&mut self.inner, container))?)
+        self.around.push(mem::replace(&mut self.inner, container))
     }
 
     /// Opens an array.
@@ -157,7 +159,7 @@ impl ValueBuilder {
 }
 
 impl Builder for ValueBuilder {
-    ghost takes = { Takes };
+    ghost takes = { λ a e _ b. Takes a e b };
 
     ghost stops = { true };
 

@@ -2,6 +2,7 @@
 //! written in the compact form, which no message that reads as it is shorter than.
 #![tactic(auto)]
 
+mod around;
 pub mod builder;
 mod building;
 pub mod compact;

@@ -1,5 +1,5 @@
 //! Templates that are being read.
-ghost use Rattle.std.specs.Prelude.{◌≤◌, [], length, IfOk, OnOk};
+ghost use Rattle.std.specs.Prelude.{◌≡◌, ◌≤◌, [], length, IfOk, OnOk};
 ghost use Rattle.bser_value.specs.Shows.{ShowsKeys, PutsField, PutsRow, PutsInRow, NamesField, BuildsRows};
 ghost use Rattle.bser_value.specs.ValueView.{tree_of};
 
@@ -10,17 +10,20 @@ use std::alloc::{AllocError, Global};
 use std::collections::BTreeMap;
 
 /// The keys of a template, and what of its rows was read.
+///
+/// A row becomes an object when the next one begins. The last one needs no copy of the keys.
 #[derive(Drop)]
 pub struct Table {
     /// Each key, with the last place at which it occurs.
     places: BTreeMap<String, Value>,
     /// How many keys there are.
     count: usize,
-    /// The rows that were read.
+    /// The rows that were read, but for one whose fields are all there.
     rows: Gathered,
-    /// The fields of the next row as far as its next place. Those behind it are of no row.
+    /// The fields of that row, or of the next one as far as its next place. Those behind it are of
+    /// no row.
     fields: Vec<Value>,
-    /// The place of the field that comes next.
+    /// The place of the field that comes next, or the count of keys behind a row's last field.
     place: usize,
 }
 
@@ -43,11 +46,20 @@ impl Table {
     pub fn put(&mut self, value: Value) -> Result<(), AllocError>
         ensures { OnOk result (PutsInRow (tree_of value) self.old self.new) }
     {
-        self.put_next(value)?;
-        if self.place < self.count {
-            return Ok(());
+        if self.place == self.count {
+            return self.put_first(value);
         }
-        self.put_row()
+        self.put_next(value)
+    }
+
+    /// Puts in the row whose fields were all read, and the first field of the next one.
+    #[inline(never)]
+    fn put_first(&mut self, value: Value) -> Result<(), AllocError>
+        requires { self.old.place ≡ self.old.count }
+        ensures { OnOk result (PutsInRow (tree_of value) self.old self.new) }
+    {
+        self.put_row()?;
+        self.put_next(value)
     }
 
     /// Puts a value at the next place of a row.
@@ -77,7 +89,6 @@ impl Table {
     }
 
     /// Puts in the row whose fields were all read.
-    #[inline(never)]
     fn put_row(&mut self) -> Result<(), AllocError>
         ensures { OnOk result (PutsRow self.old self.new) }
     {
@@ -106,12 +117,18 @@ impl Table {
         ensures { IfOk result (λ rows. BuildsRows self rows.items) }
     {
         let Table {
-            places: _,
-            count: _,
-            rows,
-            fields: _,
-            place: _,
+            mut places,
+            count,
+            mut rows,
+            mut fields,
+            place,
         } = self;
+        if place == 0 || place < count {
+            return rows.into_list();
+        }
+        fields.truncate(count);
+        take_fields(&mut places, &mut fields);
+        rows.push(Value::Object(places))?;
         rows.into_list()
     }
 }

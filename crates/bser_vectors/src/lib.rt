@@ -1,5 +1,5 @@
 //! What tests of BSER need: a notation for answers, readers and writers that follow a plan, structs and
-//! an enum that are read, and the ways of reading a message.
+//! an enum that are read, the ways of reading a message, and a builder that looks at places.
 #![tactic(auto)]
 
 pub mod devices;
@@ -8,3 +8,4 @@ pub mod files;
 pub mod notation;
 pub mod structs;
 pub mod ways;
+pub mod witness;

@@ -1,14 +1,14 @@
-//! Any message, as a `Value`.
+//! Any message, printed.
 use serde_bser::describe;
 use serde_bser::device::Watched;
-use serde_bser::value::Value;
+use serde_bser::document::Document;
 use std::process::ExitCode;
 
 /// Prints the next message on standard input on one line, or why it cannot be read.
 pub fn print_message(rt: &HostRuntime) -> ExitCode {
-    match describe::from_reader::<_, Value>(rt.alloc(), &mut Watched::new(rt.stdin())) {
-        Ok(value) => {
-            let _ = println!(rt; "{value}");
+    match describe::from_reader::<_, Document>(rt.alloc(), &mut Watched::new(rt.stdin())) {
+        Ok(message) => {
+            let _ = println!(rt; "{message}");
             ExitCode::SUCCESS
         }
         Err(error) => {
@@ -16,16 +16,4 @@ pub fn print_message(rt: &HostRuntime) -> ExitCode {
             ExitCode::FAILURE
         }
     }
-}
-
-/// The bytes in all files of an answer. A sum above the greatest `i64` stays there.
-pub fn total_size(answer: &Value) -> i64 {
-    let mut total: i64 = 0;
-    if let Some(files) = answer.get("files").and_then(Value::as_array) {
-        for file in files {
-            let size = file.get("size").and_then(Value::as_i64);
-            total = total.saturating_add(size.unwrap_or(0));
-        }
-    }
-    total
 }

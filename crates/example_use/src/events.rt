@@ -37,7 +37,7 @@ fn print_end(rt: &HostRuntime, error: Error) -> Result<()> {
 }
 
 /// What a message is, by the keys that it has.
-fn kind_of(message: &Value) -> &'static str {
+pub fn kind_of(message: &Value) -> &'static str {
     if message.get("error").is_some() {
         "an error of the server"
     } else if message.get("subscription").is_some() {

@@ -7,11 +7,13 @@ mod change;
 mod document;
 mod events;
 mod file;
+mod frames;
 mod lists;
 mod reals;
 mod replies;
 mod request;
 mod size;
+mod values;
 
 use crate::change::Change;
 use crate::file::File;
@@ -41,6 +43,8 @@ fn print_others(rt: &HostRuntime) -> Result<()> {
     rt.reader().read_to_end(&mut bytes)?;
     println!(rt; "-- replies")?;
     replies::print_replies(rt, &bytes)?;
+    println!(rt; "-- frames")?;
+    frames::print_frames(rt, Watched::new(bytes.as_slice()))?;
     println!(rt; "-- events")?;
     events::print_events(rt, Watched::new(bytes.as_slice()))?;
     println!(rt; "-- values")?;
@@ -56,7 +60,7 @@ fn print_values(rt: &HostRuntime, bytes: &[u8]) -> Result<()> {
     let version = version.unwrap_or("none");
     println!(rt;
         "version {version}, bytes in files: {}",
-        any::total_size(&answer)
+        values::total_size(&answer)
     )?;
     let (total, largest) = document::sizes(alloc, bytes)?;
     println!(rt; "bytes in files: {total}, in the largest {largest}")?;

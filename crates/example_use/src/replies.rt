@@ -88,7 +88,7 @@ pub fn print_replies(rt: &HostRuntime, bytes: &[u8]) -> Result<()> {
 }
 
 /// Prints an answer.
-fn print_reply(rt: &HostRuntime, reply: &Reply) -> Result<()> {
+pub fn print_reply(rt: &HostRuntime, reply: &Reply) -> Result<()> {
     println!(rt; "at {}, files: {}", reply.clock, reply.files.len())?;
     for file in &reply.files {
         println!(rt; "  {}: {} bytes", file.name, file.size)?;

@@ -67,6 +67,13 @@ pub use Rattle.bser_messages.specs.Slices
 pub use Rattle.bser_messages.specs.Descriptions
 pub use Rattle.bser_messages.specs.Sizes
 pub use Rattle.bser_messages.specs.MessageSizes
+pub use Rattle.bser_events.specs.Events
+pub use Rattle.bser_events.specs.Places
+pub use Rattle.bser_messages.specs.Told
+pub use Rattle.bser_frames.specs.Headers as FrameHeaders
+pub use Rattle.bser_frames.specs.Stops as FrameStops
+pub use Rattle.bser_frames.specs.Stream as FrameStream
+pub use Rattle.bser_frames.specs.Messages as FrameMessages
 pub use Rattle.bser_format.specs.Written
 pub use Rattle.bser_format.specs.Pieces
 pub use Rattle.bser_format.specs.Compact

@@ -23,12 +23,13 @@ struct Told<'a> {
     field: &'a str,
     first: usize,
     last: usize,
+    path: &'a str,
 }
 
 impl<'a> Case<'a> {
     /// Takes a line apart at its tabs.
     pub fn parse(alloc: Global, line: &'a str) -> Result<Self> {
-        let [name, kind, message, words, field, first, last, ..] = columns(line, "\t");
+        let [name, kind, message, words, field, first, last, path, ..] = columns(line, "\t");
         Ok(Case {
             name,
             kind,
@@ -37,20 +38,22 @@ impl<'a> Case<'a> {
                 field,
                 first: first.parse::<usize>()?,
                 last: last.parse::<usize>()?,
+                path,
             },
             message: hex::decode(alloc, message)?,
         })
     }
 
     /// Whether the description says what it has to: the words, or those behind an `or`, the field,
-    /// and the place.
-    pub fn is_told(&self, text: &str, refusal: &Description) -> bool {
+    /// the place, and the path.
+    pub fn is_told(&self, text: &str, path: &str, refusal: &Description) -> bool {
         let told = self.told;
         let words = match told.words.split_once(", or ") {
             Some((first, second)) => text.contains(first) || text.contains(second),
             None => text.contains(told.words),
         };
         let field = refusal.field().unwrap_or("-") == told.field;
-        words && field && told.first <= refusal.place() && refusal.place() <= told.last
+        let place = told.first <= refusal.place() && refusal.place() <= told.last;
+        words && field && place && path == told.path
     }
 }

@@ -7,9 +7,10 @@ use crate::written::{compact_message, is_shown};
 use anyhow::Result;
 use bser_vectors::devices::Plan;
 use bser_vectors::ways::read_by_plan;
-use serde_bser::from_slice;
+use bser_vectors::witness::Witness;
 use serde_bser::ser::to_vec;
 use serde_bser::value::Value;
+use serde_bser::{from_slice, tell};
 use std::alloc::Global;
 use std::fs;
 
@@ -65,6 +66,9 @@ impl<'a> Recording<'a> {
     /// The compact message has to be at most as long as the recorded one, and to read back as its
     /// value, from a slice and from readers of 1, 2, 3, 7 and 4096 bytes a call and of all bytes.
     fn first_mismatch(&self, alloc: Global, message: &[u8]) -> Result<Option<&'static str>> {
+        if !is_told_in_place(alloc, message) {
+            return Ok(Some("an event in another place"));
+        }
         let value: Value = from_slice(alloc, message)?;
         if !is_read_by_readers(alloc, message, &value)? {
             return Ok(Some("another value from a reader"));
@@ -99,6 +103,15 @@ impl<'a> Recording<'a> {
             return Ok(Some("another value of the compact message"));
         }
         Ok(None)
+    }
+}
+
+/// Whether the message is told, each event in its place, and the last up to the message's end.
+fn is_told_in_place(alloc: Global, message: &[u8]) -> bool {
+    let mut witness = Witness::new(message, usize::MAX);
+    match tell::from_slice(alloc, tell::Limits::new(), message, &mut witness) {
+        Ok(_) => witness.in_place && witness.end == message.len(),
+        Err(_) => false,
     }
 }
 

@@ -2,8 +2,8 @@
 //!
 //! The file `errors.tsv` has a line for each message: what it shows, the type that it is read as, the
 //! message in hexadecimal digits, the words that have to be told, the field that has to be named, or
-//! `-`, and the first and the last place that may be told. The first line is the columns' names. The
-//! file `wrong-errors.tsv` has such lines of which each is wrong.
+//! `-`, the first and the last place that may be told, and the path. The first line is the columns'
+//! names. The file `wrong-errors.tsv` has such lines of which each is wrong.
 use crate::answer::Answer;
 use crate::case::Case;
 use anyhow::{Context, Result};
@@ -64,8 +64,10 @@ fn compare(rt: &HostRuntime, file: &str) -> Result<()> {
 /// described otherwise, or not as it has to be.
 fn compare_case(rt: &HostRuntime, line: &str) -> Result<u64> {
     let case = Case::parse(rt.alloc(), line)?;
-    let told = refusal(rt.alloc(), &case, 0)?.to_string(rt.alloc())?;
-    println!(rt; "{}: {told}", case.name)?;
+    let refused = refusal(rt.alloc(), &case, 0)?;
+    let told = refused.to_string(rt.alloc())?;
+    let path = refused.path(rt.alloc(), &case.message)?;
+    println!(rt; "{}: {told}, in {path}", case.name)?;
     let mut wrong = 0u64;
     for pieces in PIECES {
         if !is_right(rt, &case, pieces, told.as_str())? {
@@ -80,9 +82,12 @@ fn compare_case(rt: &HostRuntime, line: &str) -> Result<u64> {
 fn is_right(rt: &HostRuntime, case: &Case<'_>, pieces: usize, told: &str) -> Result<bool> {
     let refusal = refusal(rt.alloc(), case, pieces)?;
     let text = refusal.to_string(rt.alloc())?;
-    let is_right = text.as_str() == told && case.is_told(told, &refusal);
+    let path = refusal
+        .path(rt.alloc(), &case.message)?
+        .to_string(rt.alloc())?;
+    let is_right = text.as_str() == told && case.is_told(told, path.as_str(), &refusal);
     if !is_right {
-        println!(rt; "  wrong in pieces of {pieces}: {text}")?;
+        println!(rt; "  wrong in pieces of {pieces}: {text}, in {path}")?;
     }
     Ok(is_right)
 }

@@ -2,9 +2,12 @@
 mod answers;
 mod items;
 mod kinds;
+mod parts;
 mod pointer;
+mod printed;
 mod rows;
 mod same;
+mod whole;
 
 use serde_bser::document::Document;
 use serde_bser::from_slice;

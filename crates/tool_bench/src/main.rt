@@ -8,7 +8,9 @@
 //! `serialize` writes a `Value` to memory, `to-vec` does so without measuring it first,
 //! `serialize-compact` does so in the compact form, and `value` and `value-reader` read one; they
 //! print the length and a checksum of its message. `typed-lent`, `typed-owned` and `typed-reader`
-//! read the files as structs, and print how many there are and the sum of their fields. `document`
+//! read the files as structs, and print how many there are and the sum of their fields.
+//! `derived-lent` and `derived-owned` do so by derives, and `derived-write` writes such structs to
+//! memory. `document`
 //! and `document-reader` read a `Document` and print how many files it has; `document-lookup` looks
 //! up two numbers of each file as well, and prints their sum; `document-write` writes one to
 //! memory. `canon` reads a message from a reader and writes its canonical message, as `bser_canon`
@@ -17,6 +19,7 @@
 //! bytes themselves.
 #![tactic(auto)]
 
+mod derived;
 mod files;
 mod rows;
 mod table;
@@ -41,7 +44,7 @@ const FEW: usize = 3;
 const MANY: usize = 500;
 
 /// What is done.
-const OPERATIONS: [&str; 15] = [
+const OPERATIONS: [&str; 18] = [
     "serialize",
     "to-vec",
     "serialize-compact",
@@ -50,6 +53,9 @@ const OPERATIONS: [&str; 15] = [
     "typed-lent",
     "typed-owned",
     "typed-reader",
+    "derived-lent",
+    "derived-owned",
+    "derived-write",
     "document",
     "document-reader",
     "document-lookup",
@@ -110,6 +116,9 @@ fn repeated(alloc: Global, operation: &str, message: &[u8], count: u32) -> Resul
         "typed-reader" => {
             files_told::<ByteString, String>(alloc, copied_often(alloc, message, count))
         }
+        "derived-lent" => derived::lent_often(alloc, message, count),
+        "derived-owned" => derived::owned_often(alloc, message, count),
+        "derived-write" => bytes_told(alloc, &derived::written_often(alloc, message, count)?),
         "document" => document_told(alloc, read_often(alloc, message, count)),
         "document-reader" => document_told(alloc, copied_often(alloc, message, count)),
         "document-lookup" => looked_up_often(alloc, message, count),

@@ -25,6 +25,9 @@ pub struct PduInfo {
     pub start: i64,
 }
 
+/// As many bytes as the shortest header has.
+const SHORTEST: usize = 8;
+
 impl<R: DeRead> Bunser<R> {
     /// Checks that the body ended where its header says, by the count of the source itself.
     ///
@@ -95,7 +98,7 @@ impl<R: DeRead> Bunser<R> {
     /// Takes the header of a message, and announces the length of its body to the source.
     ///
     /// The errors are those of [`Self::read_pdu`].
-    pub fn read_head(&mut self) -> Answer<PduInfo>
+    fn take_head(&mut self) -> Answer<PduInfo>
         ensures ok { IfOk result (λ info. TakesHead info self.old self.new) }
         ensures start { IfOk result (λ i. i.start ≡ bytes_taken self.new) }
         ensures kept { OnOk result (Keeps self.old self.new) }
@@ -110,6 +113,20 @@ impl<R: DeRead> Bunser<R> {
             len: len as i64,
             start: self.read_count(),
         })
+    }
+
+    /// Takes the header of a message, and announces the length of its body to the source.
+    ///
+    /// As many bytes as each header has are announced before it is read: over a reader most headers
+    /// take one read. The errors are those of [`Self::read_pdu`].
+    pub fn read_head(&mut self) -> Answer<PduInfo>
+        ensures ok { IfOk result (λ info. TakesHead info self.old self.new) }
+        ensures start { IfOk result (λ i. i.start ≡ bytes_taken self.new) }
+        ensures kept { OnOk result (Keeps self.old self.new) }
+        ensures refused { OnErr result (FailsBy head self.old self.new) }
+    {
+        self.announce(SHORTEST);
+        self.take_head()
     }
 
     /// Takes the header of a message, and announces the length of its body to the source.

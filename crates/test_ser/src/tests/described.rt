@@ -1,65 +1,76 @@
-//! The words in which each error is described.
+//! The words in which errors of reading are described.
 use super::checks::check_text;
-use bser_format::errors::{Collection, Complaint, Error, Kind, Message, ReadCause};
-use bser_messages::description::{Note, description_of};
-use std::alloc::Global;
-use std::process::Abort;
+use bser_events::builder::{Builder, Stop};
+use bser_events::event::{Event, Place};
+use bser_messages::described::from_slice_within;
+use bser_messages::limits::Limits;
+use bser_messages::telling::from_slice;
+use bser_types::impls::Ignored;
 
-/// A refusal by an error is described by these words, after seven of nine bytes, of which five are
-/// the head.
-static WORDS: [&str; 13] = [
-    "unknown byte 0x14 where an object's key is wanted, at byte 7",
-    "enum object must have one entry, at byte 7",
-    "recursion limit, template nests too deep, at byte 7",
-    "3 bytes announced, 2 there, at byte 7",
-    "5 bytes announced, and at most 4 are taken, at byte 7",
-    "BSER version 1, and version 2 is wanted (bser-v2), at byte 7",
-    "end of input, at byte 9",
-    "out of memory, at byte 7",
-    "failed before, at byte 7",
-    "out of memory, at byte 7",
-    "map of unknown size, at byte 7",
-    "integer too big: 18446744073709551615, at byte 7",
-    "no such day, at byte 7",
-];
+/// An object of one entry, whose key has the tag 0x14.
+const STRAY_KEY: [u8; 12] = [0, 2, 0, 0, 0, 0, 3, 4, 1, 3, 1, 0x14];
 
-/// The error of this place in [`WORDS`].
-fn cause(rt: &impl Abort, alloc: Global, at: usize) -> Error {
-    let (kind, byte) = (Kind::MapKey, 0x14);
-    match at {
-        0 => Error::DeInvalidStartByte { kind, byte },
-        1 => Error::de_custom(Complaint::EnumObjectEntries),
-        2 => Error::DeRecursionLimitExceeded {
-            kind: Kind::Template,
-        },
-        3 => Error::DeEof {
-            expected: 8,
-            read: 7,
-        },
-        4 => Error::DeTooLong {
-            announced: 5,
-            most: 4,
-        },
-        5 => Error::DeInvalidMagic { magic: [0, 1] },
-        6 => Error::de_reader_error(ReadCause::Eof),
-        7 => Error::de_reader_error(ReadCause::Memory),
-        8 => Error::de_reader_error(ReadCause::Failed),
-        9 => Error::OutOfMemory,
-        10 => Error::SerNeedSize {
-            kind: Collection::Map,
-        },
-        11 => Error::SerU64TooBig { v: u64::MAX },
-        _ => Error::SerCustom {
-            msg: Message::Made(String::from_str(alloc, "no such day").expect(rt, "memory is left")),
-        },
+/// A template of no rows.
+const TEMPLATE: [u8; 18] = [0, 2, 0, 0, 0, 0, 3, 10, 11, 0, 3, 1, 2, 3, 1, b'a', 3, 0];
+
+/// The number 5.
+const FIVE: [u8; 10] = [0, 2, 0, 0, 0, 0, 3, 2, 3, 5];
+
+/// A builder that has no memory.
+#[derive(Drop)]
+struct Full;
+
+impl Builder for Full {
+    ghost use Rattle.std.specs.Prelude.{true, false};
+
+    ghost takes = { λ _ _ _ _. Unit {0} };
+
+    ghost stops = { true };
+
+    ghost asks = { false };
+
+    ghost bytes = { false };
+
+    fn wants_bytes(&self) -> bool {
+        false
+    }
+
+    fn take(&mut self, _event: Event<'_>, _place: Place) -> Result<(), Stop> {
+        Err(Stop::Memory)
+    }
+
+    fn bytes_passed(&mut self, _len: usize, _place: Place) -> Result<(), Stop> {
+        Err(Stop::Memory)
     }
 }
 
 #[test]
 fn an_error_is_described_in_words(rt: HostRuntime) {
-    for (at, words) in WORDS.iter().enumerate() {
-        let cause = cause(&rt, rt.alloc(), at);
-        let described = description_of(cause, 7, 5, 9, Note::NONE);
-        check_text(&rt, rt.alloc(), described, words);
-    }
+    let alloc = rt.alloc();
+    let stray = from_slice_within::<Ignored>(alloc, 128, &STRAY_KEY).err();
+    let words = "unknown byte 0x14 where an object's key is wanted, at byte 11";
+    check_text(&rt, alloc, stray.expect(&rt, "an error"), words);
+    let deep = from_slice_within::<Ignored>(alloc, 0, &TEMPLATE).err();
+    let words = "recursion limit, template nests too deep, at byte 8";
+    check_text(&rt, alloc, deep.expect(&rt, "an error"), words);
+}
+
+#[test]
+fn what_is_not_told_is_described_in_words(rt: HostRuntime) {
+    let alloc = rt.alloc();
+    let short = Limits {
+        levels: 128,
+        bytes: 1,
+    };
+    let long = from_slice(alloc, short, &FIVE, &mut Ignored).err();
+    let words = "2 bytes announced, and at most 1 are taken, at byte 8";
+    check_text(&rt, alloc, long.expect(&rt, "an error"), words);
+    let mut full = Full;
+    let untold = from_slice(alloc, Limits::new(), &FIVE, &mut full).err();
+    check_text(
+        &rt,
+        alloc,
+        untold.expect(&rt, "an error"),
+        "out of memory, at byte 8",
+    );
 }

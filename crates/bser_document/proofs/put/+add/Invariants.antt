@@ -1,5 +1,5 @@
 -- The parts up to here are put.
-use Rattle.std.proofs.Common.{ℕ, List, ◌≡◌, ◌≤◌, ◌<◌, ◌*◌, ◌+◌}
+use Rattle.std.proofs.Common.{ℕ, List, ◌≡◌, ◌≤◌, ◌<◌, ◌*◌, ◌+◌, drop}
 use Rattle.std.specs.Map.{keys_of}
 use Rattle.bser_format.specs.Measures.{depth, items_depth, entries_depth}
 use Rattle.bser_format.specs.Tree.{Tree, entries, entries_of}
@@ -50,5 +50,5 @@ decreases-add_field g l = l.room * 5 + 2
 abbrev pub invariant-add_rows-loop-row : goal.invariant-add_rows-loop-row
 invariant-add_rows-loop-row g l = (ks : List (List ℕ)) (ms : List (List Pair)) → HoldsRows l.fn.rows ks ms → items_depth (row_objects ms) < l.fn.room → PuttingRows g.W.Sink ks ms l.fn.room l.row-iterator l.fn.out l.out
 
-abbrev pub invariant-add_row-loop-key : goal.invariant-add_row-loop-key
-invariant-add_row-loop-key g l = (m : List Pair) → shown l.order.entries ≡ last_places (keys_of m) → HoldsFields l.fields m → depth (row_object m) ≤ l.fn.room → PuttingFields g.W.Sink m l.fn.room l.key-iterator l.fn.out l.out
+abbrev pub invariant-add_row-loop-entry : goal.invariant-add_row-loop-entry
+invariant-add_row-loop-entry g l = (m : List Pair) → shown l.order ≡ last_places (keys_of m) → HoldsFields l.fields m → depth (row_object m) ≤ l.fn.room → PuttingFields g.W.Sink m l.fn.room (drop l.entry-index l.order) l.fn.out l.out

@@ -328,7 +328,7 @@ fn a_message_is_read_the_same_however_its_bytes_come(rt: HostRuntime) {
 }
 
 /// The bytes a call, how often a reader of the number is called, and how many bytes it keeps.
-static CALLS: [(usize, u64, usize); 3] = [(99, 5, 2), (1, 14, 2), (3, 7, 2)];
+static CALLS: [(usize, u64, usize); 3] = [(99, 2, 2), (1, 14, 2), (3, 5, 2)];
 
 #[test]
 fn a_reader_is_called_as_often_as_bytes_are_needed_and_keeps_what_follows(rt: HostRuntime) {

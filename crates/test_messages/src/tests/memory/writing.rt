@@ -3,6 +3,7 @@ use super::{
     CANONICAL_ROWS, ROWS, Tested, check_bytes, check_written, taking, wanted, wanted_after,
 };
 use serde_bser::device::Watched;
+use serde_bser::document::Document;
 use serde_bser::errors::{Error, Result};
 use serde_bser::from_slice;
 use serde_bser::ser::{Serialize, Serializer, serialize, serialize_compact, serialize_to, to_vec};
@@ -89,6 +90,14 @@ fn a_message_that_is_refused_for_memory_leaves_a_beginning(rt: HostRuntime) -> T
     let value: Value = from_slice(rt.alloc(), ROWS)?;
     let mut writer = taking(rt.alloc(), 5);
     let answer = serialize_to(rt.alloc(), &mut writer, &value);
+    check_written(&rt, answer, &writer, CANONICAL_ROWS)
+}
+
+#[test]
+fn a_part_of_a_document_that_is_refused_for_memory_leaves_a_beginning(rt: HostRuntime) -> Tested {
+    let document: Document = from_slice(rt.alloc(), ROWS)?;
+    let mut writer = taking(rt.alloc(), 5);
+    let answer = serialize_to(rt.alloc(), &mut writer, &document.root());
     check_written(&rt, answer, &writer, CANONICAL_ROWS)
 }
 

@@ -1,90 +1,15 @@
 //! Messages that are told to a builder, which counts the events and looks at their places.
-ghost use Rattle.std.specs.Prelude.{◌≤◌, true};
+ghost use Rattle.std.specs.Prelude.{◌≤◌};
 
 use super::{FIVE, MIXED, NUMBERS, VERSION};
 use crate::tests::ROWS;
 use bser_source::device::{Source, Watched};
 use bser_vectors::devices::{Plan, PlannedReader};
-use serde_bser::tell::{
-    Builder, Event, Header, Limits, Place, Stop, Untold, from_slice, next_message,
-};
+use bser_vectors::witness::Witness;
+use serde_bser::tell::{Header, Limits, Untold, from_slice, next_message};
 use std::alloc::Global;
 use std::process::Abort;
 use std::rt::HostRuntime;
-
-/// Takes at most so many events of a message, and looks at their places.
-#[derive(Drop)]
-struct Witness<'m> {
-    message: &'m [u8],
-    most: usize,
-    taken: usize,
-    /// Where the last event ended.
-    end: usize,
-    /// Whether each event began where the last one ended, and each string stood before its end.
-    in_place: bool,
-}
-
-impl<'m> Witness<'m> {
-    /// Takes at most `most` events of this message.
-    fn new(message: &'m [u8], most: usize) -> Self {
-        Witness {
-            message,
-            most,
-            taken: 0,
-            end: 0,
-            in_place: true,
-        }
-    }
-
-    /// Whether these bytes stand right before this place.
-    fn has_before(&self, string: &[u8], end: usize) -> bool {
-        match self.message.get(end.saturating_sub(string.len())..end) {
-            Some(bytes) => bytes == string,
-            None => false,
-        }
-    }
-
-    /// Whether the event stands at this place.
-    fn is_at(&self, event: Event<'_>, place: Place) -> bool {
-        let stands = match event {
-            Event::Bytes(string) => self.has_before(string, place.end),
-            Event::Text(string) | Event::Key(string) => {
-                self.has_before(string.as_bytes(), place.end)
-            }
-            Event::Close => place.start == place.end,
-            _ => place.start < place.end,
-        };
-        stands && (self.taken == 0 || place.start == self.end)
-    }
-}
-
-impl Builder for Witness<'_> {
-    ghost takes = { λ _ _ _. Unit {0} };
-
-    ghost stops = { true };
-
-    ghost asks = { true };
-
-    ghost bytes = { true };
-
-    fn wants_bytes(&self) -> bool {
-        true
-    }
-
-    fn take(&mut self, event: Event<'_>, place: Place) -> Result<(), Stop> {
-        if self.taken >= self.most {
-            return Err(Stop::Asked);
-        }
-        self.in_place = self.in_place && self.is_at(event, place);
-        self.taken = self.taken.saturating_add(1);
-        self.end = place.end;
-        Ok(())
-    }
-
-    fn bytes_passed(&mut self, _len: usize, _place: Place) -> Result<(), Stop> {
-        Ok(())
-    }
-}
 
 /// Any number of events.
 const ALL: usize = usize::MAX;

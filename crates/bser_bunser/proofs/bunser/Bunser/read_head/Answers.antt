@@ -1,28 +1,21 @@
-use Rattle.std.proofs.Common.{◌≡◌, ◌<◌, ◌^◌, rules, arith}
-use Rattle.std.specs.Prelude.{pos}
-use Rattle.std.specs.Int.{w64}
-use mir.Val.{to_z}
-use Rattle.std.proofs.lemmas.Int.{ints}
-use Rattle.bser_bunser.proofs.Heads.{took_head, head_four_names, head_size_names}
-use Rattle.std.proofs.lemmas.Result.{err_from_is_err_and}
+-- As many bytes are announced as each header has, and then a header is taken.
+use Rattle.std.proofs.Common.{◌≡◌}
+use Rattle.std.specs.Prelude.{Result, Ok, Err, IfOk, OnErr}
+use Rattle.bser_bunser.proofs.Announced.{head_announced, announced_refused}
 use Rattle.bser_bunser.proofs.bunser.Bunser.read_head.Goals as goal
+
+if_ok : {X E : Type 0} (P Q : X → Type 0) (r : Result X E) → ((x : X) → P x → Q x) → IfOk r P → IfOk r Q
+if_ok P Q (Ok x) f h = f x h
+if_ok P Q (Err e) f h = tt
+
+on_err : {X E : Type 0} (P Q : Type 0) (r : Result X E) → (P → Q) → OnErr r P → OnErr r Q
+on_err P Q (Ok x) f h = tt
+on_err P Q (Err e) f h = f h
 
 pub returns-clause-ok : goal.returns-clause-ok
 returns-clause-ok g c =
-    let len = c.in_ok-len.len in
-    let same : to_z w64 len ≡ pos len = omega (arith, ints, c.in_ok-len.ensures.fits) in
-    let small : c.in_ok-bser_capabilities.bser_capabilities < 2 ^ 32 = search rules in
-    took_head _ _ _ _ _ _ len _ same small c.in_ok-read_magic.ensures.ok c.in_ok-bser_capabilities.ensures.ok c.in_ok-len.ensures.ok c.announce.ensures.window
+    if_ok _ _ c.take_head.result (λ info t. head_announced _ _ _ info.bser_capabilities info.len c.announce.ensures.window t) c.take_head.ensures.ok
 
-pub returns-in_err-bser_capabilities-clause-refused : goal.returns-in_err-bser_capabilities-clause-refused
-returns-in_err-bser_capabilities-clause-refused g c =
-    let p = err_from_is_err_and c.from_residual-in_err-bser_capabilities.result c.from_residual-in_err-bser_capabilities.ensures.1 in
-    let no = c.in_err-bser_capabilities.ensures.refused in
-    rw p.1 (record { err = search rules; names = head_four_names _ _ _ c.in_ok-read_magic.ensures.ok no.names; memory = no.memory })
-
-pub returns-in_err-len-clause-refused : goal.returns-in_err-len-clause-refused
-returns-in_err-len-clause-refused g c =
-    let p = err_from_is_err_and c.from_residual-in_err-len.result c.from_residual-in_err-len.ensures.1 in
-    let no = c.in_err-len.ensures.refused in
-    let names = head_size_names c.in_ok-bser_capabilities.bser_capabilities _ _ _ _ c.in_ok-read_magic.ensures.ok c.in_ok-bser_capabilities.ensures.ok no.names in
-    rw p.1 (record { err = search rules; names = names; memory = no.memory })
+pub returns-clause-refused : goal.returns-clause-refused
+returns-clause-refused g c =
+    on_err _ _ c.take_head.result (λ h. announced_refused _ _ _ _ _ _ c.announce.ensures.window h) c.take_head.ensures.refused

@@ -4,6 +4,7 @@ use Rattle.bser_events.proofs.Outcomes.{both_ok, both_err}
 use Rattle.bser_format.specs.Expected.{node_due, field_due, row_due}
 use Rattle.std.specs.Prelude.{OnErr, Some}
 use Rattle.bser_format.specs.ReadsAny.{reads_ignored}
+use Rattle.bser_events.specs.Places.{Placed, reading_at}
 use Rattle.bser_deserializer.specs.Askings.{asking_ignored}
 use Rattle.bser_deserializer.specs.Reading.{Refuses, owned}
 use Rattle.bser_deserializer.specs.State.{State, awaiting}
@@ -17,7 +18,7 @@ returns-in-Node-clause-found g c =
     let z : State = c.tell_value.new.self.state in
     let due : s.due ≡ node_due = sym (ap (λ v. v.state.due) c.self.view_is) ∙ ap (due_of (map g.R.Lent.Lending.kept c.self.inside.keys.items) c.self.inside.place) c.in-Node.is in
     both_ok _ _ _ c.tell_value.result c.tell_value.ensures.found c.tell_value.ensures.state
-    (λ v same. any_value g.B.Builder.takes s z c.args.builder.now c.tell_value.new.builder due v same)
+    (λ v same. any_value (Placed g.B.Builder.takes) s z (reading_at s.source, c.args.builder.now) (reading_at z.source, c.tell_value.new.builder) due v same)
 
 pub returns-in-Node-clause-refused : goal.returns-in-Node-clause-refused
 returns-in-Node-clause-refused g c =
@@ -33,7 +34,7 @@ returns-in-Field-clause-found g c =
     let z : State = c.tell_field.new.self.state in
     let due : s.due ≡ field_due = sym (ap (λ v. v.state.due) c.self.view_is) ∙ ap (due_of (map g.R.Lent.Lending.kept c.self.inside.keys.items) c.self.inside.place) c.in-Field.is in
     both_ok _ _ _ c.tell_field.result c.tell_field.ensures.found c.tell_field.ensures.state
-    (λ f same. any_field g.B.Builder.takes s z c.args.builder.now c.tell_field.new.builder due f same)
+    (λ f same. any_field (Placed g.B.Builder.takes) s z (reading_at s.source, c.args.builder.now) (reading_at z.source, c.tell_field.new.builder) due f same)
 
 pub returns-in-Field-clause-refused : goal.returns-in-Field-clause-refused
 returns-in-Field-clause-refused g c =

@@ -1,7 +1,10 @@
--- The node tells it.
-use Rattle.bser_document.specs.Holds.{is_null}
-use Rattle.bser_document.proofs.Holds.{answered, is_null_emptied}
+-- The kind tells it.
+use Rattle.std.proofs.Common.{sym, ◌∙◌}
+use Rattle.bser_document.proofs.Holds.{null_kind, other_kind}
 use Rattle.bser_document.proofs.item.Item.is_null.Goals as goal
 
-pub returns : goal.returns
-returns c u h = answered is_null c.args.self.document.now c.node.result c.is_null_at.result is_null_emptied c.is_null_at.ensures u (c.node.ensures.shows u h)
+pub returns-in-Null : goal.returns-in-Null
+returns-in-Null c u h = null_kind u (sym (c.kind.ensures u h) ∙ c.in-Null.is)
+
+pub returns-in_default : goal.returns-in_default
+returns-in_default c u h = other_kind u λ e. c.in_default.not-Null (c.kind.ensures u h ∙ e)

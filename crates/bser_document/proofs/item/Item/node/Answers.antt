@@ -1,4 +1,5 @@
 -- The node at the item's place, or that of a row.
+use Rattle.std.proofs.Common.{◌≡◌, None, Some, sym, ◌∙◌}
 use Rattle.bser_document.specs.declared.document.Node.TheVariants as nodes
 use Rattle.bser_document.proofs.Holds.{plain_first, row_first, shown}
 use Rattle.bser_document.proofs.item.Item.node.Goals as goal
@@ -14,3 +15,6 @@ returns-in-Some-clause-shows c = shown c.args.self (nodes.Object c.in-Some.keys.
 
 pub returns-in-None-clause-shows : goal.returns-in-None-clause-shows
 returns-in-None-clause-shows c = shown c.args.self c.node.result (plain_first c.args.self c.node.result c.in-None.is c.node.ensures) c.node.ensures.1
+
+pub returns-in-Some-clause-own : goal.returns-in-Some-clause-own
+returns-in-Some-clause-own c none = let e : None ≡ Some c.in-Some.keys = sym none ∙ c.in-Some.is in absurd cc

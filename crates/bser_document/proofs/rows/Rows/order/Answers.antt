@@ -1,10 +1,10 @@
--- Each key is put in with its place.
-use Rattle.bser_document.proofs.Orders.{one_place, all_places}
+-- Each key of the map is put behind the others.
+use Rattle.std.proofs.Common.{rules, ap, sym, ◌∙◌, ◌∷◌, [], ◌++◌, append_assoc, append-nil}
+use Rattle.bser_document.specs.Order.{shown}
 use Rattle.bser_document.proofs.rows.Rows.order.Goals as goal
 
-pub loop-place-preserved : goal.loop-place-preserved
-loop-place-preserved c ks ms h =
-    one_place c.args.self c.loop-place.places.entries c.insert.new.self.entries c.loop-place.place c.place-at.result c.key.result c.loop-place-test.true c.place-at.ensures c.key.ensures c.in_ok-insert.ensures.entries ks ms h (c.loop-place.invariant ks ms h)
+pub loop-key-preserved : goal.loop-key-preserved
+loop-key-preserved c = ap (λ l. l ++ c.next.new.self) c.in_ok-push.ensures.items ∙ append_assoc c.loop-key.order.items ((c.in-Some.key.now, c.in-Some.place.now) ∷ []) c.next.new.self ∙ ap (λ l. c.loop-key.order.items ++ l) (sym c.in-Some.ensures.steps) ∙ c.loop-key.invariant
 
 pub returns : goal.returns
-returns c ks ms h = all_places c.args.self c.loop-place.places.entries c.loop-place.place c.loop-place-test.false ks ms h (c.loop-place.invariant ks ms h)
+returns c ks ms h = ap shown (sym (append-nil c.loop-key.order.items) ∙ ap (λ l. c.loop-key.order.items ++ l) (sym (search rules)) ∙ c.loop-key.invariant ∙ search rules) ∙ c.in_ok-places.ensures ks ms h

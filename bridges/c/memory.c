@@ -1,0 +1,116 @@
+/* Counts the memory that each export takes while it runs, beside what its caller gives it, and prints
+ * the most bytes for each byte of input. The status is 1 where it is above what docs/BRIDGES.md says.
+ *
+ * The arguments are files with a message each. Linked with --wrap for malloc, realloc and free. */
+#include "bser.h"
+
+#include <malloc.h>
+#include <stdio.h>
+#include <stdlib.h>
+
+/* What a call may take: so many bytes, and so many for each byte of input. */
+enum { FIXED = 16384, FOR_EACH = 48 };
+
+void *__real_malloc(size_t size);
+void *__real_realloc(void *memory, size_t size);
+void __real_free(void *memory);
+
+static size_t held, most;
+
+static void *count(void *memory) {
+    if (memory != NULL) held += malloc_usable_size(memory);
+    if (held > most) most = held;
+    return memory;
+}
+
+void *__wrap_malloc(size_t size) { return count(__real_malloc(size)); }
+
+void *__wrap_realloc(void *memory, size_t size) {
+    if (memory != NULL) held -= malloc_usable_size(memory);
+    return count(__real_realloc(memory, size));
+}
+
+void __wrap_free(void *memory) {
+    if (memory != NULL) held -= malloc_usable_size(memory);
+    __real_free(memory);
+}
+
+typedef struct {
+    const char *name;
+    double for_each; /* the most so far, where more than the fixed part was taken */
+    size_t fixed;    /* the most that was taken for a short input */
+} row;
+
+static row rows[] = {{"bser_tape", 0, 0}, {"bser_of_tape", 0, 0}, {"bser_canonical", 0, 0},
+                     {"bser_describe", 0, 0}, {"bser_message_length", 0, 0}, {"bser_compact", 0, 0}};
+enum { TAPE, OF_TAPE, CANONICAL, DESCRIBE, LENGTH, COMPACT, ROWS };
+
+static void begin(void) { held = most = 0; }
+
+static void note(int at, size_t input) {
+    double for_each = (double)most / (double)input;
+    if (input < 1000) {
+        if (most > rows[at].fixed) rows[at].fixed = most;
+    } else if (for_each > rows[at].for_each) {
+        rows[at].for_each = for_each;
+    }
+}
+
+typedef bser_outcome rewrite(const uint8_t *, size_t, uint8_t *, size_t);
+
+static void measure(int at, rewrite *call, const uint8_t *bytes, size_t len) {
+    size_t room = call(bytes, len, (uint8_t *)"", 0).length;
+    uint8_t *out = calloc(room + 1, 1);
+    if (out == NULL) exit(2);
+    begin();
+    call(bytes, len, out, room);
+    note(at, len);
+    free(out);
+}
+
+static void measure_all(const uint8_t *bytes, size_t len) {
+    uint64_t *words = calloc(2 * len + 1, sizeof *words);
+    uint8_t *out = calloc(len + 16, 1);
+    if (words == NULL || out == NULL) exit(2);
+    begin();
+    bser_outcome found = bser_tape(bytes, len, words, 2 * len);
+    note(TAPE, len);
+    begin();
+    bser_message_length(bytes, len);
+    note(LENGTH, len);
+    if (found.code == BSER_OK) {
+        begin();
+        bser_of_tape(words, found.length, bytes, len, out, len + 16);
+        note(OF_TAPE, len);
+    }
+    measure(CANONICAL, bser_canonical, bytes, len);
+    measure(DESCRIBE, bser_describe, bytes, len);
+    measure(COMPACT, bser_compact, bytes, len);
+    free(words);
+    free(out);
+}
+
+static void read_file(const char *name) {
+    FILE *file = fopen(name, "rb");
+    if (file == NULL) exit(2);
+    fseek(file, 0, SEEK_END);
+    size_t len = (size_t)ftell(file);
+    rewind(file);
+    uint8_t *bytes = calloc(len + 1, 1);
+    if (bytes == NULL || fread(bytes, 1, len, file) != len) exit(2);
+    fclose(file);
+    measure_all(bytes, len);
+    if (len > 2) measure_all(bytes, len - 2);
+    free(bytes);
+}
+
+int main(int argc, char **argv) {
+    int status = 0;
+    for (int i = 1; i < argc; i++) read_file(argv[i]);
+    for (int at = 0; at < ROWS; at++) {
+        printf("%s %.1f bytes for each, %zu for a short message; ", rows[at].name, rows[at].for_each, rows[at].fixed);
+        if (at != COMPACT && (rows[at].for_each > FOR_EACH || rows[at].fixed > FIXED)) status = 1;
+    }
+    printf("%d files\n", argc - 1);
+    return status;
+}

@@ -1,0 +1,261 @@
+/* The message of a value, made by its tape. */
+#include "internal.h"
+
+enum { MOST_LEVELS = 128, LONGEST_HEAD = 15 };
+
+/* A str that was put as a key, and where its bytes stand. */
+typedef struct {
+    PyObject *key;
+    size_t at, len;
+} seen_key;
+
+enum { MOST_SEEN = 32 };
+
+typedef struct {
+    uint64_t *words;
+    size_t count, words_room;
+    uint8_t *strings;
+    size_t len, strings_room;
+    size_t most; /* how many bytes the message has at most, beside its head */
+    seen_key seen[MOST_SEEN];
+} tape;
+
+static int put(tape *t, PyObject *x, int levels);
+
+static int grow_words(tape *t) {
+    size_t room = t->words_room == 0 ? 256 : 2 * t->words_room;
+    uint64_t *words = PyMem_Realloc(t->words, room * sizeof *words);
+    if (words == NULL) {
+        PyErr_NoMemory();
+        return -1;
+    }
+    t->words = words;
+    t->words_room = room;
+    return 0;
+}
+
+/* Adds a part, which has at most so many bytes beside those of its string. */
+static inline int add_part(tape *t, unsigned tag, size_t count, uint64_t second, size_t most) {
+    if (t->count + 2 > t->words_room && grow_words(t) < 0) return -1;
+    t->words[t->count] = bser_word(tag, count);
+    t->words[t->count + 1] = second;
+    t->count += 2;
+    t->most += most;
+    return 0;
+}
+
+/* Adds a part that is no string: a tag, and at most an integer of eight bytes. */
+static int add(tape *t, unsigned tag, size_t count, uint64_t second) {
+    return add_part(t, tag, count, second, 10);
+}
+
+static int add_close(tape *t) { return add_part(t, BSER_CLOSE, 0, 0, 0); }
+
+static int grow_strings(tape *t, size_t len) {
+    size_t room = 2 * (t->len + len) + 256;
+    uint8_t *strings = PyMem_Realloc(t->strings, room);
+    if (strings == NULL) {
+        PyErr_NoMemory();
+        return -1;
+    }
+    t->strings = strings;
+    t->strings_room = room;
+    return 0;
+}
+
+/* Adds a string whose bytes stand among the strings. */
+static int add_place(tape *t, unsigned tag, size_t at, size_t len) {
+    return add_part(t, tag, len, at, len + (len < 0x80 ? 3 : 10));
+}
+
+static int add_string(tape *t, unsigned tag, const char *bytes, size_t len) {
+    if (len > t->strings_room - t->len && grow_strings(t, len) < 0) return -1;
+    memcpy(t->strings + t->len, bytes, len);
+    t->len += len;
+    return add_place(t, tag, t->len - len, len);
+}
+
+/* A str without what UTF-8 cannot say: surrogates. */
+static int put_lossy(tape *t, unsigned tag, PyObject *x) {
+    PyErr_Clear();
+    PyObject *bytes = PyUnicode_AsEncodedString(x, "utf-8", "ignore");
+    if (bytes == NULL) return -1;
+    int added = add_string(t, tag, PyBytes_AS_STRING(bytes), (size_t)PyBytes_GET_SIZE(bytes));
+    Py_DECREF(bytes);
+    return added;
+}
+
+static int put_string(tape *t, unsigned tag, PyObject *x) {
+    if (PyBytes_Check(x)) return add_string(t, tag, PyBytes_AS_STRING(x), (size_t)PyBytes_GET_SIZE(x));
+    if (!PyUnicode_Check(x)) {
+        PyErr_Format(PyExc_TypeError, "a key has to be str or bytes, not %.100s", Py_TYPE(x)->tp_name);
+        return -1;
+    }
+    Py_ssize_t len;
+    const char *utf8 = PyUnicode_AsUTF8AndSize(x, &len);
+    if (utf8 != NULL) return add_string(t, tag, utf8, (size_t)len);
+    if (!PyErr_ExceptionMatches(PyExc_UnicodeEncodeError)) return -1;
+    return put_lossy(t, tag, x);
+}
+
+/* Objects share their keys, whose bytes are copied once then. */
+static int put_key(tape *t, PyObject *x) {
+    seen_key *seen = &t->seen[(uintptr_t)x / 16 % MOST_SEEN];
+    if (seen->key == x) return add_place(t, BSER_BYTES_KEY, seen->at, seen->len);
+    size_t at = t->len;
+    if (put_string(t, BSER_BYTES_KEY, x) < 0) return -1;
+    *seen = (seen_key){x, at, t->len - at};
+    return 0;
+}
+
+static int put_int(tape *t, PyObject *x) {
+    int overflow;
+    long long number = PyLong_AsLongLongAndOverflow(x, &overflow);
+    if (overflow != 0) {
+        raise_error(encode_error, "integer out of range", BSER_OK, 0, 0);
+        return -1;
+    }
+    if (number == -1 && PyErr_Occurred()) return -1;
+    return add(t, BSER_INT, 0, (uint64_t)number);
+}
+
+static int put_real(tape *t, PyObject *x) {
+    double real = PyFloat_AS_DOUBLE(x);
+    uint64_t bits;
+    memcpy(&bits, &real, sizeof bits);
+    return add(t, BSER_REAL, 0, bits);
+}
+
+static int put_items(tape *t, PyObject *x, int levels) {
+    Py_ssize_t count = PySequence_Fast_GET_SIZE(x);
+    if (add(t, BSER_ARRAY, (size_t)count, 0) < 0) return -1;
+    for (Py_ssize_t i = 0; i < count; i++)
+        if (put(t, PySequence_Fast_GET_ITEM(x, i), levels) < 0) return -1;
+    return add_close(t);
+}
+
+static int put_entries(tape *t, PyObject *x, int levels) {
+    Py_ssize_t place = 0;
+    PyObject *key, *one;
+    if (add(t, BSER_OBJECT, (size_t)PyDict_Size(x), 0) < 0) return -1;
+    while (PyDict_Next(x, &place, &key, &one))
+        if (put_key(t, key) < 0 || put(t, one, levels) < 0) return -1;
+    return add_close(t);
+}
+
+static int put(tape *t, PyObject *x, int levels) {
+    if (x == Py_None) return add(t, BSER_NULL, 0, 0);
+    if (PyBool_Check(x)) return add(t, x == Py_True ? BSER_TRUE : BSER_FALSE, 0, 0);
+    if (PyBytes_Check(x) || PyUnicode_Check(x)) return put_string(t, BSER_BYTES, x);
+    if (PyLong_Check(x)) return put_int(t, x);
+    if (PyFloat_Check(x)) return put_real(t, x);
+    int is_list = PyList_Check(x) || PyTuple_Check(x);
+    if (!is_list && !PyDict_Check(x)) {
+        raise_error(encode_error, "Unsupported value type", BSER_OK, 0, 0);
+        return -1;
+    }
+    if (levels == 0) {
+        raise_error(encode_error, "more than 128 levels", BSER_TOO_DEEP, 0, 0);
+        return -1;
+    }
+    return is_list ? put_items(t, x, levels - 1) : put_entries(t, x, levels - 1);
+}
+
+/* Why the library wrote no message: a key that is no UTF-8 is all that a tape of `put` can have. */
+static PyObject *not_written(bser_outcome outcome) {
+    if (outcome.code == BSER_NO_MEMORY) return PyErr_NoMemory();
+    return raise_error(encode_error, "a key that is not UTF-8", outcome.code, outcome.place, 0);
+}
+
+/* Writes a head as pywatchman does, of a fixed width, and answers how many bytes it has. It is the
+ * extension's own. */
+static size_t write_head(uint8_t *out, size_t body, int version, uint32_t capabilities) {
+    size_t size = body < 0x80000000u ? 4 : 8, start = version == 1 ? 2 : 6;
+    out[0] = 0;
+    out[1] = (uint8_t)version;
+    for (size_t i = 2; i < start; i++) out[i] = (uint8_t)(capabilities >> (8 * (i - 2)));
+    out[start] = size == 4 ? 5 : 6;
+    for (size_t i = 0; i < size; i++) out[start + 1 + i] = (uint8_t)((uint64_t)body >> (8 * i));
+    return start + 1 + size;
+}
+
+/* Puts a head of pywatchman's in the place of that of the library's message, and answers how many bytes
+ * the message then has. */
+static size_t change_head(uint8_t *message, size_t len, int version, uint32_t capabilities) {
+    uint8_t head[LONGEST_HEAD];
+    size_t width = (size_t)1 << (message[6] - 3), body = len - 7 - width;
+    size_t front = write_head(head, body, version, capabilities);
+    memmove(message + front, message + 7 + width, body);
+    memcpy(message, head, front);
+    return front + body;
+}
+
+static PyObject *message_of(const tape *t, int version, uint32_t capabilities) {
+    static const uint8_t none[1];
+    size_t room = t->most + LONGEST_HEAD;
+    PyObject *made = PyBytes_FromStringAndSize(NULL, (Py_ssize_t)room);
+    if (made == NULL) return NULL;
+    uint8_t *out = memset(PyBytes_AS_STRING(made), 0, room);
+    const uint8_t *strings = t->strings == NULL ? none : t->strings;
+    bser_outcome done = bser_of_tape(t->words, t->count, strings, t->len, out, room);
+    if (done.code != BSER_OK) {
+        Py_DECREF(made);
+        return not_written(done);
+    }
+    _PyBytes_Resize(&made, (Py_ssize_t)change_head(out, done.length, version, capabilities));
+    return made;
+}
+
+/* Memory that the last call left, so that not each call makes some. A call takes it away. */
+static uint64_t *kept_words;
+static uint8_t *kept_strings;
+static size_t kept_words_room, kept_strings_room;
+
+enum { MOST_KEPT = 1 << 23 };
+
+static void begin(tape *t) {
+    t->words = kept_words;
+    t->words_room = kept_words == NULL ? 0 : kept_words_room;
+    t->strings = kept_strings;
+    t->strings_room = kept_strings == NULL ? 0 : kept_strings_room;
+    t->count = t->len = t->most = 0;
+    memset(t->seen, 0, sizeof t->seen);
+    kept_words = NULL;
+    kept_strings = NULL;
+}
+
+static void end(const tape *t) {
+    if (kept_words != NULL || 8 * t->words_room + t->strings_room > MOST_KEPT) {
+        PyMem_Free(t->words);
+        PyMem_Free(t->strings);
+        return;
+    }
+    PyMem_Free(kept_strings);
+    kept_words = t->words;
+    kept_words_room = t->words_room;
+    kept_strings = t->strings;
+    kept_strings_room = t->strings_room;
+}
+
+/* The number of an argument, or the one that it has where it is left out. */
+static int take_number(long long *number, PyObject *given) {
+    if (given == NULL) return 0;
+    *number = PyLong_AsLongLong(given);
+    return *number == -1 && PyErr_Occurred() ? -1 : 0;
+}
+
+PyObject *dumps(PyObject *module, PyObject *const *args, Py_ssize_t count, PyObject *names) {
+    static const char *const parameters[] = {"val", "version", "capabilities", NULL};
+    PyObject *taken[3] = {NULL, NULL, NULL}, *made = NULL;
+    long long version = 1, capabilities = 0;
+    (void)module;
+    if (take_arguments("dumps", parameters, taken, args, count, names) < 0) return NULL;
+    if (take_number(&version, taken[1]) < 0 || take_number(&capabilities, taken[2]) < 0) return NULL;
+    if (version != 1 && version != 2)
+        return raise_error(encode_error, "the version has to be 1 or 2", BSER_OK, 0, 0);
+    tape t;
+    begin(&t);
+    if (put(&t, taken[0], MOST_LEVELS) == 0) made = message_of(&t, (int)version, (uint32_t)capabilities);
+    end(&t);
+    return made;
+}

@@ -1,0 +1,97 @@
+/* An object that cannot change: a tuple of values, each with a key. */
+#include "internal.h"
+
+typedef struct {
+    PyObject_HEAD
+    PyObject *keys;
+    PyObject *values;
+} object;
+
+PyObject *new_object(PyObject *keys, PyObject *values) {
+    object *made = PyObject_New(object, &object_type);
+    if (made == NULL) return NULL;
+    Py_INCREF(keys);
+    Py_INCREF(values);
+    made->keys = keys;
+    made->values = values;
+    return (PyObject *)made;
+}
+
+static void free_object(PyObject *self) {
+    object *o = (object *)self;
+    Py_XDECREF(o->keys);
+    Py_XDECREF(o->values);
+    PyObject_Free(self);
+}
+
+static Py_ssize_t object_len(PyObject *self) { return PyTuple_GET_SIZE(((object *)self)->values); }
+
+static PyObject *object_item(PyObject *self, Py_ssize_t at) {
+    PyObject *values = ((object *)self)->values;
+    if (at < 0 || at >= PyTuple_GET_SIZE(values)) {
+        PyErr_SetString(PyExc_IndexError, "no such place in the object");
+        return NULL;
+    }
+    return Py_NewRef(PyTuple_GET_ITEM(values, at));
+}
+
+/* The value under the key, which is a str. A key may be asked for as stat names it, as st_size. */
+static PyObject *value_of(object *o, PyObject *key) {
+    Py_ssize_t len, count = PyTuple_GET_SIZE(o->keys);
+    const char *name = PyUnicode_AsUTF8AndSize(key, &len);
+    if (name == NULL) return NULL;
+    if (len > 3 && memcmp(name, "st_", 3) == 0) {
+        name += 3;
+        len -= 3;
+    }
+    for (Py_ssize_t i = count - 1; i >= 0; i--) {
+        Py_ssize_t other_len;
+        const char *other = PyUnicode_AsUTF8AndSize(PyTuple_GET_ITEM(o->keys, i), &other_len);
+        if (other == NULL) return NULL;
+        if (other_len == len && memcmp(name, other, (size_t)len) == 0)
+            return Py_NewRef(PyTuple_GET_ITEM(o->values, i));
+    }
+    PyErr_Format(PyExc_AttributeError, "the object has no key '%U'", key);
+    return NULL;
+}
+
+static PyObject *object_attribute(PyObject *self, PyObject *name) {
+    PyObject *found = PyObject_GenericGetAttr(self, name);
+    if (found != NULL || !PyErr_ExceptionMatches(PyExc_AttributeError)) return found;
+    PyErr_Clear();
+    return value_of((object *)self, name);
+}
+
+static PyObject *object_subscript(PyObject *self, PyObject *key) {
+    if (PyUnicode_Check(key)) return value_of((object *)self, key);
+    if (PyBytes_Check(key)) {
+        PyObject *text = PyUnicode_FromEncodedObject(key, "utf-8", "strict");
+        PyObject *found = text == NULL ? NULL : value_of((object *)self, text);
+        Py_XDECREF(text);
+        return found;
+    }
+    Py_ssize_t at = PyNumber_AsSsize_t(key, PyExc_IndexError);
+    if (at == -1 && PyErr_Occurred()) return NULL;
+    return object_item(self, at < 0 ? at + object_len(self) : at);
+}
+
+static PyObject *object_repr(PyObject *self) {
+    object *o = (object *)self;
+    return PyUnicode_FromFormat("BserObject(%R, %R)", o->keys, o->values);
+}
+
+static PySequenceMethods as_sequence = {.sq_length = object_len, .sq_item = object_item};
+static PyMappingMethods as_mapping = {.mp_length = object_len, .mp_subscript = object_subscript};
+
+PyTypeObject object_type = {
+    PyVarObject_HEAD_INIT(NULL, 0)
+    .tp_name = "kuvtsada_bser.BserObject",
+    .tp_doc = "An object that cannot change: its values by key, by attribute and by place.",
+    .tp_basicsize = sizeof(object),
+    .tp_dealloc = free_object,
+    .tp_repr = object_repr,
+    .tp_as_sequence = &as_sequence,
+    .tp_as_mapping = &as_mapping,
+    .tp_getattro = object_attribute,
+    .tp_flags = Py_TPFLAGS_DEFAULT,
+};

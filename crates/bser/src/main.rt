@@ -1,0 +1,12 @@
+//! Looks into BSER messages, and makes them: `bser --help` lists its commands.
+//!
+//! The status is 0, 1 where a message is malformed or cannot be read, or 2 for unknown arguments;
+//! each but the first comes with lines on standard error.
+#![tactic(auto)]
+
+use bser_commands::standard::run_process;
+use std::process::ExitCode;
+
+fn main(rt: HostRuntime) -> ExitCode {
+    run_process(rt)
+}

@@ -1,0 +1,95 @@
+//! What a call comes to.
+ghost use Rattle.std.specs.Prelude.{◌≡◌, ◌≢◌, ◌<◌, ◌≤◌, length, take};
+ghost use Rattle.bser_tape.specs.Codes.{byte_of, code_of};
+ghost use Rattle.bser_c.specs.declared.outcome.TheConstants.{DONE, TOO_SMALL};
+
+use bser_format::errors::Error;
+use bser_tape::codes;
+
+/// A number, and what it is about.
+#[repr(C)]
+#[derive(Debug, Clone, Copy, PartialEq, Eq)]
+pub struct BserOutcome {
+    /// 0, or why the call wrote nothing of use.
+    pub code: u32,
+    /// The byte that an error is about, where it is about one; of a tape, the capabilities of its
+    /// message.
+    pub detail: u32,
+    /// How many bytes or words lie before what is wrong; of a tape, how many bytes its message has.
+    pub place: usize,
+    /// How many bytes or words were written, or are wanted.
+    pub length: usize,
+}
+
+/// The call did what it is for.
+pub const DONE: u32 = 0;
+
+/// There is no room for what is written.
+pub const TOO_SMALL: u32 = 2;
+
+/// So many bytes were written.
+pub fn done(length: usize) -> BserOutcome
+    ensures { result ≡ record { code = DONE; detail = 0; place = 0; length = length } }
+{
+    BserOutcome {
+        code: DONE,
+        detail: 0,
+        place: 0,
+        length,
+    }
+}
+
+/// So many bytes or words are wanted.
+pub fn too_small(length: usize) -> BserOutcome
+    ensures { result ≡ record { code = TOO_SMALL; detail = 0; place = 0; length = length } }
+{
+    BserOutcome {
+        code: TOO_SMALL,
+        detail: 0,
+        place: 0,
+        length,
+    }
+}
+
+/// A number of the call itself, and a place.
+pub fn stopped(code: u32, place: usize) -> BserOutcome
+    ensures { result ≡ record { code = code; detail = 0; place = place; length = 0 } }
+{
+    BserOutcome {
+        code,
+        detail: 0,
+        place,
+        length: 0,
+    }
+}
+
+/// The number of an error, and its place.
+pub fn refused(error: &Error, place: usize) -> BserOutcome
+    ensures { result ≡ record {
+      code = code_of error.now;
+      detail = byte_of error.now;
+      place = place;
+      length = 0;
+    } }
+{
+    BserOutcome {
+        code: codes::code(error),
+        detail: u32::from(codes::byte(error)),
+        place,
+        length: 0,
+    }
+}
+
+/// Copies the bytes to the front of `out`, where they have room.
+pub fn handed_out(bytes: &[u8], out: &mut [u8]) -> BserOutcome
+    ensures done { result.code ≡ DONE → take result.length out.new ≡ bytes.now }
+    ensures fits { result.code ≡ DONE → result.length ≤ length out.new }
+    ensures small { result.code ≢ DONE → result.code ≡ TOO_SMALL }
+    ensures more { result.code ≡ TOO_SMALL → length out.old < result.length }
+{
+    if bytes.len() > out.len() {
+        return too_small(bytes.len());
+    }
+    out[..bytes.len()].copy_from_slice(bytes);
+    done(bytes.len())
+}

@@ -1,0 +1,124 @@
+//! The words that the program knows.
+
+use clap::{Arg, ArgAction, Command};
+use std::alloc::{AllocError, Global};
+
+/// What stands behind the list of commands.
+const AFTER_HELP: &str = "Each command reads the files that are named, or else standard input.
+The status is 0, 1 where a message is malformed or cannot be read, or 2 for unknown arguments.";
+
+/// The program's commands, each with its options.
+pub(crate) fn command<'a>(alloc: Global) -> Result<Command<'a>, AllocError> {
+    Command::new(alloc, "bser")
+        .about("Looks into BSER messages of version 2, and makes them")
+        .after_help(AFTER_HELP)
+        .subcommand_required(true)
+        .subcommand(show(alloc)?)?
+        .subcommand(json(alloc)?)?
+        .subcommand(summary(alloc)?)?
+        .subcommand(get(alloc)?)?
+        .subcommand(canon(alloc)?)?
+        .subcommand(from_json(alloc)?)
+}
+
+fn show<'a>(alloc: Global) -> Result<Command<'a>, AllocError> {
+    let offsets = flag(
+        alloc,
+        "offsets",
+        "Show where each part is, and not what it says",
+    )
+    .conflicts_with("values")?;
+    Command::new(alloc, "show")
+        .about("Show each message as a tree: offset, tag, bytes and value of each part")
+        .arg(offsets)?
+        .arg(flag(
+            alloc,
+            "values",
+            "Show what each part says, and not where it is",
+        ))?
+        .arg(keep_going(alloc))?
+        .arg(files(alloc))
+}
+
+fn json<'a>(alloc: Global) -> Result<Command<'a>, AllocError> {
+    Command::new(alloc, "json")
+        .about("Print each message as a line of JSON")
+        .arg(pretty(alloc))?
+        .arg(keep_going(alloc))?
+        .arg(files(alloc))
+}
+
+fn summary<'a>(alloc: Global) -> Result<Command<'a>, AllocError> {
+    Command::new(alloc, "summary")
+        .about("Count the values of each message, and the bytes of each kind")
+        .arg(keep_going(alloc))?
+        .arg(files(alloc))
+}
+
+fn get<'a>(alloc: Global) -> Result<Command<'a>, AllocError> {
+    let pointer = Arg::new(alloc, "POINTER")
+        .required(true)
+        .action(ArgAction::Set)
+        .help("A JSON pointer, as /files/0/name");
+    Command::new(alloc, "get")
+        .about("Print one value of each message as JSON")
+        .arg(pretty(alloc))?
+        .arg(keep_going(alloc))?
+        .arg(pointer)?
+        .arg(files(alloc))
+}
+
+fn canon<'a>(alloc: Global) -> Result<Command<'a>, AllocError> {
+    Command::new(alloc, "canon")
+        .about("Write each message again in the canonical form")
+        .arg(compact(alloc))?
+        .arg(keep_going(alloc))?
+        .arg(files(alloc))
+}
+
+fn from_json<'a>(alloc: Global) -> Result<Command<'a>, AllocError> {
+    let bytes = flag(
+        alloc,
+        "bytes",
+        "Write strings as byte strings, and not as texts",
+    );
+    Command::new(alloc, "from-json")
+        .about("Write a message for each JSON text")
+        .arg(compact(alloc))?
+        .arg(bytes)?
+        .arg(files(alloc))
+}
+
+fn compact<'a>(alloc: Global) -> Arg<'a> {
+    flag(
+        alloc,
+        "compact",
+        "Write the shortest messages, with templates",
+    )
+}
+
+fn pretty<'a>(alloc: Global) -> Arg<'a> {
+    flag(alloc, "pretty", "Print on several lines")
+}
+
+fn keep_going<'a>(alloc: Global) -> Arg<'a> {
+    flag(
+        alloc,
+        "keep-going",
+        "Go on behind a message that is malformed",
+    )
+}
+
+fn flag<'a>(alloc: Global, name: &'a str, help: &'a str) -> Arg<'a> {
+    Arg::new(alloc, name)
+        .long(name)
+        .action(ArgAction::SetTrue)
+        .help(help)
+}
+
+fn files<'a>(alloc: Global) -> Arg<'a> {
+    Arg::new(alloc, "FILE")
+        .action(ArgAction::Append)
+        .num_args(0..)
+        .help("Files of messages")
+}

@@ -1,0 +1,201 @@
+//! What a value is, without a look at what it has inside.
+ghost use Rattle.std.specs.Prelude.{◌≡◌, List, ℕ, Option, option_map, OnSome};
+ghost use Rattle.bser_format.specs.Content.{value};
+ghost use Rattle.bser_format.specs.Tree.{Tree};
+ghost use Rattle.bser_value.specs.Contents.{as_bool, as_i64, as_f64, as_bytes, as_str};
+ghost use Rattle.bser_document.specs.DocumentView.{HoldsDocument, IsInside, piece, value_of};
+ghost use Rattle.bser_document.specs.Holds.{HoldsItem, IsNodeAt, IsOwnNode, IsPartNode, ShowsNode, item_value, kind_of, is_null, as_real_bits, node_tree};
+
+use crate::document::{Document, Node};
+use crate::item::{Item, Kind};
+use bser_format::real::float_of;
+use bser_source::text::as_text;
+use std::num::nearest_i64_to_f64;
+
+impl Document {
+    /// The whole value.
+    pub fn root(&self) -> Item<'_>
+        ensures whole { HoldsItem result (value_of self.now) }
+        ensures read { item_value result ≡ value_of self.now }
+        ensures held { (u : Tree) → HoldsDocument self.now (value u) → HoldsItem result u }
+    {
+        Item {
+            document: self,
+            at: 0,
+            keys: None,
+        }
+    }
+
+    /// The node at this place.
+    #[inline(always)]
+    pub(crate) fn node(&self, at: usize) -> Node
+        ensures { IsNodeAt self.now at result }
+    {
+        match self.nodes.get(at) {
+            Some(node) => *node,
+            None => Node::Null,
+        }
+    }
+
+    /// The bytes of a string, from this place on.
+    #[inline(always)]
+    pub(crate) fn string(&self, len: usize, at: usize) -> &[u8]
+        ensures { IsInside self.now.strings.items len at
+            → result.now ≡ piece self.now.strings.items len at }
+    {
+        let Some(rest) = self.strings.get(at..) else {
+            return &[];
+        };
+        match rest.get(..len) {
+            Some(string) => string,
+            None => &[],
+        }
+    }
+}
+
+impl<'d> Item<'d> {
+    /// The node of the value, and of a row that of an object.
+    #[inline(always)]
+    pub(crate) fn node(self) -> Node
+        ensures first { IsPartNode self.entry result }
+        ensures own { IsOwnNode self.entry result }
+        ensures shows { (u : Tree) → HoldsItem self.entry u
+            → ShowsNode u self.entry.document.now result }
+    {
+        match self.keys {
+            Some(keys) => Node::Object {
+                len: keys.len,
+                end: 0,
+            },
+            None => self.document.node(self.at),
+        }
+    }
+
+    /// What kind the value is of.
+    pub fn kind(self) -> Kind
+        ensures { (u : Tree) → HoldsItem self.entry u → result ≡ kind_of u }
+    {
+        kind_at(self.node())
+    }
+
+    /// Whether the value is null.
+    pub fn is_null(self) -> bool
+        ensures { (u : Tree) → HoldsItem self.entry u → result ≡ is_null u }
+    {
+        matches!(self.kind(), Kind::Null)
+    }
+
+    /// The truth value, and `None` for all else.
+    pub fn as_bool(self) -> Option<bool>
+        ensures { (u : Tree) → HoldsItem self.entry u → result ≡ as_bool u }
+    {
+        bool_at(self.node())
+    }
+
+    /// The integer, and `None` for all else, reals included.
+    pub fn as_i64(self) -> Option<i64>
+        ensures { (u : Tree) → HoldsItem self.entry u → result ≡ as_i64 u }
+    {
+        i64_at(self.node())
+    }
+
+    /// The bits of the real, and `None` for all else.
+    pub fn as_real_bits(self) -> Option<u64>
+        ensures { (u : Tree) → HoldsItem self.entry u → result ≡ as_real_bits u }
+    {
+        real_bits_at(self.node())
+    }
+
+    /// The real, or the `f64` nearest to the integer. `None` for a NaN, of which `f64::from_bits`
+    /// makes no float, and for all that is no number.
+    pub fn as_f64(self) -> Option<f64>
+        ensures { (u : Tree) → HoldsItem self.entry u → result ≡ as_f64 u }
+    {
+        f64_at(self.node())
+    }
+
+    /// The bytes of a byte string or of a text, and `None` for all else.
+    pub fn as_bytes(self) -> Option<&'d [u8]>
+        ensures { (u : Tree) → HoldsItem self.entry u
+            → option_map (λ bytes. bytes.now) result ≡ as_bytes u }
+    {
+        match self.node() {
+            Node::Bytes { len, at } => Some(self.document.string(len, at)),
+            Node::Text { len, at } => Some(self.document.string(len, at)),
+            _ => None,
+        }
+    }
+
+    /// The text, and `None` for all else, a byte string that is UTF-8 included.
+    pub fn as_str(self) -> Option<&'d str>
+        ensures { (u : Tree) → HoldsItem self.entry u
+            → option_map (λ text. text.now) result ≡ as_str u }
+    {
+        match self.node() {
+            Node::Text { len, at } => as_text(self.document.string(len, at)),
+            _ => None,
+        }
+    }
+}
+
+/// What kind a node is of.
+#[inline(always)]
+fn kind_at(node: Node) -> Kind
+    ensures { (s : List ℕ) → result ≡ kind_of (node_tree s node) }
+{
+    match node {
+        Node::Bool(_) => Kind::Bool,
+        Node::Int(_) => Kind::Integer,
+        Node::Real(_) => Kind::Real,
+        Node::Bytes { len: _, at: _ } => Kind::Bytes,
+        Node::Text { len: _, at: _ } => Kind::Text,
+        Node::Array { len: _, end: _ } | Node::Template { len: _, end: _ } => Kind::Array,
+        Node::Object { len: _, end: _ } => Kind::Object,
+        _ => Kind::Null,
+    }
+}
+
+/// The truth value of a node.
+#[inline(always)]
+fn bool_at(node: Node) -> Option<bool>
+    ensures { (s : List ℕ) → result ≡ as_bool (node_tree s node) }
+{
+    match node {
+        Node::Bool(truth) => Some(truth),
+        _ => None,
+    }
+}
+
+/// The integer of a node.
+#[inline(always)]
+fn i64_at(node: Node) -> Option<i64>
+    ensures { (s : List ℕ) → result ≡ as_i64 (node_tree s node) }
+{
+    match node {
+        Node::Int(number) => Some(number),
+        _ => None,
+    }
+}
+
+/// The bits of a node's real.
+#[inline(always)]
+fn real_bits_at(node: Node) -> Option<u64>
+    ensures { (s : List ℕ) → result ≡ as_real_bits (node_tree s node) }
+{
+    match node {
+        Node::Real(bits) => Some(bits),
+        _ => None,
+    }
+}
+
+/// The number of a node as a float.
+#[inline(always)]
+fn f64_at(node: Node) -> Option<f64>
+    ensures { (s : List ℕ) → result ≡ as_f64 (node_tree s node) }
+{
+    match node {
+        Node::Real(bits) => float_of(bits),
+        Node::Int(number) => Some(nearest_i64_to_f64(number)),
+        _ => None,
+    }
+}

@@ -1,0 +1,5 @@
+pub mod Additions
+pub mod HeaderLengths
+pub mod HeaderPrefixes
+pub mod Dues
+pub mod Nexts

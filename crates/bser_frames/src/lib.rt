@@ -1,0 +1,11 @@
+//! The messages of a reader as bytes: each whole message that its header announces, whatever its
+//! body holds.
+#![tactic(auto)]
+
+mod buffer;
+mod bytes;
+pub mod error;
+pub mod frames;
+mod header;
+pub mod owned;
+mod pulling;

@@ -1,0 +1,28 @@
+//! Values that borrow nothing, read from a message as bytes.
+ghost use Rattle.std.specs.Prelude.{◌≤◌, IfOk, IfErr};
+ghost use Rattle.bser_deserializer.specs.declared.deserializer.TheConstants.{MOST_LEVELS};
+ghost use Rattle.bser_messages.specs.Messages.{BeginsWith};
+ghost use Rattle.bser_messages.specs.Descriptions.{caused};
+ghost use Rattle.bser_frames.specs.Messages.{FrameRefused};
+
+use crate::bytes::Bytes;
+use bser_messages::described::from_reader_within;
+use bser_messages::description::Description;
+use bser_types::deserialize::DeserializeOwned;
+use std::alloc::Global;
+
+/// Reads a value, which borrows nothing, from the message at the start of `bytes`, of at most
+/// `limit` levels.
+///
+/// As [`from_reader_within`], of a reader that gives these bytes and never fails.
+pub fn read_owned<T: DeserializeOwned>(
+    alloc: Global,
+    limit: usize,
+    bytes: &[u8],
+) -> Result<T, Description>
+    requires { limit ≤ MOST_LEVELS }
+    ensures found { IfOk (caused result) (BeginsWith limit T.reads T.holds bytes.now) }
+    ensures refused { IfErr (caused result) (FrameRefused limit T.Shape bytes.now) }
+{
+    from_reader_within(alloc, limit, &mut Bytes::new(bytes))
+}

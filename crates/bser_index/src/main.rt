@@ -1,0 +1,13 @@
+//! A SQLite file of what Watchman tells of the files below a root: `bser_index --help` lists its
+//! commands.
+//!
+//! The status is 0, 1 where a message is refused, a difference is found or the index cannot be
+//! used, or 2 for unknown arguments.
+#![tactic(auto)]
+
+use bser_indexing::standard::run_process;
+use std::process::ExitCode;
+
+fn main(rt: HostRuntime) -> ExitCode {
+    run_process(rt)
+}

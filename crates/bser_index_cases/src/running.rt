@@ -1,0 +1,57 @@
+//! The program, run in memory.
+
+use crate::output::Output;
+use anyhow::Result;
+use bser_indexing::program::run_index;
+use std::fs;
+
+/// What a run left.
+#[derive(Drop)]
+pub struct Ran {
+    /// The status.
+    pub status: u8,
+    /// What was written.
+    pub output: Vec<u8>,
+    /// What was reported.
+    pub errors: Vec<u8>,
+}
+
+/// Runs the program as a line says.
+pub fn run_line(rt: &HostRuntime, text: &str) -> Result<Ran> {
+    let (rest, is_full) = match text.strip_suffix(" > /dev/full") {
+        Some(rest) => (rest, true),
+        None => (text, false),
+    };
+    match rest.split_once(" < ") {
+        Some((words, file)) => run_words(rt, words, &fs::read(rt, file)?, is_full),
+        None => run_words(rt, rest, &[], is_full),
+    }
+}
+
+/// Runs the program with these words over an input.
+pub fn run_words(rt: &HostRuntime, words: &str, input: &[u8], is_full: bool) -> Result<Ran> {
+    let mut all = Vec::new(rt.alloc());
+    all.push(String::from_str(rt.alloc(), "bser_index")?)?;
+    for word in words.split(' ') {
+        all.push(String::from_str(rt.alloc(), word)?)?;
+    }
+    let mut left = input;
+    let mut output = Output::new(rt.alloc(), is_full);
+    let mut errors = Vec::new(rt.alloc());
+    let status = run_index(rt, &all, &mut left, &mut output, &mut errors);
+    Ok(Ran {
+        status,
+        output: output.into_bytes(),
+        errors,
+    })
+}
+
+/// Prints what a run left.
+pub fn print_ran(rt: &HostRuntime, ran: &Ran) -> Result<()> {
+    print!(rt; "{}", String::from_utf8_lossy(rt.alloc(), &ran.output)?)?;
+    print!(rt; "{}", String::from_utf8_lossy(rt.alloc(), &ran.errors)?)?;
+    if ran.status != 0 {
+        println!(rt; "status {}", ran.status)?;
+    }
+    Ok(())
+}

@@ -1,0 +1,254 @@
+//! The value of a JSON text.
+ghost use Rattle.std.specs.Prelude.{◌<◌, IfOk};
+
+use crate::fault::{Fault, JsonError, blanks, fault_of, place_of};
+use bser_format::bytestring::ByteString;
+use bser_value::value::Value;
+use hex::FromHexError;
+use json::{Reader, Scratch, Token};
+use std::alloc::Global;
+use std::collections::BTreeMap;
+
+/// How deep a value may nest, as a message.
+const LEVELS: usize = 128;
+
+/// Under which tag strings are written.
+#[derive(Debug, Clone, Copy, PartialEq, Eq)]
+pub enum Strings {
+    /// As texts.
+    Texts,
+    /// As byte strings.
+    Bytes,
+}
+
+/// Reads the value of `text`, which begins at byte `start` of `whole`. An error's place is in
+/// `whole`.
+///
+/// It takes the forms that JSON texts have here for what JSON cannot say. Else it is an error where
+/// the text is no JSON, an integer needs more than 64 bits, an object has equal keys, or a key
+/// begins with one `$`.
+pub fn value_of<'t>(
+    alloc: Global,
+    strings: Strings,
+    whole: &'t str,
+    text: &'t str,
+    start: usize,
+) -> Result<Value, JsonError> {
+    let mut scratch = Scratch::new(alloc);
+    let reader = Reader::new(text, &mut scratch)?;
+    let mut reading = Reading {
+        alloc,
+        strings,
+        whole,
+        text,
+        start,
+        begun: 0,
+        reader,
+    };
+    let first = reading.token()?;
+    let value = reading.value(first, LEVELS)?;
+    match reading.reader.next() {
+        None => Ok(value),
+        Some(_) => Err(reading.fault_at(reading.reader.offset(), Fault::NotJson)),
+    }
+}
+
+/// A text, as far as it is read.
+#[derive(Drop)]
+struct Reading<'a> {
+    alloc: Global,
+    strings: Strings,
+    whole: &'a str,
+    text: &'a str,
+    start: usize,
+    // where the last token began in the text
+    begun: usize,
+    reader: Reader<'a>,
+}
+
+impl<'a> Reading<'a> {
+    /// An error at the last token.
+    fn fault(&self, fault: Fault) -> JsonError {
+        self.fault_at(self.begun, fault)
+    }
+
+    /// An error at the byte of the text that so many stand before.
+    fn fault_at(&self, offset: usize, fault: Fault) -> JsonError {
+        let place = place_of(self.whole.as_bytes(), self.start.saturating_add(offset));
+        JsonError::Text { fault, place }
+    }
+
+    /// What of the text the reader has not passed, behind the blanks that it begins with.
+    fn rest(&self) -> &'a [u8] {
+        let bytes = self.text.as_bytes();
+        let rest = &bytes[self.reader.offset().min(bytes.len())..];
+        &rest[blanks(rest)..]
+    }
+
+    /// The next token.
+    fn token(&mut self) -> Result<Token<'a>, JsonError> {
+        let rest = self.rest();
+        self.begun = self.text.len().saturating_sub(rest.len());
+        match self.reader.next() {
+            Some(Token::Bad) => Err(self.fault(fault_of(rest))),
+            Some(token) => Ok(token),
+            None => Err(self.fault(Fault::EndsEarly)),
+        }
+    }
+
+    /// The value that begins with this token, and may nest so many levels.
+    #[cycle(value)]
+    fn value(&mut self, first: Token<'a>, levels: usize) -> Result<Value, JsonError> {
+        match first {
+            Token::Null => Ok(Value::Null),
+            Token::Bool(truth) => Ok(Value::Bool(truth)),
+            Token::String(text) => self.string(text),
+            Token::Number(text) => self.number(text),
+            Token::BeginArray => {
+                let inside = self.inside(levels)?;
+                self.array(inside)
+            }
+            Token::BeginObject => {
+                let inside = self.inside(levels)?;
+                self.object(inside)
+            }
+            Token::Key(_) | Token::EndArray | Token::EndObject | Token::Bad => {
+                Err(self.fault(Fault::NotJson))
+            }
+        }
+    }
+
+    /// The levels that are left inside of a container, where so many are around it.
+    fn inside(&self, levels: usize) -> Result<usize, JsonError>
+        ensures { IfOk result (λ n. n < levels) }
+    {
+        if levels == 0 {
+            return Err(self.fault(Fault::TooDeep));
+        }
+        Ok(levels - 1)
+    }
+
+    /// A string, under the tag that is asked for.
+    fn string(&self, text: &str) -> Result<Value, JsonError> {
+        match self.strings {
+            Strings::Texts => Ok(Value::from_text(self.alloc, text)?),
+            Strings::Bytes => {
+                let bytes = Vec::from_slice(self.alloc, text.as_bytes())?;
+                Ok(Value::ByteString(ByteString::from_vec(bytes)))
+            }
+        }
+    }
+
+    /// The integer or the real of this text. A number with a point or an exponent is a real, and so
+    /// is `-0`.
+    fn number(&self, text: &str) -> Result<Value, JsonError> {
+        if is_integer(text) {
+            return match text.parse::<i64>() {
+                Ok(number) => Ok(Value::Integer(number)),
+                Err(_) => Err(self.fault(Fault::IntegerTooGreat)),
+            };
+        }
+        match text.parse::<f64>() {
+            Ok(real) if real.is_finite() => Ok(Value::Real(real.to_bits())),
+            _ => Err(self.fault(Fault::RealTooGreat)),
+        }
+    }
+
+    /// The items of an array, whose bracket was taken.
+    #[cycle(value)]
+    fn array(&mut self, levels: usize) -> Result<Value, JsonError> {
+        let mut items = Vec::new(self.alloc);
+        for _ in 0..=self.text.len() {
+            let token = self.token()?;
+            if let Token::EndArray = token {
+                break;
+            }
+            items.push(self.value(token, levels)?)?;
+        }
+        Ok(Value::Array(items))
+    }
+
+    /// The members of an object, whose bracket was taken, or the value that is marked.
+    #[cycle(value)]
+    fn object(&mut self, levels: usize) -> Result<Value, JsonError> {
+        let mut entries = BTreeMap::new(self.alloc);
+        for _ in 0..=self.text.len() {
+            let key = match self.token()? {
+                Token::EndObject => break,
+                Token::Key(key) => key,
+                _ => return Err(self.fault(Fault::NotJson)),
+            };
+            if entries.is_empty() && is_mark(key) {
+                return self.marked(key);
+            }
+            let name = self.name(key, &entries)?;
+            let token = self.token()?;
+            let value = self.value(token, levels)?;
+            entries.insert(name, value)?;
+        }
+        Ok(Value::Object(entries))
+    }
+
+    /// The name that a key stands for, which the entries do not have.
+    fn name(&self, key: &str, entries: &BTreeMap<String, Value>) -> Result<String, JsonError> {
+        let name = match key.strip_prefix("$") {
+            Some(rest) if rest.starts_with("$") => rest,
+            Some(_) => return Err(self.fault(Fault::UnknownMark)),
+            None => key,
+        };
+        if entries.contains_key(name) {
+            return Err(self.fault(Fault::EqualKeys));
+        }
+        Ok(String::from_str(self.alloc, name)?)
+    }
+
+    /// The value of an object with the key `$bytes` or `$real` alone, whose key was taken.
+    fn marked(&mut self, key: &str) -> Result<Value, JsonError> {
+        let Token::String(digits) = self.token()? else {
+            return Err(self.fault(Fault::UnknownMark));
+        };
+        let value = if key == "$bytes" {
+            Value::ByteString(ByteString::from_vec(self.bytes(digits)?))
+        } else {
+            match real_bits(digits) {
+                Some(bits) => Value::Real(bits),
+                None => return Err(self.fault(Fault::UnknownMark)),
+            }
+        };
+        match self.token()? {
+            Token::EndObject => Ok(value),
+            _ => Err(self.fault(Fault::UnknownMark)),
+        }
+    }
+
+    /// The bytes of a text in hexadecimal.
+    fn bytes(&self, digits: &str) -> Result<Vec<u8>, JsonError> {
+        match hex::decode(self.alloc, digits.as_bytes()) {
+            Ok(bytes) => Ok(bytes),
+            Err(FromHexError::OutOfMemory) => Err(JsonError::OutOfMemory),
+            Err(_) => Err(self.fault(Fault::UnknownMark)),
+        }
+    }
+}
+
+/// Whether a number has no point and no exponent, and is not `-0`.
+fn is_integer(text: &str) -> bool {
+    text != "-0"
+        && !text
+            .as_bytes()
+            .iter()
+            .any(|byte| matches!(*byte, b'.' | b'e' | b'E'))
+}
+
+/// Whether a key marks what JSON cannot say.
+fn is_mark(key: &str) -> bool {
+    key == "$bytes" || key == "$real"
+}
+
+/// The bits of a real, in 16 hexadecimal digits.
+fn real_bits(digits: &str) -> Option<u64> {
+    if digits.len() != 16 {
+        return None;
+    }
+    u64::from_str_radix(digits, 16).ok()
+}

@@ -1,0 +1,84 @@
+//! A message in a slice, and its canonical or its compact message in a vector.
+ghost use Rattle.std.specs.Prelude.{IfOk, IfErr, length};
+ghost use Rattle.bser_format.specs.Compact.{fold_templates};
+ghost use Rattle.bser_rewriting.specs.Canon.{canonical};
+ghost use Rattle.bser_rewriting.specs.Slices.{LiesInSlice, RewroteSlice, RefusesSliceRewriting};
+
+use bser_document::document::Document;
+use bser_format::errors::Error;
+use bser_messages::described;
+use bser_messages::description::Description;
+use bser_ser::message::serialize_to;
+use bser_ser::{CountWrite, InMemory};
+use bser_value::compact::serialize_compact;
+use bser_value::value::Value;
+use std::alloc::Global;
+
+/// Why a message was not rewritten.
+#[derive(Debug, Drop)]
+pub enum Unwritten {
+    /// It cannot be read.
+    Refused(Description),
+    /// Its value cannot be written.
+    Failed(Error),
+    /// The new message has more bytes than there is room for.
+    TooLong {
+        /// How many bytes it has.
+        size: usize,
+    },
+}
+
+/// The canonical message of the value of the message at the start of `bytes`, of at most 128 levels.
+/// What follows the message is ignored.
+///
+/// It is measured first, and made only where it has at most `most` bytes. Beside it this takes memory
+/// that is linear in the length of the message that is read, since no `Value` is made.
+#[tactic(auto, using(crate::proofs::Slices::rewrote_document, crate::proofs::Slices::was_document))]
+pub fn canonical_of(alloc: Global, bytes: &[u8], most: usize) -> Result<Vec<u8>, Unwritten>
+    ensures ok { IfOk result (λ message. RewroteSlice canonical bytes.now message.items) }
+    ensures refused { IfErr result (RefusesSliceRewriting bytes.now) }
+    ensures place { IfErr result (LiesInSlice (length bytes.now) most) }
+{
+    let read: Document = match described::from_slice(alloc, bytes) {
+        Ok(read) => read,
+        Err(description) => return Err(Unwritten::Refused(description)),
+    };
+    let mut counter = CountWrite::new();
+    if let Err(error) = serialize_to(alloc, &mut counter, &read) {
+        return Err(Unwritten::Failed(error));
+    }
+    let size = counter.count();
+    if size > most {
+        return Err(Unwritten::TooLong { size });
+    }
+    let mut memory = InMemory::new(Vec::new(alloc));
+    match serialize_to(alloc, &mut memory, &read) {
+        Ok(()) => Ok(memory.into_inner()),
+        Err(error) => Err(Unwritten::Failed(error)),
+    }
+}
+
+/// As [`canonical_of`], but the compact message of the value, which is no longer than the message
+/// that is read. It makes a `Value`, which may take far more memory than the message has bytes.
+#[tactic(auto, using(crate::proofs::Slices::rewrote_value, crate::proofs::Slices::was_value))]
+pub fn compact_of(alloc: Global, bytes: &[u8], most: usize) -> Result<Vec<u8>, Unwritten>
+    ensures ok { IfOk result (λ message. RewroteSlice fold_templates bytes.now message.items) }
+    ensures refused { IfErr result (RefusesSliceRewriting bytes.now) }
+    ensures place { IfErr result (LiesInSlice (length bytes.now) most) }
+{
+    let read: Value = match described::from_slice(alloc, bytes) {
+        Ok(read) => read,
+        Err(description) => return Err(Unwritten::Refused(description)),
+    };
+    let mut memory = InMemory::new(Vec::new(alloc));
+    if let Err(error) = serialize_compact(alloc, &mut memory, &read) {
+        return Err(Unwritten::Failed(error));
+    }
+    let message = memory.into_inner();
+    if message.len() > most {
+        return Err(Unwritten::TooLong {
+            size: message.len(),
+        });
+    }
+    Ok(message)
+}

@@ -1,0 +1,22 @@
+//! BSER as a format of the kit's `serde`: types with its derives are read from messages and written
+//! as messages.
+//!
+//! What a derive reads and writes no contract says. What these calls promise of every type is in
+//! their clauses: which bytes are taken, what is refused, and what is written.
+#![tactic(auto)]
+
+mod bytes;
+mod reading;
+mod refusal;
+mod spelled;
+mod writer;
+mod writing;
+
+pub use crate::bytes::{ByteBuf, Bytes};
+pub use crate::reading::{
+    from_frame, from_reader, from_reader_limited, from_slice, from_slice_limited,
+};
+pub use crate::refusal::Refusal;
+pub use crate::writing::{to_vec, to_writer};
+pub use bser_serde_format::misfit::{Misfit, Reason};
+pub use bser_serde_format::path::Path;

@@ -1,0 +1,188 @@
+//! Whole messages that are read.
+ghost use Rattle.std.specs.Prelude.{◌≡◌, ◌≤◌, OnOk, IfErr};
+ghost use Rattle.bser_deserializer.specs.declared.deserializer.TheConstants.{MOST_LEVELS};
+ghost use Rattle.bser_messages.specs.Limited.{usual_limits};
+ghost use Rattle.bser_serde.specs.Messages.{BeginsWithMessage, IsWellFormed, TookMessage};
+ghost use Rattle.bser_serde.specs.Refusals.{SliceUnread, FrameUnread, NextUnread, IsUnfit};
+
+use crate::refusal::{Refusal, refusal_of};
+use bser_serde_format::faults::{Fault, Site};
+use bser_serde_format::misfit::{Misfit, Reason};
+use bser_serde_format::part::Part;
+use bser_serde_format::parts::Parts;
+use bser_serde_format::path::Path;
+use bser_serde_format::steps::steps_to;
+use bser_serde_format::walk::Walk;
+use serde::{Deserialize, DeserializeOwned, Deserializer};
+use serde_bser::describe::Step;
+use serde_bser::device::Source;
+use serde_bser::tell;
+use serde_bser::tell::Limits;
+use std::alloc::{AllocError, Global};
+
+/// Reads a value from the message at the start of `bytes`, of at most 128 levels. What follows the
+/// message is ignored.
+///
+/// Bytes that begin with no well-formed message are refused by its first fault, whatever the type
+/// looks at. A misfit comes only of a well-formed message.
+pub fn from_slice<'de, T: Deserialize<'de>>(alloc: Global, bytes: &'de [u8]) -> Result<T, Refusal>
+    ensures found { OnOk result (BeginsWithMessage usual_limits bytes.now) }
+    ensures refused { IfErr result (SliceUnread usual_limits bytes.now) }
+{
+    from_slice_limited(alloc, Limits::new(), bytes)
+}
+
+/// Reads a value from the message at the start of `bytes`, within these limits.
+///
+/// As [`from_slice`], with the limit's levels for 128, and bodies of at most its bytes.
+#[tactic(auto, using(crate::proofs::Told::unfit_slice, crate::proofs::Told::untold_slice))]
+pub fn from_slice_limited<'de, T: Deserialize<'de>>(
+    alloc: Global,
+    limits: Limits,
+    bytes: &'de [u8],
+) -> Result<T, Refusal>
+    requires { limits.levels ≤ MOST_LEVELS }
+    ensures found { OnOk result (BeginsWithMessage limits bytes.now) }
+    ensures refused { IfErr result (SliceUnread limits bytes.now) }
+{
+    let mut parts = Parts::of_slice(alloc);
+    match tell::from_slice(alloc, limits, bytes, &mut parts) {
+        Ok(_header) => match read(alloc, parts.parts.as_slice(), bytes) {
+            Ok(value) => Ok(value),
+            Err(refusal) => Err(refusal),
+        },
+        Err(untold) => Err(refusal_of(untold)),
+    }
+}
+
+/// Reads a value from a frame: one message of at most 128 levels, and no byte behind it.
+///
+/// As [`from_slice`]. Bytes behind the message are [`Refusal::BytesLeft`].
+#[tactic(auto, using(crate::proofs::Told::begins_with_of, crate::proofs::Told::is_whole, crate::proofs::Told::unfit_slice, crate::proofs::Told::untold_slice, crate::proofs::Told::unread_frame))]
+pub fn from_frame<'de, T: Deserialize<'de>>(alloc: Global, frame: &'de [u8]) -> Result<T, Refusal>
+    ensures found { OnOk result (IsWellFormed usual_limits frame.now) }
+    ensures refused { IfErr result (FrameUnread usual_limits frame.now) }
+{
+    let mut parts = Parts::of_slice(alloc);
+    match tell::from_slice(alloc, Limits::new(), frame, &mut parts) {
+        Ok(header) => {
+            let taken = header.message_length();
+            if taken != frame.len() {
+                return Err(Refusal::BytesLeft(taken));
+            }
+            match read(alloc, parts.parts.as_slice(), frame) {
+                Ok(value) => Ok(value),
+                Err(refusal) => Err(refusal),
+            }
+        }
+        Err(untold) => Err(refusal_of(untold)),
+    }
+}
+
+/// Reads a value that owns what it holds from the reader's next message, of at most 128 levels.
+///
+/// Just that message is taken, whether the type reads it or not. The errors are those of
+/// [`from_slice`]; or that the reader failed, as a malformed message; or [`Refusal::Ended`].
+pub fn from_reader<S: Source, T: DeserializeOwned>(
+    alloc: Global,
+    reader: &mut S,
+) -> Result<T, Refusal>
+    ensures found { OnOk result
+        (TookMessage usual_limits (S.remaining reader.old) (S.remaining reader.new)) }
+    ensures refused { IfErr result (NextUnread usual_limits S.Source reader.old reader.new) }
+{
+    from_reader_limited(alloc, Limits::new(), reader)
+}
+
+/// Reads a value that owns what it holds from the reader's next message, within these limits.
+///
+/// As [`from_reader`], with the limit's levels for 128, and bodies of at most its bytes.
+#[tactic(auto, using(crate::proofs::Told::took_message, crate::proofs::Told::unfit_next, crate::proofs::Told::untold_next))]
+pub fn from_reader_limited<S: Source, T: DeserializeOwned>(
+    alloc: Global,
+    limits: Limits,
+    reader: &mut S,
+) -> Result<T, Refusal>
+    requires { limits.levels ≤ MOST_LEVELS }
+    ensures found { OnOk result
+        (TookMessage limits (S.remaining reader.old) (S.remaining reader.new)) }
+    ensures refused { IfErr result (NextUnread limits S.Source reader.old reader.new) }
+{
+    let mut parts = Parts::of_reader(alloc);
+    match tell::next_message(alloc, limits, reader, &mut parts) {
+        Ok(Some(_header)) => match read_owned(alloc, &parts) {
+            Ok(value) => Ok(value),
+            Err(refusal) => Err(refusal),
+        },
+        Ok(None) => Err(Refusal::Ended),
+        Err(untold) => Err(refusal_of(untold)),
+    }
+}
+
+/// Reads a value from the parts of a message whose strings stand in `strings`.
+fn read<'de, T: Deserialize<'de>>(
+    alloc: Global,
+    parts: &[Part],
+    strings: &'de [u8],
+) -> Result<T, Refusal>
+    ensures { IfErr result IsUnfit }
+{
+    let mut walk = Walk::new(alloc, parts, strings);
+    match T::deserialize(alloc, &mut Deserializer::new(strings, &mut walk)) {
+        Ok(value) => Ok(value),
+        Err(fault) => Err(unfit(alloc, fault, parts, strings)),
+    }
+}
+
+/// Reads a value that owns what it holds from the parts of a message.
+fn read_owned<T: DeserializeOwned>(alloc: Global, parts: &Parts) -> Result<T, Refusal>
+    ensures { IfErr result IsUnfit }
+{
+    let strings = match &parts.strings {
+        Some(strings) => strings.as_slice(),
+        None => &[],
+    };
+    let parts = parts.parts.as_slice();
+    let mut walk = Walk::new(alloc, parts, strings);
+    match T::deserialize_owned(alloc, &mut Deserializer::new(strings, &mut walk)) {
+        Ok(value) => Ok(value),
+        Err(fault) => Err(unfit(alloc, fault, parts, strings)),
+    }
+}
+
+/// Why the type does not read the parts.
+#[cold]
+#[inline(never)]
+fn unfit(alloc: Global, fault: Fault, parts: &[Part], strings: &[u8]) -> Refusal
+    ensures { IsUnfit result }
+{
+    match fault {
+        Fault::Memory => Refusal::OutOfMemory,
+        Fault::Misfit(reason, site) => match steps_of(alloc, &reason, parts, strings, site) {
+            Ok(steps) => Refusal::Misfit(Misfit {
+                reason,
+                place: match parts.get(site.part) {
+                    Some(part) => part.start,
+                    None => 0,
+                },
+                path: Path { steps },
+            }),
+            Err(_) => Refusal::OutOfMemory,
+        },
+    }
+}
+
+/// The steps to what the type does not read. A missing field is the last of them.
+fn steps_of(
+    alloc: Global,
+    reason: &Reason,
+    parts: &[Part],
+    strings: &[u8],
+    site: Site,
+) -> Result<Vec<Step>, AllocError> {
+    let mut steps = steps_to(alloc, parts, strings, site)?;
+    if let Reason::Missing(name) = reason {
+        steps.push(Step::Key(String::from_str(alloc, name.as_str())?))?;
+    }
+    Ok(steps)
+}

@@ -1,0 +1,138 @@
+//! Whole messages that are written.
+ghost use Rattle.std.specs.Prelude.{◌≡◌, ◌++◌, pos, length, OnOk, OnErr, IfOk, IfErr};
+ghost use Rattle.bser_format.specs.declared.errors.Error.TheVariants.{Io};
+ghost use Rattle.bser_ser.specs.Message.{front_of, IsNoFault};
+ghost use Rattle.bser_ser.specs.Stopped.{Takes, Accounts};
+ghost use Rattle.bser_serde.specs.Written.{IsLeastMessage, IsSpelledAgain, WroteLeast, Unwritten, TookFront};
+
+use crate::spelled::Respelled;
+use crate::writer::body_of;
+use serde::Serialize;
+use serde_bser::device::Sink;
+use serde_bser::errors::{Complaint, Error, Result};
+use serde_bser::ser::{InMemory, Serializer};
+use serde_bser::tell;
+use serde_bser::tell::{Limits, Reason};
+use std::alloc::Global;
+use std::io;
+use std::io::ErrorKind;
+
+/// The message of a value: one well-formed message of at most 128 levels, without templates, each
+/// integer, length and count in its least width.
+///
+/// The error says why the value has none. An unsigned integer above `i64::MAX` is `SerU64TooBig`. A
+/// key that is no text and a flattened value that is no object are a `SerCustom`, and more levels
+/// are `DeRecursionLimitExceeded`. The message is read again before it is given: where a
+/// `Serialize` on the way gives another count than it has items, that is `SerCustom` `ValueOpen`, or
+/// what is wrong with the bytes.
+pub fn to_vec<T: Serialize>(alloc: Global, value: &T) -> Result<Vec<u8>>
+    ensures written { IfOk result (λ message. IsLeastMessage message.items) }
+    ensures err { IfErr result IsNoFault }
+{
+    match message_of(alloc, value) {
+        Ok(message) => Ok(message),
+        Err(Error::Io(_fault)) => Err(Error::OutOfMemory),
+        Err(error) => Err(error),
+    }
+}
+
+/// The message of a value.
+fn message_of<T: Serialize>(alloc: Global, value: &T) -> Result<Vec<u8>>
+    ensures { IfOk result (λ message. IsLeastMessage message.items) }
+{
+    let body = body_of(alloc, value)?;
+    let message = with_header(alloc, body)?;
+    let again = spelled_again(alloc, &message)?;
+    if again == message {
+        Ok(message)
+    } else {
+        Err(Error::ser_custom(Complaint::ValueOpen))
+    }
+}
+
+/// The message with this body.
+#[tactic(auto, using(crate::proofs::Respelled::turned_front))]
+fn with_header(alloc: Global, body: Vec<u8>) -> Result<Vec<u8>>
+    ensures { IfOk result (λ message. message.items
+        ≡ front_of (pos (length body.items)) ++ body.items) }
+{
+    let mut message = body;
+    let Ok(len) = i64::try_from(message.len()) else {
+        return Err(Error::ser_custom(Complaint::CountTooGreat));
+    };
+    let header = header_of(alloc, len)?;
+    message.extend_from_slice(&header)?;
+    message.rotate_right(header.len());
+    Ok(message)
+}
+
+/// The header of a body of this length.
+fn header_of(alloc: Global, len: i64) -> Result<Vec<u8>>
+    ensures { IfOk result (λ header. header.items ≡ front_of len) }
+{
+    let mut out = Serializer::new(alloc, InMemory::new(Vec::new(alloc)));
+    out.put_header(len)?;
+    Ok(out.finish()?.into_inner())
+}
+
+/// The message that `bytes` is, each number in its least width.
+///
+/// A message with capabilities, and bytes behind the message, are `ValueOpen`.
+fn spelled_again(alloc: Global, bytes: &[u8]) -> Result<Vec<u8>>
+    ensures { IfOk result (λ again. IsSpelledAgain bytes.now again.items) }
+{
+    let mut respelled = Respelled::new(alloc);
+    match tell::from_slice(alloc, Limits::new(), bytes, &mut respelled) {
+        Ok(header) => {
+            if header.message_length() != bytes.len() || header.capabilities != 0 {
+                return Err(Error::ser_custom(Complaint::ValueOpen));
+            }
+            let body = respelled.finish()?;
+            let again = with_header(alloc, body)?;
+            Ok(again)
+        }
+        Err(untold) => match untold.reason {
+            Reason::Failed(description) => Err(description.into_cause()),
+            Reason::Stopped { place: _ } => Err(Error::ser_custom(Complaint::ValueOpen)),
+        },
+    }
+}
+
+/// Writes the message of a value, as [`to_vec`] makes it.
+///
+/// Where the value has no message the writer has taken nothing. Where the writer fails, the error is
+/// `Io`, and it has taken a beginning of the message.
+pub fn to_writer<W: Sink, T: Serialize>(alloc: Global, writer: &mut W, value: &T) -> Result<()>
+    ensures written { OnOk result (WroteLeast W.Sink writer.old writer.new) }
+    ensures err { IfErr result (Unwritten W.Sink writer.old writer.new) }
+{
+    let message = to_vec(alloc, value)?;
+    match send(writer, &message) {
+        Ok(()) => Ok(()),
+        Err(fault) => Err(Error::Io(fault)),
+    }
+}
+
+/// Sends all bytes to the writer.
+///
+/// The error is the writer's own, or of kind `WriteZero` where it took nothing. Where none is
+/// answered, no failure was counted, and else one.
+fn send<W: Sink>(writer: &mut W, bytes: &[u8]) -> io::Result<()>
+    ensures ok { OnOk result (Takes W.Sink writer.old writer.new bytes.now) }
+    ensures front { OnErr result (TookFront W.Sink writer.old writer.new bytes.now) }
+    ensures err { IfErr result (λ e. Accounts W.Sink writer.old writer.new bytes.now (Io e)) }
+{
+    let mut done = 0;
+    while done < bytes.len() {
+        match writer.push(&bytes[done..]) {
+            Ok(n) => {
+                if n == 0 {
+                    return Err(io::Error::new(ErrorKind::WriteZero, "nothing taken"));
+                }
+                done += n;
+            }
+            Err(fault) => return Err(fault),
+        }
+    }
+    Ok(())
+}

@@ -1,0 +1,219 @@
+//! The parts of a message as a format of serde's.
+use crate::faults::Fault;
+use crate::misfit::Reason;
+use crate::part::What;
+use crate::walk::{Mark, Walk};
+use serde::{Format, Kind, Name, find};
+use serde_bser::describe::{FieldName, Wanted};
+use std::alloc::Global;
+use std::num::{f64_from_bits_with_nan, nearest_f64_to_f32_with_nan, nearest_i64_to_f64};
+
+/// Each step looks at the next part, which is of a well-formed message. Nothing is decoded again,
+/// and going back is to take an earlier part.
+impl<'m> Format for Walk<'m> {
+    type Error = Fault;
+
+    type Mark = Mark;
+
+    #[inline(always)]
+    fn bool(&mut self, _input: &[u8]) -> Result<bool, Fault> {
+        match self.here() {
+            What::Bool(truth) => {
+                self.pass();
+                Ok(truth)
+            }
+            _ => Err(self.stray(Wanted::Truth)),
+        }
+    }
+
+    #[inline(always)]
+    fn i64(&mut self, _input: &[u8]) -> Result<i64, Fault> {
+        self.integer()
+    }
+
+    #[inline(always)]
+    fn u64(&mut self, _input: &[u8]) -> Result<u64, Fault> {
+        match u64::try_from(self.integer()?) {
+            Ok(number) => Ok(number),
+            Err(_) => Err(self.unheld()),
+        }
+    }
+
+    fn i128(&mut self, _input: &[u8]) -> Result<i128, Fault> {
+        Ok(i128::from(self.integer()?))
+    }
+
+    fn u128(&mut self, input: &[u8]) -> Result<u128, Fault> {
+        Ok(u128::from(self.u64(input)?))
+    }
+
+    fn f32(&mut self, input: &[u8]) -> Result<f32, Fault> {
+        Ok(nearest_f64_to_f32_with_nan(self.f64(input)?))
+    }
+
+    /// The real with these bits, or the float nearest to the integer. A float's NaN has no bits.
+    fn f64(&mut self, _input: &[u8]) -> Result<f64, Fault> {
+        let number = match self.here() {
+            What::Real(bits) => f64_from_bits_with_nan(bits),
+            What::Int(number) => nearest_i64_to_f64(number),
+            _ => return Err(self.stray(Wanted::Real)),
+        };
+        self.pass();
+        Ok(number)
+    }
+
+    fn char(&mut self, _input: &[u8]) -> Result<char, Fault> {
+        let mut chars = self.text()?.chars();
+        match (chars.next(), chars.next()) {
+            (Some(c), None) => Ok(c),
+            _ => Err(self.behind(Reason::Invalid)),
+        }
+    }
+
+    #[inline(always)]
+    fn plain_str(&mut self, _input: &[u8]) -> Result<(usize, usize), Fault> {
+        let span = self.string_span()?;
+        Ok((span.at, span.end))
+    }
+
+    #[inline(always)]
+    fn plain_bytes(&mut self, _input: &[u8]) -> Result<(usize, usize), Fault> {
+        let span = self.string_span()?;
+        Ok((span.at, span.end))
+    }
+
+    #[inline(always)]
+    fn string(&mut self, alloc: Global, _input: &[u8]) -> Result<String, Fault> {
+        match String::from_str(alloc, self.text()?) {
+            Ok(text) => Ok(text),
+            Err(_) => Err(Fault::Memory),
+        }
+    }
+
+    #[inline(always)]
+    fn byte_buf(&mut self, alloc: Global, _input: &[u8]) -> Result<Vec<u8>, Fault> {
+        let span = self.string_span()?;
+        match Vec::from_slice(alloc, self.bytes(span)) {
+            Ok(bytes) => Ok(bytes),
+            Err(_) => Err(Fault::Memory),
+        }
+    }
+
+    fn peek(&mut self, _input: &[u8]) -> Result<Kind, Fault> {
+        Ok(match self.here() {
+            What::Null | What::Skip | What::Rows | What::Close => Kind::Unit,
+            What::Bool(_) => Kind::Bool,
+            What::Int(_) => Kind::Signed,
+            What::Real(_) => Kind::Float,
+            What::Bytes(_) | What::Text(_) | What::Key(_) => Kind::Str,
+            What::Array | What::Template(_) => Kind::Seq,
+            What::Object => Kind::Map,
+        })
+    }
+
+    #[inline(always)]
+    fn take_unit(&mut self, _input: &[u8]) -> Result<bool, Fault> {
+        match self.here() {
+            What::Null | What::Skip => {
+                self.pass();
+                Ok(true)
+            }
+            _ => Ok(false),
+        }
+    }
+
+    #[inline(always)]
+    fn take_none(&mut self, input: &[u8]) -> Result<bool, Fault> {
+        self.take_unit(input)
+    }
+
+    #[inline(always)]
+    fn begin_seq(&mut self, _input: &[u8]) -> Result<(), Fault> {
+        self.open_array()
+    }
+
+    #[inline(always)]
+    fn next_item(&mut self, _input: &[u8]) -> Result<bool, Fault> {
+        Ok(self.has_item())
+    }
+
+    #[inline(always)]
+    fn begin_map(&mut self, _input: &[u8]) -> Result<(), Fault> {
+        self.open_object()
+    }
+
+    /// A struct is an object, and no array of its fields.
+    #[inline(always)]
+    fn begin_struct(&mut self, _input: &[u8]) -> Result<bool, Fault> {
+        self.open_object()?;
+        Ok(false)
+    }
+
+    #[inline(always)]
+    fn next_key(&mut self, _input: &[u8], names: &[Name<'_>]) -> Result<Option<usize>, Fault> {
+        match self.key_text() {
+            Some(key) => Ok(Some(find(names, key))),
+            None => Ok(None),
+        }
+    }
+
+    fn next_entry(&mut self, _input: &[u8]) -> Result<bool, Fault> {
+        Ok(self.has_entry())
+    }
+
+    fn variant(&mut self, _input: &[u8], names: &[Name<'_>]) -> Result<usize, Fault> {
+        Ok(find(names, self.text()?))
+    }
+
+    #[inline(always)]
+    fn skip(&mut self, _input: &[u8]) -> Result<(), Fault> {
+        self.pass_due();
+        Ok(())
+    }
+
+    fn mark(&mut self) -> Mark {
+        self.place()
+    }
+
+    fn rewind(&mut self, mark: Mark) {
+        self.go_back(mark);
+    }
+
+    fn release(&mut self, _mark: Mark) {}
+
+    fn is_fatal(&self, error: &Fault) -> bool {
+        matches!(error, Fault::Memory)
+    }
+
+    fn missing(&self, name: &str) -> Fault {
+        self.at_end(Reason::Missing(FieldName::new(name)))
+    }
+
+    fn duplicate(&self, name: &str) -> Fault {
+        self.ahead(Reason::Repeated(FieldName::new(name)))
+    }
+
+    fn unknown_key(&self) -> Fault {
+        self.ahead(Reason::UnknownField)
+    }
+
+    fn unknown_variant(&self) -> Fault {
+        self.behind(Reason::UnknownVariant)
+    }
+
+    fn wrong_len(&self) -> Fault {
+        self.behind(Reason::WrongLength)
+    }
+
+    fn invalid(&self) -> Fault {
+        self.unheld()
+    }
+
+    fn no_memory(&self) -> Fault {
+        Fault::Memory
+    }
+
+    fn custom(&self, message: &str) -> Fault {
+        self.behind(Reason::Custom(FieldName::new(message)))
+    }
+}

@@ -1,0 +1,15 @@
+//! Shows messages of a stream: as trees of their parts, and by how much they have of each kind.
+//!
+//! A [`View`](messages::View) shows a message, and [`show_messages`](messages::show_messages) shows
+//! those of a reader and reports what is malformed.
+#![tactic(auto)]
+
+pub mod counts;
+pub mod given;
+pub mod messages;
+mod open;
+mod quoted;
+pub mod summary;
+pub mod tally;
+pub mod tree;
+pub mod trouble;

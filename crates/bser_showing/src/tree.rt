@@ -1,0 +1,310 @@
+//! A line for each part of a message.
+
+use crate::messages::{Failure, View};
+use crate::open::Open;
+use crate::quoted::{Quoted, Real};
+use crate::trouble::Trouble;
+use bser_events::builder::{Builder, Stop};
+use bser_events::event::{Event, Place};
+use bser_messages::limits::Limits;
+use bser_messages::telling;
+use bser_messages::told::Header;
+use bser_source::device::Source;
+use std::alloc::{AllocError, Global};
+use std::io;
+use std::io::Write;
+
+/// What stands in the line of a part.
+#[derive(Debug, Clone, Copy, PartialEq, Eq)]
+pub enum Style {
+    /// Its offset, tag, width, kind and value.
+    Full,
+    /// Its offset, tag, width and kind, without the values of scalars and strings.
+    Offsets,
+    /// Its value.
+    Values,
+}
+
+/// Shows a message as a tree: a line for each of its parts, indented by how deep it is.
+#[derive(Debug, Clone, Copy, PartialEq, Eq)]
+pub struct Show {
+    /// What stands in each line.
+    pub style: Style,
+}
+
+impl View for Show {
+    fn show_next<S: Source, W: Write>(
+        &mut self,
+        alloc: Global,
+        start: u64,
+        reader: &mut S,
+        out: &mut W,
+    ) -> Result<bool, Failure> {
+        let mut tree = Tree::new(alloc, self.style, start, out);
+        let told = telling::next_message(alloc, Limits::new(), reader, &mut tree);
+        if let Some(fault) = tree.take_fault() {
+            return Err(Failure::Output(fault));
+        }
+        match told? {
+            Some(header) => {
+                tree.put_end(&header)?;
+                Ok(true)
+            }
+            None => Ok(false),
+        }
+    }
+}
+
+/// Prints the parts of a message as they are told. It keeps the containers that are open, the keys
+/// of templates among them alone.
+#[derive(Drop)]
+pub(crate) struct Tree<'o, W: Write> {
+    alloc: Global,
+    out: &'o mut W,
+    style: Style,
+    // where the message begins in the input
+    start: u64,
+    has_begun: bool,
+    around: Vec<Open>,
+    fault: Option<io::Error>,
+}
+
+impl<'o, W: Write> Tree<'o, W> {
+    /// Nothing was told of a message that begins at byte `start`.
+    fn new(alloc: Global, style: Style, start: u64, out: &'o mut W) -> Self {
+        Tree {
+            alloc,
+            out,
+            style,
+            start,
+            has_begun: false,
+            around: Vec::new(alloc),
+            fault: None,
+        }
+    }
+
+    /// The error of the output, if it failed.
+    fn take_fault(&mut self) -> Option<io::Error> {
+        self.fault.take()
+    }
+
+    /// Prints the line behind a message.
+    fn put_end(&mut self, header: &Header) -> io::Result<()> {
+        if self.style == Style::Values {
+            return Ok(());
+        }
+        let end = self.start.saturating_add(header.message_length() as u64);
+        let (len, capabilities) = (header.len, header.capabilities);
+        writeln!(
+            self.out,
+            "{end:>8}            end of a body of {len} bytes, capabilities {capabilities:#x}"
+        )
+    }
+
+    /// Prints what an event tells, and keeps what is needed of it.
+    fn show(&mut self, event: Event<'_>, place: Place) -> Result<(), Trouble> {
+        if !self.has_begun {
+            self.has_begun = true;
+            self.put_header(place.start)?;
+        }
+        if let Event::Close = event {
+            let _closed = self.around.pop();
+            return Ok(());
+        }
+        self.put_columns(&event, place)?;
+        self.put_label(&event)?;
+        match self.style {
+            Style::Full => put_full(self.out, event, place)?,
+            Style::Offsets => put_kind(self.out, event, place)?,
+            Style::Values => put_value(self.out, event)?,
+        }
+        self.keep(event)?;
+        Ok(())
+    }
+
+    /// Prints the line of a header of `len` bytes.
+    fn put_header(&mut self, len: usize) -> io::Result<()> {
+        match self.style {
+            Style::Values => Ok(()),
+            _ => writeln!(self.out, "{:>8}    {len:>6}  message", self.start),
+        }
+    }
+
+    /// Prints where a part stands, and its indentation.
+    fn put_columns(&mut self, event: &Event<'_>, place: Place) -> io::Result<()> {
+        let indent = self.around.len().saturating_mul(2);
+        if self.style == Style::Values {
+            return write!(self.out, "{:indent$}", "");
+        }
+        let offset = self.start.saturating_add(place.start as u64);
+        let width = width_of(place);
+        match tag_of(event, place) {
+            Some(tag) => write!(self.out, "{offset:>8} {tag:02x} {width:>6}  {:indent$}", ""),
+            None => write!(self.out, "{offset:>8}    {width:>6}  {:indent$}", ""),
+        }
+    }
+
+    /// Prints what names a part in its container.
+    fn put_label(&mut self, event: &Event<'_>) -> io::Result<()> {
+        match event {
+            Event::Key(_) => write!(self.out, "key "),
+            Event::Rows { .. } => Ok(()),
+            _ => match self.around.last_mut() {
+                Some(open) => {
+                    write!(self.out, "{open}")?;
+                    open.step();
+                    Ok(())
+                }
+                None => Ok(()),
+            },
+        }
+    }
+
+    /// Keeps the containers that are open.
+    fn keep(&mut self, event: Event<'_>) -> Result<(), AllocError> {
+        match event {
+            Event::Array { .. } => self.around.push(Open::Array { begun: 0 })?,
+            Event::Object { .. } => self.around.push(Open::Object)?,
+            Event::Template { .. } => self.around.push(Open::Template {
+                keys: Vec::new(self.alloc),
+                next: None,
+            })?,
+            Event::Key(key) => {
+                if let Some(open) = self.around.last_mut() {
+                    open.put_key(self.alloc, key)?;
+                }
+            }
+            Event::Rows { .. } => {
+                if let Some(open) = self.around.last_mut() {
+                    open.begin_rows();
+                }
+            }
+            _ => {}
+        }
+        Ok(())
+    }
+}
+
+impl<W: Write> Builder for Tree<'_, W> {
+    ghost use Rattle.std.specs.Prelude.{true};
+
+    ghost takes = { λ _ _ _ _. Unit {0} };
+
+    ghost stops = { true };
+
+    ghost asks = { true };
+
+    ghost bytes = { true };
+
+    fn wants_bytes(&self) -> bool {
+        true
+    }
+
+    fn take(&mut self, event: Event<'_>, place: Place) -> Result<(), Stop> {
+        match self.show(event, place) {
+            Ok(()) => Ok(()),
+            Err(Trouble::Memory) => Err(Stop::Memory),
+            Err(Trouble::Output(fault)) => {
+                self.fault = Some(fault);
+                Err(Stop::Asked)
+            }
+        }
+    }
+
+    fn bytes_passed(&mut self, _len: usize, _place: Place) -> Result<(), Stop> {
+        Ok(())
+    }
+}
+
+/// How many bytes a part has: a container's head, or all of another.
+fn width_of(place: Place) -> usize {
+    place.end.saturating_sub(place.start)
+}
+
+/// The tag that a part begins with. The rows of a template have none.
+fn tag_of(event: &Event<'_>, place: Place) -> Option<u8> {
+    let string = if place.is_text { 0x0d } else { 0x02 };
+    match event {
+        Event::Null => Some(0x0a),
+        Event::Bool(true) => Some(0x08),
+        Event::Bool(false) => Some(0x09),
+        Event::Int(_) => Some(int_tag(width_of(place))),
+        Event::Real(_) => Some(0x07),
+        Event::Bytes(_) | Event::Text(_) | Event::Key(_) => Some(string),
+        Event::Array { .. } => Some(0x00),
+        Event::Object { .. } => Some(0x01),
+        Event::Template { .. } => Some(0x0b),
+        Event::Skip => Some(0x0c),
+        Event::Rows { .. } | Event::Close => None,
+    }
+}
+
+/// The tag of an integer that has so many bytes with it.
+fn int_tag(width: usize) -> u8 {
+    match width {
+        2 => 0x03,
+        3 => 0x04,
+        5 => 0x05,
+        _ => 0x06,
+    }
+}
+
+/// Prints the kind and the value of a part.
+fn put_full<W: Write>(out: &mut W, event: Event<'_>, place: Place) -> io::Result<()> {
+    match event {
+        Event::Int(number) => writeln!(out, "int{} {number}", int_bits(place)),
+        Event::Real(bits) => writeln!(out, "real {}", Real(bits)),
+        Event::Bytes(bytes) => writeln!(out, "bytes {}", Quoted(bytes)),
+        Event::Text(text) => writeln!(out, "text {text:?}"),
+        Event::Key(key) => writeln!(out, "{} {key:?}", string_name(place)),
+        other => put_kind(out, other, place),
+    }
+}
+
+/// Prints the kind of a part, and of a container how much is in it.
+fn put_kind<W: Write>(out: &mut W, event: Event<'_>, place: Place) -> io::Result<()> {
+    match event {
+        Event::Null => writeln!(out, "null"),
+        Event::Bool(truth) => writeln!(out, "{truth}"),
+        Event::Int(_) => writeln!(out, "int{}", int_bits(place)),
+        Event::Real(_) => writeln!(out, "real"),
+        Event::Bytes(bytes) => writeln!(out, "bytes of {}", bytes.len()),
+        Event::Text(text) => writeln!(out, "text of {}", text.len()),
+        Event::Key(key) => writeln!(out, "{} of {}", string_name(place), key.len()),
+        Event::Array { len } => writeln!(out, "array of {len}"),
+        Event::Object { len } => writeln!(out, "object of {len}"),
+        Event::Template { len } => writeln!(out, "template of {len} keys"),
+        Event::Rows { len } => writeln!(out, "{len} rows"),
+        Event::Skip => writeln!(out, "skip"),
+        Event::Close => Ok(()),
+    }
+}
+
+/// Prints the value of a part.
+fn put_value<W: Write>(out: &mut W, event: Event<'_>) -> io::Result<()> {
+    match event {
+        Event::Null => writeln!(out, "null"),
+        Event::Bool(truth) => writeln!(out, "{truth}"),
+        Event::Int(number) => writeln!(out, "{number}"),
+        Event::Real(bits) => writeln!(out, "{}", Real(bits)),
+        Event::Bytes(bytes) => writeln!(out, "{}", Quoted(bytes)),
+        Event::Text(text) => writeln!(out, "{text:?}"),
+        Event::Key(key) => writeln!(out, "{key:?}"),
+        Event::Array { len } => writeln!(out, "array of {len}"),
+        Event::Object { len } => writeln!(out, "object of {len}"),
+        Event::Template { len } => writeln!(out, "template of {len} keys"),
+        Event::Rows { len } => writeln!(out, "{len} rows"),
+        Event::Skip => writeln!(out, "skip"),
+        Event::Close => Ok(()),
+    }
+}
+
+/// How many bits an integer has.
+fn int_bits(place: Place) -> usize {
+    width_of(place).saturating_sub(1).saturating_mul(8)
+}
+
+/// What a string is by its tag.
+fn string_name(place: Place) -> &'static str {
+    if place.is_text { "text" } else { "bytes" }
+}

@@ -1,0 +1,4 @@
+pub mod Codes
+pub mod Tape
+pub mod Builders
+pub mod Untaped

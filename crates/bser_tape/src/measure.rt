@@ -1,0 +1,78 @@
+//! How many bytes a tape has in a message.
+ghost use Rattle.std.specs.Prelude.{◌≤◌, IfErr, length};
+
+use crate::tags::{BYTES_KEY, CLOSE, KEY, ROWS};
+use bser_format::header::{
+    BSER_ARRAY, BSER_BYTESTRING, BSER_FALSE, BSER_INT64, BSER_NULL, BSER_OBJECT, BSER_REAL,
+    BSER_SKIP, BSER_TEMPLATE, BSER_TRUE, BSER_UTF8STRING,
+};
+
+/// How many bytes the words have in a message, beside its header, at most `usize::MAX`; or how many
+/// words lie before two that tell nothing.
+pub(crate) fn size_of(words: &[u64], strings: &[u8]) -> Result<usize, usize>
+    ensures { IfErr result (λ at. at ≤ length words.now) }
+{
+    let mut size = 0usize;
+    for i in 0..words.len() / 2 {
+        let at = 2 * i;
+        match size_of_part(words[at], words[at + 1], strings.len()) {
+            Some(part) => size = size.saturating_add(part),
+            None => return Err(at),
+        }
+    }
+    Ok(size)
+}
+
+/// How many bytes the part has that two words tell, or none where they tell nothing, or a string
+/// that ends behind so many bytes.
+#[inline(always)]
+fn size_of_part(first: u64, second: u64, most: usize) -> Option<usize> {
+    let count = first / 256;
+    match (first % 256) as u8 {
+        BSER_NULL | BSER_TRUE | BSER_FALSE | BSER_SKIP => Some(1),
+        BSER_INT64 => Some(size_of_integer(second.cast_signed())),
+        BSER_REAL => Some(9),
+        BSER_BYTESTRING | BSER_UTF8STRING | KEY | BYTES_KEY => {
+            if second.checked_add(count)? > most as u64 {
+                return None;
+            }
+            Some(
+                size_of_count(count)
+                    .saturating_add(count as usize)
+                    .saturating_add(1),
+            )
+        }
+        BSER_ARRAY | BSER_OBJECT => Some(1 + size_of_count(count)),
+        BSER_TEMPLATE => Some(2 + size_of_count(count)),
+        ROWS => Some(size_of_count(count)),
+        CLOSE => Some(0),
+        _ => None,
+    }
+}
+
+/// How many bytes a count has as an integer.
+#[inline(always)]
+pub(crate) fn size_of_count(count: u64) -> usize
+    ensures { result ≤ 9 }
+{
+    if count < 0x80 {
+        return 2;
+    }
+    size_of_integer(i64::try_from(count).unwrap_or(i64::MAX))
+}
+
+/// How many bytes an integer has in its least width, with its tag.
+#[inline(always)]
+fn size_of_integer(v: i64) -> usize
+    ensures { result ≤ 9 }
+{
+    if i8::try_from(v).is_ok() {
+        2
+    } else if i16::try_from(v).is_ok() {
+        3
+    } else if i32::try_from(v).is_ok() {
+        5
+    } else {
+        9
+    }
+}

@@ -1,0 +1,129 @@
+//! Messages that are malformed, and what each command reports of them.
+//!
+//! A line of a list has what is wrong, the message in hexadecimal digits, the words that have to be
+//! reported, and the first and the last place that may be. Behind an `or` stand other words that may be.
+use crate::columns::columns;
+use crate::commands::COMMANDS;
+use crate::run::{Run, output_of, run_command};
+use anyhow::{Context, Result};
+use std::fs;
+
+/// A message that is in order.
+const BEFORE: &[u8] = b"\x00\x02\x00\x00\x00\x00\x03\x02\x03\x05";
+
+/// Runs each command on each message of the list, alone and behind one that is in order, and prints
+/// what is not reported as the line says.
+pub fn compare_refusals(rt: &HostRuntime, list: &str) -> Result<()> {
+    let text = fs::read_to_string(rt, list)?;
+    let mut runs = 0u64;
+    let mut wrong = 0u64;
+    for line in text.as_str().lines() {
+        let line = Line::parse(line)?;
+        let message = hex::decode(rt.alloc(), line.message)?;
+        for words in COMMANDS {
+            runs = runs.saturating_add(1);
+            if let Some(what) = line.first_mismatch(rt, words, &message)? {
+                wrong = wrong.saturating_add(1);
+                println!(rt; "{}, {words:?}: {what}", line.name)?;
+            }
+        }
+    }
+    println!(rt; "{runs} runs on malformed messages, {wrong} of them wrong")?;
+    Ok(())
+}
+
+/// Cuts a message behind each of its bytes but the last, runs commands on each front, and prints where
+/// not the early end is reported.
+pub fn compare_cuts(rt: &HostRuntime, file: &str) -> Result<()> {
+    let message = fs::read(rt, file)?;
+    let mut runs = 0u64;
+    let mut wrong = 0u64;
+    for cut in 1..message.len() {
+        let line = Line {
+            name: file,
+            message: "",
+            words: "end of input",
+            first: cut,
+            last: cut,
+        };
+        let front = message.get(..cut).context("outside")?;
+        for words in [&["show"], &["json"], &["summary"], &["canon"]] {
+            runs = runs.saturating_add(1);
+            if let Some(what) = line.first_wrong(&run_command(rt, words, front)?, b"", 0)? {
+                wrong = wrong.saturating_add(1);
+                println!(rt; "{file} cut at {cut}, {words:?}: {what}")?;
+            }
+        }
+    }
+    println!(rt; "{runs} runs on fronts of {file}, {wrong} of them wrong")?;
+    Ok(())
+}
+
+/// A malformed message, and what has to be reported.
+#[derive(Clone, Copy)]
+struct Line<'a> {
+    name: &'a str,
+    message: &'a str,
+    words: &'a str,
+    first: usize,
+    last: usize,
+}
+
+impl<'a> Line<'a> {
+    /// Takes a line apart.
+    fn parse(line: &'a str) -> Result<Self> {
+        let [name, message, words, first, last, ..] = columns(line);
+        Ok(Line {
+            name,
+            message,
+            words,
+            first: first.parse()?,
+            last: last.parse()?,
+        })
+    }
+
+    /// The first thing that is not as the line says, where a command of these words is run on the
+    /// message.
+    fn first_mismatch(
+        &self,
+        rt: &HostRuntime,
+        words: &[&str],
+        message: &[u8],
+    ) -> Result<Option<&'static str>> {
+        if let Some(what) = self.first_wrong(&run_command(rt, words, message)?, b"", 0)? {
+            return Ok(Some(what));
+        }
+        let mut both = Vec::from_slice(rt.alloc(), BEFORE)?;
+        both.extend_from_slice(message)?;
+        let before = output_of(rt, words, BEFORE)?;
+        self.first_wrong(&run_command(rt, words, &both)?, &before, BEFORE.len())
+    }
+
+    /// The first thing of a run that is not as the line says, where the message begins at byte `start`,
+    /// and this is the output before it.
+    fn first_wrong(&self, run: &Run, before: &[u8], start: usize) -> Result<Option<&'static str>> {
+        if run.status != 1 {
+            return Ok(Some("another status than 1"));
+        }
+        if !run.output.starts_with(before) {
+            return Ok(Some("the message before is not shown"));
+        }
+        let errors = str::from_utf8(&run.errors)?;
+        let Some(report) = errors.strip_prefix("bser: standard input: byte ") else {
+            return Ok(Some("no place"));
+        };
+        let (place, text) = report.split_once(": ").context("no words")?;
+        let place = place.parse::<usize>()?;
+        if place < self.first.saturating_add(start) || self.last.saturating_add(start) < place {
+            return Ok(Some("another place"));
+        }
+        let is_told = match self.words.split_once(", or ") {
+            Some((first, second)) => text.contains(first) || text.contains(second),
+            None => text.contains(self.words),
+        };
+        if !is_told || text.lines().count() != 1 {
+            return Ok(Some("other words"));
+        }
+        Ok(None)
+    }
+}

@@ -1,0 +1,72 @@
+//! The ways of reading one message as a type.
+use crate::shown::Shown;
+use anyhow::Result;
+use bser_serde::{Refusal, from_reader, from_slice, to_vec};
+use bser_vectors::devices::{Plan, PlannedReader};
+use bser_vectors::notation::text::Text;
+use serde::{Deserialize, DeserializeOwned, Serialize};
+use serde_bser::de::Ignored;
+use serde_bser::describe;
+use serde_bser::device::Watched;
+use std::alloc::Global;
+
+/// How a message was answered.
+#[derive(Debug, PartialEq, Drop)]
+pub enum Answered {
+    /// It was read as the value of this notation.
+    Value(String),
+    /// It is malformed, which was told so.
+    Malformed(String),
+    /// It is well-formed, and the type does not read it.
+    Misfit(String),
+}
+
+/// How a reading was answered.
+fn told<T: Shown + Drop>(alloc: Global, read: Result<T, Refusal>) -> Result<Answered> {
+    Ok(match read {
+        Ok(value) => {
+            let mut text = Text::new(alloc);
+            value.put(&mut text);
+            Answered::Value(text.end()?)
+        }
+        Err(Refusal::Misfit(misfit)) => Answered::Misfit(misfit.to_string(alloc)?),
+        Err(refusal) => Answered::Malformed(refusal.to_string(alloc)?),
+    })
+}
+
+/// How the message is answered from a slice.
+pub fn by_slice<'de, T: Deserialize<'de> + Shown>(
+    alloc: Global,
+    message: &'de [u8],
+) -> Result<Answered> {
+    told(alloc, from_slice::<T>(alloc, message))
+}
+
+/// How the message is answered from a reader of a few bytes a call.
+pub fn by_reader<T: DeserializeOwned + Shown>(alloc: Global, message: &[u8]) -> Result<Answered> {
+    let mut reader = Watched::new(PlannedReader::new(message, Plan::pieces(3)));
+    told(alloc, from_reader::<_, T>(alloc, &mut reader))
+}
+
+/// How the message is refused where it is passed over, if it is.
+pub fn refused_by_ignored(alloc: Global, message: &[u8]) -> Result<Option<String>> {
+    match describe::from_slice::<Ignored>(alloc, message) {
+        Ok(_) => Ok(None),
+        Err(description) => Ok(Some(description.to_string(alloc)?)),
+    }
+}
+
+/// Whether the value is read back from the message that is written for it.
+pub fn is_returned<T: DeserializeOwned + Serialize + Shown>(
+    alloc: Global,
+    message: &[u8],
+) -> Result<bool> {
+    let mut reader = Watched::new(message);
+    let Ok(value) = from_reader::<_, T>(alloc, &mut reader) else {
+        return Ok(true);
+    };
+    let written = to_vec(alloc, &value)?;
+    let mut again = Watched::new(written.as_slice());
+    let first = told(alloc, Ok(value))?;
+    Ok(told(alloc, from_reader::<_, T>(alloc, &mut again))? == first)
+}

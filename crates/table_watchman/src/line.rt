@@ -1,0 +1,44 @@
+//! A line of a list of messages.
+use crate::columns::columns;
+use crate::{borrowed, owned};
+use anyhow::Result;
+use std::alloc::Global;
+
+/// A message, and how it is printed.
+#[derive(Clone, Copy)]
+pub struct Line<'a> {
+    /// The message's name.
+    pub name: &'a str,
+    /// The message, in hexadecimal digits.
+    pub message: &'a str,
+    /// The type that an answer is read as, or `-` of what is no answer.
+    pub answer: &'a str,
+    owned: &'a str,
+    borrowed: &'a str,
+}
+
+impl<'a> Line<'a> {
+    /// Takes a line apart.
+    pub fn parse(line: &'a str) -> Self {
+        let [name, message, answer, owned, borrowed] = columns(line);
+        Line {
+            name,
+            message,
+            answer,
+            owned,
+            borrowed,
+        }
+    }
+
+    /// The first thing that is not as the line says.
+    pub fn first_mismatch(&self, alloc: Global) -> Result<Option<&'static str>> {
+        let message = hex::decode(alloc, self.message)?;
+        if !owned::is_printed(alloc, &message, self.answer, self.owned)? {
+            return Ok(Some("another value, owned"));
+        }
+        if !borrowed::is_printed(alloc, &message, self.answer, self.borrowed)? {
+            return Ok(Some("another value, borrowed"));
+        }
+        Ok(None)
+    }
+}

@@ -1,0 +1,5 @@
+//! What derives read and write.
+mod checks;
+mod forms;
+mod refusals;
+mod strings;

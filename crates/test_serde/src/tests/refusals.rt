@@ -1,0 +1,78 @@
+//! How messages and values are refused.
+use crate::tests::checks::{check_refused, check_told, owned};
+use crate::types::{File, Files, Strict, Version};
+use bser_serde::{ByteBuf, from_frame, from_reader, to_vec};
+use serde_bser::bytestring::ByteString;
+use serde_bser::device::Watched;
+use std::collections::BTreeMap;
+
+/// An object with the version 4.9, and a byte behind it.
+const VERSION: &[u8] =
+    b"\x00\x02\x00\x00\x00\x00\x03\x13\x01\x03\x01\x0d\x03\x07version\x0d\x03\x034.9\x0a";
+
+#[test]
+fn misfits(rt: HostRuntime) {
+    let alloc = rt.alloc();
+    check_refused::<File>(
+        &rt,
+        alloc,
+        VERSION,
+        "field \"name\": missing, at byte 27, in name",
+    );
+    check_refused::<Strict>(&rt, alloc, VERSION, "unknown field, at byte 21, in version");
+    check_refused::<Vec<i64>>(
+        &rt,
+        alloc,
+        VERSION,
+        "wrong type: an object where an array is wanted, at byte 8, in .",
+    );
+    check_refused::<BTreeMap<String, u8>>(
+        &rt,
+        alloc,
+        VERSION,
+        "wrong type: a text where an integer is wanted, at byte 21, in version",
+    );
+}
+
+#[test]
+fn malformed(rt: HostRuntime) {
+    let alloc = rt.alloc();
+    check_refused::<Version>(&rt, alloc, &VERSION[..20], "end of input, at byte 20");
+    let mut reader = Watched::new(&VERSION[..0]);
+    match from_reader::<_, Version>(alloc, &mut reader) {
+        Ok(_version) => assert!(rt; false),
+        Err(refusal) => check_told(&rt, alloc, &refusal, "no message is left"),
+    }
+    match from_frame::<Version>(alloc, VERSION) {
+        Ok(_version) => assert!(rt; false),
+        Err(refusal) => check_told(
+            &rt,
+            alloc,
+            &refusal,
+            "a message of 27 bytes, and more follow",
+        ),
+    }
+}
+
+#[test]
+fn unwritten(rt: HostRuntime) {
+    let alloc = rt.alloc();
+    match to_vec(alloc, &u64::MAX) {
+        Ok(_message) => assert!(rt; false),
+        Err(error) => {
+            let text = error.to_string(alloc).expect(&rt, "memory");
+            let told = "while serializing BSER: integer too big: 18446744073709551615";
+            assert!(rt; text.as_str() == told);
+        }
+    }
+    let mut by_number = BTreeMap::new(alloc);
+    let inserted: Result<_, _> = by_number.insert(7u8, true);
+    assert!(rt; inserted.is_ok());
+    match to_vec(alloc, &by_number) {
+        Ok(_message) => assert!(rt; false),
+        Err(error) => {
+            let text = error.to_string(alloc).expect(&rt, "memory");
+            assert!(rt; text.as_str() == "error while serializing BSER: a key that is no text");
+        }
+    }
+}

@@ -1,0 +1,104 @@
+//! Types of each form that derives have.
+use bser_serde::{ByteBuf, Bytes};
+use serde::{Deserialize, Serialize};
+use std::collections::BTreeMap;
+
+/// An enum with a variant of each form.
+#[derive(Debug, PartialEq, Drop, Serialize, Deserialize)]
+#[serde(rename_all = "camelCase")]
+pub enum Kind {
+    RegularFile,
+    SymbolicLink(String),
+    #[serde(rename = "d")]
+    Folder { depth: u8, root: Option<String> },
+    Pair(i64, bool),
+}
+
+/// A field that may be absent.
+#[derive(Debug, PartialEq, Drop, Serialize, Deserialize)]
+pub struct Version {
+    pub version: String,
+    #[serde(default)]
+    pub build: u32,
+}
+
+/// The fields of another struct among its own.
+#[derive(Debug, PartialEq, Drop, Serialize, Deserialize)]
+pub struct Flat {
+    pub clock: String,
+    #[serde(flatten)]
+    pub version: Version,
+    pub is_fresh_instance: bool,
+}
+
+/// What is told apart by its kind alone.
+#[derive(Debug, PartialEq, Drop, Serialize, Deserialize)]
+#[serde(untagged)]
+pub enum NameOrFile {
+    Name(String),
+    File { name: String, size: u64 },
+    Number(i64),
+}
+
+/// An enum whose variant is named by a field.
+#[derive(Debug, PartialEq, Drop, Serialize, Deserialize)]
+#[serde(tag = "op")]
+pub enum Term {
+    All { terms: Vec<String> },
+    Not,
+}
+
+/// An enum whose variant and payload are two fields.
+#[derive(Debug, PartialEq, Drop, Serialize, Deserialize)]
+#[serde(tag = "kind", content = "of")]
+pub enum Shape {
+    Dot,
+    Line(i64),
+    Box { width: i64 },
+}
+
+/// A struct that takes no other field.
+#[derive(Debug, PartialEq, Drop, Serialize, Deserialize)]
+#[serde(deny_unknown_fields)]
+pub struct Strict {
+    pub clock: String,
+}
+
+/// A row whose text is borrowed.
+#[derive(Debug, PartialEq, Drop, Deserialize)]
+pub struct Person<'a> {
+    pub name: Option<&'a str>,
+    pub age: u8,
+}
+
+/// A file whose name is owned, and need not be UTF-8.
+#[derive(Debug, PartialEq, Drop, Serialize, Deserialize)]
+pub struct File {
+    pub name: ByteBuf,
+    pub size: u64,
+    #[serde(skip_serializing_if = "Option::is_none")]
+    pub mtime_ms: Option<i64>,
+    #[serde(rename = "type", skip_serializing_if = "Option::is_none")]
+    pub kind: Option<String>,
+}
+
+/// A file that is borrowed.
+#[derive(Debug, PartialEq, Drop, Serialize, Deserialize)]
+pub struct FileRef<'a> {
+    pub name: Bytes<'a>,
+    pub size: u64,
+}
+
+/// Files.
+#[derive(Debug, PartialEq, Drop, Serialize, Deserialize)]
+pub struct Files {
+    pub files: Vec<File>,
+}
+
+/// Numbers, by name.
+#[derive(Debug, PartialEq, Drop, Serialize, Deserialize)]
+pub struct Scores {
+    pub by_name: BTreeMap<String, f64>,
+    pub pair: (i8, char),
+    pub nothing: (),
+}

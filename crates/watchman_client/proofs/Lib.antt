@@ -1,0 +1,5 @@
+pub mod Marks
+pub mod Moves
+pub mod Runs
+pub mod Hands
+pub mod Sizes

@@ -1,0 +1,7 @@
+pub mod Kinds
+pub mod Kept
+pub mod Arrivals
+pub mod Views
+pub mod Steps
+pub mod Failures
+pub mod Requests

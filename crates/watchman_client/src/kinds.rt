@@ -1,0 +1,108 @@
+//! Which messages are unsolicited, and which tell of an error.
+ghost use Rattle.std.specs.Prelude.{◌≡◌, codes, [], ◌∷◌, None, true, false, IfOk, IfSome, IfNone, List, ℕ};
+ghost use Rattle.bser_structs.specs.Fields.{required, reads_fields, HoldsFields, fields_needs, asking_fields};
+ghost use Rattle.watchman_client.specs.Kinds.{IsKind, TellsError};
+
+use bser_bunser::refusal::Answer;
+use bser_deserializer::deserializer::Deserializer;
+use bser_format::bytestring::ByteString;
+use bser_format::errors::Error;
+use bser_messages::message::from_slice;
+use bser_source::read::DeRead;
+use bser_source::reference::LendsText;
+use bser_structs::fields::{Fields, ReadOnly};
+use bser_structs::read_struct;
+use bser_structs::struct_reader::ReadsFields;
+use bser_types::deserialize::{Deserialize, OwnedShape, Shape};
+use std::alloc::{AllocError, Global};
+
+/// What a message tells of itself.
+#[derive(Drop)]
+pub struct Mark {
+    /// Whether it is unsolicited.
+    pub unilateral: bool,
+}
+
+impl Fields for Mark {
+    ghost fields = { required (codes "unilateral") (λ v. v.unilateral) ⟦<bool as ReadOnly>⟧.coding
+        ∷ [] };
+}
+
+impl Shape for Mark {
+    ghost reads = { reads_fields ⟦<Mark as Fields>⟧.fields };
+
+    ghost holds = { HoldsFields ⟦<Mark as Fields>⟧.fields };
+
+    ghost needs = { fields_needs ⟦<Mark as Fields>⟧.fields };
+
+    ghost asks = { asking_fields ⟦<Mark as Fields>⟧.fields };
+
+    ghost plain = { None };
+}
+
+impl<L: LendsText> Deserialize<L> for Mark {
+    fn deserialize<R: DeRead<Lent = L>>(alloc: Global, from: &mut Deserializer<R>) -> Answer<Mark> {
+        read_struct! { alloc, from, Mark { unilateral: Required("unilateral") } }
+    }
+}
+
+/// What a server answers where it cannot do what was asked.
+#[derive(Drop)]
+pub struct Failure {
+    /// Why.
+    pub error: ByteString,
+}
+
+impl Fields for Failure {
+    ghost fields = { required (codes "error") (λ v. v.error) ⟦<ByteString as ReadOnly>⟧.coding
+        ∷ [] };
+}
+
+impl Shape for Failure {
+    ghost reads = { reads_fields ⟦<Failure as Fields>⟧.fields };
+
+    ghost holds = { HoldsFields ⟦<Failure as Fields>⟧.fields };
+
+    ghost needs = { fields_needs ⟦<Failure as Fields>⟧.fields };
+
+    ghost asks = { asking_fields ⟦<Failure as Fields>⟧.fields };
+
+    ghost plain = { None };
+}
+
+impl<L: LendsText> Deserialize<L> for Failure {
+    fn deserialize<R: DeRead<Lent = L>>(
+        alloc: Global,
+        from: &mut Deserializer<R>,
+    ) -> Answer<Failure> {
+        read_struct! { alloc, from, Failure { error: Required("error") } }
+    }
+}
+
+/// Whether a message is unsolicited: an object whose `unilateral` is true.
+///
+/// All else is not, bytes that are no message too. Fails only where memory runs out.
+pub fn is_unsolicited(alloc: Global, message: &[u8]) -> Result<bool, AllocError>
+    ensures { IfOk result (λ b. IsKind b message.now) }
+{
+    match from_slice::<Mark>(alloc, message) {
+        Ok(mark) => Ok(mark.unilateral),
+        Err(Error::OutOfMemory) => Err(AllocError),
+        Err(_other) => Ok(false),
+    }
+}
+
+/// The text of an object's `error`, and `None` for all else.
+///
+/// Fails only where memory runs out.
+pub fn error_of(alloc: Global, message: &[u8]) -> Result<Option<ByteString>, AllocError>
+    ensures found { IfOk result (λ o. IfSome o (λ error. TellsError error message.now)) }
+    ensures none { IfOk result (λ o. IfNone o
+        ((error : List ℕ) → TellsError error message.now → ⊥)) }
+{
+    match from_slice::<Failure>(alloc, message) {
+        Ok(failure) => Ok(Some(failure.error)),
+        Err(Error::OutOfMemory) => Err(AllocError),
+        Err(_other) => Ok(None),
+    }
+}

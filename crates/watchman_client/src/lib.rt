@@ -1,0 +1,15 @@
+//! A client of Watchman over any reader and writer: requests are sent, their answers are taken, and
+//! messages that were not asked for are kept until they are wanted.
+#![tactic(auto)]
+
+pub mod bounds;
+pub mod client;
+pub mod errors;
+pub mod events;
+pub mod incoming;
+pub mod kept;
+pub mod kinds;
+pub mod laws;
+pub mod next;
+pub mod reading;
+pub mod requests;

@@ -1,0 +1,39 @@
+//! What the next message is.
+ghost use Rattle.std.specs.Prelude.{IfOk, IfErr};
+ghost use Rattle.std.specs.Io.KnownBytes.{Keeps};
+ghost use Rattle.watchman_client.specs.Failures.{IsHindered};
+ghost use Rattle.watchman_client.specs.Views.{left_of, IsNext};
+
+use crate::errors::ClientError;
+use crate::incoming::Incoming;
+use crate::kinds::is_unsolicited;
+use bser_source::device::Source;
+use std::alloc::Global;
+
+/// What comes next.
+#[derive(Debug, Clone, Copy, PartialEq, Eq)]
+pub enum Next {
+    /// No byte is left.
+    End,
+    /// An unsolicited message.
+    Unsolicited,
+    /// Any other message.
+    Answer,
+}
+
+/// Has the next message in hand, and tells what it is.
+pub fn next_kind<S: Source>(alloc: Global, incoming: &mut Incoming<S>) -> Result<Next, ClientError>
+    ensures kept { Keeps (left_of S.remaining incoming.old) (left_of S.remaining incoming.new) }
+    ensures next { IfOk result (IsNext S.remaining incoming.new) }
+    ensures err { IfErr result (λ e. IsHindered S.remaining e incoming.new) }
+{
+    match incoming.reach() {
+        Ok(true) => match is_unsolicited(alloc, incoming.frame()) {
+            Ok(true) => Ok(Next::Unsolicited),
+            Ok(false) => Ok(Next::Answer),
+            Err(_) => Err(ClientError::Memory),
+        },
+        Ok(false) => Ok(Next::End),
+        Err(error) => Err(ClientError::Frame(error)),
+    }
+}

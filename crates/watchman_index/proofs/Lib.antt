@@ -1,0 +1,4 @@
+pub mod Same
+pub mod Names
+pub mod Puts
+pub mod Forgets

@@ -1,0 +1,5 @@
+pub mod Lists
+pub mod Origins
+pub mod Rows
+pub mod Tables
+pub mod Told

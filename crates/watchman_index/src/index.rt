@@ -1,0 +1,158 @@
+//! An index of files.
+ghost use Rattle.std.specs.Prelude.{◌≡◌, ◌≢◌, false, not, map, Some, Err, IfOk, IfErr, OnOk, OnErr};
+ghost use Rattle.std.specs.Option.{is_some};
+ghost use Rattle.std.specs.Ordering.{nat_cmp};
+ghost use Rattle.std.specs.BTreeMap.{IsEmpty, Updates};
+ghost use Rattle.std.specs.Map.Iter.{deref_pair};
+ghost use Rattle.std.specs.Cmp.Lexicographic.{slice_cmp};
+ghost use Rattle.watchman_index.specs.Origins.{Agrees, Learns};
+ghost use Rattle.watchman_index.specs.Tables.{of_name, since_entries, Applies, AppliesPartly, Forgets};
+
+use crate::changes::Changes;
+use crate::origin::{Origin, Refusal};
+use crate::row::{FileState, Row};
+use serde_bser::bytestring::ByteString;
+use std::alloc::{AllocError, Global};
+use std::collections::BTreeMap;
+
+/// What is known of the files below a root, by their names.
+///
+/// Messages are numbered by the caller, in their order.
+#[derive(Drop)]
+pub struct Index {
+    /// What the messages are of.
+    pub origin: Origin,
+    /// For each clock that was told the number of the last message up to it.
+    pub clocks: BTreeMap<ByteString, u64>,
+    /// The files. Of those that were deleted it is known that they are.
+    pub files: BTreeMap<ByteString, Row>,
+}
+
+/// What changed after a clock.
+#[derive(Drop)]
+pub struct Since<'a> {
+    /// Whether the clock is not known, so that the files are all that there are.
+    pub is_fresh_instance: bool,
+    /// The files in rising order of their names.
+    pub files: Vec<(&'a ByteString, &'a Row)>,
+}
+
+impl Index {
+    /// An index of no files.
+    pub fn new(alloc: Global) -> Self
+        ensures files { IsEmpty result.files }
+        ensures clocks { IsEmpty result.clocks }
+    {
+        Index {
+            origin: Origin::new(),
+            clocks: BTreeMap::new(alloc),
+            files: BTreeMap::new(alloc),
+        }
+    }
+
+    /// Applies what the message of this number tells.
+    ///
+    /// A file that it lists has the state that it tells. Where it tells all files, those that it
+    /// does not list are gone; else they are as before. A file counts as changed by this message
+    /// where its state is another one than before.
+    ///
+    /// A message of another root or subscription is refused, and nothing is changed. Where there is
+    /// no memory, each file is as before or as after the message, which may be applied again.
+    pub fn apply(&mut self, number: u64, changes: Changes) -> Result<(), Refusal>
+        ensures files { OnOk result (Applies number changes.is_fresh_instance changes.files
+            self.old.files self.new.files) }
+        ensures clocks { OnOk result (Updates (slice_cmp nat_cmp) self.old.clocks self.new.clocks
+            changes.clock (Some number)) }
+        ensures origin { OnOk result (Learns self.old.origin changes.root changes.subscription
+            self.new.origin) }
+        ensures agrees { OnOk result (Agrees self.old.origin.root changes.root
+            × Agrees self.old.origin.subscription changes.subscription) }
+        ensures root { result ≡ Err Refusal.OtherRoot
+            → ¬ Agrees self.old.origin.root changes.root }
+        ensures subscription { result ≡ Err Refusal.OtherSubscription
+            → ¬ Agrees self.old.origin.subscription changes.subscription }
+        ensures refused { IfErr result (λ e. e ≢ Refusal.OutOfMemory → self.new ≡ self.old) }
+        ensures partly { OnErr result (AppliesPartly number changes.is_fresh_instance changes.files
+            self.old.files self.new.files) }
+    {
+        self.origin.check(&changes)?;
+        let Changes {
+            root,
+            subscription,
+            clock,
+            is_fresh_instance,
+            files,
+        } = changes;
+        if is_fresh_instance {
+            forget_unlisted(&mut self.files, number, &files);
+        }
+        put_listed(&mut self.files, number, files)?;
+        self.apply_clock(number, clock)?;
+        self.origin.learn(root, subscription);
+        Ok(())
+    }
+
+    /// Keeps a clock that was told behind the message of this number, and before the next. The
+    /// error is that there is no memory for it, and then nothing is changed.
+    pub fn apply_clock(&mut self, number: u64, clock: ByteString) -> Result<(), AllocError>
+        ensures clocks { OnOk result (Updates (slice_cmp nat_cmp) self.old.clocks self.new.clocks
+            clock (Some number)) }
+        ensures files { self.new.files ≡ self.old.files }
+        ensures origin { self.new.origin ≡ self.old.origin }
+        ensures err { OnErr result (self.new.clocks.entries ≡ self.old.clocks.entries) }
+    {
+        self.clocks.insert(clock, number)?;
+        Ok(())
+    }
+
+    /// The files that messages changed after this clock, also those that were deleted. For a clock
+    /// that was not told, all files that exist. The error is that there is no memory for the list.
+    pub fn changes_since(&self, alloc: Global, clock: &ByteString) -> Result<Since<'_>, AllocError>
+        ensures fresh { IfOk result (λ since. since.is_fresh_instance
+            ≡ not (is_some (of_name self.now.clocks clock.now))) }
+        ensures files { IfOk result (λ since. map deref_pair since.files.items
+            ≡ since_entries (of_name self.now.clocks clock.now) self.now.files) }
+    {
+        let known = self.clocks.get(clock).copied();
+        let mut files = Vec::new(alloc);
+        for (name, row) in &self.files {
+            if row.is_since(known) {
+                files.push((name, row))?;
+            }
+        }
+        Ok(Since {
+            is_fresh_instance: known.is_none(),
+            files,
+        })
+    }
+}
+
+/// Files that the message of this number does not list are gone.
+fn forget_unlisted(
+    files: &mut BTreeMap<ByteString, Row>,
+    number: u64,
+    listed: &BTreeMap<ByteString, FileState>,
+)
+    ensures { Forgets number listed.now files.old files.new }
+{
+    files.retain(|name, row| {
+        *row = row.kept(number, listed.contains_key(name));
+        true
+    });
+}
+
+/// Puts the files that the message of this number lists.
+fn put_listed(
+    files: &mut BTreeMap<ByteString, Row>,
+    number: u64,
+    listed: BTreeMap<ByteString, FileState>,
+) -> Result<(), AllocError>
+    ensures ok { OnOk result (Applies number false listed files.old files.new) }
+    ensures err { OnErr result (AppliesPartly number false listed files.old files.new) }
+{
+    for (name, state) in listed {
+        let was = files.get(&name).copied();
+        files.insert(name, Row::told(number, was, state))?;
+    }
+    Ok(())
+}

@@ -1,0 +1,15 @@
+//! An index of the files below one root, kept up to date by what a Watchman server tells of them.
+//!
+//! [`read_told`](told::read_told) reads what a message tells, [`Index::apply`](index::Index::apply)
+//! applies it, and [`Index::changes_since`](index::Index::changes_since) answers what changed after
+//! a clock.
+#![tactic(auto)]
+
+pub mod changes;
+pub mod index;
+pub mod letter;
+pub mod listed;
+pub mod origin;
+pub mod row;
+pub mod suffix;
+pub mod told;

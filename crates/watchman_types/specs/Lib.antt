@@ -1,0 +1,4 @@
+pub mod Capabilities
+pub mod Kinds
+pub mod Messages
+pub mod Refusals

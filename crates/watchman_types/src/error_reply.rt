@@ -1,0 +1,51 @@
+//! An error of the server.
+ghost use Rattle.std.specs.Prelude.{codes, [], ◌∷◌, None, refl};
+ghost use Rattle.serde_bser.specs.StructFields.{required, optional, reads_fields, HoldsFields, fields_needs, asking_fields, none_lent};
+
+use serde_bser::de::{Answer, Deserializer};
+use serde_bser::prelude::*;
+use std::alloc::Global;
+
+/// What the server answers where it cannot do what was asked.
+#[derive(Debug, Drop)]
+pub struct ErrorReply<S> {
+    /// Why, in words. It may hold a path, which need not be UTF-8.
+    pub error: S,
+    /// The version of the server.
+    pub version: Option<S>,
+}
+
+impl<S: Shape> Fields for ErrorReply<S> {
+    ghost fields = { required (codes "error") (λ v. v.error) ⟦<S as ReadOnly>⟧.coding
+        ∷ optional (codes "version") (λ v. v.version) ⟦<S as ReadOnly>⟧.coding
+        ∷ [] };
+}
+
+impl<S: Shape> Shape for ErrorReply<S> {
+    ghost reads = { reads_fields ⟦<ErrorReply<S> as Fields>⟧.fields };
+
+    ghost holds = { HoldsFields ⟦<ErrorReply<S> as Fields>⟧.fields };
+
+    ghost needs = { fields_needs ⟦<ErrorReply<S> as Fields>⟧.fields };
+
+    ghost asks = { asking_fields ⟦<ErrorReply<S> as Fields>⟧.fields };
+
+    ghost plain = { None };
+}
+
+impl<L: LendsText, S: Deserialize<L>> Deserialize<L> for ErrorReply<S> {
+    fn deserialize<R: DeRead<Lent = L>>(alloc: Global, from: &mut Deserializer<R>) -> Answer<Self> {
+        read_struct! {
+            alloc,
+            from,
+            ErrorReply {
+                error: Required("error"),
+                version: Optional("version"),
+            }
+        }
+    }
+}
+
+impl<S: OwnedShape> OwnedShape for ErrorReply<S> {
+    ghost owned = { none_lent S.owned (none_lent S.owned refl) };
+}

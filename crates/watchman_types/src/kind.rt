@@ -1,0 +1,29 @@
+//! Which message it is.
+
+/// Which message it is.
+#[derive(Debug, Clone, Copy, PartialEq, Eq)]
+pub enum Kind {
+    /// The answer to the outstanding request.
+    Answer,
+    /// The server's error, in the place of the answer.
+    Error,
+    /// A message that no request asked for.
+    Event(EventKind),
+}
+
+/// Which message it is that no request asked for.
+#[derive(Debug, Clone, Copy, PartialEq, Eq)]
+pub enum EventKind {
+    /// A [`Log`](crate::log::Log).
+    Log,
+    /// A [`StateEntered`](crate::state::StateEntered).
+    StateEntered,
+    /// A [`StateLeft`](crate::state::StateLeft).
+    StateLeft,
+    /// A [`Canceled`](crate::subscription::Canceled).
+    Canceled,
+    /// A [`FilesChanged`](crate::subscription::FilesChanged).
+    Files,
+    /// None of these.
+    Other,
+}
