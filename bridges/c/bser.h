@@ -9,6 +9,7 @@
  *     is initialised, and the pointer is not null, also where the length is 0.
  *   - What a call writes overlaps nothing that it reads.
  *   - malloc, realloc and free are those of one allocator.
+ * A call takes at most 48 bytes of memory for each byte that it reads, and bser_compact 128.
  * bser_canonical, bser_compact and bser_describe call themselves at most 128 levels deep.
  */
 #ifndef KUVTSADA_BSER_H
@@ -77,7 +78,8 @@ bser_outcome bser_describe(const uint8_t *bytes, size_t len, uint8_t *out, size_
 bser_outcome bser_canonical(const uint8_t *bytes, size_t len, uint8_t *out, size_t room);
 
 /* The compact message of the value, with templates. None is shorter, nor is the one that was read
- * shorter. Of a message with templates it may take far more memory than the message has bytes. */
+ * shorter. The code is BSER_NO_MEMORY too where this may take more than 128 bytes of memory for each
+ * byte of the message, and more than 512,000: so it is for a template of many skipped fields. */
 bser_outcome bser_compact(const uint8_t *bytes, size_t len, uint8_t *out, size_t room);
 
 /* ---- tapes

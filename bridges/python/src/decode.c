@@ -32,7 +32,7 @@ static const char *string_at(const walk *w, size_t at) { return (const char *)w-
 
 static Py_ssize_t count_at(const walk *w, size_t at) { return (Py_ssize_t)bser_count_of(w->words[at]); }
 
-/* The next value. */
+/* The next value. An object without entries is its two words. */
 static inline PyObject *value(walk *w) {
     size_t at = w->at;
     unsigned tag = bser_tag_of(w->words[at]);
@@ -45,6 +45,9 @@ static inline PyObject *value(walk *w) {
         made = Py_NewRef(tag == BSER_TRUE ? Py_True : Py_False);
     } else if (tag == BSER_NULL || tag == BSER_SKIP) {
         made = Py_NewRef(Py_None);
+    } else if (w->words[at] == BSER_OBJECT && w->mutable) {
+        made = PyDict_New();
+        at += 2;
     } else {
         return other_value(w);
     }
@@ -215,7 +218,7 @@ static PyObject *other_value(walk *w) {
     w->at += 2;
     switch (bser_tag_of(w->words[at])) {
     case BSER_REAL: memcpy(&real, &w->words[at + 1], sizeof real); return PyFloat_FromDouble(real);
-    case BSER_TEXT: return PyUnicode_DecodeUTF8(string_at(w, at), count_at(w, at), "strict");
+    case BSER_TEXT: return text_of(string_at(w, at), count_at(w, at));
     case BSER_BYTES: return PyUnicode_Decode(string_at(w, at), count_at(w, at), w->encoding, w->errors);
     case BSER_ARRAY: return closed(w, array_of(w, count_at(w, at)));
     case BSER_OBJECT: return closed(w, object_of(w, count_at(w, at)));

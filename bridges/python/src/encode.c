@@ -1,7 +1,8 @@
 /* The message of a value, made by its tape. */
 #include "internal.h"
 
-enum { MOST_LEVELS = 128, LONGEST_HEAD = 15 };
+/* A message of few bytes is written into memory that is there, and copied. */
+enum { MOST_LEVELS = 128, LONGEST_HEAD = 15, MOST_COPIED = 1024 };
 
 /* A str that was put as a key, and where its bytes stand. */
 typedef struct {
@@ -135,10 +136,10 @@ static int put_items(tape *t, PyObject *x, int levels) {
 }
 
 static int put_entries(tape *t, PyObject *x, int levels) {
-    Py_ssize_t place = 0;
+    Py_ssize_t place = 0, count = PyDict_GET_SIZE(x);
     PyObject *key, *one;
-    if (add(t, BSER_OBJECT, (size_t)PyDict_Size(x), 0) < 0) return -1;
-    while (PyDict_Next(x, &place, &key, &one))
+    if (add(t, BSER_OBJECT, (size_t)count, 0) < 0) return -1;
+    while (count != 0 && PyDict_Next(x, &place, &key, &one))
         if (put_key(t, key) < 0 || put(t, one, levels) < 0) return -1;
     return add_close(t);
 }
@@ -148,9 +149,9 @@ static int put(tape *t, PyObject *x, int levels) {
     if (PyBool_Check(x)) return add(t, x == Py_True ? BSER_TRUE : BSER_FALSE, 0, 0);
     if (PyBytes_Check(x) || PyUnicode_Check(x)) return put_string(t, BSER_BYTES, x);
     if (PyLong_Check(x)) return put_int(t, x);
-    if (PyFloat_Check(x)) return put_real(t, x);
     int is_list = PyList_Check(x) || PyTuple_Check(x);
     if (!is_list && !PyDict_Check(x)) {
+        if (PyFloat_Check(x)) return put_real(t, x);
         raise_error(encode_error, "Unsupported value type", BSER_OK, 0, 0);
         return -1;
     }
@@ -179,29 +180,44 @@ static size_t write_head(uint8_t *out, size_t body, int version, uint32_t capabi
     return start + 1 + size;
 }
 
+/* Where the body of the library's message begins: its head has 6 bytes and the length of the body. */
+static size_t body_of(const uint8_t *message) { return 7 + ((size_t)1 << (message[6] - 3)); }
+
 /* Puts a head of pywatchman's in the place of that of the library's message, and answers how many bytes
  * the message then has. */
 static size_t change_head(uint8_t *message, size_t len, int version, uint32_t capabilities) {
     uint8_t head[LONGEST_HEAD];
-    size_t width = (size_t)1 << (message[6] - 3), body = len - 7 - width;
+    size_t start = body_of(message), body = len - start;
     size_t front = write_head(head, body, version, capabilities);
-    memmove(message + front, message + 7 + width, body);
+    memmove(message + front, message + start, body);
     memcpy(message, head, front);
     return front + body;
 }
 
+/* The same for a short message, which is copied. */
+static PyObject *short_message(uint8_t *message, size_t len, int version, uint32_t capabilities) {
+    size_t front = change_head(message, len, version, capabilities);
+    return PyBytes_FromStringAndSize((char *)message, (Py_ssize_t)front);
+}
+
 static PyObject *message_of(const tape *t, int version, uint32_t capabilities) {
     static const uint8_t none[1];
+    static uint8_t few[MOST_COPIED];
     size_t room = t->most + LONGEST_HEAD;
-    PyObject *made = PyBytes_FromStringAndSize(NULL, (Py_ssize_t)room);
-    if (made == NULL) return NULL;
-    uint8_t *out = memset(PyBytes_AS_STRING(made), 0, room);
+    PyObject *made = NULL;
+    uint8_t *out = few;
+    if (room > MOST_COPIED) {
+        made = PyBytes_FromStringAndSize(NULL, (Py_ssize_t)room);
+        if (made == NULL) return NULL;
+        out = memset(PyBytes_AS_STRING(made), 0, room);
+    }
     const uint8_t *strings = t->strings == NULL ? none : t->strings;
     bser_outcome done = bser_of_tape(t->words, t->count, strings, t->len, out, room);
     if (done.code != BSER_OK) {
-        Py_DECREF(made);
+        Py_XDECREF(made);
         return not_written(done);
     }
+    if (made == NULL) return short_message(out, done.length, version, capabilities);
     _PyBytes_Resize(&made, (Py_ssize_t)change_head(out, done.length, version, capabilities));
     return made;
 }

@@ -57,6 +57,7 @@ static inline int take_arguments(const char *call, const char *const *names, PyO
 
 /* keys.c */
 PyObject *key_of(const char *bytes, Py_ssize_t len);
+PyObject *text_of(const char *bytes, Py_ssize_t len);
 
 /* words.c */
 enum { MOST_WORDS_KEPT = 1 << 18, GIVEN_AT_ONCE = 1 << 16 };

@@ -5,3 +5,4 @@ pub mod Tokens
 pub mod Tagged
 pub mod Seen
 pub mod Calls
+pub mod ByReference

@@ -2,6 +2,7 @@
 #![tactic(auto)]
 
 pub mod bunser;
+pub mod by_reference;
 pub mod laws;
 pub mod prefix;
 pub mod refusal;

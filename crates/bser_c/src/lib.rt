@@ -135,8 +135,9 @@ pub extern "C" fn bser_canonical(alloc: Global, bytes: &[u8], out: &mut [u8]) ->
     }
 }
 
-/// As [`bser_canonical`], but the compact message: no message of the value is shorter. It takes far
-/// more memory where the message has templates.
+/// As [`bser_canonical`], but the compact message: no message of the value is shorter. Where it may
+/// take more than 128 bytes of memory for each byte of the message, and more than 512,000, the code is
+/// that of no memory.
 #[unsafe(no_mangle)]
 pub extern "C" fn bser_compact(alloc: Global, bytes: &[u8], out: &mut [u8]) -> BserOutcome
     ensures done { result.code ≡ DONE

@@ -127,6 +127,26 @@ fn compact(rt: HostRuntime) {
     assert_eq!(rt; wrong.code, 54);
 }
 
+/// A `Value` of 600 skipped fields would have 600 maps. In the second call the last field is no value.
+#[test]
+fn compact_without_memory(rt: HostRuntime) {
+    let alloc = rt.alloc();
+    let mut bytes = [0x0cu8; 620];
+    bytes[..20].copy_from_slice(
+        b"\x00\x02\x00\x00\x00\x00\x04\x63\x02\x0b\x00\x03\x01\x0d\x03\x01a\x04\x58\x02",
+    );
+    let mut out = [7u8; 620];
+    let many = bser_compact(alloc, &bytes, &mut out);
+    assert_eq!(rt;
+        (many.code, many.detail, many.place, many.length),
+        (3, 0, 0, 0)
+    );
+    assert_eq!(rt; bser_canonical(alloc, &bytes, &mut out).code, 2);
+    bytes[619] = 0x14;
+    let wrong = bser_compact(alloc, &bytes, &mut out);
+    assert_eq!(rt; (wrong.code, wrong.detail, wrong.place), (16, 0x14, 619));
+}
+
 #[test]
 fn descriptions(rt: HostRuntime) {
     let alloc = rt.alloc();

@@ -14,6 +14,7 @@ use crate::line::{End, Line};
 use crate::output::Output;
 use anyhow::Result;
 use bser_commands::program::run_bser;
+use bser_progress::screen::Terminals;
 use std::io::Read;
 use std::{fs, io};
 
@@ -34,8 +35,16 @@ fn run_line(rt: &HostRuntime, line: &Line<'_>) -> Result<()> {
     let mut left = input.as_slice();
     let mut output = Output::new(rt.alloc(), line.end);
     let mut errors = Vec::new(rt.alloc());
-    let words = line.words.as_slice();
-    let status = run_bser(rt.alloc(), rt, words, &mut left, &mut output, &mut errors);
+    let (words, terminals) = (line.words.as_slice(), Terminals::NONE);
+    let status = run_bser(
+        rt.alloc(),
+        rt,
+        words,
+        terminals,
+        &mut left,
+        &mut output,
+        &mut errors,
+    );
     print_output(rt, output.bytes(), line.end)?;
     print!(rt; "{}", String::from_utf8_lossy(rt.alloc(), &errors)?)?;
     if status != 0 {

@@ -5,6 +5,10 @@ use crate::command::command;
 use crate::order::{Task, order_of};
 use bser_format::errors::Error as MessageError;
 use bser_jsons::texts::{TextError, Writing, write_messages};
+use bser_progress::beside::Beside;
+use bser_progress::counted::Counted;
+use bser_progress::reports::Reports;
+use bser_progress::screen::{Screen, Terminals};
 use bser_showing::messages::{Input, View, show_messages};
 use bser_showing::summary::Summary;
 use bser_source::device::Watched;
@@ -37,34 +41,40 @@ struct Inputs<'a> {
 
 /// Runs the program with these words, the first of which is its name, and answers its status. Files
 /// are opened by `files`, and where none is named `input` is read. What is wrong has a line on
-/// `errors`.
+/// `errors`, and where these go to one of the `terminals`, a line there says how far a long input is
+/// read.
 ///
 /// A closed pipe of the output ends the program, and is no error.
 pub fn run_bser<F: Files, R: Read, W: Write + Drop, E: Write>(
     alloc: Global,
     files: &F,
     words: &[String],
+    terminals: Terminals,
     input: &mut R,
     output: W,
     errors: &mut E,
 ) -> u8 {
-    let mut out = match BufWriter::new(alloc, output) {
+    let screen = Screen::new(terminals);
+    let mut reports = Reports::new(&screen, errors);
+    let mut out = match BufWriter::new(alloc, Beside::new(&screen, output)) {
         Ok(out) => out,
-        Err(fault) => return failed(&fault, errors),
+        Err(fault) => return failed(&fault, &mut reports),
     };
-    let done = obey(alloc, files, words, input, &mut out, errors);
-    match (done, out.flush()) {
+    let done = obey(alloc, files, words, input, &mut out, &mut reports);
+    let flushed = out.flush();
+    reports.clear();
+    match (done, flushed) {
         (Ok(status), Ok(())) => status,
-        (Err(fault), _) | (_, Err(fault)) => failed(&fault, errors),
+        (Err(fault), _) | (_, Err(fault)) => failed(&fault, &mut reports),
     }
 }
 
 /// The status where the output failed, or there is no memory.
-fn failed<E: Write>(fault: &io::Error, errors: &mut E) -> u8 {
+fn failed<E: Write>(fault: &io::Error, reports: &mut Reports<'_, E>) -> u8 {
     if fault.kind() == ErrorKind::BrokenPipe {
         return DONE;
     }
-    let _written = writeln!(errors, "bser: the output failed: {fault}");
+    let _written = writeln!(reports, "bser: the output failed: {fault}");
     FAILED
 }
 
@@ -75,11 +85,11 @@ fn obey<F: Files, R: Read, W: Write, E: Write>(
     words: &[String],
     input: &mut R,
     out: &mut W,
-    errors: &mut E,
+    reports: &mut Reports<'_, E>,
 ) -> io::Result<u8> {
     let matches = match command(alloc)?.try_get_matches_from(words) {
         Ok(matches) => matches,
-        Err(error) => return put_usage(&error, out, errors),
+        Err(error) => return put_usage(&error, out, reports),
     };
     let Some((name, inner)) = matches.subcommand() else {
         return Ok(UNKNOWN_ARGUMENT);
@@ -91,7 +101,7 @@ fn obey<F: Files, R: Read, W: Write, E: Write>(
         names: inner.get_raw("FILE").unwrap_or(&[]),
         keeps_going: order.keeps_going,
     };
-    let done = do_task(alloc, files, order.task, inputs, input, out, errors)?;
+    let done = do_task(alloc, files, order.task, inputs, input, out, reports)?;
     Ok(if done { DONE } else { FAILED })
 }
 
@@ -103,25 +113,29 @@ fn do_task<F: Files, R: Read, W: Write, E: Write>(
     inputs: Inputs<'_>,
     input: &mut R,
     out: &mut W,
-    errors: &mut E,
+    reports: &mut Reports<'_, E>,
 ) -> io::Result<bool> {
     match task {
-        Task::Show(mut view) => show_all(alloc, files, inputs, &mut view, input, out, errors),
-        Task::Json(mut view) => show_all(alloc, files, inputs, &mut view, input, out, errors),
-        Task::Summary => show_all(alloc, files, inputs, &mut Summary, input, out, errors),
-        Task::Get(mut view) => show_all(alloc, files, inputs, &mut view, input, out, errors),
+        Task::Show(mut view) => show_all(alloc, files, inputs, &mut view, input, out, reports),
+        Task::Json(mut view) => show_all(alloc, files, inputs, &mut view, input, out, reports),
+        Task::Summary => show_all(alloc, files, inputs, &mut Summary, input, out, reports),
+        Task::Get(mut view) => show_all(alloc, files, inputs, &mut view, input, out, reports),
         Task::Canon { is_compact } => {
             let mut view = Canon { is_compact };
-            show_all(alloc, files, inputs, &mut view, input, out, errors)
+            show_all(alloc, files, inputs, &mut view, input, out, reports)
         }
-        Task::FromJson(writing) => write_all(alloc, files, inputs, writing, input, out, errors),
+        Task::FromJson(writing) => write_all(alloc, files, inputs, writing, input, out, reports),
     }
 }
 
 /// Prints the help that is asked for, or what is wrong with the words.
-fn put_usage<W: Write, E: Write>(error: &Error, out: &mut W, errors: &mut E) -> io::Result<u8> {
+fn put_usage<W: Write, E: Write>(
+    error: &Error,
+    out: &mut W,
+    reports: &mut Reports<'_, E>,
+) -> io::Result<u8> {
     if error.use_stderr() {
-        let _written = write!(errors, "{error}");
+        let _written = write!(reports, "{error}");
         return Ok(UNKNOWN_ARGUMENT);
     }
     write!(out, "{error}")?;
@@ -136,13 +150,13 @@ fn show_all<F: Files, R: Read, V: View, W: Write, E: Write>(
     view: &mut V,
     input: &mut R,
     out: &mut W,
-    errors: &mut E,
+    reports: &mut Reports<'_, E>,
 ) -> io::Result<bool> {
     let keeps_going = inputs.keeps_going;
     if inputs.names.is_empty() {
         let name = STANDARD_INPUT;
         let from = Input { name, keeps_going };
-        return show_messages(alloc, from, &mut Watched::new(input), view, out, errors);
+        return show_messages(alloc, from, &mut Watched::new(input), view, out, reports);
     }
     let mut whole = true;
     for name in inputs.names {
@@ -151,8 +165,8 @@ fn show_all<F: Files, R: Read, V: View, W: Write, E: Write>(
             keeps_going,
         };
         let shown = match fs::open(files, *name) {
-            Ok(file) => show_messages(alloc, from, &mut Watched::new(file), view, out, errors)?,
-            Err(fault) => not_read(*name, &fault, errors),
+            Ok(file) => show_messages(alloc, from, &mut Watched::new(file), view, out, reports)?,
+            Err(fault) => not_read(*name, &fault, reports),
         };
         whole = whole && shown;
     }
@@ -167,16 +181,16 @@ fn write_all<F: Files, R: Read, W: Write, E: Write>(
     writing: Writing,
     input: &mut R,
     out: &mut W,
-    errors: &mut E,
+    reports: &mut Reports<'_, E>,
 ) -> io::Result<bool> {
     if inputs.names.is_empty() {
-        return write_texts(alloc, writing, STANDARD_INPUT, input, out, errors);
+        return write_texts(alloc, writing, STANDARD_INPUT, input, out, reports);
     }
     let mut whole = true;
     for name in inputs.names {
         let written = match fs::open(files, *name) {
-            Ok(mut file) => write_texts(alloc, writing, *name, &mut file, out, errors)?,
-            Err(fault) => not_read(*name, &fault, errors),
+            Ok(mut file) => write_texts(alloc, writing, *name, &mut file, out, reports)?,
+            Err(fault) => not_read(*name, &fault, reports),
         };
         whole = whole && written;
     }
@@ -184,8 +198,8 @@ fn write_all<F: Files, R: Read, W: Write, E: Write>(
 }
 
 /// Reports that an input cannot be read. It is not shown whole.
-fn not_read<E: Write>(name: &str, fault: &io::Error, errors: &mut E) -> bool {
-    let _written = writeln!(errors, "bser: {name}: {fault}");
+fn not_read<E: Write>(name: &str, fault: &io::Error, reports: &mut Reports<'_, E>) -> bool {
+    let _written = writeln!(reports, "bser: {name}: {fault}");
     false
 }
 
@@ -196,18 +210,19 @@ fn write_texts<R: Read, W: Write, E: Write>(
     name: &str,
     input: &mut R,
     out: &mut W,
-    errors: &mut E,
+    reports: &mut Reports<'_, E>,
 ) -> io::Result<bool> {
     let mut bytes = Vec::new(alloc);
-    if let Err(fault) = input.read_to_end(&mut bytes) {
-        return Ok(not_read(name, &fault, errors));
+    if let Err(fault) = Counted::new(input, reports).read_to_end(&mut bytes) {
+        return Ok(not_read(name, &fault, reports));
     }
-    match write_messages(alloc, writing, &bytes, &mut Watched::new(&mut *out)) {
+    let mut sink = Watched::new(&mut *out);
+    match write_messages(alloc, writing, &bytes, &mut sink, reports) {
         Ok(()) => Ok(true),
         Err(TextError::Message(MessageError::Io(fault))) => Err(fault),
         Err(error) => {
             out.flush()?;
-            let _written = writeln!(errors, "bser: {name}: {error}");
+            let _written = writeln!(reports, "bser: {name}: {error}");
             Ok(false)
         }
     }

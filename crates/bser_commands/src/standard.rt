@@ -1,8 +1,9 @@
 //! The program over the standard streams.
 
 use crate::program::{FAILED, UNKNOWN_ARGUMENT, run_bser};
+use bser_progress::screen::Terminals;
 use std::env;
-use std::io::ErrorKind;
+use std::io::{ErrorKind, IsTerminal};
 use std::process::ExitCode;
 
 /// Runs the program with the arguments of the process, on its files and its standard streams.
@@ -21,13 +22,18 @@ pub fn run_process(rt: HostRuntime) -> ExitCode {
             return ExitCode::from(FAILED);
         }
     };
-    let (mut input, mut errors) = (rt.stdin(), rt.stderr());
+    let (mut input, output, mut errors) = (rt.stdin(), rt.stdout(), rt.stderr());
+    let terminals = Terminals {
+        output: output.is_terminal(),
+        errors: errors.is_terminal(),
+    };
     let status = run_bser(
         rt.alloc(),
         &rt,
         &words,
+        terminals,
         &mut input,
-        rt.stdout(),
+        output,
         &mut errors,
     );
     ExitCode::from(status)

@@ -3,9 +3,11 @@ ghost use Rattle.std.specs.Prelude.{IsTrue, ◌≡◌, ◌≢◌, ◌≤◌, ◌
 ghost use Rattle.bser_format.specs.Errors.{error_of};
 ghost use Rattle.bser_format.specs.Expected.{nothing_due};
 ghost use Rattle.bser_format.specs.Named as named;
+ghost use Rattle.bser_source.specs.Window.{Peeks};
 ghost use Rattle.bser_bunser.specs.Names.{Names};
+ghost use Rattle.bser_bunser.specs.Refusal.{ShortOf};
 ghost use Rattle.bser_deserializer.specs.Calls.{Keeps, HasFailed, RefusesBegin, complained};
-ghost use Rattle.bser_deserializer.specs.State.{Begins, IsAtEnd, IsUnread, refused};
+ghost use Rattle.bser_deserializer.specs.State.{Begins, IsAtEnd, IsUnread, refused, with_source};
 ghost use Rattle.bser_deserializer.specs.declared.deserializer.TheConstants.{LEVELS, MOST_LEVELS};
 
 pub use crate::due::Due;
@@ -113,6 +115,20 @@ impl<R: DeRead> Deserializer<R> {
             outer: Vec::new(alloc),
             note: Note::NONE,
         }
+    }
+
+    /// Buffers the source's next byte, and takes none, whatever is expected.
+    ///
+    /// Fails as [`Bunser::peek`] does.
+    pub fn peek(&mut self) -> Result<u8>
+        ensures ok { IfOk result (Peeks self.old.state.source self.new.state.source) }
+        ensures state { OnOk result
+            (self.new.state ≡ with_source self.old.state self.new.state.source) }
+        ensures err { IfErr result (λ e.
+            ShortOf 1 e self.old.state.source self.new.state.source) }
+        ensures memory { IfErr result (λ e. e ≢ Error.OutOfMemory) }
+    {
+        self.bunser.peek()
     }
 
     /// Takes the header of a message, whose value is expected then, with `limit` levels.

@@ -1,5 +1,6 @@
 //! What is made of the events of a value.
-ghost use Rattle.std.specs.Prelude.{◌≡◌, true, false, [], ◌∷◌, ◌++◌, length, OnOk, IfOk};
+ghost use Rattle.std.specs.Prelude.{◌≡◌, true, false, [], ◌∷◌, ◌++◌, length, string_bytes, OnOk, IfOk};
+ghost use Rattle.bser_events.specs.Events as events;
 ghost use Rattle.bser_events.specs.Told.{told};
 ghost use Rattle.bser_document.specs.DocumentView.{Views, ViewsValue, Takes, SameEvents, Closes, end_of, with_end};
 ghost use Rattle.bser_document.specs.declared.document.Node.TheVariants as nodes;
@@ -66,6 +67,26 @@ impl DocumentBuilder {
     {
         let at = self.strings.len();
         self.strings.extend_from_slice(string)?;
+        Ok(at)
+    }
+
+    /// Keeps a string, and answers its place. What is kept up to now is put in front of it where
+    /// that is less, so that no more than the shorter of the two is held twice.
+    fn keep_whole(&mut self, string: Vec<u8>) -> Result<usize, AllocError>
+        ensures place { IfOk result (λ at. at ≡ length self.old.strings.items) }
+        ensures strings { OnOk result
+            (self.new.strings.items ≡ self.old.strings.items ++ string.items) }
+        ensures nodes { OnOk result (self.new.nodes ≡ self.old.nodes) }
+        ensures begun { OnOk result (self.new.begun ≡ self.old.begun) }
+    {
+        let at = self.strings.len();
+        if string.len() <= at {
+            return self.keep(string.as_slice());
+        }
+        let mut strings = string;
+        strings.extend_from_slice(self.strings.as_slice())?;
+        strings.rotate_right(at);
+        self.strings = strings;
         Ok(at)
     }
 
@@ -155,6 +176,26 @@ impl DocumentBuilder {
     }
 }
 
+impl DocumentBuilder {
+    /// Takes a text.
+    fn put_text(&mut self, text: String) -> Result<(), AllocError>
+        ensures { OnOk result (Takes self.old (events.text (string_bytes text)) self.new) }
+    {
+        let len = text.len();
+        let at = self.keep_whole(text.into_bytes())?;
+        self.put(Node::Text { len, at })
+    }
+
+    /// Takes a byte string.
+    fn put_bytes(&mut self, string: Vec<u8>) -> Result<(), AllocError>
+        ensures { OnOk result (Takes self.old (events.bytes string.items) self.new) }
+    {
+        let len = string.len();
+        let at = self.keep_whole(string)?;
+        self.put(Node::Bytes { len, at })
+    }
+}
+
 impl Builder for DocumentBuilder {
     ghost takes = { λ a e _ b. Takes a e b };
 
@@ -172,6 +213,20 @@ impl Builder for DocumentBuilder {
     #[inline(always)]
     fn take(&mut self, event: Event<'_>, _place: Place) -> Result<(), Stop> {
         match self.put_event(event) {
+            Ok(()) => Ok(()),
+            Err(_) => Err(Stop::Memory),
+        }
+    }
+
+    fn take_text(&mut self, text: String, _place: Place) -> Result<(), Stop> {
+        match self.put_text(text) {
+            Ok(()) => Ok(()),
+            Err(_) => Err(Stop::Memory),
+        }
+    }
+
+    fn take_bytes(&mut self, string: Vec<u8>, _place: Place) -> Result<(), Stop> {
+        match self.put_bytes(string) {
             Ok(()) => Ok(()),
             Err(_) => Err(Stop::Memory),
         }

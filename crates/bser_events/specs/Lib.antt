@@ -6,3 +6,4 @@ pub mod Found
 pub mod Pieces
 pub mod Refusal
 pub mod Around
+pub mod Watched

@@ -1,5 +1,5 @@
 //! What makes something of a value, each event of which is reported to it.
-ghost use Rattle.std.specs.Prelude.{◌≡◌, ◌≤◌, ℕ, Bool, true, false, List, length, OnOk, OnErr, IfErr};
+ghost use Rattle.std.specs.Prelude.{◌≡◌, ◌≤◌, ℕ, Bool, true, false, List, length, string_bytes, OnOk, OnErr, IfErr};
 ghost use Rattle.bser_format.specs.declared.errors.Error.TheVariants.{OutOfMemory};
 ghost use Rattle.bser_bunser.specs.Calls.{Closes};
 ghost use Rattle.bser_events.specs.Events as events;
@@ -50,6 +50,29 @@ pub trait Builder {
         ensures ok { OnOk result (Self.takes self.old (told event.entry) place self.new) }
         ensures err { OnErr result (Self.stops ≡ true) }
         ensures asked { IfErr result (λ stop. stop ≡ Asked → Self.asks ≡ true) };
+
+    /// Takes a text, which is the builder's now, as [`Self::take`] does: one that was copied from
+    /// a reader, since it is longer than what is buffered of one.
+    fn take_text(&mut self, text: String, place: Place) -> Result<(), Stop>
+        requires forwards { place.start ≤ place.end }
+        ensures ok { OnOk result
+            (Self.takes self.old (events.text (string_bytes text)) place self.new) }
+        ensures err { OnErr result (Self.stops ≡ true) }
+        ensures asked { IfErr result (λ stop. stop ≡ Asked → Self.asks ≡ true) }
+    {
+        self.take(Event::Text(text.as_str()), place)
+    }
+
+    /// Takes a byte string as [`Self::take_text`] takes a text.
+    fn take_bytes(&mut self, string: Vec<u8>, place: Place) -> Result<(), Stop>
+        requires forwards { place.start ≤ place.end }
+        ensures ok { OnOk result
+            (Self.takes self.old (events.bytes string.items) place self.new) }
+        ensures err { OnErr result (Self.stops ≡ true) }
+        ensures asked { IfErr result (λ stop. stop ≡ Asked → Self.asks ≡ true) }
+    {
+        self.take(Event::Bytes(string.as_slice()), place)
+    }
 
     /// Takes a byte string of `len` bytes, which were passed over: the bytes of byte strings are
     /// not wanted. It stands at this place, with its head. The errors are those of [`Self::take`].
@@ -172,6 +195,16 @@ impl<B: Builder> Builder for &mut B {
     #[inline(always)]
     fn take(&mut self, event: Event<'_>, place: Place) -> Result<(), Stop> {
         (**self).take(event, place)
+    }
+
+    #[inline(always)]
+    fn take_text(&mut self, text: String, place: Place) -> Result<(), Stop> {
+        (**self).take_text(text, place)
+    }
+
+    #[inline(always)]
+    fn take_bytes(&mut self, string: Vec<u8>, place: Place) -> Result<(), Stop> {
+        (**self).take_bytes(string, place)
     }
 
     #[inline(always)]

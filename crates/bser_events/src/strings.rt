@@ -7,13 +7,14 @@ ghost use Rattle.bser_events.specs.Places.{reading_at};
 
 use crate::builder::{Builder, place_from, taken, tell};
 use crate::event::Event;
+use crate::gathered::{gather_bytes, gather_text};
 use crate::refusal::{Fault, refuse_with};
 use bser_bunser::bunser::Bunser;
 use bser_bunser::prefix::is_key_tag;
 use bser_bunser::refusal::Answer;
 use bser_format::errors::Kind;
 use bser_format::header::BSER_UTF8STRING;
-use bser_source::read::DeRead;
+use bser_source::read::{DeRead, WINDOW, count_octets};
 use bser_source::text::as_text;
 
 /// Reads the bytes of a text that began at `start`, and tells it.
@@ -32,6 +33,9 @@ pub fn read_text<R: DeRead, B: Builder>(
     ensures kept { OnOk result (Keeps bunser.old bunser.new) }
     ensures err { OnErr result (RefusesTelling B.stops (text_bytes len) bunser.old bunser.new) }
 {
+    if len > count_octets(bunser.buffered()) && len > WINDOW {
+        return gather_text(bunser, *scratch.allocator(), len, start, builder);
+    }
     let bytes = bunser.bytes(len, scratch)?;
     match as_text(bytes.get_ref()) {
         Some(text) => tell(bunser, builder, Event::Text(text), start, true),
@@ -57,6 +61,9 @@ pub fn read_bytes<R: DeRead, B: Builder>(
     ensures err { OnErr result (RefusesTelling B.stops (front len) bunser.old bunser.new) }
 {
     if builder.wants_bytes() {
+        if len > count_octets(bunser.buffered()) && len > WINDOW {
+            return gather_bytes(bunser, *scratch.allocator(), len, start, builder);
+        }
         let bytes = bunser.bytes(len, scratch)?;
         return tell(bunser, builder, Event::Bytes(bytes.get_ref()), start, false);
     }

@@ -1,3 +1,4 @@
 pub mod Scalars
 pub mod Spilling
+pub mod Indenting
 pub mod Saying

@@ -1,7 +1,6 @@
 -- Tokens that are put one after the other.
 use Rattle.std.proofs.Common.{◌≡◌, ℕ, List, [], ◌∷◌, ◌++◌, Option, Some, None, Result, Ok, Err, OnOk, refl, sym, ap, subst, ◌∙◌, append_assoc, append-nil, Bor}
 use Rattle.json.specs.Token as tokens
-use Rattle.std.specs.Io.KnownBytes.{Appends}
 use Rattle.bser_format.specs.Normal.{last_entries}
 use Rattle.bser_format.specs.Tree.{Tree, null, boolean, integer, real, bytes, text, array, object, template, no_items, item, no_entries, entry, entries, entries_of}
 use Rattle.bser_format.specs.Tree as trees
@@ -13,10 +12,12 @@ use Rattle.bser_document.specs.Holds.{HoldsItem}
 use Rattle.bser_document.specs.Pairs.{HoldsEntries, FindsEntries}
 use Rattle.bser_document.specs.Sorted.{Lists}
 use Rattle.bser_document.specs.Walks.{HoldsItems, FindsItems, GivesItem}
+use Rattle.bser_jsons.specs.Indented.{PrintsLines}
 use Rattle.bser_jsons.specs.Pending.{PrintsLine}
 use Rattle.bser_jsons.specs.Printed.{Prints, PrintsText, Puts}
 use Rattle.bser_jsons.specs.Said.{Says, SaysItems, SaysEntries, SaysKey, PutsSaid, said_key}
 use Rattle.bser_jsons.specs.declared.printing.Layout.TheVariants as layouts
+use Rattle.bser_jsons.specs.declared.indented.Indented.{Indented}
 use Rattle.bser_jsons.specs.declared.pending.Pending.{Pending}
 use Rattle.bser_jsons.specs.declared.printing.Printing.{Printing}
 use Rattle.bser_jsons.specs.declared.printing.Text.TheVariants as texts
@@ -32,12 +33,14 @@ pub put_line : {W E : Type 0} (contents : W → Option (List ℕ)) (r : Result (
 put_line contents (Ok v) x y p q t old new put = line_puts contents x y p q t old new put
 put_line contents (Err e) x y p q t old new put = tt
 
-pub put_pretty : {W : Type 0} (contents : W → Option (List ℕ)) (x y : Printing W) (w v : List tokens.Token) (t : tokens.Token) → x.text ≡ texts.Pretty w → y.text ≡ texts.Pretty v → y.out ≡ x.out → v ≡ w ++ t ∷ [] → Puts contents (t ∷ []) x y
-put_pretty contents x y w v t old new out more start layouts.Line ts h = absurd (subst (PrintsText start (contents x.out) layouts.Line ts) old h)
-put_pretty contents x y w v t old new out more start layouts.Pretty ts h =
-    let k : Appends start (contents x.out) [] × (w ≡ ts) = subst (PrintsText start (contents x.out) layouts.Pretty ts) old h in
-    subst (PrintsText start (contents y.out) layouts.Pretty (ts ++ t ∷ [])) (sym new)
-    (subst (λ o. Appends start (contents o) []) (sym out) k.0, more ∙ ap (λ l. l ++ t ∷ []) k.1)
+lines_puts : {W : Type 0} (contents : W → Option (List ℕ)) (x y : Printing W) (p q : Indented) (t : tokens.Token) → x.text ≡ texts.Pretty p → y.text ≡ texts.Pretty q → ((start : Option (List ℕ)) (ts : List tokens.Token) → PrintsLines start (contents x.out) ts p → PrintsLines start (contents y.out) (ts ++ t ∷ []) q) → Puts contents (t ∷ []) x y
+lines_puts contents x y p q t old new put start layouts.Line ts h = absurd (subst (PrintsText start (contents x.out) layouts.Line ts) old h)
+lines_puts contents x y p q t old new put start layouts.Pretty ts h =
+    subst (PrintsText start (contents y.out) layouts.Pretty (ts ++ t ∷ [])) (sym new) (put start ts (subst (PrintsText start (contents x.out) layouts.Pretty ts) old h))
+
+pub put_lines : {W E : Type 0} (contents : W → Option (List ℕ)) (r : Result (Unit {0}) E) (x y : Printing W) (p q : Indented) (t : tokens.Token) → x.text ≡ texts.Pretty p → y.text ≡ texts.Pretty q → ((start : Option (List ℕ)) (ts : List tokens.Token) → PrintsLines start (contents x.out) ts p → OnOk r (PrintsLines start (contents y.out) (ts ++ t ∷ []) q)) → OnOk r (Puts contents (t ∷ []) x y)
+put_lines contents (Ok v) x y p q t old new put = lines_puts contents x y p q t old new put
+put_lines contents (Err e) x y p q t old new put = tt
 
 pub puts_then : {W : Type 0} (contents : W → Option (List ℕ)) (a b : List tokens.Token) (x y z : Printing W) → Puts contents a x y → Puts contents b y z → Puts contents (a ++ b) x z
 puts_then contents a b x y z p q start layout ts h = subst (λ l. Prints contents start layout l z) (append_assoc ts a b) (q start layout (ts ++ a) (p start layout ts h))

@@ -1,3 +1,4 @@
+pub mod Indented
 pub mod Pending
 pub mod Printed
 pub mod Said

@@ -1,9 +1,9 @@
 -- JSON texts that are put token by token.
-use Rattle.std.specs.Prelude.{◌≡◌, ℕ, List, [], ◌++◌, Option}
-use Rattle.std.specs.Io.KnownBytes.{Appends}
+use Rattle.std.specs.Prelude.{ℕ, List, ◌++◌, Option}
 use Rattle.json.specs.Layout.{pretty}
 use Rattle.json.specs.Print.{print}
 use Rattle.json.specs.Token as tokens
+use Rattle.bser_jsons.specs.Indented.{PrintsLines}
 use Rattle.bser_jsons.specs.Pending.{PrintsLine}
 use Rattle.bser_jsons.specs.declared.printing.Layout.{Layout}
 use Rattle.bser_jsons.specs.declared.printing.Layout.TheVariants as layouts
@@ -19,7 +19,7 @@ laid_out layouts.Pretty ts = pretty ts
 -- the text of these tokens is appended, but for what is kept of it
 abbrev pub PrintsText : Option (List ℕ) → Option (List ℕ) → Layout → List tokens.Token → Text → Type 0
 PrintsText start now layouts.Line ts (texts.Line p) = PrintsLine start now ts p
-PrintsText start now layouts.Pretty ts (texts.Pretty w) = Appends start now [] × (w ≡ ts)
+PrintsText start now layouts.Pretty ts (texts.Pretty p) = PrintsLines start now ts p
 PrintsText start now _ ts _ = ⊥
 
 -- these tokens were put in this layout, and nothing else, since the writer held these bytes

@@ -2,6 +2,7 @@
 #![tactic(auto)]
 
 pub mod fault;
+mod indented;
 pub mod lines;
 mod pending;
 pub mod pointer;

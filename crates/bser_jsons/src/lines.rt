@@ -10,8 +10,7 @@ use bser_source::device::Source;
 use std::alloc::Global;
 use std::io::Write;
 
-/// Shows a message as a JSON text, and a line's end. The message is kept, and a text on several lines
-/// too.
+/// Shows a message as a JSON text, and a line's end. The message is kept, and its text is not.
 #[derive(Debug, Clone, Copy, PartialEq, Eq)]
 pub struct Json {
     /// How the text is laid out.

@@ -7,9 +7,10 @@ ghost use Rattle.json.specs.Token as tokens;
 ghost use Rattle.bser_jsons.specs.Printed.{Prints, Puts, laid_out};
 ghost use Rattle.bser_jsons.specs.declared.printing.Layout as layouts;
 
+use crate::indented::Indented;
 use crate::pending::Pending;
 use bser_showing::trouble::Trouble;
-use json::{Pretty, Token};
+use json::Token;
 use std::alloc::{AllocError, Global};
 use std::io::Write;
 
@@ -34,8 +35,8 @@ pub struct Printing<W> {
 enum Text {
     /// The end of a text on one line.
     Line(Pending),
-    /// All of a text on several lines.
-    Pretty(Pretty),
+    /// The end of a text on several lines.
+    Pretty(Indented),
 }
 
 impl<W: Write + Drop> Printing<W> {
@@ -45,7 +46,7 @@ impl<W: Write + Drop> Printing<W> {
     {
         let text = match layout {
             Layout::Line => Text::Line(Pending::new(alloc)?),
-            Layout::Pretty => Text::Pretty(Pretty::new(alloc)),
+            Layout::Pretty => Text::Pretty(Indented::new(alloc)),
         };
         Ok(Printing { out, text })
     }
@@ -59,21 +60,21 @@ impl<W: Write + Drop> Printing<W> {
         let Printing { mut out, text } = self;
         match text {
             Text::Line(mut pending) => pending.write_to(&mut out)?,
-            Text::Pretty(writer) => out.write_all(&writer.into_inner())?,
+            Text::Pretty(mut indented) => indented.write_to(&mut out)?,
         }
         Ok(out)
     }
 }
 
 impl<W: Write> Printing<W> {
-    /// Puts a token. On one line a text is written where enough of it is put.
+    /// Puts a token. What is put is written where it is enough.
     pub fn token(&mut self, token: Token<'_>) -> Result<(), Trouble>
         requires { IsPrintable (token_of token) }
         ensures { OnOk result (Puts W.contents (token_of token.entry ∷ []) self.old self.new) }
     {
         match &mut self.text {
             Text::Line(pending) => pending.put(token, &mut self.out),
-            Text::Pretty(writer) => Ok(writer.token(token)?),
+            Text::Pretty(indented) => indented.put(token, &mut self.out),
         }
     }
 }

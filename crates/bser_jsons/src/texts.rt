@@ -4,12 +4,14 @@ use crate::fault::{Fault, JsonError, Place, place_of};
 use crate::reading::{Strings, value_of};
 use crate::split::{value_end, value_start};
 use bser_format::errors::Error;
+use bser_progress::reports::Reports;
 use bser_ser::message::serialize_to;
 use bser_source::device::Sink;
 use bser_value::compact::serialize_compact;
 use bser_value::value::Value;
 use std::alloc::Global;
 use std::fmt;
+use std::io::Write;
 
 /// How messages are written.
 #[derive(Debug, Clone, Copy, PartialEq, Eq)]
@@ -39,12 +41,13 @@ impl fmt::Display for TextError {
 }
 
 /// Writes a message for each JSON text in `bytes`; blanks may stand between them. Those before an
-/// error are written.
-pub fn write_messages<W: Sink>(
+/// error are written. The `reports` count them.
+pub fn write_messages<W: Sink, E: Write>(
     alloc: Global,
     writing: Writing,
     bytes: &[u8],
     out: &mut W,
+    reports: &mut Reports<'_, E>,
 ) -> Result<(), TextError> {
     let text = text_of(bytes)?;
     let mut rest = bytes;
@@ -59,6 +62,8 @@ pub fn write_messages<W: Sink>(
             Ok(value) => write_message(alloc, writing, &value, out)?,
             Err(error) => return Err(TextError::Json(error)),
         }
+        reports.count_message();
+        reports.work(part.len());
         rest = behind;
     }
     Ok(())

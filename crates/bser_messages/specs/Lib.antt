@@ -9,5 +9,4 @@ pub mod Paths
 pub mod Sizes
 pub mod MessageSizes
 pub mod Tallies
-pub mod Watched
 pub mod Told

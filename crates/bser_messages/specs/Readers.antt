@@ -3,6 +3,7 @@ use Rattle.std.specs.Prelude.{◌≡◌, ℕ, Bool, true, false, Option}
 use Rattle.bser_format.specs.declared.errors.Error.{Error}
 use Rattle.bser_format.specs.declared.errors.Error.TheVariants.{DeReaderError}
 use Rattle.bser_format.specs.declared.errors.ReadCause.TheVariants.{Failed}
+use Rattle.bser_source.specs.Reader.{io_reader}
 use Rattle.bser_source.specs.declared.device.Source as source
 use Rattle.bser_types.specs.declared.deserialize.Shape as shape
 use Rattle.bser_messages.specs.declared.limits.Limits.{Limits}
@@ -15,7 +16,7 @@ reader_limits s = s.limits
 
 -- the reader itself
 abbrev pub reader_of : {S : Type 0} → ReaderMessages S → S
-reader_of s = s.reader
+reader_of s = io_reader s.read
 
 -- how many messages were taken
 abbrev pub reader_taken : {S : Type 0} → ReaderMessages S → ℕ

@@ -1,10 +1,12 @@
 -- Messages that follow each other.
-use Rattle.std.specs.Prelude.{◌≡◌, ℕ, ◌+◌, ◌-◌, ◌^◌, drop, min, List, [], Option, Some, None}
+use Rattle.std.specs.Prelude.{◌≡◌, ℕ, ◌+◌, ◌-◌, ◌^◌, drop, min, false, List, [], Option, Some, None}
 use Rattle.std.specs.Io.KnownBytes.{IsAtEnd}
 use Rattle.bser_format.specs.Content.{Content, Meaning}
 use Rattle.bser_format.specs.declared.errors.Error.{Error}
+use Rattle.bser_source.specs.Window.{Window}
 use Rattle.bser_source.specs.declared.device.Source as source
 use Rattle.bser_deserializer.specs.Reading.{Asking}
+use Rattle.bser_deserializer.specs.Seen.{Seen}
 use Rattle.bser_types.specs.declared.deserialize.Shape as shape
 use Rattle.bser_messages.specs.Messages.{IsReaderFault}
 use Rattle.bser_messages.specs.Limited.{TookWithin, RefusesReaderWithin}
@@ -26,6 +28,10 @@ abbrev pub RefusesNextOf : {S : Type 0} → ℕ → ℕ → (reads : Meaning) �
 RefusesNextOf n m reads asks remaining failures old new e =
     RefusesNext n m reads asks e (remaining old) (remaining new) (failures old) (failures new)
 
+-- nothing was taken of a source that copies, and nothing is buffered or announced
+abbrev pub IsFresh : Window → Type 0
+IsFresh s = s ≡ record s { buffered = []; count = 0; limit = 0; lends = false; failed = false }
+
 -- ---- what the calls answer, by a type's meaning
 
 -- within these limits
@@ -44,6 +50,18 @@ module _ {A : Type 0} (limits : Limits) (type : shape.Ghosts A) where
   abbrev pub NextRefused : {S : Type 0} → source.Ghosts S → S → S → Error → Type 0
   NextRefused told old new e =
       RefusesNextOf limits.levels limits.bytes type.reads type.asks told.remaining told.failures old new e
+
+  -- the next message of a deserializer's source was taken, or nothing was left
+  abbrev pub SourceRead : Seen → Seen → Option A → Type 0
+  SourceRead old new answer =
+      IsNext limits.levels limits.bytes type.reads type.holds old.state.source.beyond new.state.source.beyond answer
+
+  -- the next message of a deserializer's source is refused as one of the type
+  abbrev pub SourceRefused : Seen → Seen → Error → Type 0
+  SourceRefused old new e =
+      let a = old.state.source in
+      let t = new.state.source in
+      RefusesNext limits.levels limits.bytes type.reads type.asks e a.beyond t.beyond a.failures t.failures
 
 -- ---- counts
 

@@ -22,4 +22,3 @@ pub mod slice_messages;
 pub mod telling;
 pub mod told;
 mod told_message;
-mod watched;

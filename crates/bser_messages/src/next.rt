@@ -1,17 +1,21 @@
 //! The next message of a reader, or the end of its stream.
-ghost use Rattle.std.specs.Prelude.{◌≤◌, IfOk, IfErr, OnOk};
+ghost use Rattle.std.specs.Prelude.{◌≡◌, ◌≤◌, IfOk, IfErr, OnOk};
 ghost use Rattle.bser_deserializer.specs.declared.deserializer.TheConstants.{MOST_LEVELS};
+ghost use Rattle.bser_source.specs.Reader.{io_reader};
+ghost use Rattle.bser_deserializer.specs.State.{IsUnread};
 ghost use Rattle.bser_messages.specs.Limited.{LimitedReaderRead, LimitedReaderRefused, usual_limits};
 ghost use Rattle.bser_messages.specs.Messages.{HeadFirst, Same, SparesMemory};
-ghost use Rattle.bser_messages.specs.Streams.{NextRead, NextRefused};
+ghost use Rattle.bser_messages.specs.Streams.{IsFresh, NextRead, NextRefused, SourceRead, SourceRefused};
 
 use crate::limited::read_limited;
 use crate::limits::Limits;
+use bser_bunser::by_reference::ByReference;
 use bser_deserializer::deserializer::Deserializer;
 use bser_format::errors::{Error, ReadCause, Result};
 use bser_source::device::Source;
 use bser_source::io_read::IoRead;
 use bser_source::read::DeRead;
+use bser_source::reference::NoLoan;
 use bser_types::deserialize::DeserializeOwned;
 use std::alloc::Global;
 
@@ -53,24 +57,61 @@ pub fn next_message_limited<S: Source, T: DeserializeOwned>(
     ensures memory { SparesMemory T.needs result }
     ensures head { HeadFirst (S.remaining reader.old) result }
 {
-    let mut read = IoRead::new(reader);
-    match read.peek() {
-        Ok(_first) => {
-            let mut from = Deserializer::unread(alloc, read);
-            let answer = read_limited(alloc, limits, &mut from);
-            let _reader = from.into_inner().into_inner();
-            match answer {
-                Ok(value) => Ok(Some(value)),
-                Err(error) => Err(error),
-            }
-        }
-        Err(cause) => {
-            let _reader = read.into_inner();
-            match cause {
-                ReadCause::Eof => Ok(None),
-                other => Err(Error::de_reader_error(other)),
-            }
-        }
+    let mut from = Deserializer::unread(alloc, IoRead::new(reader));
+    let answer = read_next(alloc, limits, &mut from);
+    let _reader = from.into_inner().into_inner();
+    answer
+}
+
+/// Reads a value from the next message of the reader below this source, within these limits, or
+/// answers `None` where no byte is left. What the source has buffered is lost.
+pub(crate) fn restarted_message<S: Source, T: DeserializeOwned>(
+    alloc: Global,
+    limits: Limits,
+    read: &mut IoRead<S>,
+) -> Result<Option<T>>
+    ensures found { IfOk result (NextRead limits T.Shape S.Source
+        (io_reader read.old) (io_reader read.new)) }
+    ensures refused { IfErr result (NextRefused limits T.Shape S.Source
+        (io_reader read.old) (io_reader read.new)) }
+    ensures kept { OnOk result (Same S.failures (io_reader read.old) (io_reader read.new)) }
+    ensures memory { SparesMemory T.needs result }
+    ensures head { HeadFirst (S.remaining (io_reader read.old)) result }
+{
+    read.restart();
+    let mut from = Deserializer::unread(alloc, ByReference::new(read));
+    let answer = read_next(alloc, limits, &mut from);
+    let _read = from.into_inner().into_inner();
+    answer
+}
+
+/// Reads a value from the next message of a reader, within these limits, by a deserializer that has
+/// read nothing, or answers `None` where no byte is left.
+pub(crate) fn read_next<R: DeRead<Lent = NoLoan>, T: DeserializeOwned>(
+    alloc: Global,
+    limits: Limits,
+    from: &mut Deserializer<R>,
+) -> Result<Option<T>>
+    requires unread { IsUnread from.old.state }
+    requires fresh { IsFresh from.old.state.source }
+    ensures found { IfOk result (SourceRead limits T.Shape from.old from.new) }
+    ensures refused { IfErr result (SourceRefused limits T.Shape from.old from.new) }
+    ensures kept { OnOk result (from.new.state.source.failures ≡ from.old.state.source.failures) }
+    ensures through { from.new.state.source.through ≡ from.old.state.source.through }
+    ensures memory { SparesMemory T.needs result }
+    ensures head { HeadFirst from.old.state.source.beyond result }
+{
+    match from.peek() {
+        Ok(_first) => match read_limited(alloc, limits, from) {
+            Ok(value) => Ok(Some(value)),
+            Err(error) => Err(error),
+        },
+        Err(
+            Error::DeReaderError {
+                source: ReadCause::Eof,
+            },
+        ) => Ok(None),
+        Err(error) => Err(error),
     }
 }
 

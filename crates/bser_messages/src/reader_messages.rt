@@ -5,13 +5,14 @@ ghost use Rattle.bser_messages.specs.Limited.{any_length};
 ghost use Rattle.bser_messages.specs.Messages.{HeadFirst, Same, SparesMemory};
 
 use crate::limits::Limits;
-use crate::next::next_message_limited;
+use crate::next::restarted_message;
 use bser_format::errors::{Error, ReadCause, Result};
 use bser_source::device::Source;
+use bser_source::io_read::IoRead;
 use bser_types::deserialize::DeserializeOwned;
 use std::alloc::Global;
 
-/// Reads the messages of a reader one after the other.
+/// Reads the messages of a reader one after the other, through one window that is made once.
 ///
 /// After an error nothing is known of where the reader is in a message, so each later call answers
 /// [`ReadCause::Failed`].
@@ -19,7 +20,7 @@ use std::alloc::Global;
 pub struct ReaderMessages<S> {
     alloc: Global,
     limits: Limits,
-    reader: S,
+    read: IoRead<S>,
     taken: u64,
     failed: bool,
     ghost levels: { limits.levels ≤ MOST_LEVELS },
@@ -50,7 +51,7 @@ impl<S: Source> ReaderMessages<S> {
         ReaderMessages {
             alloc,
             limits,
-            reader,
+            read: IoRead::new(reader),
             taken: 0,
             failed: false,
         }
@@ -58,9 +59,9 @@ impl<S: Source> ReaderMessages<S> {
 
     /// Reads a value from the next message, or answers `None` where no byte is left.
     ///
-    /// Fails as [`next_message_limited`] does, and after an error with [`ReadCause::Failed`],
-    /// without a call of the reader. After `None` it may be called again, where the reader may give
-    /// more.
+    /// Fails as [`next_message_limited`](crate::next::next_message_limited) does, and after an
+    /// error with [`ReadCause::Failed`], without a call of the reader. After `None` it may be
+    /// called again, where the reader may give more.
     pub fn next_message<T: DeserializeOwned>(&mut self) -> Result<Option<T>>
         ensures found { IfOk result (Gives T.Shape S.Source self.old self.new) }
         ensures kept { OnOk result
@@ -79,7 +80,7 @@ impl<S: Source> ReaderMessages<S> {
         if self.failed {
             return Err(Error::de_reader_error(ReadCause::Failed));
         }
-        match next_message_limited(self.alloc, self.limits, &mut self.reader) {
+        match restarted_message(self.alloc, self.limits, &mut self.read) {
             Ok(Some(value)) => {
                 self.taken = self.taken.saturating_add(1);
                 Ok(Some(value))
@@ -110,14 +111,14 @@ impl<S: Source> ReaderMessages<S> {
     pub fn get_ref(&self) -> &S
         ensures { result.now ≡ reader_of self.now }
     {
-        &self.reader
+        self.read.get_ref()
     }
 
     /// Gives the reader back. Where no call failed it is at the start of the next message.
     pub fn into_inner(self) -> S
         ensures { result ≡ reader_of self }
     {
-        let ReaderMessages { reader, .. } = self;
-        reader
+        let ReaderMessages { read, .. } = self;
+        read.into_inner()
     }
 }

@@ -4,6 +4,7 @@
 
 mod buffered;
 pub mod engine;
+mod footprint;
 pub mod process;
 pub mod program;
 mod room;

@@ -1,9 +1,10 @@
 //! A message in a slice, and its canonical or its compact message in a vector.
-ghost use Rattle.std.specs.Prelude.{IfOk, IfErr, length};
+ghost use Rattle.std.specs.Prelude.{IfOk, IfErr, length, ℕ};
 ghost use Rattle.bser_format.specs.Compact.{fold_templates};
 ghost use Rattle.bser_rewriting.specs.Canon.{canonical};
 ghost use Rattle.bser_rewriting.specs.Slices.{LiesInSlice, RewroteSlice, RefusesSliceRewriting};
 
+use crate::footprint::is_affordable;
 use bser_document::document::Document;
 use bser_format::errors::Error;
 use bser_messages::described;
@@ -59,13 +60,20 @@ pub fn canonical_of(alloc: Global, bytes: &[u8], most: usize) -> Result<Vec<u8>,
 }
 
 /// As [`canonical_of`], but the compact message of the value, which is no longer than the message
-/// that is read. It makes a `Value`, which may take far more memory than the message has bytes.
-#[tactic(auto, using(crate::proofs::Slices::rewrote_value, crate::proofs::Slices::was_value))]
+/// that is read.
+///
+/// It makes a `Value`, and first looks how much memory that may take. Where this is more than 128
+/// bytes for each byte of the message, and more than 512,000, the error is `Error::OutOfMemory`, as of
+/// a template of many skipped fields.
+#[tactic(auto, using(crate::proofs::Slices::rewrote_value, crate::proofs::Slices::was_value, crate::proofs::Slices::was_document))]
 pub fn compact_of(alloc: Global, bytes: &[u8], most: usize) -> Result<Vec<u8>, Unwritten>
     ensures ok { IfOk result (λ message. RewroteSlice fold_templates bytes.now message.items) }
     ensures refused { IfErr result (RefusesSliceRewriting bytes.now) }
     ensures place { IfErr result (LiesInSlice (length bytes.now) most) }
 {
+    if !is_affordable(alloc, bytes) {
+        return Err(unaffordable(alloc, bytes));
+    }
     let read: Value = match described::from_slice(alloc, bytes) {
         Ok(read) => read,
         Err(description) => return Err(Unwritten::Refused(description)),
@@ -81,4 +89,17 @@ pub fn compact_of(alloc: Global, bytes: &[u8], most: usize) -> Result<Vec<u8>, U
         });
     }
     Ok(message)
+}
+
+/// Why a message has no compact one of which no `Value` is made: it cannot be read, or there is no
+/// memory for that.
+#[tactic(auto, using(crate::proofs::Slices::was_document))]
+fn unaffordable(alloc: Global, bytes: &[u8]) -> Unwritten
+    ensures refused { RefusesSliceRewriting bytes.now result }
+    ensures place { (most : ℕ) → LiesInSlice (length bytes.now) most result }
+{
+    match described::from_slice::<Document>(alloc, bytes) {
+        Ok(_read) => Unwritten::Failed(Error::OutOfMemory),
+        Err(description) => Unwritten::Refused(description),
+    }
 }

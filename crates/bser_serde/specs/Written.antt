@@ -1,7 +1,7 @@
 -- The messages that types with derives are written as.
 use Rattle.std.specs.Prelude.{◌≡◌, ℕ, List, [], ◌++◌}
 use Rattle.bser_format.specs.Tree.{Tree}
-use Rattle.bser_format.specs.Canonical.{canonical_message}
+use Rattle.bser_format.specs.Canonical.{canonical_body, canonical_message}
 use Rattle.bser_format.specs.Expand.{IsTemplateFree}
 use Rattle.bser_format.specs.Message.{IsMessage}
 use Rattle.bser_format.specs.Pieces.{null_piece, bool_piece, integer_piece, real_piece, text_piece, bytes_piece, key_piece, array_head, object_head}
@@ -9,11 +9,9 @@ use Rattle.bser_format.specs.declared.errors.Error.{Error}
 use Rattle.bser_format.specs.declared.errors.Error.TheVariants.{Io}
 use Rattle.bser_events.specs.Events as told
 use Rattle.bser_events.specs.Events.{Event}
-use Rattle.bser_source.specs.Memory.{bytes_in}
 use Rattle.bser_deserializer.specs.declared.deserializer.TheConstants.{LEVELS}
-use Rattle.bser_ser.specs.Sent.{writer_of, pending_of}
 use Rattle.bser_ser.specs.Stopped.{Tells, Takes, TookAllBut, Accounts}
-use Rattle.bser_serde.specs.declared.spelled.Respelled.{Respelled}
+use Rattle.bser_serde.specs.declared.spelled.Compared.{Compared}
 
 -- the text is a message of at most 128 levels, without capabilities and without templates, each
 -- integer, length and count in its least width
@@ -43,7 +41,7 @@ abbrev pub Unwritten : {S : Type 0} → Tells S → S → S → Error → Type 0
 Unwritten sink old new (Io fault) = BrokeLeast sink old new (Io fault)
 Unwritten sink old new _ = new ≡ old
 
--- ---- what is told, spelled again
+-- ---- what is told, compared
 
 -- it is no part of a template
 abbrev pub IsPlain : Event → Type 0
@@ -65,18 +63,18 @@ least_piece (told.open_array n) = array_head n
 least_piece (told.open_object n) = object_head n
 least_piece _ = []
 
--- what was put so far
-abbrev pub held_in : Respelled → List ℕ
-held_in r = bytes_in (writer_of r.out) ++ pending_of r.out
+-- the bytes that are left
+abbrev pub rest_of : Compared → List ℕ
+rest_of c = c.rest.now
 
--- an event that is no part of a template was put
-pub record Respells (a : Respelled) (e : Event) (b : Respelled) : Type 0 where
+-- an event that is no part of a template was told, and its shortest bytes were passed
+pub record Passes (a : Compared) (e : Event) (b : Compared) : Type 0 where
   pub plain : IsPlain e
-  pub put : held_in b ≡ held_in a ++ least_piece e
+  pub passed : rest_of a ≡ least_piece e ++ rest_of b
 
--- the bytes are a message as above, but for the widths, and these are the same in the least
-pub record IsSpelledAgain (bytes again : List ℕ) : Type 0 where
+-- the bytes are a message as above, but for the widths, and the body is its least
+pub record IsLeastBody (bytes body : List ℕ) : Type 0 where
   pub tree : Tree
   pub message : IsMessage LEVELS 0 tree bytes
   pub plain : IsTemplateFree tree
-  pub least : again ≡ canonical_message tree
+  pub least : body ≡ canonical_body tree

@@ -6,6 +6,7 @@
 #![tactic(auto)]
 
 mod bytes;
+mod failure;
 mod reading;
 mod refusal;
 mod spelled;

@@ -6,14 +6,14 @@ ghost use Rattle.bser_serde.specs.Messages.{BeginsWithMessage, IsWellFormed, Too
 ghost use Rattle.bser_serde.specs.Refusals.{SliceUnread, FrameUnread, NextUnread, IsUnfit};
 
 use crate::refusal::{Refusal, refusal_of};
-use bser_serde_format::faults::{Fault, Site};
+use bser_serde_format::copied::Copied;
+use bser_serde_format::faults::{Fault, Site, Unread};
 use bser_serde_format::misfit::{Misfit, Reason};
-use bser_serde_format::part::Part;
-use bser_serde_format::parts::Parts;
 use bser_serde_format::path::Path;
 use bser_serde_format::steps::steps_to;
 use bser_serde_format::walk::Walk;
 use serde::{Deserialize, DeserializeOwned, Deserializer};
+use serde_bser::de::Ignored;
 use serde_bser::describe::Step;
 use serde_bser::device::Source;
 use serde_bser::tell;
@@ -45,9 +45,8 @@ pub fn from_slice_limited<'de, T: Deserialize<'de>>(
     ensures found { OnOk result (BeginsWithMessage limits bytes.now) }
     ensures refused { IfErr result (SliceUnread limits bytes.now) }
 {
-    let mut parts = Parts::of_slice(alloc);
-    match tell::from_slice(alloc, limits, bytes, &mut parts) {
-        Ok(_header) => match read(alloc, parts.parts.as_slice(), bytes) {
+    match tell::from_slice(alloc, limits, bytes, &mut Ignored) {
+        Ok(header) => match read(alloc, header.start, bytes) {
             Ok(value) => Ok(value),
             Err(refusal) => Err(refusal),
         },
@@ -63,14 +62,13 @@ pub fn from_frame<'de, T: Deserialize<'de>>(alloc: Global, frame: &'de [u8]) -> 
     ensures found { OnOk result (IsWellFormed usual_limits frame.now) }
     ensures refused { IfErr result (FrameUnread usual_limits frame.now) }
 {
-    let mut parts = Parts::of_slice(alloc);
-    match tell::from_slice(alloc, Limits::new(), frame, &mut parts) {
+    match tell::from_slice(alloc, Limits::new(), frame, &mut Ignored) {
         Ok(header) => {
             let taken = header.message_length();
             if taken != frame.len() {
                 return Err(Refusal::BytesLeft(taken));
             }
-            match read(alloc, parts.parts.as_slice(), frame) {
+            match read(alloc, header.start, frame) {
                 Ok(value) => Ok(value),
                 Err(refusal) => Err(refusal),
             }
@@ -108,9 +106,9 @@ pub fn from_reader_limited<S: Source, T: DeserializeOwned>(
         (TookMessage limits (S.remaining reader.old) (S.remaining reader.new)) }
     ensures refused { IfErr result (NextUnread limits S.Source reader.old reader.new) }
 {
-    let mut parts = Parts::of_reader(alloc);
-    match tell::next_message(alloc, limits, reader, &mut parts) {
-        Ok(Some(_header)) => match read_owned(alloc, &parts) {
+    let mut copied = Copied::new(alloc);
+    match tell::next_message(alloc, limits, reader, &mut copied) {
+        Ok(Some(header)) => match read_owned(alloc, header.start, copied.as_slice()) {
             Ok(value) => Ok(value),
             Err(refusal) => Err(refusal),
         },
@@ -119,56 +117,55 @@ pub fn from_reader_limited<S: Source, T: DeserializeOwned>(
     }
 }
 
-/// Reads a value from the parts of a message whose strings stand in `strings`.
+/// Reads a value from a well-formed message whose body begins behind `start` bytes.
 fn read<'de, T: Deserialize<'de>>(
     alloc: Global,
-    parts: &[Part],
-    strings: &'de [u8],
+    start: usize,
+    message: &'de [u8],
 ) -> Result<T, Refusal>
     ensures { IfErr result IsUnfit }
 {
-    let mut walk = Walk::new(alloc, parts, strings);
-    match T::deserialize(alloc, &mut Deserializer::new(strings, &mut walk)) {
+    let mut walk = Walk::new(alloc, message, start);
+    match T::deserialize(alloc, &mut Deserializer::new(message, &mut walk)) {
         Ok(value) => Ok(value),
-        Err(fault) => Err(unfit(alloc, fault, parts, strings)),
+        Err(fault) => Err(unfit(alloc, fault, start, message)),
     }
 }
 
-/// Reads a value that owns what it holds from the parts of a message.
-fn read_owned<T: DeserializeOwned>(alloc: Global, parts: &Parts) -> Result<T, Refusal>
+/// Reads a value that owns what it holds from such a message.
+fn read_owned<T: DeserializeOwned>(
+    alloc: Global,
+    start: usize,
+    message: &[u8],
+) -> Result<T, Refusal>
     ensures { IfErr result IsUnfit }
 {
-    let strings = match &parts.strings {
-        Some(strings) => strings.as_slice(),
-        None => &[],
-    };
-    let parts = parts.parts.as_slice();
-    let mut walk = Walk::new(alloc, parts, strings);
-    match T::deserialize_owned(alloc, &mut Deserializer::new(strings, &mut walk)) {
+    let mut walk = Walk::new(alloc, message, start);
+    match T::deserialize_owned(alloc, &mut Deserializer::new(message, &mut walk)) {
         Ok(value) => Ok(value),
-        Err(fault) => Err(unfit(alloc, fault, parts, strings)),
+        Err(fault) => Err(unfit(alloc, fault, start, message)),
     }
 }
 
-/// Why the type does not read the parts.
+/// Why the type does not read the message.
 #[cold]
 #[inline(never)]
-fn unfit(alloc: Global, fault: Fault, parts: &[Part], strings: &[u8]) -> Refusal
+fn unfit(alloc: Global, fault: Fault, start: usize, message: &[u8]) -> Refusal
     ensures { IsUnfit result }
 {
     match fault {
         Fault::Memory => Refusal::OutOfMemory,
-        Fault::Misfit(reason, site) => match steps_of(alloc, &reason, parts, strings, site) {
-            Ok(steps) => Refusal::Misfit(Misfit {
-                reason,
-                place: match parts.get(site.part) {
-                    Some(part) => part.start,
-                    None => 0,
-                },
-                path: Path { steps },
-            }),
-            Err(_) => Refusal::OutOfMemory,
-        },
+        Fault::Misfit(unread) => {
+            let Unread { reason, site } = Box::into_inner(unread);
+            match steps_of(alloc, &reason, start, message, site) {
+                Ok(steps) => Refusal::Misfit(Misfit {
+                    reason,
+                    place: site.place,
+                    path: Path { steps },
+                }),
+                Err(_) => Refusal::OutOfMemory,
+            }
+        }
     }
 }
 
@@ -176,11 +173,11 @@ fn unfit(alloc: Global, fault: Fault, parts: &[Part], strings: &[u8]) -> Refusal
 fn steps_of(
     alloc: Global,
     reason: &Reason,
-    parts: &[Part],
-    strings: &[u8],
+    start: usize,
+    message: &[u8],
     site: Site,
 ) -> Result<Vec<Step>, AllocError> {
-    let mut steps = steps_to(alloc, parts, strings, site)?;
+    let mut steps = steps_to(alloc, message, start, site)?;
     if let Reason::Missing(name) = reason {
         steps.push(Step::Key(String::from_str(alloc, name.as_str())?))?;
     }

@@ -1,65 +1,198 @@
-//! A message, spelled again from what is told of it.
-ghost use Rattle.std.specs.Prelude.{◌≡◌, [], true, OnOk, IfOk};
+//! A body, compared with the least spelling of what is told of it.
+ghost use Rattle.std.specs.Prelude.{◌≡◌, ◌++◌, ◌∷◌, ◌<◌, ◌^◌, [], true, pos, length, OnOk};
 ghost use Rattle.bser_events.specs.Told.{told};
-ghost use Rattle.bser_serde.specs.Written.{Respells, held_in};
+ghost use Rattle.bser_format.specs.Canonical.{least_integer, is_within as within};
+ghost use Rattle.bser_format.specs.Pieces.{key_piece};
+ghost use Rattle.bser_ser.specs.Sent.{string_piece};
+ghost use Rattle.bser_serde.specs.Written.{Passes, rest_of};
 
-use serde_bser::errors::{Complaint, Error, Result};
-use serde_bser::ser::{InMemory, Serializer};
+use serde_bser::header::{
+    BSER_ARRAY, BSER_BYTESTRING, BSER_FALSE, BSER_INT8, BSER_INT16, BSER_INT32, BSER_INT64,
+    BSER_NULL, BSER_OBJECT, BSER_REAL, BSER_TRUE, BSER_UTF8STRING,
+};
 use serde_bser::tell::{Builder, Event, Place, Stop};
-use std::alloc::Global;
 
-/// Puts what is told of a message without templates, each number in its least width.
+/// The rest of a body. What was told of it stands before, without templates, and each number in its
+/// least width.
 #[derive(Drop)]
-pub(crate) struct Respelled {
-    out: Serializer<InMemory>,
+pub(crate) struct Compared<'m> {
+    rest: &'m [u8],
 }
 
-impl Respelled {
+impl<'m> Compared<'m> {
     /// Nothing was told.
-    pub(crate) fn new(alloc: Global) -> Respelled
-        ensures { held_in result ≡ [] }
+    pub(crate) fn new(body: &'m [u8]) -> Compared<'m>
+        ensures { rest_of result ≡ body.now }
     {
-        Respelled {
-            out: Serializer::new(alloc, InMemory::new(Vec::new(alloc))),
-        }
+        Compared { rest: body }
     }
 
-    /// What was put. The error is that there is no memory.
-    pub(crate) fn finish(self) -> Result<Vec<u8>>
-        ensures { IfOk result (λ bytes. bytes.items ≡ held_in self) }
+    /// Whether nothing is left.
+    pub(crate) fn is_done(&self) -> bool
+        ensures { result ≡ true → rest_of self.now ≡ [] }
     {
-        let Respelled { out } = self;
-        match out.finish() {
-            Ok(memory) => Ok(memory.into_inner()),
-            Err(_fault) => Err(Error::OutOfMemory),
-        }
+        self.rest.is_empty()
     }
 
-    /// Puts what an event tells. A part of a template is `ValueOpen`.
+    /// Passes what an event tells. A part of a template is not passed.
     #[inline(always)]
-    fn put(&mut self, event: Event<'_>) -> Result<()>
-        ensures { OnOk result (Respells self.old (told event.entry) self.new) }
+    fn pass_event(&mut self, event: Event<'_>) -> Result<(), Stop>
+        ensures { OnOk result (Passes self.old (told event.entry) self.new) }
     {
         match event {
-            Event::Null => self.out.put_null(),
-            Event::Bool(truth) => self.out.put_bool(truth),
-            Event::Int(number) => self.out.put_i64(number),
-            Event::Real(bits) => self.out.put_real_bits(bits),
-            Event::Bytes(string) => self.out.put_bytes(string),
-            Event::Text(text) => self.out.put_text(text),
-            Event::Key(key) => self.out.put_key(key.as_bytes()),
-            Event::Array { len } => self.out.put_seq(Some(len)),
-            Event::Object { len } => self.out.put_map(Some(len)),
+            Event::Null => self.pass_byte(BSER_NULL),
+            Event::Bool(truth) => self.pass_byte(if truth { BSER_TRUE } else { BSER_FALSE }),
+            Event::Int(number) => self.pass_integer(number),
+            Event::Real(bits) => self.pass_tagged(BSER_REAL, &bits.to_le_bytes()),
+            Event::Bytes(string) => self.pass_string(BSER_BYTESTRING, string),
+            Event::Text(text) => self.pass_string(BSER_UTF8STRING, text.as_bytes()),
+            Event::Key(key) => self.pass_key(key),
+            Event::Array { len } => self.pass_head(BSER_ARRAY, len),
+            Event::Object { len } => self.pass_head(BSER_OBJECT, len),
             Event::Close => Ok(()),
-            Event::Template { len: _ } | Event::Rows { len: _ } | Event::Skip => {
-                Err(Error::ser_custom(Complaint::ValueOpen))
-            }
+            Event::Template { len: _ } | Event::Rows { len: _ } | Event::Skip => Err(Stop::Asked),
         }
+    }
+
+    /// Passes a key, under the tag of texts.
+    #[inline(always)]
+    fn pass_key(&mut self, key: &str) -> Result<(), Stop>
+        ensures { OnOk result (rest_of self.old ≡ key_piece key.now ++ rest_of self.new) }
+    {
+        self.pass_string(BSER_UTF8STRING, key.as_bytes())
+    }
+
+    /// Passes a container's tag and its count.
+    #[inline(always)]
+    fn pass_head(&mut self, tag: u8, count: usize) -> Result<(), Stop>
+        ensures { OnOk result
+            (rest_of self.old ≡ tag ∷ (least_integer (pos count) ++ rest_of self.new)) }
+    {
+        if count < 0x80 {
+            return self.pass_short(tag, count as u8);
+        }
+        self.pass_great(tag, count)
+    }
+
+    /// Passes a string under this tag.
+    #[inline(always)]
+    fn pass_string(&mut self, tag: u8, string: &[u8]) -> Result<(), Stop>
+        ensures { OnOk result
+            (rest_of self.old ≡ string_piece tag string.now ++ rest_of self.new) }
+    {
+        self.pass_head(tag, string.len())?;
+        self.pass(string)
+    }
+
+    /// Passes a tag and a count of one byte.
+    #[inline(always)]
+    fn pass_short(&mut self, tag: u8, count: u8) -> Result<(), Stop>
+        ensures { OnOk result (rest_of self.old ≡ tag ∷ 3 ∷ count ∷ rest_of self.new) }
+    {
+        let rest = self.rest;
+        if rest.len() < 3 || rest[0] != tag || rest[1] != BSER_INT8 || rest[2] != count {
+            return Err(Stop::Asked);
+        }
+        self.rest = &rest[3..];
+        Ok(())
+    }
+
+    /// Passes a tag and a count of any width.
+    #[inline(never)]
+    fn pass_great(&mut self, tag: u8, count: usize) -> Result<(), Stop>
+        ensures { OnOk result
+            (rest_of self.old ≡ tag ∷ (least_integer (pos count) ++ rest_of self.new)) }
+    {
+        let Ok(count) = i64::try_from(count) else {
+            return Err(Stop::Asked);
+        };
+        self.pass_byte(tag)?;
+        self.pass_integer(count)
+    }
+
+    /// Passes an integer in its least width.
+    #[inline(always)]
+    fn pass_integer(&mut self, v: i64) -> Result<(), Stop>
+        ensures { OnOk result (rest_of self.old ≡ least_integer v ++ rest_of self.new) }
+    {
+        if is_within(0x80, v) {
+            return self.pass_pair(BSER_INT8, (v as i8).cast_unsigned());
+        }
+        if is_within(0x8000, v) {
+            return self.pass_tagged(BSER_INT16, &(v as i16).to_le_bytes());
+        }
+        if is_within(0x8000_0000, v) {
+            return self.pass_tagged(BSER_INT32, &(v as i32).to_le_bytes());
+        }
+        self.pass_tagged(BSER_INT64, &v.to_le_bytes())
+    }
+
+    /// Passes a tag and these bytes.
+    #[inline(always)]
+    fn pass_tagged(&mut self, tag: u8, bytes: &[u8]) -> Result<(), Stop>
+        ensures { OnOk result (rest_of self.old ≡ tag ∷ (bytes.now ++ rest_of self.new)) }
+    {
+        self.pass_byte(tag)?;
+        self.pass(bytes)
+    }
+
+    /// Passes two bytes.
+    #[inline(always)]
+    fn pass_pair(&mut self, first: u8, second: u8) -> Result<(), Stop>
+        ensures { OnOk result (rest_of self.old ≡ first ∷ second ∷ rest_of self.new) }
+    {
+        let rest = self.rest;
+        if rest.len() < 2 || rest[0] != first || rest[1] != second {
+            return Err(Stop::Asked);
+        }
+        self.rest = &rest[2..];
+        Ok(())
+    }
+
+    /// Passes this byte.
+    #[inline(always)]
+    fn pass_byte(&mut self, byte: u8) -> Result<(), Stop>
+        ensures { OnOk result (rest_of self.old ≡ byte ∷ rest_of self.new) }
+    {
+        let rest = self.rest;
+        if rest.is_empty() || rest[0] != byte {
+            return Err(Stop::Asked);
+        }
+        self.rest = &rest[1..];
+        Ok(())
+    }
+
+    /// Passes these bytes.
+    #[inline(always)]
+    fn pass(&mut self, bytes: &[u8]) -> Result<(), Stop>
+        ensures { OnOk result (rest_of self.old ≡ bytes.now ++ rest_of self.new) }
+    {
+        if self.rest.len() < bytes.len() {
+            return Err(Stop::Asked);
+        }
+        let (front, rest) = self.rest.split_at(bytes.len());
+        if front != bytes {
+            return Err(Stop::Asked);
+        }
+        self.rest = rest;
+        Ok(())
     }
 }
 
-impl Builder for Respelled {
-    ghost takes = { λ a e _ b. Respells a e b };
+/// Whether v is at least -limit and below it.
+#[inline(always)]
+fn is_within(limit: u64, v: i64) -> bool
+    ensures { result ≡ within limit v }
+{
+    if v < 0 {
+        ((-(v + 1)) as u64) < limit
+    } else {
+        (v as u64) < limit
+    }
+}
+
+impl<'m> Builder for Compared<'m> {
+    ghost takes = { λ a e _ b. Passes a e b };
 
     ghost stops = { true };
 
@@ -73,15 +206,11 @@ impl Builder for Respelled {
     }
 
     #[inline(always)]
-    fn take(&mut self, event: Event<'_>, _place: Place) -> std::result::Result<(), Stop> {
-        match self.put(event) {
-            Ok(()) => Ok(()),
-            Err(Error::SerCustom { msg: _ }) => Err(Stop::Asked),
-            Err(_error) => Err(Stop::Memory),
-        }
+    fn take(&mut self, event: Event<'_>, _place: Place) -> Result<(), Stop> {
+        self.pass_event(event)
     }
 
-    fn bytes_passed(&mut self, _len: usize, _place: Place) -> std::result::Result<(), Stop> {
+    fn bytes_passed(&mut self, _len: usize, _place: Place) -> Result<(), Stop> {
         Ok(())
     }
 }

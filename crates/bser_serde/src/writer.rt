@@ -1,8 +1,18 @@
 //! The parts of a value on their way to a message.
-use serde::{Case, NameKind, Serialize, Serializer};
-use serde_bser::errors::{Complaint, Error, Message, Result};
+mod serializer;
+
+use crate::failure::Failure;
+use bser_ser::{Parts, PutRefused};
+use serde::{Case, NameKind, Serialize};
+use serde_bser::errors::{Collection, Complaint, Error, Message, Result};
 use serde_bser::ser::{InMemory, Serializer as Puts};
 use std::alloc::Global;
+
+/// What a part of a value came to.
+type Put = std::result::Result<(), Failure>;
+
+/// The most items or entries that a message can count.
+const MOST_COUNTED: usize = i64::MAX as usize;
 
 /// A map that is open.
 #[derive(Clone, Copy, Drop)]
@@ -30,26 +40,38 @@ enum Due {
 /// second writer that knows the counts.
 #[derive(Drop)]
 pub(crate) struct Writer {
-    alloc: Global,
     out: Puts<InMemory>,
+    due: Due,
+    /// Whether the innermost map that is open does not know its number of entries.
+    is_counting: bool,
+    open: Vec<Open>,
     /// The entries of each map that does not know their number, in the order of their beginnings.
     counts: Vec<usize>,
     /// Those that an earlier writer counted, and how many of these were used.
     known: Vec<usize>,
     used: usize,
-    open: Vec<Open>,
-    due: Due,
+    alloc: Global,
 }
 
 /// A value has no form in a message, for this reason.
 #[cold]
 #[inline(never)]
-fn refusal(alloc: Global, reason: &str) -> Error {
+fn refusal(alloc: Global, reason: &str) -> Failure {
     match String::from_str(alloc, reason) {
-        Ok(text) => Error::SerCustom {
-            msg: Message::Made(text),
-        },
-        Err(_) => Error::OutOfMemory,
+        Ok(text) => {
+            let msg = Message::Made(text);
+            Failure::of(alloc, Error::SerCustom { msg })
+        }
+        Err(_) => Failure::MEMORY,
+    }
+}
+
+/// What a put came to. It is refused where there is no memory.
+#[inline(always)]
+fn answered(put: std::result::Result<(), PutRefused>) -> Put {
+    match put {
+        Ok(()) => Ok(()),
+        Err(PutRefused) => Err(Failure::MEMORY),
     }
 }
 
@@ -57,13 +79,14 @@ impl Writer {
     /// Puts into memory. `known` are the counts of an earlier writer of the same value.
     pub(crate) fn new(alloc: Global, known: Vec<usize>) -> Writer {
         Writer {
-            alloc,
             out: Puts::new(alloc, InMemory::new(Vec::new(alloc))),
+            due: Due::Value,
+            is_counting: false,
+            open: Vec::new(alloc),
             counts: Vec::new(alloc),
             known,
             used: 0,
-            open: Vec::new(alloc),
-            due: Due::Value,
+            alloc,
         }
     }
 
@@ -78,12 +101,21 @@ impl Writer {
 
     /// The value that comes is no map and no text.
     #[inline(always)]
-    fn expect_value(&self) -> Result<()> {
-        match self.due {
-            Due::Value => Ok(()),
-            Due::Key => Err(refusal(self.alloc, "a key that is no text")),
-            Due::Flat => Err(refusal(self.alloc, "a flattened value that is no object")),
+    fn expect_value(&self) -> Put {
+        if self.due == Due::Value {
+            return Ok(());
         }
+        Err(self.unexpected())
+    }
+
+    /// The value that comes is a map or a text, and should not be.
+    #[cold]
+    #[inline(never)]
+    fn unexpected(&self) -> Failure {
+        if self.due == Due::Key {
+            return refusal(self.alloc, "a key that is no text");
+        }
+        refusal(self.alloc, "a flattened value that is no object")
     }
 
     /// Counts an entry of the innermost map that is not merged.
@@ -107,214 +139,142 @@ impl Writer {
 
     /// Puts a key.
     #[inline(always)]
-    fn put_key(&mut self, key: &str) -> Result<()> {
-        if !matches!(self.open.last(), Some(Open::Given)) {
+    fn put_key(&mut self, key: &str) -> Put {
+        if self.is_counting {
             self.count_entry();
         }
-        self.out.put_text(key)
+        answered(self.out.add_text_key(key))
     }
 
     /// Puts a text, or a key where one is due.
     #[inline(always)]
-    fn put_str(&mut self, text: &str) -> Result<()> {
+    fn put_str(&mut self, text: &str) -> Put {
         match self.due {
-            Due::Value => self.out.put_text(text),
+            Due::Value => answered(self.out.add_text(text)),
             Due::Key => {
                 self.due = Due::Value;
                 self.put_key(text)
             }
-            Due::Flat => self.expect_value(),
+            Due::Flat => Err(self.unexpected()),
         }
     }
 
-    /// Puts the key of a field or of a variant.
-    #[inline(always)]
-    fn put_name(&mut self, kind: NameKind, name: &str, case: Case) -> Result<()> {
-        if case == Case::AsIs {
-            return self.put_key(name);
+    /// Puts a key in this case.
+    #[inline(never)]
+    fn put_spelled_key(&mut self, kind: NameKind, name: &str, case: Case) -> Put {
+        match self.spelled(kind, name, case) {
+            Ok(spelled) => self.put_key(spelled.as_str()),
+            Err(failure) => Err(failure),
         }
-        let spelled = self.spelled(kind, name, case)?;
-        self.put_key(spelled.as_str())
     }
 
     /// The name in this case.
     #[inline(never)]
-    fn spelled(&self, kind: NameKind, name: &str, case: Case) -> Result<String> {
+    fn spelled(
+        &self,
+        kind: NameKind,
+        name: &str,
+        case: Case,
+    ) -> std::result::Result<String, Failure> {
         let mut spelled = String::new(self.alloc);
-        case.append(kind, name, &mut spelled)?;
-        Ok(spelled)
+        match case.append(kind, name, &mut spelled) {
+            Ok(()) => Ok(spelled),
+            Err(_) => Err(Failure::MEMORY),
+        }
+    }
+
+    /// Puts the head of a map, which is open then.
+    #[inline(always)]
+    fn open_map(&mut self, count: usize, open: Open) -> Put {
+        if count > MOST_COUNTED {
+            return Err(self.too_many());
+        }
+        answered(self.out.add_map(count))?;
+        self.push(open)
+    }
+
+    /// A map is open.
+    #[inline(always)]
+    fn push(&mut self, open: Open) -> Put {
+        self.is_counting = !matches!(open, Open::Given);
+        match self.open.push(open) {
+            Ok(()) => Ok(()),
+            Err(_) => Err(Failure::MEMORY),
+        }
+    }
+
+    /// Begins a map whose entries go into the one that is open.
+    #[inline(never)]
+    fn merge(&mut self) -> Put {
+        self.due = Due::Value;
+        self.push(Open::Merged)
     }
 
     /// Begins a map that does not know how many entries it has.
     #[inline(never)]
-    fn begin_counted(&mut self) -> Result<()> {
+    fn begin_counted(&mut self) -> Put {
         let place = self.counts.len();
-        self.counts.push(0)?;
+        if self.counts.push(0).is_err() {
+            return Err(Failure::MEMORY);
+        }
         let count = match self.known.get(self.used) {
             Some(count) => *count,
             None => 0,
         };
         self.used = self.used.saturating_add(1);
-        self.out.put_map(Some(count))?;
-        self.open.push(Open::Counted(place))?;
-        Ok(())
-    }
-}
-
-impl Serializer for Writer {
-    type Error = Error;
-
-    #[inline(always)]
-    fn bool(&mut self, v: bool) -> Result<()> {
-        self.expect_value()?;
-        self.out.put_bool(v)
+        self.open_map(count, Open::Counted(place))
     }
 
-    #[inline(always)]
-    fn i64(&mut self, v: i64) -> Result<()> {
-        self.expect_value()?;
-        self.out.put_i64(v)
+    /// A count has no form in a message.
+    #[cold]
+    #[inline(never)]
+    fn too_many(&self) -> Failure {
+        Failure::of(self.alloc, Error::ser_custom(Complaint::CountTooGreat))
     }
 
-    #[inline(always)]
-    fn u64(&mut self, v: u64) -> Result<()> {
-        self.expect_value()?;
-        self.out.put_u64(v)
+    /// An unsigned integer has no form in a message.
+    #[cold]
+    #[inline(never)]
+    fn too_big(&self, v: u64) -> Failure {
+        Failure::of(self.alloc, Error::SerU64TooBig { v })
     }
 
-    fn i128(&mut self, v: i128) -> Result<()> {
-        match i64::try_from(v) {
-            Ok(v) => self.i64(v),
-            Err(_) => Err(Error::ser_custom(Complaint::IntegerOutOfRange)),
-        }
+    /// An integer of 128 bits has no form in a message.
+    #[cold]
+    #[inline(never)]
+    fn out_of_range(&self) -> Failure {
+        Failure::of(self.alloc, Error::ser_custom(Complaint::IntegerOutOfRange))
     }
 
-    fn u128(&mut self, v: u128) -> Result<()> {
-        match i64::try_from(v) {
-            Ok(v) => self.i64(v),
-            Err(_) => Err(Error::ser_custom(Complaint::IntegerOutOfRange)),
-        }
-    }
-
-    fn f32(&mut self, v: f32) -> Result<()> {
-        self.f64(f64::from(v))
-    }
-
-    fn f64(&mut self, v: f64) -> Result<()> {
-        self.expect_value()?;
-        self.out.put_real_bits(std::num::f64_to_bits_with_nan(v))
-    }
-
-    fn char(&mut self, v: char) -> Result<()> {
-        let mut buffer = [0; 4];
-        self.put_str(v.encode_utf8(&mut buffer))
-    }
-
-    #[inline(always)]
-    fn str(&mut self, v: &str) -> Result<()> {
-        self.put_str(v)
-    }
-
-    #[inline(always)]
-    fn bytes(&mut self, v: &[u8]) -> Result<()> {
-        if self.due == Due::Key {
-            return match str::from_utf8(v) {
-                Ok(key) => self.put_str(key),
-                Err(_) => Err(refusal(self.alloc, "a key that is no text")),
-            };
-        }
-        self.expect_value()?;
-        self.out.put_bytes(v)
-    }
-
-    #[inline(always)]
-    fn unit(&mut self) -> Result<()> {
-        if self.due == Due::Flat {
-            self.due = Due::Value;
-            return Ok(());
-        }
-        self.expect_value()?;
-        self.out.put_null()
-    }
-
-    fn str_cased(&mut self, name: &str, case: Case) -> Result<()> {
-        if case == Case::AsIs {
-            return self.put_str(name);
-        }
-        let spelled = self.spelled(NameKind::Variant, name, case)?;
-        self.put_str(spelled.as_str())
-    }
-
-    fn begin_seq(&mut self, len: Option<usize>) -> Result<()> {
-        self.expect_value()?;
-        self.out.put_seq(len)
-    }
-
-    fn end_seq(&mut self) -> Result<()> {
-        Ok(())
-    }
-
-    #[inline(always)]
-    fn begin_map(&mut self, len: Option<usize>) -> Result<()> {
-        if self.due == Due::Flat {
-            self.due = Due::Value;
-            self.open.push(Open::Merged)?;
-            return Ok(());
-        }
-        self.expect_value()?;
-        if len.is_none() {
-            return self.begin_counted();
-        }
-        self.out.put_map(len)?;
-        self.open.push(Open::Given)?;
-        Ok(())
-    }
-
-    #[inline(always)]
-    fn end_map(&mut self) -> Result<()> {
-        let _closed = self.open.pop();
-        Ok(())
-    }
-
-    #[inline(always)]
-    fn key_cased(&mut self, name: &str, case: Case) -> Result<()> {
-        self.put_name(NameKind::Field, name, case)
-    }
-
-    fn variant_key(&mut self, name: &str, case: Case) -> Result<()> {
-        self.put_name(NameKind::Variant, name, case)
-    }
-
-    fn begin_key(&mut self) -> Result<()> {
-        self.due = Due::Key;
-        Ok(())
-    }
-
-    fn end_key(&mut self) -> Result<()> {
-        self.expect_value()
-    }
-
-    fn flatten_next(&mut self) -> Result<()> {
-        self.due = Due::Flat;
-        Ok(())
-    }
-
-    fn custom(&self, message: &str) -> Error {
-        refusal(self.alloc, message)
+    /// An array does not know how many items it has.
+    #[cold]
+    #[inline(never)]
+    fn uncounted(&self) -> Failure {
+        let kind = Collection::Sequence;
+        Failure::of(self.alloc, Error::SerNeedSize { kind })
     }
 }
 
 /// The body of a value's message. Its counts are right if each `Serialize` on the way gives them
 /// right.
 pub(crate) fn body_of<T: Serialize>(alloc: Global, value: &T) -> Result<Vec<u8>> {
-    let mut writer = Writer::new(alloc, Vec::new(alloc));
-    value.serialize(&mut writer)?;
-    let (body, counts) = writer.finish()?;
+    let (body, counts) = written(alloc, value, Vec::new(alloc))?;
     if counts.is_empty() {
         return Ok(body);
     }
-    let mut writer = Writer::new(alloc, counts);
-    value.serialize(&mut writer)?;
-    let (body, _counts) = writer.finish()?;
+    let (body, _counts) = written(alloc, value, counts)?;
     Ok(body)
+}
+
+/// What a writer that knows these counts puts of a value, and the counts of its maps.
+fn written<T: Serialize>(
+    alloc: Global,
+    value: &T,
+    known: Vec<usize>,
+) -> Result<(Vec<u8>, Vec<usize>)> {
+    let mut writer = Writer::new(alloc, known);
+    match value.serialize(&mut writer) {
+        Ok(()) => writer.finish(),
+        Err(failure) => Err(failure.into_error()),
+    }
 }

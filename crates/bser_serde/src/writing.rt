@@ -3,9 +3,9 @@ ghost use Rattle.std.specs.Prelude.{◌≡◌, ◌++◌, pos, length, OnOk, OnEr
 ghost use Rattle.bser_format.specs.declared.errors.Error.TheVariants.{Io};
 ghost use Rattle.bser_ser.specs.Message.{front_of, IsNoFault};
 ghost use Rattle.bser_ser.specs.Stopped.{Takes, Accounts};
-ghost use Rattle.bser_serde.specs.Written.{IsLeastMessage, IsSpelledAgain, WroteLeast, Unwritten, TookFront};
+ghost use Rattle.bser_serde.specs.Written.{IsLeastMessage, IsLeastBody, WroteLeast, Unwritten, TookFront};
 
-use crate::spelled::Respelled;
+use crate::spelled::Compared;
 use crate::writer::body_of;
 use serde::Serialize;
 use serde_bser::device::Sink;
@@ -41,28 +41,21 @@ fn message_of<T: Serialize>(alloc: Global, value: &T) -> Result<Vec<u8>>
     ensures { IfOk result (λ message. IsLeastMessage message.items) }
 {
     let body = body_of(alloc, value)?;
-    let message = with_header(alloc, body)?;
-    let again = spelled_again(alloc, &message)?;
-    if again == message {
-        Ok(message)
-    } else {
-        Err(Error::ser_custom(Complaint::ValueOpen))
-    }
+    let message = with_header(alloc, &body)?;
+    check_least(alloc, &message, &body)?;
+    Ok(message)
 }
 
 /// The message with this body.
-#[tactic(auto, using(crate::proofs::Respelled::turned_front))]
-fn with_header(alloc: Global, body: Vec<u8>) -> Result<Vec<u8>>
+fn with_header(alloc: Global, body: &[u8]) -> Result<Vec<u8>>
     ensures { IfOk result (λ message. message.items
-        ≡ front_of (pos (length body.items)) ++ body.items) }
+        ≡ front_of (pos (length body.now)) ++ body.now) }
 {
-    let mut message = body;
-    let Ok(len) = i64::try_from(message.len()) else {
+    let Ok(len) = i64::try_from(body.len()) else {
         return Err(Error::ser_custom(Complaint::CountTooGreat));
     };
-    let header = header_of(alloc, len)?;
-    message.extend_from_slice(&header)?;
-    message.rotate_right(header.len());
+    let mut message = header_of(alloc, len)?;
+    message.extend_from_slice(body)?;
     Ok(message)
 }
 
@@ -75,21 +68,23 @@ fn header_of(alloc: Global, len: i64) -> Result<Vec<u8>>
     Ok(out.finish()?.into_inner())
 }
 
-/// The message that `bytes` is, each number in its least width.
+/// Whether `bytes` are a message without templates, and `body` is its body in the least widths.
 ///
-/// A message with capabilities, and bytes behind the message, are `ValueOpen`.
-fn spelled_again(alloc: Global, bytes: &[u8]) -> Result<Vec<u8>>
-    ensures { IfOk result (λ again. IsSpelledAgain bytes.now again.items) }
+/// A message with capabilities, bytes behind the message, and any other body are `ValueOpen`.
+fn check_least(alloc: Global, bytes: &[u8], body: &[u8]) -> Result<()>
+    ensures { OnOk result (IsLeastBody bytes.now body.now) }
 {
-    let mut respelled = Respelled::new(alloc);
-    match tell::from_slice(alloc, Limits::new(), bytes, &mut respelled) {
+    let mut compared = Compared::new(body);
+    match tell::from_slice(alloc, Limits::new(), bytes, &mut compared) {
         Ok(header) => {
             if header.message_length() != bytes.len() || header.capabilities != 0 {
                 return Err(Error::ser_custom(Complaint::ValueOpen));
             }
-            let body = respelled.finish()?;
-            let again = with_header(alloc, body)?;
-            Ok(again)
+            if compared.is_done() {
+                Ok(())
+            } else {
+                Err(Error::ser_custom(Complaint::ValueOpen))
+            }
         }
         Err(untold) => match untold.reason {
             Reason::Failed(description) => Err(description.into_cause()),

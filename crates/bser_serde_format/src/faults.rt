@@ -1,28 +1,47 @@
 //! Errors of a walk, each with where it is.
+use crate::heads::{kind_of, rest, tag_at};
 use crate::misfit::Reason;
-use crate::part::{What, kind_of};
-use crate::walk::{Due, Walk};
+use crate::walk::{Due, ENDED, Walk};
+use bser_bunser::prefix::{Prefix, int_prefix};
+use bser_format::header::BSER_BYTESTRING;
 use serde_bser::describe::Wanted;
 
 /// Where an error is.
 #[derive(Clone, Copy, Drop)]
 pub struct Site {
-    /// The part that comes next there.
-    pub part: usize,
-    /// Whether it is in the value that begins with that part, and not before it.
+    /// How many bytes of the message stand before it.
+    pub place: usize,
+    /// How many containers are open there. A template is one, and a row is none.
+    pub depth: usize,
+    /// Whether it is in what begins there, and not before it.
     pub is_inside: bool,
-    /// Whether it is in the innermost container that is open as a whole.
+    /// Whether it is in the innermost container that is open, or in its row, as a whole.
     pub is_whole: bool,
 }
 
-/// Why the message is not read.
+/// What the type does not read, and where it is.
+#[derive(Drop)]
+pub struct Unread {
+    pub reason: Reason,
+    pub site: Site,
+}
+
+/// Why the message is not read. It is small, since each step answers with one or without.
 #[derive(Drop)]
 pub enum Fault {
-    Misfit(Reason, Site),
+    Misfit(Box<Unread>),
     Memory,
 }
 
 impl<'m> Walk<'m> {
+    /// The error for this reason there.
+    fn misfit(&self, reason: Reason, site: Site) -> Fault {
+        match Box::new(self.alloc, Unread { reason, site }) {
+            Ok(unread) => Fault::Misfit(unread),
+            Err(_) => Fault::Memory,
+        }
+    }
+
     /// Another kind of value is wanted than the one that comes.
     #[cold]
     #[inline(never)]
@@ -36,52 +55,64 @@ impl<'m> Walk<'m> {
     #[inline(never)]
     pub(crate) fn ahead(&self, reason: Reason) -> Fault {
         let site = Site {
-            part: self.at,
-            is_inside: !matches!(self.due, Due::Key(_)),
+            place: self.at,
+            depth: self.depth(),
+            is_inside: true,
             is_whole: matches!(self.due, Due::Row),
         };
-        Fault::Misfit(reason, site)
+        self.misfit(reason, site)
     }
 
-    /// An error about the value that was read last: a scalar or a string, or else a container, whose
-    /// end comes last.
+    /// An error about what was read last: a scalar, a string or a key, or else a container. Where
+    /// nothing was read since the walk went back, it is about what is read next.
     #[cold]
     #[inline(never)]
     pub(crate) fn behind(&self, reason: Reason) -> Fault {
-        let part = self.at.saturating_sub(1);
-        let is_end = matches!(self.last(), What::Close);
+        if self.last == ENDED {
+            return self.after(reason, self.depth().saturating_add(1));
+        }
+        if self.last == self.at {
+            return self.ahead(reason);
+        }
         let site = Site {
-            part,
-            is_inside: !is_end,
-            is_whole: is_end,
+            place: self.last,
+            depth: self.depth(),
+            is_inside: true,
+            is_whole: false,
         };
-        Fault::Misfit(reason, site)
+        self.misfit(reason, site)
     }
 
     /// An error about the object or the row that was read last.
     #[cold]
     #[inline(never)]
     pub(crate) fn at_end(&self, reason: Reason) -> Fault {
-        let is_row = self.is_between_rows();
+        let closed = usize::from(!self.is_between_rows());
+        self.after(reason, self.depth().saturating_add(closed))
+    }
+
+    /// An error about a container as a whole, which ends here as one of so many.
+    fn after(&self, reason: Reason, depth: usize) -> Fault {
         let site = Site {
-            part: if is_row {
-                self.at
-            } else {
-                self.at.saturating_sub(1)
-            },
+            place: self.at,
+            depth,
             is_inside: false,
             is_whole: true,
         };
-        Fault::Misfit(reason, site)
+        self.misfit(reason, site)
     }
 
     /// The value that was read last is none that the type holds.
     #[cold]
     #[inline(never)]
     pub(crate) fn unheld(&self) -> Fault {
-        let reason = match self.last() {
-            What::Int(number) => Reason::OutOfRange(number),
-            What::Bytes(_) => Reason::NotUtf8,
+        let last = match self.due {
+            Due::Value => rest(self.bytes, self.last),
+            _ => &[],
+        };
+        let reason = match int_prefix(last) {
+            Prefix::Found { value, len: _ } => Reason::OutOfRange(value),
+            _ if tag_at(last, 0) == BSER_BYTESTRING => Reason::NotUtf8,
             _ => Reason::Invalid,
         };
         self.behind(reason)

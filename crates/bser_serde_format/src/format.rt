@@ -1,15 +1,18 @@
-//! The parts of a message as a format of serde's.
+//! A message as a format of serde's.
 use crate::faults::Fault;
 use crate::misfit::Reason;
-use crate::part::What;
 use crate::walk::{Mark, Walk};
+use bser_bunser::prefix::Token;
+use bser_format::header::{
+    BSER_ARRAY, BSER_BYTESTRING, BSER_FALSE, BSER_INT8, BSER_INT16, BSER_INT32, BSER_INT64,
+    BSER_NULL, BSER_OBJECT, BSER_REAL, BSER_SKIP, BSER_TEMPLATE, BSER_TRUE, BSER_UTF8STRING,
+};
 use serde::{Format, Kind, Name, find};
 use serde_bser::describe::{FieldName, Wanted};
 use std::alloc::Global;
 use std::num::{f64_from_bits_with_nan, nearest_f64_to_f32_with_nan, nearest_i64_to_f64};
 
-/// Each step looks at the next part, which is of a well-formed message. Nothing is decoded again,
-/// and going back is to take an earlier part.
+/// Each step looks at what comes in a well-formed message, and goes past what it reads.
 impl<'m> Format for Walk<'m> {
     type Error = Fault;
 
@@ -17,13 +20,13 @@ impl<'m> Format for Walk<'m> {
 
     #[inline(always)]
     fn bool(&mut self, _input: &[u8]) -> Result<bool, Fault> {
-        match self.here() {
-            What::Bool(truth) => {
-                self.pass();
-                Ok(truth)
-            }
-            _ => Err(self.stray(Wanted::Truth)),
-        }
+        let truth = match self.here() {
+            BSER_TRUE => true,
+            BSER_FALSE => false,
+            _ => return Err(self.stray(Wanted::Truth)),
+        };
+        self.pass(1);
+        Ok(truth)
     }
 
     #[inline(always)]
@@ -53,12 +56,12 @@ impl<'m> Format for Walk<'m> {
 
     /// The real with these bits, or the float nearest to the integer. A float's NaN has no bits.
     fn f64(&mut self, _input: &[u8]) -> Result<f64, Fault> {
-        let number = match self.here() {
-            What::Real(bits) => f64_from_bits_with_nan(bits),
-            What::Int(number) => nearest_i64_to_f64(number),
+        let (number, len) = match self.token() {
+            Some((Token::Real(bits), len)) => (f64_from_bits_with_nan(bits), len),
+            Some((Token::Int(number), len)) => (nearest_i64_to_f64(number), len),
             _ => return Err(self.stray(Wanted::Real)),
         };
-        self.pass();
+        self.pass(len);
         Ok(number)
     }
 
@@ -92,8 +95,7 @@ impl<'m> Format for Walk<'m> {
 
     #[inline(always)]
     fn byte_buf(&mut self, alloc: Global, _input: &[u8]) -> Result<Vec<u8>, Fault> {
-        let span = self.string_span()?;
-        match Vec::from_slice(alloc, self.bytes(span)) {
+        match Vec::from_slice(alloc, self.string_bytes()?) {
             Ok(bytes) => Ok(bytes),
             Err(_) => Err(Fault::Memory),
         }
@@ -101,21 +103,21 @@ impl<'m> Format for Walk<'m> {
 
     fn peek(&mut self, _input: &[u8]) -> Result<Kind, Fault> {
         Ok(match self.here() {
-            What::Null | What::Skip | What::Rows | What::Close => Kind::Unit,
-            What::Bool(_) => Kind::Bool,
-            What::Int(_) => Kind::Signed,
-            What::Real(_) => Kind::Float,
-            What::Bytes(_) | What::Text(_) | What::Key(_) => Kind::Str,
-            What::Array | What::Template(_) => Kind::Seq,
-            What::Object => Kind::Map,
+            BSER_TRUE | BSER_FALSE => Kind::Bool,
+            BSER_INT8 | BSER_INT16 | BSER_INT32 | BSER_INT64 => Kind::Signed,
+            BSER_REAL => Kind::Float,
+            BSER_BYTESTRING | BSER_UTF8STRING => Kind::Str,
+            BSER_ARRAY | BSER_TEMPLATE => Kind::Seq,
+            BSER_OBJECT => Kind::Map,
+            _ => Kind::Unit,
         })
     }
 
     #[inline(always)]
     fn take_unit(&mut self, _input: &[u8]) -> Result<bool, Fault> {
         match self.here() {
-            What::Null | What::Skip => {
-                self.pass();
+            BSER_NULL | BSER_SKIP => {
+                self.pass(1);
                 Ok(true)
             }
             _ => Ok(false),

@@ -1,11 +1,13 @@
-//! The parts of a message as a format of the kit's `serde`.
+//! A well-formed message as a format of the kit's `serde`.
 #![tactic(auto)]
 
+pub mod copied;
 pub mod faults;
 mod format;
+mod heads;
 pub mod misfit;
-pub mod part;
-pub mod parts;
+mod passing;
 pub mod path;
 pub mod steps;
+mod table;
 pub mod walk;

@@ -1,6 +1,8 @@
-//! The steps to a part of a message.
+//! The steps to a place of a message.
 use crate::faults::Site;
-use crate::part::{Part, Span, What};
+use crate::heads::{Span, bytes_of, string_at, token_at};
+use crate::table::Table;
+use bser_bunser::prefix::Token;
 use bser_source::text::as_text;
 use serde_bser::describe::Step;
 use std::alloc::{AllocError, Global};
@@ -12,7 +14,8 @@ enum Open {
     Array(usize),
     /// The value of this key was.
     Object(Option<Span>),
-    /// The keys of a template begin at this part and are so many, and so many fields were begun.
+    /// The keys of a template stand behind so many bytes and are so many, and so many fields were
+    /// begun.
     Template {
         keys: usize,
         len: usize,
@@ -20,66 +23,124 @@ enum Open {
     },
 }
 
-/// The containers that are open at a part, the outermost first.
+/// A container that is open.
+#[derive(Clone, Copy, Drop)]
+struct Level {
+    open: Open,
+    /// How many items, keys and values, or fields are not begun yet.
+    left: usize,
+}
+
+/// The containers that are open at a place, the outermost first.
 #[derive(Drop)]
 struct Opened<'m> {
-    parts: &'m [Part],
-    strings: &'m [u8],
-    open: Vec<Open>,
+    bytes: &'m [u8],
+    at: usize,
+    levels: Vec<Level>,
 }
 
 impl<'m> Opened<'m> {
-    /// A value or a field begins.
+    /// Whether the site is here.
+    fn is_at(&self, site: Site) -> bool {
+        self.at >= site.place && self.levels.len() <= site.depth
+    }
+
+    /// An item, a key, a value or a field begins.
     fn begin(&mut self) {
-        match self.open.last_mut() {
-            Some(Open::Array(items)) => *items = items.saturating_add(1),
-            Some(Open::Template { fields, .. }) => *fields = fields.saturating_add(1),
-            _ => {}
+        if let Some(level) = self.levels.last_mut() {
+            match &mut level.open {
+                Open::Array(items) => *items = items.saturating_add(1),
+                Open::Template { fields, .. } => *fields = fields.saturating_add(1),
+                Open::Object(key) => {
+                    if level.left % 2 == 0 {
+                        *key = None;
+                    }
+                }
+            }
+            level.left = level.left.saturating_sub(1);
         }
     }
 
-    /// Goes past the part at this place.
-    fn pass(&mut self, at: usize, what: What) -> Result<(), AllocError> {
-        let opened = match what {
-            What::Key(span) => {
-                if let Some(Open::Object(key)) = self.open.last_mut() {
-                    *key = Some(span);
+    /// Whether what was begun last is a key. Then its value is begun next.
+    fn put_key(&mut self) {
+        let span = string_at(self.bytes, self.at);
+        if let Some(level) = self.levels.last_mut() {
+            if let Open::Object(key) = &mut level.open {
+                if level.left % 2 == 1 {
+                    *key = span;
                 }
-                return Ok(());
             }
-            What::Rows => return Ok(()),
-            What::Close => {
-                let _closed = self.open.pop();
-                return Ok(());
-            }
-            What::Array => Some(Open::Array(0)),
-            What::Object => Some(Open::Object(None)),
-            What::Template(len) => Some(Open::Template {
-                keys: at.saturating_add(1),
-                len,
-                fields: 0,
-            }),
-            _ => None,
+        }
+    }
+
+    /// Opens a container whose parts begin at this place.
+    fn open(&mut self, open: Open, left: usize, at: usize) -> Result<(), AllocError> {
+        self.at = at;
+        self.levels.push(Level { open, left })?;
+        Ok(())
+    }
+
+    /// Opens the template that comes.
+    fn open_template(&mut self) -> Result<(), AllocError> {
+        let Some(table) = Table::at(self.bytes, self.at) else {
+            self.at = self.bytes.len();
+            return Ok(());
         };
-        self.begin();
-        match opened {
-            Some(open) => {
-                self.open.push(open)?;
+        let open = Open::Template {
+            keys: table.keys,
+            len: table.len,
+            fields: 0,
+        };
+        self.open(open, table.size(), table.fields)
+    }
+
+    /// Goes past the scalar, the string or the head that comes.
+    fn pass(&mut self) -> Result<(), AllocError> {
+        let Some((token, len)) = token_at(self.bytes, self.at) else {
+            self.at = self.bytes.len();
+            return Ok(());
+        };
+        let after = self.at.saturating_add(len);
+        match token {
+            Token::Array { len } => self.open(Open::Array(0), len, after),
+            Token::Object { len } => self.open(Open::Object(None), len.saturating_mul(2), after),
+            Token::Template => self.open_template(),
+            Token::Str { is_text: _, len } => {
+                self.put_key();
+                self.at = after.saturating_add(len);
                 Ok(())
             }
-            None => Ok(()),
+            _ => {
+                self.at = after;
+                Ok(())
+            }
         }
+    }
+
+    /// Goes past the end of the innermost container, or else past what begins in it.
+    fn go_on(&mut self) -> Result<(), AllocError> {
+        if let Some(Level { left: 0, .. }) = self.levels.last() {
+            let _closed = self.levels.pop();
+            return Ok(());
+        }
+        self.begin();
+        self.pass()
     }
 
     /// Puts the step to the value of a key behind the others.
-    fn put_key(&self, alloc: Global, span: Span, steps: &mut Vec<Step>) -> Result<(), AllocError> {
-        let bytes = match self.strings.get(span.at..span.end) {
-            Some(bytes) => bytes,
-            None => &[],
-        };
-        let key = String::from_str(alloc, as_text(bytes).unwrap_or(""))?;
-        steps.push(Step::Key(key))?;
+    fn put_step(&self, alloc: Global, span: Span, steps: &mut Vec<Step>) -> Result<(), AllocError> {
+        let text = as_text(bytes_of(self.bytes, span)).unwrap_or("");
+        steps.push(Step::Key(String::from_str(alloc, text)?))?;
         Ok(())
+    }
+
+    /// Where the key stands that has this index among those that begin at `keys`.
+    fn key_at(&self, keys: usize, index: usize) -> Option<Span> {
+        let mut span = string_at(self.bytes, keys)?;
+        for _ in 0..index {
+            span = string_at(self.bytes, span.end)?;
+        }
+        Some(span)
     }
 
     /// Puts the steps into a container behind the others. Where it is meant as a whole, the last of
@@ -96,17 +157,11 @@ impl<'m> Opened<'m> {
                 steps.push(Step::Index(items - 1))?;
                 Ok(())
             }
-            Open::Object(Some(span)) if !is_whole => self.put_key(alloc, span, steps),
+            Open::Object(Some(span)) if !is_whole => self.put_step(alloc, span, steps),
             Open::Template { keys, len, fields } if fields > 0 && len > 0 => {
                 steps.push(Step::Index((fields - 1) / len))?;
-                let place = keys.saturating_add((fields - 1) % len);
-                match self.parts.get(place) {
-                    Some(
-                        Part {
-                            what: What::Key(span),
-                            ..
-                        },
-                    ) if !is_whole => self.put_key(alloc, *span, steps),
+                match self.key_at(keys, (fields - 1) % len) {
+                    Some(span) if !is_whole => self.put_step(alloc, span, steps),
                     _ => Ok(()),
                 }
             }
@@ -115,31 +170,31 @@ impl<'m> Opened<'m> {
     }
 }
 
-/// The steps to a place in the parts of a message.
+/// The steps to a site in a message whose body begins behind `start` bytes.
 pub fn steps_to(
     alloc: Global,
-    parts: &[Part],
-    strings: &[u8],
+    bytes: &[u8],
+    start: usize,
     site: Site,
 ) -> Result<Vec<Step>, AllocError> {
     let mut opened = Opened {
-        parts,
-        strings,
-        open: Vec::new(alloc),
+        bytes,
+        at: start,
+        levels: Vec::new(alloc),
     };
-    for at in 0..site.part {
-        match parts.get(at) {
-            Some(part) => opened.pass(at, part.what)?,
-            None => break,
+    for _ in 0..bytes.len().saturating_mul(2) {
+        if opened.is_at(site) {
+            break;
         }
+        opened.go_on()?;
     }
     if site.is_inside {
         opened.begin();
     }
     let mut steps = Vec::new(alloc);
-    let count = opened.open.len();
+    let count = opened.levels.len();
     for level in 0..count {
-        if let Some(open) = opened.open.get(level) {
+        if let Some(Level { open, .. }) = opened.levels.get(level) {
             let is_last = level.saturating_add(1) == count;
             opened.put(alloc, *open, is_last && site.is_whole, &mut steps)?;
         }

@@ -1,29 +1,46 @@
-//! A walk over the parts of a message.
+//! A walk over a well-formed message.
 use crate::faults::Fault;
+use crate::heads::{Span, bytes_of, count_at, rest, string_at, tag_at, token_at};
 use crate::misfit::Reason;
-use crate::part::{Part, Span, What};
+use crate::table::Table;
+use bser_bunser::prefix::{Prefix, Token, int_prefix};
+use bser_format::header::{BSER_ARRAY, BSER_OBJECT, BSER_TEMPLATE, BSER_UTF8STRING};
 use bser_source::text::as_text;
 use serde_bser::describe::Wanted;
 use std::alloc::Global;
 
-/// The rows of a template that is open.
+/// What is said to be read last at the end of a container.
+pub(crate) const ENDED: usize = usize::MAX;
+
+/// What a container is.
 #[derive(Clone, Copy, Drop)]
-pub(crate) struct Rows {
-    /// The first of the template's keys in `keys`, and how many they are.
-    keys: usize,
-    len: usize,
-    /// The key whose field comes next in the row that is open.
+enum Form {
+    /// An array or an object.
+    Parts,
+    /// A template, between two rows.
+    Rows,
+    /// A template, in one of its rows.
+    Row,
+}
+
+/// A container that is open.
+#[derive(Clone, Copy, Drop)]
+pub(crate) struct Open {
+    form: Form,
+    /// How many items, entries or rows are not begun yet.
+    left: usize,
+    /// The template's keys in `keys`, and that of the field that comes next.
+    pub(crate) first: usize,
+    pub(crate) end: usize,
     next: usize,
-    /// How many containers are open between two rows.
-    depth: usize,
 }
 
 /// What is read next.
 #[derive(Clone, Copy, Drop)]
 pub(crate) enum Due {
-    /// The value that begins with the next part.
+    /// The value that comes next.
     Value,
-    /// The row whose fields are the next parts.
+    /// The row whose fields come next.
     Row,
     /// This key, as a value.
     Key(Span),
@@ -33,123 +50,137 @@ pub(crate) enum Due {
 #[derive(Clone, Copy, Drop)]
 pub struct Mark {
     at: usize,
-    depth: usize,
     due: Due,
-    rows: usize,
+    open: Open,
+    outer: usize,
     keys: usize,
 }
 
 /// A key of a template that is open.
 #[derive(Clone, Copy, Drop)]
-pub(crate) struct RowKey<'m> {
+struct RowKey<'m> {
     span: Span,
     text: &'m str,
 }
 
-/// The parts of a message, and how far it was read.
+/// A message, and how far it was read.
 #[derive(Drop)]
 pub struct Walk<'m> {
-    pub(crate) parts: &'m [Part],
-    pub(crate) strings: &'m [u8],
-    /// The next part.
+    pub(crate) alloc: Global,
+    pub(crate) bytes: &'m [u8],
+    /// How many bytes of the message stand before what comes next.
     pub(crate) at: usize,
-    /// How many containers are open, and rows.
-    depth: usize,
+    /// How many stand before what was read last, or [`ENDED`].
+    pub(crate) last: usize,
     pub(crate) due: Due,
-    /// The templates that are open, and their keys.
-    rows: Vec<Rows>,
+    /// The innermost container that is open.
+    pub(crate) open: Open,
+    /// Those around it, and one around the message.
+    outer: Vec<Open>,
+    /// The keys of the templates that are open.
     keys: Vec<RowKey<'m>>,
 }
 
 impl<'m> Walk<'m> {
-    /// Before the first part. The strings stand in `strings`.
-    pub fn new(alloc: Global, parts: &'m [Part], strings: &'m [u8]) -> Walk<'m> {
+    /// Before the body of a message, which begins behind `start` bytes.
+    pub fn new(alloc: Global, bytes: &'m [u8], start: usize) -> Walk<'m> {
         Walk {
-            parts,
-            strings,
-            at: 0,
-            depth: 0,
+            alloc,
+            bytes,
+            at: start,
+            last: start,
             due: Due::Value,
-            rows: Vec::new(alloc),
+            open: Open {
+                form: Form::Parts,
+                left: 0,
+                first: 0,
+                end: 0,
+                next: 0,
+            },
+            outer: Vec::new(alloc),
             keys: Vec::new(alloc),
         }
     }
 
-    /// The part that comes next.
-    #[inline(always)]
-    fn coming(&self) -> What {
-        match self.parts.get(self.at) {
-            Some(part) => part.what,
-            None => What::Close,
-        }
+    /// How many containers are open.
+    pub(crate) fn depth(&self) -> usize {
+        self.outer.len()
     }
 
-    /// The part that came last.
-    pub(crate) fn last(&self) -> What {
-        match self.parts.get(self.at.saturating_sub(1)) {
-            Some(part) => part.what,
-            None => What::Close,
-        }
-    }
-
-    /// The part with which the value begins that is read next. A row and a key are no parts.
+    /// The tag of what is read next. A row is an object, and a key a text.
     #[inline(always)]
-    pub(crate) fn here(&self) -> What {
+    pub(crate) fn here(&self) -> u8 {
         match self.due {
-            Due::Value => self.coming(),
-            Due::Row => What::Object,
-            Due::Key(span) => What::Key(span),
+            Due::Value => tag_at(self.bytes, self.at),
+            Due::Row => BSER_OBJECT,
+            Due::Key(_) => BSER_UTF8STRING,
         }
     }
 
-    /// Goes past a part.
+    /// The scalar or the head that comes, unless a row or a key does.
+    #[inline(never)]
+    pub(crate) fn token(&self) -> Option<(Token, usize)> {
+        match self.due {
+            Due::Value => token_at(self.bytes, self.at),
+            _ => None,
+        }
+    }
+
+    /// Goes past what comes, which ends there.
     #[inline(always)]
-    pub(crate) fn pass(&mut self) {
-        self.at = self.at.saturating_add(1);
+    fn pass_to(&mut self, end: usize) {
+        self.last = self.at;
+        self.at = end;
+    }
+
+    /// Goes past so many bytes, which are what comes.
+    #[inline(always)]
+    pub(crate) fn pass(&mut self, len: usize) {
+        self.pass_to(self.at.saturating_add(len));
     }
 
     /// The integer that comes.
     #[inline(always)]
     pub(crate) fn integer(&mut self) -> Result<i64, Fault> {
-        match self.here() {
-            What::Int(number) => {
-                self.pass();
-                Ok(number)
+        if let Due::Value = self.due {
+            if let Prefix::Found { value, len } = int_prefix(rest(self.bytes, self.at)) {
+                self.pass(len);
+                return Ok(value);
             }
-            _ => Err(self.stray(Wanted::Integer)),
         }
+        Err(self.stray(Wanted::Integer))
     }
 
     /// Where the string or the key is that comes.
     #[inline(always)]
     pub(crate) fn string_span(&mut self) -> Result<Span, Fault> {
-        match self.here() {
-            What::Bytes(span) | What::Text(span) => {
-                self.pass();
-                Ok(span)
-            }
-            What::Key(span) => {
+        match self.due {
+            Due::Value => match string_at(self.bytes, self.at) {
+                Some(span) => {
+                    self.pass_to(span.end);
+                    Ok(span)
+                }
+                None => Err(self.stray(Wanted::Text)),
+            },
+            Due::Row => Err(self.stray(Wanted::Text)),
+            Due::Key(span) => {
                 self.due = Due::Value;
                 Ok(span)
             }
-            _ => Err(self.stray(Wanted::Text)),
         }
     }
 
-    /// The bytes that stand there.
+    /// The bytes that come, as a string or a key.
     #[inline(always)]
-    pub(crate) fn bytes(&self, span: Span) -> &'m [u8] {
-        match self.strings.get(span.at..span.end) {
-            Some(bytes) => bytes,
-            None => &[],
-        }
+    pub(crate) fn string_bytes(&mut self) -> Result<&'m [u8], Fault> {
+        let span = self.string_span()?;
+        Ok(bytes_of(self.bytes, span))
     }
 
     /// The text that comes.
     #[inline(always)]
     pub(crate) fn text(&mut self) -> Result<&'m str, Fault> {
-        let span = self.string_span()?;
-        match as_text(self.bytes(span)) {
+        match as_text(self.string_bytes()?) {
             Some(text) => Ok(text),
             None => Err(self.behind(Reason::NotUtf8)),
         }
@@ -157,160 +188,168 @@ impl<'m> Walk<'m> {
 
     /// The key that stands there, which is UTF-8.
     #[inline(always)]
-    pub(crate) fn key(&self, span: Span) -> &'m str {
-        as_text(self.bytes(span)).unwrap_or("")
+    fn key(&self, span: Span) -> &'m str {
+        as_text(bytes_of(self.bytes, span)).unwrap_or("")
+    }
+
+    /// Opens a container.
+    #[inline(always)]
+    fn enter(&mut self, open: Open) -> Result<(), Fault> {
+        match self.outer.push(self.open) {
+            Ok(()) => {
+                self.open = open;
+                Ok(())
+            }
+            Err(_) => Err(Fault::Memory),
+        }
+    }
+
+    /// Opens the array or the object that comes.
+    #[inline(always)]
+    fn enter_parts(&mut self) -> Result<(), Fault> {
+        let (left, end) = match count_at(self.bytes, self.at.saturating_add(1)) {
+            Some(count) => (count.count, count.end),
+            None => (0, self.bytes.len()),
+        };
+        self.pass_to(end);
+        let keys = self.keys.len();
+        self.enter(Open {
+            form: Form::Parts,
+            left,
+            first: keys,
+            end: keys,
+            next: keys,
+        })
     }
 
     /// Begins an array, or a template.
+    #[inline(always)]
     pub(crate) fn open_array(&mut self) -> Result<(), Fault> {
         match self.here() {
-            What::Array => {
-                self.pass();
-                self.depth = self.depth.saturating_add(1);
-                Ok(())
-            }
-            What::Template(len) => self.open_template(len),
+            BSER_ARRAY => self.enter_parts(),
+            BSER_TEMPLATE => self.enter_rows(),
             _ => Err(self.stray(Wanted::Array)),
         }
     }
 
-    /// Begins a template of so many keys.
+    /// Opens the template that comes.
     #[inline(never)]
-    fn open_template(&mut self, len: usize) -> Result<(), Fault> {
-        self.pass();
-        self.depth = self.depth.saturating_add(1);
-        let keys = self.keys.len();
-        for _ in 0..len {
-            if let What::Key(span) = self.coming() {
+    fn enter_rows(&mut self) -> Result<(), Fault> {
+        let Some(table) = Table::at(self.bytes, self.at) else {
+            return Err(self.stray(Wanted::Array));
+        };
+        let first = self.keys.len();
+        let mut at = table.keys;
+        for _ in 0..table.len {
+            if let Some(span) = string_at(self.bytes, at) {
+                at = span.end;
                 let text = self.key(span);
                 if self.keys.push(RowKey { span, text }).is_err() {
                     return Err(Fault::Memory);
                 }
             }
-            self.pass();
         }
-        // the count of the rows
-        self.pass();
-        let rows = Rows {
-            keys,
-            len,
-            next: 0,
-            depth: self.depth,
-        };
-        match self.rows.push(rows) {
-            Ok(()) => Ok(()),
-            Err(_) => Err(Fault::Memory),
-        }
+        self.pass_to(table.fields);
+        let end = self.keys.len();
+        self.enter(Open {
+            form: Form::Rows,
+            left: table.rows,
+            first,
+            end,
+            next: end,
+        })
     }
 
     /// Whether another item of the array, or row of the template, comes. At the end it is closed.
     #[inline(always)]
     pub(crate) fn has_item(&mut self) -> bool {
-        if let What::Close = self.coming() {
-            self.close_array();
+        if self.open.left == 0 {
+            self.close();
             return false;
         }
-        if self.is_between_rows() {
+        self.open.left = self.open.left.saturating_sub(1);
+        if let Form::Rows = self.open.form {
             self.due = Due::Row;
         }
         true
     }
 
     /// Whether the innermost container is a template, and none of its rows is open.
-    #[inline(always)]
     pub(crate) fn is_between_rows(&self) -> bool {
-        match self.rows.last() {
-            Some(rows) => rows.depth == self.depth,
-            None => false,
-        }
+        matches!(self.open.form, Form::Rows)
     }
 
-    /// Closes an array or a template.
+    /// Closes the innermost container.
     #[inline(never)]
-    fn close_array(&mut self) {
-        self.pass();
-        if self.is_between_rows() {
-            if let Some(rows) = self.rows.pop() {
-                self.keys.truncate(rows.keys);
-            }
+    fn close(&mut self) {
+        self.last = ENDED;
+        self.keys.truncate(self.open.first);
+        if let Some(open) = self.outer.pop() {
+            self.open = open;
         }
-        self.depth = self.depth.saturating_sub(1);
     }
 
     /// Begins an object, or a row.
     #[inline(always)]
     pub(crate) fn open_object(&mut self) -> Result<(), Fault> {
-        match self.due {
-            Due::Row => {
-                self.due = Due::Value;
-                if let Some(rows) = self.rows.last_mut() {
-                    rows.next = 0;
-                }
-            }
-            Due::Value => match self.coming() {
-                What::Object => self.pass(),
-                _ => return Err(self.stray(Wanted::Object)),
-            },
-            Due::Key(_) => return Err(self.stray(Wanted::Object)),
+        if let Due::Row = self.due {
+            self.due = Due::Value;
+            self.open.form = Form::Row;
+            self.open.next = self.open.first;
+            return Ok(());
         }
-        self.depth = self.depth.saturating_add(1);
-        Ok(())
+        if self.here() == BSER_OBJECT {
+            return self.enter_parts();
+        }
+        Err(self.stray(Wanted::Object))
     }
 
-    /// Which of `keys` has the next field of the row that is open. None of the inner where the row
-    /// ends, and none of the outer where no row is the innermost container.
+    /// Which of `keys` has the next field of the row that is open, or none at its end.
     #[inline(always)]
-    fn next_field(&mut self) -> Option<Option<RowKey<'m>>> {
-        let rows = self.rows.last_mut()?;
-        if rows.depth.saturating_add(1) != self.depth {
+    fn next_field(&mut self) -> Option<RowKey<'m>> {
+        if self.open.next >= self.open.end {
+            self.open.form = Form::Rows;
             return None;
         }
-        if rows.next >= rows.len {
-            self.depth = rows.depth;
-            return Some(None);
-        }
-        let place = rows.keys.saturating_add(rows.next);
-        rows.next = rows.next.saturating_add(1);
-        Some(match self.keys.get(place) {
-            Some(key) => Some(*key),
-            None => None,
-        })
+        let key = self.keys.get(self.open.next).copied();
+        self.open.next = self.open.next.saturating_add(1);
+        self.last = self.at;
+        key
     }
 
     /// Where the next key of the object stands, or none at its end, where it is closed.
     #[inline(always)]
-    fn next_key_part(&mut self) -> Option<Span> {
-        let what = self.coming();
-        self.pass();
-        match what {
-            What::Key(span) => Some(span),
-            _ => {
-                self.depth = self.depth.saturating_sub(1);
-                None
-            }
+    fn next_entry_key(&mut self) -> Option<Span> {
+        if self.open.left == 0 {
+            self.close();
+            return None;
         }
+        self.open.left = self.open.left.saturating_sub(1);
+        let span = string_at(self.bytes, self.at)?;
+        self.pass_to(span.end);
+        Some(span)
     }
 
     /// The next key of the object or the row, or none at the end, where it is closed.
     #[inline(always)]
     pub(crate) fn key_text(&mut self) -> Option<&'m str> {
-        match self.next_field() {
-            Some(Some(key)) => Some(key.text),
-            Some(None) => None,
-            None => match self.next_key_part() {
-                Some(span) => Some(self.key(span)),
-                None => None,
-            },
+        if let Form::Row = self.open.form {
+            let key = self.next_field()?;
+            return Some(key.text);
         }
+        let span = self.next_entry_key()?;
+        Some(self.key(span))
     }
 
     /// Has the next key of the object or the row read as a value, and answers false at the end,
     /// where it is closed.
     pub(crate) fn has_entry(&mut self) -> bool {
-        let span = match self.next_field() {
-            Some(Some(key)) => Some(key.span),
-            Some(None) => None,
-            None => self.next_key_part(),
+        let span = match self.open.form {
+            Form::Row => match self.next_field() {
+                Some(key) => Some(key.span),
+                None => None,
+            },
+            _ => self.next_entry_key(),
         };
         match span {
             Some(span) => {
@@ -321,70 +360,24 @@ impl<'m> Walk<'m> {
         }
     }
 
-    /// Goes past what is read next.
-    #[inline(always)]
-    pub(crate) fn pass_due(&mut self) {
-        match self.due {
-            Due::Value => self.pass_value(),
-            Due::Key(_) => self.due = Due::Value,
-            Due::Row => {
-                self.due = Due::Value;
-                let len = match self.rows.last() {
-                    Some(rows) => rows.len,
-                    None => 0,
-                };
-                for _ in 0..len {
-                    self.pass_value();
-                }
-            }
-        }
-    }
-
-    /// Goes past a value.
-    #[inline(always)]
-    fn pass_value(&mut self) {
-        let what = self.coming();
-        self.pass();
-        if let What::Array | What::Object | What::Template(_) = what {
-            self.pass_container();
-        }
-    }
-
-    /// Goes past the rest of a container.
-    #[inline(never)]
-    fn pass_container(&mut self) {
-        let mut open: usize = 1;
-        for _ in self.at..self.parts.len() {
-            let what = self.coming();
-            self.pass();
-            match what {
-                What::Array | What::Object | What::Template(_) => open = open.saturating_add(1),
-                What::Close => open = open.saturating_sub(1),
-                _ => {}
-            }
-            if open == 0 {
-                return;
-            }
-        }
-    }
-
     /// A place to come back to, before the value that is read next.
     pub(crate) fn place(&self) -> Mark {
         Mark {
             at: self.at,
-            depth: self.depth,
             due: self.due,
-            rows: self.rows.len(),
+            open: self.open,
+            outer: self.outer.len(),
             keys: self.keys.len(),
         }
     }
 
-    /// Goes back there. What was open there still is.
+    /// Goes back there. What was open there still is, and nothing was read last.
     pub(crate) fn go_back(&mut self, mark: Mark) {
         self.at = mark.at;
-        self.depth = mark.depth;
+        self.last = mark.at;
         self.due = mark.due;
-        self.rows.truncate(mark.rows);
+        self.open = mark.open;
+        self.outer.truncate(mark.outer);
         self.keys.truncate(mark.keys);
     }
 }

@@ -5,7 +5,6 @@
 #![tactic(auto)]
 
 pub mod counts;
-pub mod given;
 pub mod messages;
 mod open;
 mod quoted;

@@ -1,9 +1,10 @@
 //! The messages of a reader, shown one after the other.
 
-use crate::given::Given;
 use crate::trouble::Trouble;
 use bser_format::errors::{Error, ReadCause};
 use bser_messages::told::{Reason, Untold};
+use bser_progress::counted::Counted;
+use bser_progress::reports::Reports;
 use bser_source::device::Source;
 use std::alloc::{AllocError, Global};
 use std::io;
@@ -75,31 +76,36 @@ pub struct Input<'a> {
 
 /// Shows the messages of the reader, and tells whether each was shown whole.
 ///
-/// A message that fails has a line on `errors`, behind all that was shown of it. It ends the
+/// A message that fails has a line in the `reports`, behind all that was shown of it. It ends the
 /// showing, unless the input `keeps_going` and the end that the header announces can be reached:
-/// then the next message is shown. The error is that of the output. Where `errors` fails, its lines
-/// are lost.
+/// then the next message is shown. On a terminal the output has all of a message before the next is
+/// read. The error is that of the output.
 pub fn show_messages<S: Source, V: View, W: Write, E: Write>(
     alloc: Global,
     input: Input<'_>,
     reader: &mut S,
     view: &mut V,
     out: &mut W,
-    errors: &mut E,
+    reports: &mut Reports<'_, E>,
 ) -> io::Result<bool> {
-    let mut given = Given::new(reader);
+    let mut counted = Counted::new(reader, reports);
     let mut whole = true;
     for _ in 0..u64::MAX {
-        let start = given.given();
-        match view.show_next(alloc, start, &mut given, out) {
-            Ok(true) => {}
+        let start = counted.given();
+        match view.show_next(alloc, start, &mut counted, out) {
+            Ok(true) => {
+                counted.reports().count_message();
+                if counted.reports().has_watched_output() {
+                    out.flush()?;
+                }
+            }
             Ok(false) => return Ok(whole),
             Err(Failure::Output(fault)) => return Err(fault),
             Err(failure) => {
                 whole = false;
                 out.flush()?;
-                report(input.name, start, &failure, errors);
-                if !input.keeps_going || !goes_on(alloc, input.name, &failure, &mut given, errors) {
+                report(input.name, start, &failure, counted.reports());
+                if !input.keeps_going || !goes_on(alloc, input.name, &failure, &mut counted) {
                     return Ok(false);
                 }
             }
@@ -151,25 +157,20 @@ fn goes_on<S: Source, E: Write>(
     alloc: Global,
     name: &str,
     failure: &Failure,
-    reader: &mut S,
-    errors: &mut E,
+    counted: &mut Counted<'_, '_, S, E>,
 ) -> bool {
     let untold = match failure {
         Failure::Untold(untold) if !is_of_reader(untold) => untold,
         Failure::Absent | Failure::Memory | Failure::Unwritten(_) => return true,
         _ => return false,
     };
-    match untold.skip_rest(alloc, reader) {
-        Ok(true) => true,
-        Ok(false) => {
-            let _written = writeln!(errors, "bser: {name}: the next message is not found");
-            false
-        }
-        Err(_error) => {
-            let _written = writeln!(errors, "bser: {name}: the message is cut, and the last");
-            false
-        }
-    }
+    let why = match untold.skip_rest(alloc, counted) {
+        Ok(true) => return true,
+        Ok(false) => "the next message is not found",
+        Err(_error) => "the message is cut, and the last",
+    };
+    let _written = writeln!(counted.reports(), "bser: {name}: {why}");
+    false
 }
 
 /// Whether the reader ended or failed.

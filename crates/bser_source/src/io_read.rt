@@ -47,8 +47,9 @@ impl<S: Source> IoRead<S> {
     /// [`Watched`](crate::device::Watched) makes a [`Source`] of a reader by std's `Read`.
     #[inline(always)]
     pub fn new(reader: S) -> Self
-        ensures { ⟦<IoRead<S> as DeRead>⟧.window result
+        ensures window { ⟦<IoRead<S> as DeRead>⟧.window result
             ≡ io_fresh S.remaining S.failures S.through reader }
+        ensures reader { io_reader result ≡ reader }
     {
         IoRead {
             reader,
@@ -59,6 +60,27 @@ impl<S: Source> IoRead<S> {
             limit: 0,
             failed: false,
         }
+    }
+
+    /// Reads from the reader's next byte on, as a new source of it does, in the block that is there.
+    /// Bytes that were buffered are lost.
+    pub fn restart(&mut self)
+        ensures window { ⟦<IoRead<S> as DeRead>⟧.window self.new
+            ≡ io_fresh S.remaining S.failures S.through (io_reader self.old) }
+        ensures reader { io_reader self.new ≡ io_reader self.old }
+    {
+        self.start = 0;
+        self.end = 0;
+        self.arrived = 0;
+        self.limit = 0;
+        self.failed = false;
+    }
+
+    /// The reader.
+    pub fn get_ref(&self) -> &S
+        ensures { result.now ≡ io_reader self.now }
+    {
+        &self.reader
     }
 
     /// Gives the reader back. Bytes that were buffered are lost.

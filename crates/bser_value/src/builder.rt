@@ -1,5 +1,5 @@
 //! What is made of the events of a value.
-ghost use Rattle.std.specs.Prelude.{◌≡◌, true, false, [], ◌∷◌, ◌++◌, Some, OnOk, option_map};
+ghost use Rattle.std.specs.Prelude.{◌≡◌, true, false, [], ◌∷◌, ◌++◌, Some, OnOk, option_map, string_bytes};
 ghost use Rattle.bser_format.specs.Tree.{Tree, bytes, text};
 ghost use Rattle.bser_events.specs.Told.{told};
 ghost use Rattle.bser_value.specs.Around.{around_of};
@@ -136,6 +136,26 @@ impl ValueBuilder {
 }
 
 impl ValueBuilder {
+    /// Puts in a byte string, which is not copied.
+    fn put_own_bytes(&mut self, string: Vec<u8>) -> Result<(), AllocError>
+        ensures { OnOk result (Gives (bytes string.items) self.old self.new) }
+    {
+        let mut own = string;
+        own.shrink_to_fit();
+        self.put(Value::ByteString(ByteString::from_vec(own)))
+    }
+
+    /// Puts in a text, which is not copied.
+    fn put_own_text(&mut self, string: String) -> Result<(), AllocError>
+        ensures { OnOk result (Gives (text (string_bytes string)) self.old self.new) }
+    {
+        let mut own = string;
+        own.shrink_to_fit();
+        self.put(Value::Utf8String(own))
+    }
+}
+
+impl ValueBuilder {
     /// Takes an event.
     #[inline(always)]
     fn put_event(&mut self, event: Event<'_>) -> Result<(), AllocError>
@@ -175,6 +195,20 @@ impl Builder for ValueBuilder {
     #[inline(always)]
     fn take(&mut self, event: Event<'_>, _place: Place) -> Result<(), Stop> {
         match self.put_event(event) {
+            Ok(()) => Ok(()),
+            Err(_) => Err(Stop::Memory),
+        }
+    }
+
+    fn take_text(&mut self, text: String, _place: Place) -> Result<(), Stop> {
+        match self.put_own_text(text) {
+            Ok(()) => Ok(()),
+            Err(_) => Err(Stop::Memory),
+        }
+    }
+
+    fn take_bytes(&mut self, string: Vec<u8>, _place: Place) -> Result<(), Stop> {
+        match self.put_own_bytes(string) {
             Ok(()) => Ok(()),
             Err(_) => Err(Stop::Memory),
         }

@@ -2,6 +2,7 @@
 use crate::output::Output;
 use anyhow::{Result, ensure};
 use bser_commands::program::run_bser;
+use bser_progress::screen::Terminals;
 
 /// What a run left.
 #[derive(Drop)]
@@ -26,7 +27,15 @@ pub fn run_command_to(rt: &HostRuntime, words: &[&str], input: &[u8], most: usiz
     let mut left = input;
     let mut output = Output::new(alloc, most);
     let mut errors = Vec::new(alloc);
-    let status = run_bser(alloc, rt, &all, &mut left, &mut output, &mut errors);
+    let status = run_bser(
+        alloc,
+        rt,
+        &all,
+        Terminals::NONE,
+        &mut left,
+        &mut output,
+        &mut errors,
+    );
     let output = output.into_bytes();
     Ok(Run {
         status,

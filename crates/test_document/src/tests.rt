@@ -1,5 +1,6 @@
 //! Tests of documents.
 mod answers;
+mod gathered;
 mod items;
 mod kinds;
 mod parts;

@@ -1,5 +1,6 @@
 //! What derives read and write.
 mod checks;
 mod forms;
+mod memory;
 mod refusals;
 mod strings;

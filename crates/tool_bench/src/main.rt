@@ -6,16 +6,16 @@
 //! files.
 //!
 //! `serialize` writes a `Value` to memory, `to-vec` does so without measuring it first,
-//! `serialize-compact` does so in the compact form, and `value` and `value-reader` read one; they
-//! print the length and a checksum of its message. `typed-lent`, `typed-owned` and `typed-reader`
-//! read the files as structs, and print how many there are and the sum of their fields.
-//! `derived-lent` and `derived-owned` do so by derives, and `derived-write` writes such structs to
-//! memory. `document`
-//! and `document-reader` read a `Document` and print how many files it has; `document-lookup` looks
-//! up two numbers of each file as well, and prints their sum; `document-write` writes one to
-//! memory. `canon` reads a message from a reader and writes its canonical message, as `bser_canon`
-//! does. `skip` keeps nothing. `size` adds up what the message stands for, and prints it. The
-//! operations on a `reader`, and `canon`, read from a reader over the bytes, the others from the
+//! `serialize-compact` does so in the compact form, and `value`, `value-reader` and `value-stream`
+//! read one; they print the length and a checksum of its message. `typed-lent`, `typed-owned` and
+//! `typed-reader` read the files as structs, and print how many there are and the sum of their
+//! fields. `derived-lent` and `derived-owned` do so by derives, and `derived-write` writes such
+//! structs to memory. `document` and `document-reader` read a `Document` and print how many files
+//! it has; `document-lookup` looks up two numbers of each file as well, and prints their sum;
+//! `document-write` writes one to memory. `canon` reads a message from a reader and writes its
+//! canonical message, as `bser_canon` does. `skip` keeps nothing. `size` adds up what the message
+//! stands for, and prints it. The operations on a `reader`, and `canon`, read from a reader over
+//! the bytes, `value-stream` from one reader over COUNT copies of them, and the others from the
 //! bytes themselves.
 #![tactic(auto)]
 
@@ -32,6 +32,7 @@ use serde_bser::de::{Deserialize, DeserializeOwned, Ignored, Size};
 use serde_bser::device::Watched;
 use serde_bser::document::{Document, Item, Rows};
 use serde_bser::ser::{InMemory, serialize, serialize_compact, to_vec};
+use serde_bser::stream::ReaderMessages;
 use serde_bser::value::Value;
 use serde_bser::{from_reader, from_slice};
 use std::alloc::Global;
@@ -44,12 +45,13 @@ const FEW: usize = 3;
 const MANY: usize = 500;
 
 /// What is done.
-const OPERATIONS: [&str; 18] = [
+const OPERATIONS: [&str; 19] = [
     "serialize",
     "to-vec",
     "serialize-compact",
     "value",
     "value-reader",
+    "value-stream",
     "typed-lent",
     "typed-owned",
     "typed-reader",
@@ -111,6 +113,7 @@ fn repeated(alloc: Global, operation: &str, message: &[u8], count: u32) -> Resul
         "serialize-compact" => compact_often(alloc, message, count),
         "value" => value_told(alloc, read_often(alloc, message, count)),
         "value-reader" => value_told(alloc, copied_often(alloc, message, count)),
+        "value-stream" => value_told(alloc, streamed_often(alloc, message, count)),
         "typed-lent" => files_told::<&[u8], &str>(alloc, read_often(alloc, message, count)),
         "typed-owned" => files_told::<ByteString, String>(alloc, read_often(alloc, message, count)),
         "typed-reader" => {
@@ -146,8 +149,8 @@ fn read_often<'de, T: Deserialize<&'de [u8]>>(
     last.context("COUNT is 0")
 }
 
-// Reads the message `count` times, each time from a reader, and answers what was read last. What was
-// read before is dropped first.
+// Reads the message `count` times, each time from a reader, and answers what was read last. What
+// was read before is dropped first.
 fn copied_often<T: DeserializeOwned>(alloc: Global, message: &[u8], count: u32) -> Result<T> {
     let mut last = None;
     for _ in 0..count {
@@ -155,6 +158,22 @@ fn copied_often<T: DeserializeOwned>(alloc: Global, message: &[u8], count: u32) 
         let mut reader = Watched::new(message);
         let read: T = from_reader(alloc, &mut reader)?;
         last = Some(read);
+    }
+    last.context("COUNT is 0")
+}
+
+// Reads `count` copies of the message, one after the other from one reader, and answers what was
+// read last. What was read before is dropped first.
+fn streamed_often<T: DeserializeOwned>(alloc: Global, message: &[u8], count: u32) -> Result<T> {
+    let mut copies = Vec::new(alloc);
+    for _ in 0..count {
+        copies.extend_from_slice(message)?;
+    }
+    let mut messages = ReaderMessages::new(alloc, Watched::new(copies.as_slice()));
+    let mut last = None;
+    for _ in 0..count {
+        last = None;
+        last = messages.next_message()?;
     }
     last.context("COUNT is 0")
 }

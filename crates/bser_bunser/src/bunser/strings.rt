@@ -96,6 +96,25 @@ impl<R: DeRead> Bunser<R> {
         }
     }
 
+    /// Takes `len` bytes, more than are buffered, to `scratch` in place of what it held.
+    ///
+    /// The errors are those of [`Self::bytes`]. A source that lends has no more than it buffered.
+    #[cold]
+    #[inline(never)]
+    pub fn gather(&mut self, len: usize, scratch: &mut Vec<u8>) -> Answer<()>
+        requires { length self.old.window.buffered < len }
+        ensures length { OnOk result (length scratch.new.items ≡ len) }
+        ensures ok { OnOk result (Takes scratch.new.items self.old self.new) }
+        ensures kept { OnOk result (Keeps self.old self.new) }
+        ensures err { OnErr result (LacksBytes len self.old self.new) }
+        ensures names { OnErr result (NamedBy (front len) self.old self.new) }
+    {
+        match self.read.gather(len, scratch) {
+            Ok(()) => Ok(()),
+            Err(cause) => Err(self.refuse_cause(cause)),
+        }
+    }
+
     /// Takes `len` bytes as a copy.
     ///
     /// The errors are those of [`Self::fill`] for `len` bytes, and [`Error::OutOfMemory`] where the

@@ -34,6 +34,28 @@ fn misfits(rt: HostRuntime) {
     );
 }
 
+/// A template with the keys `name` and `age` and a row of 20 years.
+const ROW: &[u8] =
+    b"\x00\x02\x00\x00\x00\x00\x03\x1c\x0b\x00\x03\x02\x02\x03\x04name\x02\x03\x03age\
+\x03\x01\x02\x03\x04fred\x03\x14";
+
+#[test]
+fn misfits_in_rows(rt: HostRuntime) {
+    let alloc = rt.alloc();
+    check_refused::<Vec<BTreeMap<String, ByteBuf>>>(
+        &rt,
+        alloc,
+        ROW,
+        "wrong type: an integer where a text or a byte string is wanted, at byte 34, in [0].age",
+    );
+    check_refused::<Vec<BTreeMap<u8, ByteBuf>>>(
+        &rt,
+        alloc,
+        ROW,
+        "wrong type: a text where an integer is wanted, at byte 27, in [0].name",
+    );
+}
+
 #[test]
 fn malformed(rt: HostRuntime) {
     let alloc = rt.alloc();

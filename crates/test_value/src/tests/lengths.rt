@@ -2,11 +2,12 @@
 use super::checks::repeated;
 use super::writing::check_written;
 use bser_vectors::devices::{Plan, PlannedReader};
+use bser_vectors::ways::read_by_plan;
 use serde_bser::de::{DeserializeOwned, Ignored, from_reader, from_slice};
 use serde_bser::device::Watched;
 use serde_bser::errors::Result;
 use serde_bser::value::Value;
-use std::alloc::Global;
+use std::alloc::{AllocError, Global};
 use std::process::Abort;
 
 /// A message of an array of 5000 numbers, from 0 to 99 again and again.
@@ -50,6 +51,41 @@ fn a_long_byte_string_is_written_as_it_was_read(rt: HostRuntime) {
     );
     let value = from_slice(rt.alloc(), &message).expect(&rt, "the message is read");
     check_written(&rt, rt.alloc(), &value, &message);
+}
+
+/// A message of an array of a byte string of 10,000 bytes, a text of as many, and one of two.
+fn strings(alloc: Global) -> std::result::Result<Vec<u8>, AllocError> {
+    let front = b"\x00\x02\0\0\0\0\x04\x30\x4e\x00\x03\x03\x02\x04\x10\x27";
+    let bytes = repeated(alloc, front, b"\xff\x00", 5000, b"\x0d\x04\x10\x27")?;
+    repeated(alloc, &bytes, b"\xc3\xa9", 5000, b"\x0d\x03\x02ab")
+}
+
+/// Checks that the strings of the array are those of the message.
+fn check_strings(rt: &impl Abort, message: &[u8], value: &Value) {
+    match value.as_array().expect(rt, "an array").as_slice() {
+        [
+            Value::ByteString(bytes),
+            Value::Utf8String(text),
+            Value::Utf8String(end),
+        ] => {
+            assert!(rt; Some(bytes.as_bytes()) == message.get(16..10_016));
+            assert!(rt; Some(text.as_str().as_bytes()) == message.get(10_020..20_020));
+            assert_eq!(rt; end.as_str(), "ab");
+        }
+        _ => rt.abort(),
+    }
+}
+
+#[test]
+fn long_strings_of_a_reader_are_those_of_the_message(rt: HostRuntime) {
+    let message = strings(rt.alloc()).expect(&rt, "memory is left");
+    let whole = from_slice(rt.alloc(), &message).expect(&rt, "the message is read");
+    check_strings(&rt, &message, &whole);
+    for most in [1000, 4096, 65_536] {
+        let (answer, _) = read_by_plan(rt.alloc(), &message, Plan::pieces(most));
+        let value: Value = answer.expect(&rt, "the message is read");
+        check_strings(&rt, &message, &value);
+    }
 }
 
 /// Checks that a reader that gives what is asked for is called at most 16 times for the message.

@@ -2,7 +2,7 @@
 use Rattle.std.proofs.Common.{rules, ap, ◌∙◌}
 use Rattle.bser_messages.proofs.Slices.{slice_refused_within}
 use Rattle.bser_messages.proofs.Tellings.{slice_through, slice_reason, is_stop, reason_within}
-use Rattle.bser_messages.specs.Watched.{builder_of}
+use Rattle.bser_events.specs.Watched.{builder_of}
 use Rattle.bser_format.specs.ReadsAny.{reads_ignored}
 use Rattle.bser_deserializer.specs.Askings.{asking_ignored}
 use Rattle.bser_deserializer.specs.Reading.{owned}

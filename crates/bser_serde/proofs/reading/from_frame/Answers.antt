@@ -15,6 +15,6 @@ pub returns-in-Ok-read-clause-found : goal.returns-in-Ok-read-clause-found
 returns-in-Ok-read-clause-found g c =
     subst (λ l. IsWellFormed l c.args.frame.now) (usual c.new.result c.new.ensures.levels c.new.ensures.bytes) (is_whole _ _ _ _ _ _ _ c.in-Ok.ensures.found c.message_length-taken.ensures c.if-taken-frame.false)
 
-pub returns-in-Ok-clause-refused : goal.returns-in-Ok-clause-refused
-returns-in-Ok-clause-refused g c =
+pub returns-in-Err-read-clause-refused : goal.returns-in-Err-read-clause-refused
+returns-in-Err-read-clause-refused g c =
     unread_frame _ _ _ (subst (λ l. SliceUnread l c.args.frame.now c.in-Err-read.refusal) (usual c.new.result c.new.ensures.levels c.new.ensures.bytes) (unfit_slice _ _ _ (begins_with _ _ _ _ _ _ c.in-Ok.ensures.found) c.in-Err-read.ensures))

@@ -32,7 +32,12 @@ fn check_next<R: Source>(
 fn the_messages_of_a_reader_are_read_in_turn(rt: HostRuntime) {
     let mut reader = one_by_one(NUMBERS);
     let mut messages = ReaderMessages::new(rt.alloc(), &mut reader);
-    let answers = [("Ok(Some(300))", 1), ("Ok(Some(300))", 2), ("Ok(None)", 2)];
+    let answers = [
+        ("Ok(Some(300))", 1),
+        ("Ok(Some(300))", 2),
+        ("Ok(None)", 2),
+        ("Ok(None)", 2),
+    ];
     check_next(&rt, rt.alloc(), &mut messages, &answers);
     assert!(rt; !messages.is_failed());
 }

@@ -7,7 +7,7 @@ use bser_source::device::{Source, Watched};
 use bser_vectors::devices::{Plan, PlannedReader};
 use bser_vectors::witness::Witness;
 use serde_bser::tell::{Header, Limits, Untold, from_slice, next_message};
-use std::alloc::Global;
+use std::alloc::{AllocError, Global};
 use std::process::Abort;
 use std::rt::HostRuntime;
 
@@ -66,6 +66,42 @@ fn a_builder_that_wants_no_more_is_named(rt: HostRuntime) {
     let error = check_error(&rt, alloc, answer, "stopped by the builder, at byte 27");
     assert_eq!(rt; error.given, ROWS.len());
     assert_eq!(rt; witness.taken, 2);
+}
+
+/// A message of an array of a byte string of 5000 bytes and a text of as many.
+fn long_strings(alloc: Global) -> Result<Vec<u8>, AllocError> {
+    let head = b"\x00\x02\0\0\0\0\x04\x1b\x27\x00\x03\x02\x02\x04\x88\x13";
+    let mut message = Vec::from_slice(alloc, head)?;
+    message.resize(5016, 0xff)?;
+    message.extend_from_slice(b"\x0d\x04\x88\x13")?;
+    message.resize(10_020, b'a')?;
+    Ok(message)
+}
+
+#[test]
+fn long_strings_of_a_reader_are_told_in_their_places(rt: HostRuntime) {
+    let alloc = rt.alloc();
+    let message = long_strings(alloc).expect(&rt, "memory is left");
+    let mut witness = Witness::new(&message, ALL);
+    let mut reader = Watched::new(message.as_slice());
+    let answer = next_message(alloc, Limits::new(), &mut reader, &mut witness);
+    assert!(rt; answer.expect(&rt, "the message is told").is_some());
+    assert_eq!(rt; witness.taken, 4);
+    assert!(rt; witness.in_place);
+}
+
+#[test]
+fn a_builder_stops_at_a_long_string(rt: HostRuntime) {
+    let alloc = rt.alloc();
+    let message = long_strings(alloc).expect(&rt, "memory is left");
+    for (most, expected) in [
+        (1, "stopped by the builder, at byte 5016"),
+        (2, "stopped by the builder, at byte 10020"),
+    ] {
+        let mut reader = Watched::new(message.as_slice());
+        let answer = tell_next(alloc, Limits::new(), &mut reader, most);
+        let _error = check_error(&rt, alloc, answer, expected);
+    }
 }
 
 /// A reader that gives these bytes one by one.

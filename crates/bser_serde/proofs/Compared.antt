@@ -1,5 +1,5 @@
--- What is told of a message, put again, is its least spelling.
-use Rattle.std.proofs.Common.{◌≡◌, ◌+◌, ◌-◌, ◌^◌, min, ℕ, ℤ, pos, take, drop, List, [], ◌∷◌, ◌++◌, length, flat_map, refl, sym, ap, subst, ◌∙◌, arith, append-nil, append_assoc, length-append}
+-- A body that is passed by what is told of it is its least spelling.
+use Rattle.std.proofs.Common.{◌≡◌, ◌+◌, ◌^◌, ◌-◌, min, ℕ, pos, List, [], ◌∷◌, ◌++◌, length, flat_map, refl, sym, ap, subst, ◌∙◌, arith, append-nil, append_assoc, length-append}
 use Rattle.std.specs.List.{AllByRecursion}
 use Rattle.std.proofs.lemmas.Grind.{flat_map-append}
 use Rattle.std.proofs.lemmas.List.{nil_from_length}
@@ -15,22 +15,21 @@ use Rattle.bser_messages.specs.declared.limits.Limits.{Limits}
 use Rattle.bser_messages.specs.declared.told.Header.{Header}
 use Rattle.bser_messages.specs.Told.{BeginsTold}
 use Rattle.bser_ser.specs.Message.{front_of}
-use Rattle.bser_ser.proofs.Gap.{turned}
-use Rattle.bser_serde.specs.Written.{IsPlain, least_piece, held_in, Respells, IsSpelledAgain}
-use Rattle.bser_serde.specs.declared.spelled.Respelled.{Respelled}
+use Rattle.bser_serde.specs.Written.{IsPlain, least_piece, rest_of, Passes, IsLeastBody, IsLeastMessage}
+use Rattle.bser_serde.specs.declared.spelled.Compared.{Compared}
 
--- all that was told was put
-record RespellsAll (a : Respelled) (es : List Event) (b : Respelled) : Type 0 where
+-- all that was told was passed
+record PassesAll (a : Compared) (es : List Event) (b : Compared) : Type 0 where
   plain : AllByRecursion IsPlain es
-  put : held_in b ≡ held_in a ++ flat_map least_piece es
+  passed : rest_of a ≡ flat_map least_piece es ++ rest_of b
 
-respelled_all : (a b : ℕ × Respelled) (es : List Event) → TakesAll (Placed (λ x e p y. Respells x e y)) a es b → RespellsAll a.1 es b.1
-respelled_all a b es (none m) = record { plain = tt; put = sym (append-nil (held_in m.1)) }
-respelled_all a b es (more m n o e rest first after) =
-    let r = respelled_all n o rest after in
+passes_all : (a b : ℕ × Compared) (es : List Event) → TakesAll (Placed (λ x e p y. Passes x e y)) a es b → PassesAll a.1 es b.1
+passes_all a b es (none m) = record { plain = tt; passed = refl }
+passes_all a b es (more m n o e rest first after) =
+    let r = passes_all n o rest after in
     record {
       plain = (first.took.plain, r.plain);
-      put = r.put ∙ ap (λ xs. xs ++ flat_map least_piece rest) first.took.put ∙ append_assoc (held_in m.1) (least_piece e) (flat_map least_piece rest);
+      passed = first.took.passed ∙ ap (λ xs. least_piece e ++ xs) r.passed ∙ sym (append_assoc (least_piece e) (flat_map least_piece rest) (rest_of o.1));
     }
 
 -- ---- the pieces of a tree
@@ -93,13 +92,12 @@ mutual
   entries_plain trees.no_entries h = tt
   entries_plain (trees.entry k t es) h = (let p = all_parts (key k ∷ events t) (entry_events es) h in (tree_plain t p.0.1, entries_plain es p.1))
 
--- the bytes of a message, told and put again
-pub spelled_again : (limits : Limits) (bytes body again : List ℕ) (before after : Respelled) (h : Header) (n : ℕ) → limits.levels ≡ LEVELS → held_in before ≡ [] → BeginsTold limits (λ x e p y. Respells x e y) bytes before after h
-    → n ≡ min (h.start + h.len) (2 ^ 64 - 1) → n ≡ length bytes → h.capabilities ≡ 0 → body ≡ held_in after → again ≡ front_of (pos (length body)) ++ body → IsSpelledAgain bytes again
-spelled_again limits bytes body again before after h n levels fresh t is same bare body_is again_is =
+-- a message all of whose body was passed
+pub least_body : (limits : Limits) (bytes body : List ℕ) (before after : Compared) (h : Header) (n : ℕ) → limits.levels ≡ LEVELS → rest_of before ≡ body → rest_of after ≡ [] → BeginsTold limits (λ x e p y. Passes x e y) bytes before after h
+    → n ≡ min (h.start + h.len) (2 ^ 64 - 1) → n ≡ length bytes → h.capabilities ≡ 0 → IsLeastBody bytes body
+least_body limits bytes body before after h n levels fresh done t is same bare =
     let m = t.tells in
-    let r = respelled_all (h.start, before) (m.told.end, after) (events m.tree) m.told.told in
-    let put : body ≡ canonical_body m.tree = body_is ∙ r.put ∙ ap (λ xs. xs ++ flat_map least_piece (events m.tree)) fresh ∙ tree_pieces m.tree r.plain in
+    let r = passes_all (h.start, before) (m.told.end, after) (events m.tree) m.told.told in
     let whole = m.whole in
     let short = m.message.short in
     let rest_none : length t.rest ≡ 0 = omega (arith, whole, short, is, same, ap length t.front, length-append t.text t.rest) in
@@ -109,11 +107,15 @@ spelled_again limits bytes body again before after h n levels fresh t is same ba
       tree = m.tree;
       message = subst (IsMessage LEVELS 0 m.tree) (sym text_is) message;
       plain = tree_plain m.tree r.plain;
-      least = again_is ∙ ap (λ b. front_of (pos (length b)) ++ b) put;
+      least = sym fresh ∙ r.passed ∙ ap (λ xs. pieces (events m.tree) ++ xs) done ∙ append-nil (pieces (events m.tree)) ∙ tree_pieces m.tree r.plain;
     }
 
--- the header moves before the body
-pub turned_front : (body header all bytes : List ℕ) (len : ℤ) (n k : ℕ) → len ≡ pos (length body) → header ≡ front_of len → all ≡ body ++ header → k ≡ length header → n ≡ length all
-    → bytes ≡ drop (n - k) all ++ take (n - k) all → bytes ≡ front_of (pos (length body)) ++ body
-turned_front body header all bytes len n k at head e1 e2 e3 e4 =
-    e4 ∙ turned body header all n k e1 e2 e3 ∙ ap (λ h. h ++ body) head ∙ ap (λ l. front_of l ++ body) at
+-- a header, and a body in the least widths
+pub least_message : (message bytes body : List ℕ) → message ≡ front_of (pos (length body)) ++ body → bytes ≡ message → IsLeastBody bytes body → IsLeastMessage message
+least_message message bytes body whole b h =
+    record {
+      tree = h.tree;
+      message = subst (IsMessage LEVELS 0 h.tree) b h.message;
+      plain = h.plain;
+      least = whole ∙ ap (λ xs. front_of (pos (length xs)) ++ xs) h.least;
+    }
