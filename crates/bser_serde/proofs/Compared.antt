@@ -1,8 +1,9 @@
 -- A body that is passed by what is told of it is its least spelling.
-use Rattle.std.proofs.Common.{◌≡◌, ◌+◌, ◌^◌, ◌-◌, min, ℕ, pos, List, [], ◌∷◌, ◌++◌, length, flat_map, refl, sym, ap, subst, ◌∙◌, arith, append-nil, append_assoc, length-append}
+use Rattle.std.proofs.Common.{◌≡◌, ◌+◌, ◌^◌, ◌-◌, ◌≤◌, min, ℕ, pos, List, [], ◌∷◌, ◌++◌, length, take, drop, slice_index_or, flat_map, refl, sym, ap, subst, ◌∙◌, arith, append-nil, append_assoc, length-append}
 use Rattle.std.specs.List.{AllByRecursion}
 use Rattle.std.proofs.lemmas.Grind.{flat_map-append}
-use Rattle.std.proofs.lemmas.List.{nil_from_length}
+use Rattle.std.proofs.Math.Seq.{take-length, drop-append_seam}
+use Rattle.std.proofs.lemmas.List.{nil_from_length, take-append-drop}
 use Rattle.bser_format.specs.Tree as trees
 use Rattle.bser_format.specs.Tree.{Tree, Items, Entries}
 use Rattle.bser_format.specs.Canonical.{canonical_body, canonical_items, canonical_entries, canonical_key}
@@ -31,6 +32,36 @@ passes_all a b es (more m n o e rest first after) =
       plain = (first.took.plain, r.plain);
       passed = first.took.passed ∙ ap (λ xs. least_piece e ++ xs) r.passed ∙ sym (append_assoc (least_piece e) (flat_map least_piece rest) (rest_of o.1));
     }
+
+-- ---- bytes in front
+
+-- a byte in front of the rest
+pub one_byte : (xs : List ℕ) (a : ℕ) → 1 ≤ length xs → slice_index_or xs 0 0 ≡ a → xs ≡ a ∷ take (length xs - 1) (drop 1 xs)
+one_byte [] a l e = absurd (omega arith)
+one_byte (x ∷ xs) a l e =
+    let all : take (length (x ∷ xs) - 1) xs ≡ xs = ap (λ k. take k xs) (omega arith) ∙ take-length xs in
+    ap (λ y. y ∷ xs) e ∙ ap (λ ys. a ∷ ys) (sym all)
+
+-- three bytes in front of the rest
+pub three_bytes : (xs : List ℕ) (a b d : ℕ) → 3 ≤ length xs → slice_index_or xs 0 0 ≡ a → slice_index_or xs 1 0 ≡ b → slice_index_or xs 2 0 ≡ d → xs ≡ a ∷ b ∷ d ∷ take (length xs - 3) (drop 3 xs)
+three_bytes [] a b d l e f g = absurd (omega arith)
+three_bytes (x ∷ []) a b d l e f g = absurd (omega arith)
+three_bytes (x ∷ y ∷ []) a b d l e f g = absurd (omega arith)
+three_bytes (x ∷ y ∷ z ∷ xs) a b d l e f g =
+    let all : take (length (x ∷ y ∷ z ∷ xs) - 3) xs ≡ xs = ap (λ k. take k xs) (omega arith) ∙ take-length xs in
+    ap (λ w. w ∷ y ∷ z ∷ xs) e ∙ ap (λ w. a ∷ w ∷ z ∷ xs) f ∙ ap (λ w. a ∷ b ∷ w ∷ xs) g ∙ ap (λ ws. a ∷ b ∷ d ∷ ws) (sym all)
+
+-- a front that was found, and what is behind it
+pub found_front : (xs wanted front back : List ℕ) (n : ℕ) → front ≡ take n xs → back ≡ drop n xs → front ≡ wanted → xs ≡ wanted ++ back
+found_front xs wanted front back n e f same = sym (take-append-drop n xs) ∙ ap (λ ys. ys ++ drop n xs) (sym e ∙ same) ∙ ap (λ ys. wanted ++ ys) (sym f)
+
+-- the end of a row, which is as long as its second part
+pub second_part : (all front back bytes : List ℕ) (n : ℕ) → all ≡ front ++ back → bytes ≡ all → n ≡ length all - length back → take (length bytes - n) (drop n bytes) ≡ back
+second_part all front back bytes n e f is =
+    let first : n ≡ length front = omega (arith, is, ap length e, length-append front back) in
+    let rest : drop n bytes ≡ back = ap (λ k. drop k bytes) first ∙ ap (λ ys. drop (length front) ys) (f ∙ e) ∙ drop-append_seam front back in
+    let long : length bytes - n ≡ length back = omega (arith, first, ap length f, ap length e, length-append front back) in
+    ap (λ ys. take (length bytes - n) ys) rest ∙ ap (λ k. take k back) long ∙ take-length back
 
 -- ---- the pieces of a tree
 

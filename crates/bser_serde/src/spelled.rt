@@ -80,8 +80,31 @@ impl<'m> Compared<'m> {
         ensures { OnOk result
             (rest_of self.old ≡ string_piece tag string.now ++ rest_of self.new) }
     {
-        self.pass_head(tag, string.len())?;
+        if string.len() < 0x80 {
+            return self.pass_short_string(tag, string);
+        }
+        self.pass_great(tag, string.len())?;
         self.pass(string)
+    }
+
+    /// Passes a string whose length takes one byte, under this tag.
+    #[inline(always)]
+    fn pass_short_string(&mut self, tag: u8, string: &[u8]) -> Result<(), Stop>
+        requires { length string.now < 128 }
+        ensures { OnOk result
+            (rest_of self.old ≡ tag ∷ 3 ∷ length string.now ∷ (string.now ++ rest_of self.new)) }
+    {
+        let rest = self.rest;
+        let len = string.len();
+        if rest.len() < len + 3 || rest[0] != tag || rest[1] != BSER_INT8 || rest[2] != len as u8 {
+            return Err(Stop::Asked);
+        }
+        let (front, rest) = rest[3..].split_at(len);
+        if front == string {
+            self.rest = rest;
+            return Ok(());
+        }
+        Err(Stop::Asked)
     }
 
     /// Passes a tag and a count of one byte.
@@ -129,11 +152,21 @@ impl<'m> Compared<'m> {
 
     /// Passes a tag and these bytes.
     #[inline(always)]
-    fn pass_tagged(&mut self, tag: u8, bytes: &[u8]) -> Result<(), Stop>
+    fn pass_tagged<const N: usize>(&mut self, tag: u8, bytes: &[u8; N]) -> Result<(), Stop>
         ensures { OnOk result (rest_of self.old ≡ tag ∷ (bytes.now ++ rest_of self.new)) }
     {
-        self.pass_byte(tag)?;
-        self.pass(bytes)
+        let rest = self.rest;
+        if rest.is_empty() || rest[0] != tag {
+            return Err(Stop::Asked);
+        }
+        let Some((front, rest)) = rest[1..].split_first_chunk::<N>() else {
+            return Err(Stop::Asked);
+        };
+        if *front == *bytes {
+            self.rest = rest;
+            return Ok(());
+        }
+        Err(Stop::Asked)
     }
 
     /// Passes two bytes.
@@ -171,11 +204,11 @@ impl<'m> Compared<'m> {
             return Err(Stop::Asked);
         }
         let (front, rest) = self.rest.split_at(bytes.len());
-        if front != bytes {
-            return Err(Stop::Asked);
+        if front == bytes {
+            self.rest = rest;
+            return Ok(());
         }
-        self.rest = rest;
-        Ok(())
+        Err(Stop::Asked)
     }
 }
 
@@ -184,11 +217,8 @@ impl<'m> Compared<'m> {
 fn is_within(limit: u64, v: i64) -> bool
     ensures { result ≡ within limit v }
 {
-    if v < 0 {
-        ((-(v + 1)) as u64) < limit
-    } else {
-        (v as u64) < limit
-    }
+    let size = if v < 0 { -(v + 1) } else { v };
+    (size as u64) < limit
 }
 
 impl<'m> Builder for Compared<'m> {

@@ -41,31 +41,26 @@ fn message_of<T: Serialize>(alloc: Global, value: &T) -> Result<Vec<u8>>
     ensures { IfOk result (λ message. IsLeastMessage message.items) }
 {
     let body = body_of(alloc, value)?;
-    let message = with_header(alloc, &body)?;
-    check_least(alloc, &message, &body)?;
+    let len = body.len();
+    let message = with_header(alloc, body)?;
+    check_least(alloc, &message, &message[message.len() - len..])?;
     Ok(message)
 }
 
 /// The message with this body.
-fn with_header(alloc: Global, body: &[u8]) -> Result<Vec<u8>>
+fn with_header(alloc: Global, body: Vec<u8>) -> Result<Vec<u8>>
     ensures { IfOk result (λ message. message.items
-        ≡ front_of (pos (length body.now)) ++ body.now) }
+        ≡ front_of (pos (length body.items)) ++ body.items) }
 {
-    let Ok(len) = i64::try_from(body.len()) else {
+    let size = body.len();
+    let Ok(len) = i64::try_from(size) else {
         return Err(Error::ser_custom(Complaint::CountTooGreat));
     };
-    let mut message = header_of(alloc, len)?;
-    message.extend_from_slice(body)?;
-    Ok(message)
-}
-
-/// The header of a body of this length.
-fn header_of(alloc: Global, len: i64) -> Result<Vec<u8>>
-    ensures { IfOk result (λ header. header.items ≡ front_of len) }
-{
-    let mut out = Serializer::new(alloc, InMemory::new(Vec::new(alloc)));
+    let mut out = Serializer::new(alloc, InMemory::new(body));
     out.put_header(len)?;
-    Ok(out.finish()?.into_inner())
+    let mut message = out.finish()?.into_inner();
+    message.rotate_left(size);
+    Ok(message)
 }
 
 /// Whether `bytes` are a message without templates, and `body` is its body in the least widths.

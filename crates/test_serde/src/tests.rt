@@ -2,5 +2,6 @@
 mod checks;
 mod forms;
 mod memory;
+mod reading;
 mod refusals;
 mod strings;

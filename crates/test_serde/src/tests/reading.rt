@@ -1,0 +1,81 @@
+//! Reading where an allocation fails.
+use crate::types::File;
+use bser_serde::{ByteBuf, Misfit, Reason, Refusal, from_reader, from_slice};
+use serde::Deserialize;
+use serde_bser::device::Watched;
+use std::collections::BTreeMap;
+use std::process::Abort;
+
+/// A row whose text is owned.
+#[derive(Drop, Deserialize)]
+struct Owner {
+    name: Option<String>,
+    age: u8,
+}
+
+/// Three rows, of which the last has no name.
+const PEOPLE: &[u8] =
+    b"\x00\x02\x00\x00\x00\x00\x03\x28\x0b\x00\x03\x02\x02\x03\x04name\x02\x03\x03age\
+\x03\x03\x02\x03\x04fred\x03\x14\x02\x03\x04pete\x03\x1e\x0c\x03\x19";
+
+/// Checks that the rows were read.
+fn check_people(rt: &impl Abort, people: &[Owner]) {
+    assert!(rt; people.len() == 3);
+    assert!(rt; people[0].age == 20 && people[1].age == 30 && people[2].age == 25);
+    assert!(rt;
+        people[1]
+            .name
+            .as_ref()
+            .is_some_and(|name| name.as_str() == "pete")
+    );
+    assert!(rt; people[2].name.is_none());
+}
+
+/// Checks that the error is that an allocation failed, which is so only where one is made to.
+fn check_memory(rt: &impl Abort, refusal: &Refusal) {
+    assert!(rt; matches!(refusal, Refusal::OutOfMemory));
+}
+
+/// Checks where the misfit is: behind so many bytes, and in a field of the first row.
+fn check_place(rt: &impl Abort, misfit: &Misfit, place: usize) {
+    assert!(rt; misfit.place == place);
+    assert!(rt; misfit.path.steps.len() == 2);
+}
+
+#[test]
+fn rows_or_out_of_memory(rt: HostRuntime) {
+    match from_slice::<Vec<Owner>>(rt.alloc(), PEOPLE) {
+        Ok(people) => check_people(&rt, &people),
+        Err(refusal) => check_memory(&rt, &refusal),
+    }
+}
+
+#[test]
+fn next_rows_or_out_of_memory(rt: HostRuntime) {
+    let mut reader = Watched::new(PEOPLE);
+    match from_reader::<_, Vec<Owner>>(rt.alloc(), &mut reader) {
+        Ok(people) => check_people(&rt, &people),
+        Err(refusal) => check_memory(&rt, &refusal),
+    }
+}
+
+#[test]
+fn misfit_or_out_of_memory(rt: HostRuntime) {
+    match from_slice::<Vec<BTreeMap<String, ByteBuf>>>(rt.alloc(), PEOPLE) {
+        Ok(_people) => assert!(rt; false),
+        Err(Refusal::Misfit(misfit)) => check_place(&rt, &misfit, 34),
+        Err(refusal) => check_memory(&rt, &refusal),
+    }
+}
+
+#[test]
+fn missing_or_out_of_memory(rt: HostRuntime) {
+    match from_slice::<Vec<File>>(rt.alloc(), PEOPLE) {
+        Ok(_files) => assert!(rt; false),
+        Err(Refusal::Misfit(misfit)) => {
+            assert!(rt; matches!(misfit.reason, Reason::Missing(_)));
+            check_place(&rt, &misfit, 36);
+        }
+        Err(refusal) => check_memory(&rt, &refusal),
+    }
+}
