@@ -14,9 +14,6 @@ type Put = std::result::Result<(), Failure>;
 /// The most items or entries that a message can count.
 const MOST_COUNTED: usize = i64::MAX as usize;
 
-/// The bytes for which a new writer has room.
-const FIRST_ROOM: usize = 1024;
-
 /// A map that is open.
 #[derive(Clone, Copy, Drop)]
 enum Open {
@@ -79,13 +76,10 @@ fn answered(put: std::result::Result<(), PutRefused>) -> Put {
 }
 
 impl Writer {
-    /// Puts into memory. `known` are the counts of an earlier writer of the same value. Where there
-    /// is no room, the put that needs it fails.
+    /// Puts into memory. `known` are the counts of an earlier writer of the same value.
     pub(crate) fn new(alloc: Global, known: Vec<usize>) -> Writer {
-        let mut memory = Vec::new(alloc);
-        let _ = memory.reserve(FIRST_ROOM);
         Writer {
-            out: Puts::new(alloc, InMemory::new(memory)),
+            out: Puts::new(alloc, InMemory::new(Vec::new(alloc))),
             due: Due::Value,
             is_counting: false,
             open: Vec::new(alloc),
