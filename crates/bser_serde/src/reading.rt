@@ -6,6 +6,7 @@ ghost use Rattle.bser_serde.specs.Messages.{BeginsWithMessage, IsWellFormed, Too
 ghost use Rattle.bser_serde.specs.Refusals.{SliceUnread, FrameUnread, NextUnread, IsUnfit};
 
 use crate::refusal::{Refusal, refusal_of};
+use bser_checking::message::body_of;
 use bser_serde_format::copied::Copied;
 use bser_serde_format::faults::{Fault, Site, Unread};
 use bser_serde_format::misfit::{Misfit, Reason};
@@ -35,8 +36,30 @@ pub fn from_slice<'de, T: Deserialize<'de>>(alloc: Global, bytes: &'de [u8]) -> 
 /// Reads a value from the message at the start of `bytes`, within these limits.
 ///
 /// As [`from_slice`], with the limit's levels for 128, and bodies of at most its bytes.
-#[tactic(auto, using(crate::proofs::Told::unfit_slice, crate::proofs::Told::untold_slice))]
+#[tactic(auto, using(crate::proofs::Told::unfit_slice, crate::proofs::Checked::checked_slice))]
 pub fn from_slice_limited<'de, T: Deserialize<'de>>(
+    alloc: Global,
+    limits: Limits,
+    bytes: &'de [u8],
+) -> Result<T, Refusal>
+    requires { limits.levels ≤ MOST_LEVELS }
+    ensures found { OnOk result (BeginsWithMessage limits bytes.now) }
+    ensures refused { IfErr result (SliceUnread limits bytes.now) }
+{
+    if let Some(body) = body_of(bytes, limits.levels, limits.bytes) {
+        return match read(alloc, body.start, bytes) {
+            Ok(value) => Ok(value),
+            Err(refusal) => Err(refusal),
+        };
+    }
+    told_slice(alloc, limits, bytes)
+}
+
+/// The same, of what is told first, so that its first fault is named.
+#[cold]
+#[inline(never)]
+#[tactic(auto, using(crate::proofs::Told::unfit_slice, crate::proofs::Told::untold_slice))]
+fn told_slice<'de, T: Deserialize<'de>>(
     alloc: Global,
     limits: Limits,
     bytes: &'de [u8],
@@ -57,8 +80,28 @@ pub fn from_slice_limited<'de, T: Deserialize<'de>>(
 /// Reads a value from a frame: one message of at most 128 levels, and no byte behind it.
 ///
 /// As [`from_slice`]. Bytes behind the message are [`Refusal::BytesLeft`].
-#[tactic(auto, using(crate::proofs::Told::begins_with_of, crate::proofs::Told::is_whole, crate::proofs::Told::unfit_slice, crate::proofs::Told::untold_slice, crate::proofs::Told::unread_frame))]
+#[tactic(auto, using(crate::proofs::Checked::whole_frame, crate::proofs::Checked::unfit_frame))]
 pub fn from_frame<'de, T: Deserialize<'de>>(alloc: Global, frame: &'de [u8]) -> Result<T, Refusal>
+    ensures found { OnOk result (IsWellFormed usual_limits frame.now) }
+    ensures refused { IfErr result (FrameUnread usual_limits frame.now) }
+{
+    let limits = Limits::new();
+    if let Some(body) = body_of(frame, limits.levels, limits.bytes) {
+        if body.start.saturating_add(body.len) == frame.len() {
+            return match read(alloc, body.start, frame) {
+                Ok(value) => Ok(value),
+                Err(refusal) => Err(refusal),
+            };
+        }
+    }
+    told_frame(alloc, frame)
+}
+
+/// The same, of what is told first, so that its first fault is named, and the bytes behind it are.
+#[cold]
+#[inline(never)]
+#[tactic(auto, using(crate::proofs::Told::begins_with_of, crate::proofs::Told::is_whole, crate::proofs::Told::unfit_slice, crate::proofs::Told::untold_slice, crate::proofs::Told::unread_frame))]
+fn told_frame<'de, T: Deserialize<'de>>(alloc: Global, frame: &'de [u8]) -> Result<T, Refusal>
     ensures found { OnOk result (IsWellFormed usual_limits frame.now) }
     ensures refused { IfErr result (FrameUnread usual_limits frame.now) }
 {

@@ -61,9 +61,24 @@ pub(crate) fn count_at(bytes: &[u8], at: usize) -> Option<Count> {
     }
 }
 
-/// The string that begins at this place, or none where something else does.
+/// The string that begins at this place, or none where something else does. Most have a length of
+/// one byte.
 #[inline(always)]
 pub(crate) fn string_at(bytes: &[u8], at: usize) -> Option<Span> {
+    let rest = rest(bytes, at);
+    if rest.len() > 2 && is_key_tag(rest[0]) && rest[1] == BSER_INT8 && rest[2] < 128 {
+        let start = at.wrapping_add(3);
+        return Some(Span {
+            at: start,
+            end: start.wrapping_add(usize::from(rest[2])),
+        });
+    }
+    any_string_at(bytes, at)
+}
+
+/// The same, whatever integer its length is.
+#[inline(never)]
+fn any_string_at(bytes: &[u8], at: usize) -> Option<Span> {
     if !is_key_tag(tag_at(bytes, at)) {
         return None;
     }

@@ -95,7 +95,7 @@ impl<'m> Walk<'m> {
                 left: 0,
                 first: 0,
                 end: 0,
-                next: 0,
+                next: usize::MAX,
             },
             outer: Vec::new(alloc),
             keys: Vec::new(alloc),
@@ -136,7 +136,7 @@ impl<'m> Walk<'m> {
     /// Goes past so many bytes, which are what comes.
     #[inline(always)]
     pub(crate) fn pass(&mut self, len: usize) {
-        self.pass_to(self.at.saturating_add(len));
+        self.pass_to(self.at.wrapping_add(len));
     }
 
     /// The integer that comes.
@@ -218,7 +218,7 @@ impl<'m> Walk<'m> {
             left,
             first: keys,
             end: keys,
-            next: keys,
+            next: usize::MAX,
         })
     }
 
@@ -304,22 +304,24 @@ impl<'m> Walk<'m> {
         Err(self.stray(Wanted::Object))
     }
 
-    /// Which of `keys` has the next field of the row that is open, or none at its end.
+    /// The key of the next field, where a row is open and a field is left of it. The innermost
+    /// template has the last of the keys.
     #[inline(always)]
     fn next_field(&mut self) -> Option<RowKey<'m>> {
-        if self.open.next >= self.open.end {
+        let key = *self.keys.get(self.open.next)?;
+        self.open.next = self.open.next.wrapping_add(1);
+        self.last = self.at;
+        Some(key)
+    }
+
+    /// Where the next key of the object stands, or none at its end, where it is closed, and at the
+    /// end of a row.
+    #[inline(always)]
+    fn next_entry_key(&mut self) -> Option<Span> {
+        if let Form::Row = self.open.form {
             self.open.form = Form::Rows;
             return None;
         }
-        let key = self.keys.get(self.open.next).copied();
-        self.open.next = self.open.next.saturating_add(1);
-        self.last = self.at;
-        key
-    }
-
-    /// Where the next key of the object stands, or none at its end, where it is closed.
-    #[inline(always)]
-    fn next_entry_key(&mut self) -> Option<Span> {
         if self.open.left == 0 {
             self.close();
             return None;
@@ -333,8 +335,7 @@ impl<'m> Walk<'m> {
     /// The next key of the object or the row, or none at the end, where it is closed.
     #[inline(always)]
     pub(crate) fn key_text(&mut self) -> Option<&'m str> {
-        if let Form::Row = self.open.form {
-            let key = self.next_field()?;
+        if let Some(key) = self.next_field() {
             return Some(key.text);
         }
         let span = self.next_entry_key()?;
@@ -344,12 +345,9 @@ impl<'m> Walk<'m> {
     /// Has the next key of the object or the row read as a value, and answers false at the end,
     /// where it is closed.
     pub(crate) fn has_entry(&mut self) -> bool {
-        let span = match self.open.form {
-            Form::Row => match self.next_field() {
-                Some(key) => Some(key.span),
-                None => None,
-            },
-            _ => self.next_entry_key(),
+        let span = match self.next_field() {
+            Some(key) => Some(key.span),
+            None => self.next_entry_key(),
         };
         match span {
             Some(span) => {

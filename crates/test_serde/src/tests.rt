@@ -1,4 +1,5 @@
 //! What derives read and write.
+mod checking;
 mod checks;
 mod forms;
 mod memory;

@@ -3,7 +3,7 @@ use Rattle.std.proofs.Common.{subst}
 use Rattle.bser_serde.specs.Messages.{BeginsWithMessageOf, IsWellFormed}
 use Rattle.bser_serde.specs.Refusals.{SliceUnread}
 use Rattle.bser_serde.proofs.Told.{begins_with, begins_with_of, is_whole, unfit_slice, unread_frame, usual}
-use Rattle.bser_serde.proofs.reading.from_frame.Goals as goal
+use Rattle.bser_serde.proofs.reading.told_frame.Goals as goal
 
 pub returns-then-taken-frame-clause-refused : goal.returns-then-taken-frame-clause-refused
 returns-then-taken-frame-clause-refused g c = (

@@ -1,6 +1,6 @@
 -- What was told is a well-formed message.
 use Rattle.bser_serde.proofs.Told.{begins_with, unfit_slice}
-use Rattle.bser_serde.proofs.reading.from_slice_limited.Goals as goal
+use Rattle.bser_serde.proofs.reading.told_slice.Goals as goal
 
 pub returns-in-Ok-read-clause-found : goal.returns-in-Ok-read-clause-found
 returns-in-Ok-read-clause-found g c = begins_with _ _ _ _ _ _ c.in-Ok.ensures.found

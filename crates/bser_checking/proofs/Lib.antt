@@ -1,0 +1,4 @@
+pub mod Binds
+pub mod Pieces
+pub mod Tags
+pub mod Begins

@@ -1,0 +1,17 @@
+-- A message at the start of some bytes.
+use Rattle.std.specs.Prelude.{◌≡◌, ◌≤◌, ℕ, List, ◌++◌, length}
+use Rattle.bser_format.specs.Message.{IsMessage}
+use Rattle.bser_format.specs.NamedLaws.{HasTextKeys}
+use Rattle.bser_format.specs.Tree.{Tree}
+
+-- the first n bytes are a well-formed message of at most so many levels, whose body has at most so many bytes, and all of whose keys are UTF-8
+pub record HasMessage (levels most : ℕ) (bytes : List ℕ) (n : ℕ) : Type 0 where
+  pub text : List ℕ
+  pub rest : List ℕ
+  pub capabilities : ℕ
+  pub tree : Tree
+  pub front : bytes ≡ text ++ rest
+  pub message : IsMessage levels capabilities tree text
+  pub short : length message.body ≤ most
+  pub keys : HasTextKeys tree
+  pub whole : length text ≡ n

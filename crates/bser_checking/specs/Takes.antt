@@ -1,0 +1,35 @@
+-- What a plain reader leaves of the bytes that it begins with.
+use Rattle.std.specs.Prelude.{◌≡◌, ℕ, Bool, true, List, IsUtf8, ◌==◌, ◌||◌, if◌then◌else◌}
+use Rattle.bser_format.specs.Named as named
+use Rattle.bser_format.specs.Named.{Reader, reads, front, ◌>>=◌}
+use Rattle.bser_format.specs.declared.errors.Complaint.{Complaint}
+
+-- r reads what stands before the rest
+abbrev pub Takes : {X : Type 0} → Reader X → List ℕ → List ℕ → Type 0
+Takes {X} r b rest = (x : X) × (r b ≡ reads x rest)
+
+-- an integer of at least 0, with this complaint of another
+abbrev pub counting : Complaint → Reader ℕ
+counting c = named.int >>= named.natural c
+
+-- n bytes stand before the rest, and are UTF-8 where they are a text
+pub record Cut (is_text : Bool) (n : ℕ) (b rest : List ℕ) : Type 0 where
+  pub string : List ℕ
+  pub front : front n b ≡ reads string rest
+  pub text : is_text ≡ true → IsUtf8 string
+
+-- the same, behind their length
+pub record CutString (is_text : Bool) (b rest : List ℕ) : Type 0 where
+  pub string : List ℕ
+  pub read : named.string b ≡ reads string rest
+  pub text : is_text ≡ true → IsUtf8 string
+
+-- how many bytes a scalar with this tag has, or a skipped field, and 0 of other tags
+abbrev pub size_of_scalar : ℕ → ℕ
+size_of_scalar t =
+    if (t == 0x08) || (t == 0x09) || (t == 0x0a) || (t == 0x0c) then 1
+    else if t == 0x03 then 2
+    else if t == 0x04 then 3
+    else if t == 0x05 then 5
+    else if (t == 0x06) || (t == 0x07) then 9
+    else 0
