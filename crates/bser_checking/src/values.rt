@@ -15,7 +15,7 @@ use bser_format::header::{BSER_ARRAY, BSER_BYTESTRING, BSER_INT8, BSER_SKIP, BSE
 /// value, or with one of more levels.
 #[cycle(value)]
 #[inline(always)]
-pub fn value(bytes: &[u8], levels: usize) -> Option<&[u8]>
+pub(crate) fn value(bytes: &[u8], levels: usize) -> Option<&[u8]>
     ensures { IfSome result (λ rest. Takes (with_text_keys levels) bytes.now rest.now) }
 {
     match token_prefix(bytes) {
