@@ -29,7 +29,8 @@ pub enum Step {
 /// printed as a text of JSON, as in `["odd key"]`. Where there are no steps it is a dot.
 #[derive(Debug, Drop)]
 pub struct Path {
-    pub(crate) steps: Vec<Step>,
+    /// The steps.
+    pub steps: Vec<Step>,
 }
 
 impl Path {

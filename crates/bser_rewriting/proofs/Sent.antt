@@ -8,10 +8,10 @@ use Rattle.bser_format.specs.declared.errors.Error.{Error}
 use Rattle.bser_format.specs.declared.errors.Error.TheVariants.{Io}
 use Rattle.bser_ser.specs.Ends.{CanBeWritten, text_of}
 use Rattle.bser_ser.specs.Message.{front_of, message_of, Wrote, Missed}
-use Rattle.bser_ser.specs.Stopped.{Tells, Takes, Accounts}
+use Rattle.bser_ser.specs.Stopped.{Tells, Takes, TookFront, Accounts}
 use Rattle.bser_ser.proofs.Gap.{turned}
 use Rattle.bser_ser.proofs.Messages.{same_message}
-use Rattle.bser_rewriting.specs.Buffered.{HasShortBody, TookFront}
+use Rattle.bser_rewriting.specs.Buffered.{HasShortBody}
 
 -- the header moves before the body
 pub made : (m : Result Tree Error) (body header all bytes : List ℕ) (len : ℤ) (n k : ℕ) → text_of m ≡ Ok body → len ≡ pos (length body) → header ≡ front_of len → all ≡ body ++ header → k ≡ length header → n ≡ length all

@@ -3,12 +3,7 @@ use Rattle.std.specs.Prelude.{◌<◌, ◌^◌, ℕ, List, length, Result, IfOk}
 use Rattle.bser_format.specs.Canonical.{canonical_body}
 use Rattle.bser_format.specs.Tree.{Tree}
 use Rattle.bser_format.specs.declared.errors.Error.{Error}
-use Rattle.bser_ser.specs.Stopped.{Tells, TookAllBut}
 
 -- where there is a tree, an i64 holds the length of its canonical body
 abbrev pub HasShortBody : Result Tree Error → Type 0
 HasShortBody m = IfOk m (λ t. length (canonical_body t) < 2 ^ 63)
-
--- of these bytes the writer took those before a rest
-abbrev pub TookFront : {S : Type 0} → Tells S → S → S → List ℕ → Type 0
-TookFront sink old new bytes = (rest : List ℕ) × TookAllBut sink old new bytes rest

@@ -1,19 +1,15 @@
 //! Writing a message through memory.
-ghost use Rattle.std.specs.Prelude.{◌≡◌, Ok, OnOk, OnErr, IfOk, IfErr};
+ghost use Rattle.std.specs.Prelude.{◌≡◌, Ok, OnOk, IfOk, IfErr};
 ghost use Rattle.bser_ser.specs.Ends.{CanBeWritten, text_of};
-ghost use Rattle.bser_format.specs.declared.errors.Error.TheVariants.{Io};
 ghost use Rattle.bser_ser.specs.Message.{front_of, message_of, Wrote, Missed};
-ghost use Rattle.bser_ser.specs.Stopped.{Takes, Accounts};
-ghost use Rattle.bser_rewriting.specs.Buffered.{HasShortBody, TookFront};
+ghost use Rattle.bser_rewriting.specs.Buffered.{HasShortBody};
 
 use crate::room::Room;
 use bser_format::errors::{Complaint, Error, Result};
 use bser_ser::message::serialize_to;
-use bser_ser::{InMemory, Serialize, Serializer};
+use bser_ser::{InMemory, Serialize, Serializer, push_all};
 use bser_source::device::Sink;
 use std::alloc::Global;
-use std::io;
-use std::io::ErrorKind;
 
 /// Writes one message with the value as its body, as [`serialize_to`] does, but may take memory of at
 /// most `most` bytes for it.
@@ -34,7 +30,7 @@ pub(crate) fn serialize_buffered<W: Sink, T: Serialize>(
     let Ok(message) = short_message(alloc, value, most) else {
         return serialize_to(alloc, writer, value);
     };
-    match send(writer, &message) {
+    match push_all(writer, &message) {
         Ok(()) => Ok(()),
         Err(fault) => Err(Error::Io(fault)),
     }
@@ -74,28 +70,4 @@ fn header_of(alloc: Global, len: i64) -> Result<Vec<u8>>
     let mut out = Serializer::new(alloc, InMemory::new(Vec::new(alloc)));
     out.put_header(len)?;
     Ok(out.finish()?.into_inner())
-}
-
-/// Sends all bytes to the writer.
-///
-/// The error is the writer's own, or of kind `WriteZero` where it took nothing. Where none is
-/// answered, no failure was counted, and else one.
-fn send<W: Sink>(writer: &mut W, bytes: &[u8]) -> io::Result<()>
-    ensures ok { OnOk result (Takes W.Sink writer.old writer.new bytes.now) }
-    ensures front { OnErr result (TookFront W.Sink writer.old writer.new bytes.now) }
-    ensures err { IfErr result (λ e. Accounts W.Sink writer.old writer.new bytes.now (Io e)) }
-{
-    let mut done = 0;
-    while done < bytes.len() {
-        match writer.push(&bytes[done..]) {
-            Ok(n) => {
-                if n == 0 {
-                    return Err(io::Error::new(ErrorKind::WriteZero, "nothing taken"));
-                }
-                done += n;
-            }
-            Err(fault) => return Err(fault),
-        }
-    }
-    Ok(())
 }

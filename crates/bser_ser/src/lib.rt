@@ -16,12 +16,14 @@ mod lists;
 mod maps;
 pub mod message;
 mod pending;
+mod pushing;
 mod puts;
 mod scalars;
 mod serializer;
 mod tuples;
 
 pub use crate::adds::Parts;
+pub use crate::pushing::push_all;
 pub use crate::serializer::{PutRefused, Serializer};
 use bser_format::errors::Result;
 pub use bser_source::count::CountWrite;

@@ -10,7 +10,7 @@ use Rattle.bser_format.specs.declared.errors.Error.TheVariants.{Io}
 use Rattle.bser_events.specs.Events as told
 use Rattle.bser_events.specs.Events.{Event}
 use Rattle.bser_deserializer.specs.declared.deserializer.TheConstants.{LEVELS}
-use Rattle.bser_ser.specs.Stopped.{Tells, Takes, TookAllBut, Accounts}
+use Rattle.bser_ser.specs.Stopped.{Tells, Takes, TookFront, Accounts}
 use Rattle.bser_serde.specs.declared.spelled.Compared.{Compared}
 
 -- the text is a message of at most 128 levels, without capabilities and without templates, each
@@ -26,10 +26,6 @@ pub record IsLeastMessage (text : List ℕ) : Type 0 where
 -- the writer took such a message and nothing else, and counted no failure
 abbrev pub WroteLeast : {S : Type 0} → Tells S → S → S → Type 0
 WroteLeast sink old new = (text : List ℕ) × IsLeastMessage text × Takes sink old new text
-
--- of these bytes the writer took those before a rest
-abbrev pub TookFront : {S : Type 0} → Tells S → S → S → List ℕ → Type 0
-TookFront sink old new bytes = (rest : List ℕ) × TookAllBut sink old new bytes rest
 
 -- the writer took a beginning of such a message, and the error is its own
 abbrev pub BrokeLeast : {S : Type 0} → Tells S → S → S → Error → Type 0

@@ -20,4 +20,4 @@ pub use crate::reading::{
 pub use crate::refusal::Refusal;
 pub use crate::writing::{to_vec, to_writer};
 pub use bser_serde_format::misfit::{Misfit, Reason};
-pub use bser_serde_format::path::Path;
+pub use serde_bser::describe::Path;

@@ -10,7 +10,7 @@ use bser_checking::message::body_of;
 use bser_serde_format::copied::Copied;
 use bser_serde_format::faults::{Fault, Site, Unread};
 use bser_serde_format::misfit::{Misfit, Reason};
-use bser_serde_format::path::Path;
+use serde_bser::describe::Path;
 use bser_serde_format::steps::steps_to;
 use bser_serde_format::walk::Walk;
 use serde::{Deserialize, DeserializeOwned, Deserializer};

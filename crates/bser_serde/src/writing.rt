@@ -1,12 +1,11 @@
 //! Whole messages that are written.
-ghost use Rattle.std.specs.Prelude.{◌≡◌, ◌++◌, pos, length, OnOk, OnErr, IfOk, IfErr};
-ghost use Rattle.bser_format.specs.declared.errors.Error.TheVariants.{Io};
+ghost use Rattle.std.specs.Prelude.{◌≡◌, ◌++◌, pos, length, OnOk, IfOk, IfErr};
 ghost use Rattle.bser_ser.specs.Message.{front_of, IsNoFault};
-ghost use Rattle.bser_ser.specs.Stopped.{Takes, Accounts};
-ghost use Rattle.bser_serde.specs.Written.{IsLeastMessage, IsLeastBody, WroteLeast, Unwritten, TookFront};
+ghost use Rattle.bser_serde.specs.Written.{IsLeastMessage, IsLeastBody, WroteLeast, Unwritten};
 
 use crate::spelled::Compared;
 use crate::writer::body_of;
+use bser_ser::push_all;
 use serde::Serialize;
 use serde_bser::device::Sink;
 use serde_bser::errors::{Complaint, Error, Result};
@@ -14,8 +13,6 @@ use serde_bser::ser::{InMemory, Serializer};
 use serde_bser::tell;
 use serde_bser::tell::{Limits, Reason};
 use std::alloc::Global;
-use std::io;
-use std::io::ErrorKind;
 
 /// The message of a value: one well-formed message of at most 128 levels, without templates, each
 /// integer, length and count in its least width.
@@ -97,32 +94,8 @@ pub fn to_writer<W: Sink, T: Serialize>(alloc: Global, writer: &mut W, value: &T
     ensures err { IfErr result (Unwritten W.Sink writer.old writer.new) }
 {
     let message = to_vec(alloc, value)?;
-    match send(writer, &message) {
+    match push_all(writer, &message) {
         Ok(()) => Ok(()),
         Err(fault) => Err(Error::Io(fault)),
     }
-}
-
-/// Sends all bytes to the writer.
-///
-/// The error is the writer's own, or of kind `WriteZero` where it took nothing. Where none is
-/// answered, no failure was counted, and else one.
-fn send<W: Sink>(writer: &mut W, bytes: &[u8]) -> io::Result<()>
-    ensures ok { OnOk result (Takes W.Sink writer.old writer.new bytes.now) }
-    ensures front { OnErr result (TookFront W.Sink writer.old writer.new bytes.now) }
-    ensures err { IfErr result (λ e. Accounts W.Sink writer.old writer.new bytes.now (Io e)) }
-{
-    let mut done = 0;
-    while done < bytes.len() {
-        match writer.push(&bytes[done..]) {
-            Ok(n) => {
-                if n == 0 {
-                    return Err(io::Error::new(ErrorKind::WriteZero, "nothing taken"));
-                }
-                done += n;
-            }
-            Err(fault) => return Err(fault),
-        }
-    }
-    Ok(())
 }

@@ -7,7 +7,6 @@ mod format;
 mod heads;
 pub mod misfit;
 mod passing;
-pub mod path;
 pub mod steps;
 mod table;
 pub mod walk;

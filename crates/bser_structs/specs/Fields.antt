@@ -12,6 +12,7 @@ use Rattle.bser_deserializer.specs.HoldsLists.{HoldsTuple}
 use Rattle.bser_deserializer.specs.Reading.{Asking, bare, Needs}
 use Rattle.bser_types.specs.Askings.{asking_option}
 use Rattle.bser_types.specs.Slots.{StructField, reads_struct, struct_needs}
+use Rattle.bser_types.specs.Meanings.{TypeMeaning}
 use Rattle.bser_types.specs.Slots as slots
 use Rattle.bser_structs.specs.Askings.{FieldAskings, asking_struct}
 use Rattle.bser_structs.specs.Entries.{given_entry, entries_tree}
@@ -113,6 +114,10 @@ each_asking (f ∷ fs) = (f.asks, each_asking fs)
 -- which reader gives the errors of the struct, where all types say one
 abbrev pub asking_fields : {A : Type 0} → (fs : List (FieldOf A)) → Option (Asking (reads_fields fs))
 asking_fields fs = asking_struct (names_of fs) (slots_of fs) (each_asking fs)
+
+-- all that is said of a struct with these fields
+abbrev pub struct_meaning : {A : Type 0} → List (FieldOf A) → TypeMeaning A
+struct_meaning fs = record { reads = reads_fields fs; holds = HoldsFields fs; needs = fields_needs fs; asks = asking_fields fs; plain = None }
 
 -- the entries of the fields, in their order
 abbrev pub fields_entries : {A : Type 0} → List (FieldOf A) → A → List (List ℕ × Result Tree Error)

@@ -11,6 +11,7 @@ use Rattle.bser_format.specs.declared.errors.Error.{Error}
 use Rattle.bser_format.specs.declared.errors.Error.TheVariants.{SerCustom}
 use Rattle.bser_format.specs.declared.errors.Message.TheVariants.{Fixed}
 use Rattle.bser_deserializer.specs.Reading.{Asking, bare, Needs}
+use Rattle.bser_types.specs.Meanings.{TypeMeaning}
 use Rattle.bser_types.specs.Slots.{struct_needs}
 use Rattle.bser_variants.specs.Askings.{PayloadAsking, VariantAskings, asking_enum}
 use Rattle.bser_variants.specs.Variants.{HoldsVariant}
@@ -155,6 +156,10 @@ each_payload (f ∷ fs) = (f.asks, each_payload fs)
 abbrev pub asking_variants : {A : Type 0} → List ℕ → (fs : List (VariantOf A))
     → Option (Asking (reads_variants fs))
 asking_variants name fs = asking_enum name (payloads_of fs) (each_payload fs)
+
+-- all that is said of an enum of this name with these variants
+abbrev pub enum_meaning : {A : Type 0} → List ℕ → List (VariantOf A) → TypeMeaning A
+enum_meaning name fs = record { reads = reads_variants fs; holds = HoldsVariants fs; needs = variants_needs fs; asks = asking_variants name fs; plain = None }
 
 -- the tree that the enum is written as, or why it is none
 abbrev pub variants_tree : {A : Type 0} → List (VariantOf A) → A → Result Tree Error

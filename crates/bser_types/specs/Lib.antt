@@ -7,6 +7,7 @@ pub mod Fold
 pub mod HoldsCows
 pub mod HoldsReals
 pub mod HoldsSets
+pub mod Meanings
 pub mod Ranges
 pub mod Rests
 pub mod Slots

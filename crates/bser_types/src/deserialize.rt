@@ -3,6 +3,7 @@ ghost use Rattle.std.specs.Prelude.{◌≡◌, ◌≢◌, false, Option, IfOk, O
 ghost use Rattle.bser_format.specs.Content.{Content, Meaning, ReadsNoObject};
 ghost use Rattle.bser_deserializer.specs.Reading.{Asking, Needs, TakesNoMemory};
 ghost use Rattle.bser_types.specs.Accesses.{ReadsDue, RefusesDue};
+ghost use Rattle.bser_types.specs.Meanings.{TypeMeaning};
 
 use bser_bunser::refusal::Answer;
 use bser_deserializer::deserializer::Deserializer;
@@ -32,6 +33,24 @@ pub trait Shape {
     // that the type reads no object, where that is known; then a tuple that has such a part is
     // never read of a template, and takes no memory for one
     ghost plain: { Option (ReadsNoObject Self.reads) };
+}
+
+/// A type whose meaning is given as one value, as by the list of a struct's fields.
+pub trait Meant {
+    // all that is said of the type
+    ghost meaning: { TypeMeaning Self };
+}
+
+impl<T: Meant> Shape for T {
+    ghost reads = { T.meaning.reads };
+
+    ghost holds = { T.meaning.holds };
+
+    ghost needs = { T.meaning.needs };
+
+    ghost asks = { T.meaning.asks };
+
+    ghost plain = { T.meaning.plain };
 }
 
 /// A type that is read from a source that lends `L`.

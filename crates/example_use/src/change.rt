@@ -1,6 +1,6 @@
 //! An enum that is read and written.
 ghost use Rattle.std.specs.Prelude.{codes, [], ◌∷◌, true, false, Some, None, refl};
-ghost use Rattle.serde_bser.specs.EnumVariants.{unit, newtype, with_fields, no_fields, with_required, with_optional, reads_variants, HoldsVariants, variants_needs, asking_variants, variants_tree};
+ghost use Rattle.serde_bser.specs.EnumVariants.{unit, newtype, with_fields, no_fields, with_required, with_optional, enum_meaning, variants_tree};
 
 use serde_bser::bytestring::ByteString;
 use serde_bser::de::{Answer, Deserializer};
@@ -31,16 +31,8 @@ impl Variants for Change {
         ∷ [] };
 }
 
-impl Shape for Change {
-    ghost reads = { reads_variants ⟦<Change as Variants>⟧.variants };
-
-    ghost holds = { HoldsVariants ⟦<Change as Variants>⟧.variants };
-
-    ghost needs = { variants_needs ⟦<Change as Variants>⟧.variants };
-
-    ghost asks = { asking_variants (codes "Change") ⟦<Change as Variants>⟧.variants };
-
-    ghost plain = { None };
+impl Meant for Change {
+    ghost meaning = { enum_meaning (codes "Change") ⟦<Change as Variants>⟧.variants };
 }
 
 impl<L: LendsText> Deserialize<L> for Change {

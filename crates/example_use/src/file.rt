@@ -1,6 +1,6 @@
 //! A struct that is read and written.
-ghost use Rattle.std.specs.Prelude.{codes, [], ◌∷◌, None, refl};
-ghost use Rattle.serde_bser.specs.StructFields.{required, reads_fields, HoldsFields, fields_needs, asking_fields, fields_tree};
+ghost use Rattle.std.specs.Prelude.{codes, [], ◌∷◌, refl};
+ghost use Rattle.serde_bser.specs.StructFields.{required, struct_meaning, fields_tree};
 
 use serde_bser::bytestring::ByteString;
 use serde_bser::de::{Answer, Deserializer};
@@ -24,16 +24,8 @@ impl Fields for File {
         ∷ [] };
 }
 
-impl Shape for File {
-    ghost reads = { reads_fields ⟦<File as Fields>⟧.fields };
-
-    ghost holds = { HoldsFields ⟦<File as Fields>⟧.fields };
-
-    ghost needs = { fields_needs ⟦<File as Fields>⟧.fields };
-
-    ghost asks = { asking_fields ⟦<File as Fields>⟧.fields };
-
-    ghost plain = { None };
+impl Meant for File {
+    ghost meaning = { struct_meaning ⟦<File as Fields>⟧.fields };
 }
 
 impl<L: LendsText> Deserialize<L> for File {

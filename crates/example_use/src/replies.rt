@@ -1,6 +1,6 @@
 //! Several kinds of messages in one slice.
-ghost use Rattle.std.specs.Prelude.{codes, [], ◌∷◌, None};
-ghost use Rattle.serde_bser.specs.StructFields.{required, reads_fields, HoldsFields, fields_needs, asking_fields};
+ghost use Rattle.std.specs.Prelude.{codes, [], ◌∷◌};
+ghost use Rattle.serde_bser.specs.StructFields.{required, struct_meaning};
 
 use crate::file::File;
 use serde_bser::de::read::LendsFrom;
@@ -24,16 +24,8 @@ impl<'a> Fields for Reply<'a> {
         ∷ [] };
 }
 
-impl<'a> Shape for Reply<'a> {
-    ghost reads = { reads_fields ⟦<Reply<'a> as Fields>⟧.fields };
-
-    ghost holds = { HoldsFields ⟦<Reply<'a> as Fields>⟧.fields };
-
-    ghost needs = { fields_needs ⟦<Reply<'a> as Fields>⟧.fields };
-
-    ghost asks = { asking_fields ⟦<Reply<'a> as Fields>⟧.fields };
-
-    ghost plain = { None };
+impl<'a> Meant for Reply<'a> {
+    ghost meaning = { struct_meaning ⟦<Reply<'a> as Fields>⟧.fields };
 }
 
 impl<'a, L: LendsFrom<'a>> Deserialize<L> for Reply<'a> {
@@ -52,16 +44,8 @@ impl<'a> Fields for Failure<'a> {
     ghost fields = { required (codes "error") (λ v. v.error) ⟦<&'a str as ReadOnly>⟧.coding ∷ [] };
 }
 
-impl<'a> Shape for Failure<'a> {
-    ghost reads = { reads_fields ⟦<Failure<'a> as Fields>⟧.fields };
-
-    ghost holds = { HoldsFields ⟦<Failure<'a> as Fields>⟧.fields };
-
-    ghost needs = { fields_needs ⟦<Failure<'a> as Fields>⟧.fields };
-
-    ghost asks = { asking_fields ⟦<Failure<'a> as Fields>⟧.fields };
-
-    ghost plain = { None };
+impl<'a> Meant for Failure<'a> {
+    ghost meaning = { struct_meaning ⟦<Failure<'a> as Fields>⟧.fields };
 }
 
 impl<'a, L: LendsFrom<'a>> Deserialize<L> for Failure<'a> {

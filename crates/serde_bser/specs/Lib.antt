@@ -46,6 +46,7 @@ pub use Rattle.bser_types.specs.Fold
 pub use Rattle.bser_types.specs.HoldsReals
 pub use Rattle.bser_types.specs.HoldsCows
 pub use Rattle.bser_types.specs.HoldsSets
+pub use Rattle.bser_types.specs.Meanings
 pub use Rattle.bser_types.specs.Ranges
 pub use Rattle.bser_types.specs.Rests
 pub use Rattle.bser_types.specs.Slots

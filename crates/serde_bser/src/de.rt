@@ -29,7 +29,7 @@ pub use bser_structs::slot::{Optional, Required, Slot};
 pub use bser_structs::slots::Slots;
 pub use bser_structs::struct_reader::ReadsFields;
 pub use bser_types::container::ReadsContainers;
-pub use bser_types::deserialize::{Deserialize, DeserializeOwned, OwnedShape, Shape};
+pub use bser_types::deserialize::{Deserialize, DeserializeOwned, Meant, OwnedShape, Shape};
 pub use bser_types::impls::{Ignored, MapKey, RealBits, SkipsValues};
 pub use bser_types::map::MapAccess;
 pub use bser_types::seq::SeqAccess;

@@ -10,6 +10,6 @@ pub use bser_structs::slots::Slots;
 pub use bser_structs::struct_reader::ReadsFields;
 pub use bser_structs::{put_enum, put_struct, read_enum, read_struct};
 pub use bser_types::container::ReadsContainers;
-pub use bser_types::deserialize::{Deserialize, DeserializeOwned, OwnedShape, Shape};
+pub use bser_types::deserialize::{Deserialize, DeserializeOwned, Meant, OwnedShape, Shape};
 pub use bser_types::impls::SkipsValues;
 pub use bser_variants::enum_access::ReadsEnums;

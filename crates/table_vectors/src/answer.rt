@@ -1,6 +1,6 @@
 //! The structs as which an answer of Watchman is read.
-ghost use Rattle.std.specs.Prelude.{codes, [], ◌∷◌, None, refl};
-ghost use Rattle.bser_structs.specs.Fields.{required, optional, reads_fields, HoldsFields, fields_needs, asking_fields};
+ghost use Rattle.std.specs.Prelude.{codes, [], ◌∷◌, refl};
+ghost use Rattle.bser_structs.specs.Fields.{required, optional, struct_meaning};
 
 use serde_bser::de;
 use serde_bser::de::Deserializer;
@@ -26,16 +26,8 @@ impl Fields for File {
         ∷ [] };
 }
 
-impl Shape for File {
-    ghost reads = { reads_fields ⟦<File as Fields>⟧.fields };
-
-    ghost holds = { HoldsFields ⟦<File as Fields>⟧.fields };
-
-    ghost needs = { fields_needs ⟦<File as Fields>⟧.fields };
-
-    ghost asks = { asking_fields ⟦<File as Fields>⟧.fields };
-
-    ghost plain = { None };
+impl Meant for File {
+    ghost meaning = { struct_meaning ⟦<File as Fields>⟧.fields };
 }
 
 impl<L: LendsText> Deserialize<L> for File {
@@ -74,16 +66,8 @@ impl Fields for Answer {
         ∷ [] };
 }
 
-impl Shape for Answer {
-    ghost reads = { reads_fields ⟦<Answer as Fields>⟧.fields };
-
-    ghost holds = { HoldsFields ⟦<Answer as Fields>⟧.fields };
-
-    ghost needs = { fields_needs ⟦<Answer as Fields>⟧.fields };
-
-    ghost asks = { asking_fields ⟦<Answer as Fields>⟧.fields };
-
-    ghost plain = { None };
+impl Meant for Answer {
+    ghost meaning = { struct_meaning ⟦<Answer as Fields>⟧.fields };
 }
 
 impl<L: LendsText> Deserialize<L> for Answer {

@@ -1,6 +1,6 @@
 //! The structs as which an answer of Watchman is read.
-ghost use Rattle.std.specs.Prelude.{codes, refl, [], ◌∷◌, None};
-ghost use Rattle.bser_structs.specs.Fields.{required, optional, reads_fields, HoldsFields, fields_needs, asking_fields, none_lent};
+ghost use Rattle.std.specs.Prelude.{codes, refl, [], ◌∷◌};
+ghost use Rattle.bser_structs.specs.Fields.{required, optional, struct_meaning, none_lent};
 
 use serde_bser::bytestring::ByteString;
 use serde_bser::de::{Answer, Deserializer};
@@ -28,16 +28,8 @@ impl<B: Shape, S: Shape> Fields for File<B, S> {
         ∷ [] };
 }
 
-impl<B: Shape, S: Shape> Shape for File<B, S> {
-    ghost reads = { reads_fields ⟦<File<B, S> as Fields>⟧.fields };
-
-    ghost holds = { HoldsFields ⟦<File<B, S> as Fields>⟧.fields };
-
-    ghost needs = { fields_needs ⟦<File<B, S> as Fields>⟧.fields };
-
-    ghost asks = { asking_fields ⟦<File<B, S> as Fields>⟧.fields };
-
-    ghost plain = { None };
+impl<B: Shape, S: Shape> Meant for File<B, S> {
+    ghost meaning = { struct_meaning ⟦<File<B, S> as Fields>⟧.fields };
 }
 
 impl<L: LendsText, B: Deserialize<L>, S: Deserialize<L>> Deserialize<L> for File<B, S> {
@@ -90,16 +82,8 @@ impl<B: Shape, S: Shape> Fields for Files<B, S> {
         ∷ [] };
 }
 
-impl<B: Shape, S: Shape> Shape for Files<B, S> {
-    ghost reads = { reads_fields ⟦<Files<B, S> as Fields>⟧.fields };
-
-    ghost holds = { HoldsFields ⟦<Files<B, S> as Fields>⟧.fields };
-
-    ghost needs = { fields_needs ⟦<Files<B, S> as Fields>⟧.fields };
-
-    ghost asks = { asking_fields ⟦<Files<B, S> as Fields>⟧.fields };
-
-    ghost plain = { None };
+impl<B: Shape, S: Shape> Meant for Files<B, S> {
+    ghost meaning = { struct_meaning ⟦<Files<B, S> as Fields>⟧.fields };
 }
 
 impl<L: LendsText, B: Deserialize<L>, S: Deserialize<L>> Deserialize<L> for Files<B, S> {

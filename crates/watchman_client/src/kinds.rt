@@ -1,6 +1,6 @@
 //! Which messages are unsolicited, and which tell of an error.
-ghost use Rattle.std.specs.Prelude.{◌≡◌, codes, [], ◌∷◌, None, true, false, IfOk, IfSome, IfNone, List, ℕ};
-ghost use Rattle.bser_structs.specs.Fields.{required, reads_fields, HoldsFields, fields_needs, asking_fields};
+ghost use Rattle.std.specs.Prelude.{◌≡◌, codes, [], ◌∷◌, true, false, IfOk, IfSome, IfNone, List, ℕ};
+ghost use Rattle.bser_structs.specs.Fields.{required, struct_meaning};
 ghost use Rattle.watchman_client.specs.Kinds.{IsKind, TellsError};
 
 use bser_bunser::refusal::Answer;
@@ -13,7 +13,7 @@ use bser_source::reference::LendsText;
 use bser_structs::fields::{Fields, ReadOnly};
 use bser_structs::read_struct;
 use bser_structs::struct_reader::ReadsFields;
-use bser_types::deserialize::{Deserialize, OwnedShape, Shape};
+use bser_types::deserialize::{Deserialize, Meant, OwnedShape};
 use std::alloc::{AllocError, Global};
 
 /// What a message tells of itself.
@@ -28,16 +28,8 @@ impl Fields for Mark {
         ∷ [] };
 }
 
-impl Shape for Mark {
-    ghost reads = { reads_fields ⟦<Mark as Fields>⟧.fields };
-
-    ghost holds = { HoldsFields ⟦<Mark as Fields>⟧.fields };
-
-    ghost needs = { fields_needs ⟦<Mark as Fields>⟧.fields };
-
-    ghost asks = { asking_fields ⟦<Mark as Fields>⟧.fields };
-
-    ghost plain = { None };
+impl Meant for Mark {
+    ghost meaning = { struct_meaning ⟦<Mark as Fields>⟧.fields };
 }
 
 impl<L: LendsText> Deserialize<L> for Mark {
@@ -58,16 +50,8 @@ impl Fields for Failure {
         ∷ [] };
 }
 
-impl Shape for Failure {
-    ghost reads = { reads_fields ⟦<Failure as Fields>⟧.fields };
-
-    ghost holds = { HoldsFields ⟦<Failure as Fields>⟧.fields };
-
-    ghost needs = { fields_needs ⟦<Failure as Fields>⟧.fields };
-
-    ghost asks = { asking_fields ⟦<Failure as Fields>⟧.fields };
-
-    ghost plain = { None };
+impl Meant for Failure {
+    ghost meaning = { struct_meaning ⟦<Failure as Fields>⟧.fields };
 }
 
 impl<L: LendsText> Deserialize<L> for Failure {

@@ -1,6 +1,6 @@
 //! A file as a message lists it.
-ghost use Rattle.std.specs.Prelude.{◌≡◌, codes, [], ◌∷◌, None, refl};
-ghost use Rattle.serde_bser.specs.StructFields.{required, optional, reads_fields, HoldsFields, fields_needs, asking_fields, none_lent};
+ghost use Rattle.std.specs.Prelude.{◌≡◌, codes, [], ◌∷◌, refl};
+ghost use Rattle.serde_bser.specs.StructFields.{required, optional, struct_meaning, none_lent};
 ghost use Rattle.watchman_index.specs.Lists.{entry_of};
 ghost use Rattle.watchman_index.specs.Rows.{state_of};
 
@@ -41,16 +41,8 @@ impl Fields for Listed {
         ∷ [] };
 }
 
-impl Shape for Listed {
-    ghost reads = { reads_fields ⟦<Listed as Fields>⟧.fields };
-
-    ghost holds = { HoldsFields ⟦<Listed as Fields>⟧.fields };
-
-    ghost needs = { fields_needs ⟦<Listed as Fields>⟧.fields };
-
-    ghost asks = { asking_fields ⟦<Listed as Fields>⟧.fields };
-
-    ghost plain = { None };
+impl Meant for Listed {
+    ghost meaning = { struct_meaning ⟦<Listed as Fields>⟧.fields };
 }
 
 impl<L: LendsText> Deserialize<L> for Listed {

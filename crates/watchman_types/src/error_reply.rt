@@ -1,6 +1,6 @@
 //! An error of the server.
-ghost use Rattle.std.specs.Prelude.{codes, [], ◌∷◌, None, refl};
-ghost use Rattle.serde_bser.specs.StructFields.{required, optional, reads_fields, HoldsFields, fields_needs, asking_fields, none_lent};
+ghost use Rattle.std.specs.Prelude.{codes, [], ◌∷◌, refl};
+ghost use Rattle.serde_bser.specs.StructFields.{required, optional, struct_meaning, none_lent};
 
 use serde_bser::de::{Answer, Deserializer};
 use serde_bser::prelude::*;
@@ -21,16 +21,8 @@ impl<S: Shape> Fields for ErrorReply<S> {
         ∷ [] };
 }
 
-impl<S: Shape> Shape for ErrorReply<S> {
-    ghost reads = { reads_fields ⟦<ErrorReply<S> as Fields>⟧.fields };
-
-    ghost holds = { HoldsFields ⟦<ErrorReply<S> as Fields>⟧.fields };
-
-    ghost needs = { fields_needs ⟦<ErrorReply<S> as Fields>⟧.fields };
-
-    ghost asks = { asking_fields ⟦<ErrorReply<S> as Fields>⟧.fields };
-
-    ghost plain = { None };
+impl<S: Shape> Meant for ErrorReply<S> {
+    ghost meaning = { struct_meaning ⟦<ErrorReply<S> as Fields>⟧.fields };
 }
 
 impl<L: LendsText, S: Deserialize<L>> Deserialize<L> for ErrorReply<S> {

@@ -1,6 +1,6 @@
 //! Files.
-ghost use Rattle.std.specs.Prelude.{codes, [], ◌∷◌, None, refl};
-ghost use Rattle.serde_bser.specs.StructFields.{optional, reads_fields, HoldsFields, fields_needs, asking_fields, none_lent};
+ghost use Rattle.std.specs.Prelude.{codes, [], ◌∷◌, refl};
+ghost use Rattle.serde_bser.specs.StructFields.{optional, struct_meaning, none_lent};
 
 use crate::error_reply::ErrorReply;
 use crate::file_type::FileType;
@@ -95,16 +95,8 @@ impl<S: Shape> Fields for File<S> {
         ∷ [] };
 }
 
-impl<S: Shape> Shape for File<S> {
-    ghost reads = { reads_fields ⟦<File<S> as Fields>⟧.fields };
-
-    ghost holds = { HoldsFields ⟦<File<S> as Fields>⟧.fields };
-
-    ghost needs = { fields_needs ⟦<File<S> as Fields>⟧.fields };
-
-    ghost asks = { asking_fields ⟦<File<S> as Fields>⟧.fields };
-
-    ghost plain = { None };
+impl<S: Shape> Meant for File<S> {
+    ghost meaning = { struct_meaning ⟦<File<S> as Fields>⟧.fields };
 }
 
 impl<L: LendsText, S: Deserialize<L>> Deserialize<L> for File<S> {

@@ -1,6 +1,6 @@
 //! Types of files.
-ghost use Rattle.std.specs.Prelude.{codes, [], ◌∷◌, true, false, None, refl};
-ghost use Rattle.serde_bser.specs.EnumVariants.{unit, reads_variants, HoldsVariants, variants_needs, asking_variants};
+ghost use Rattle.std.specs.Prelude.{codes, [], ◌∷◌, true, false, refl};
+ghost use Rattle.serde_bser.specs.EnumVariants.{unit, enum_meaning};
 
 use serde_bser::de::{Answer, Deserializer};
 use serde_bser::prelude::*;
@@ -37,16 +37,8 @@ impl Variants for FileType {
         ∷ [] };
 }
 
-impl Shape for FileType {
-    ghost reads = { reads_variants ⟦<FileType as Variants>⟧.variants };
-
-    ghost holds = { HoldsVariants ⟦<FileType as Variants>⟧.variants };
-
-    ghost needs = { variants_needs ⟦<FileType as Variants>⟧.variants };
-
-    ghost asks = { asking_variants (codes "FileType") ⟦<FileType as Variants>⟧.variants };
-
-    ghost plain = { None };
+impl Meant for FileType {
+    ghost meaning = { enum_meaning (codes "FileType") ⟦<FileType as Variants>⟧.variants };
 }
 
 impl<L: LendsText> Deserialize<L> for FileType {

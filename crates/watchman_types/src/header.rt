@@ -1,6 +1,6 @@
 //! What tells which message it is.
-ghost use Rattle.std.specs.Prelude.{◌≡◌, codes, [], ◌∷◌, None, refl};
-ghost use Rattle.serde_bser.specs.StructFields.{optional, reads_fields, HoldsFields, fields_needs, asking_fields};
+ghost use Rattle.std.specs.Prelude.{◌≡◌, codes, [], ◌∷◌, refl};
+ghost use Rattle.serde_bser.specs.StructFields.{optional, struct_meaning};
 ghost use Rattle.watchman_types.specs.Kinds.{kind_of, event_kind_of};
 
 use crate::kind::{EventKind, Kind};
@@ -38,16 +38,8 @@ impl Fields for Header {
         ∷ [] };
 }
 
-impl Shape for Header {
-    ghost reads = { reads_fields ⟦<Header as Fields>⟧.fields };
-
-    ghost holds = { HoldsFields ⟦<Header as Fields>⟧.fields };
-
-    ghost needs = { fields_needs ⟦<Header as Fields>⟧.fields };
-
-    ghost asks = { asking_fields ⟦<Header as Fields>⟧.fields };
-
-    ghost plain = { None };
+impl Meant for Header {
+    ghost meaning = { struct_meaning ⟦<Header as Fields>⟧.fields };
 }
 
 impl<L: LendsText> Deserialize<L> for Header {

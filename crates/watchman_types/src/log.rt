@@ -1,6 +1,6 @@
 //! The log of the server.
-ghost use Rattle.std.specs.Prelude.{codes, [], ◌∷◌, None, refl};
-ghost use Rattle.serde_bser.specs.StructFields.{required, optional, reads_fields, HoldsFields, fields_needs, asking_fields, none_lent};
+ghost use Rattle.std.specs.Prelude.{codes, [], ◌∷◌, refl};
+ghost use Rattle.serde_bser.specs.StructFields.{required, optional, struct_meaning, none_lent};
 
 use serde_bser::de::{Answer, Deserializer};
 use serde_bser::prelude::*;
@@ -21,16 +21,8 @@ impl<S: Shape> Fields for LogLevel<S> {
         ∷ [] };
 }
 
-impl<S: Shape> Shape for LogLevel<S> {
-    ghost reads = { reads_fields ⟦<LogLevel<S> as Fields>⟧.fields };
-
-    ghost holds = { HoldsFields ⟦<LogLevel<S> as Fields>⟧.fields };
-
-    ghost needs = { fields_needs ⟦<LogLevel<S> as Fields>⟧.fields };
-
-    ghost asks = { asking_fields ⟦<LogLevel<S> as Fields>⟧.fields };
-
-    ghost plain = { None };
+impl<S: Shape> Meant for LogLevel<S> {
+    ghost meaning = { struct_meaning ⟦<LogLevel<S> as Fields>⟧.fields };
 }
 
 impl<L: LendsText, S: Deserialize<L>> Deserialize<L> for LogLevel<S> {
@@ -65,16 +57,8 @@ impl<S: Shape> Fields for Logged<S> {
         ∷ [] };
 }
 
-impl<S: Shape> Shape for Logged<S> {
-    ghost reads = { reads_fields ⟦<Logged<S> as Fields>⟧.fields };
-
-    ghost holds = { HoldsFields ⟦<Logged<S> as Fields>⟧.fields };
-
-    ghost needs = { fields_needs ⟦<Logged<S> as Fields>⟧.fields };
-
-    ghost asks = { asking_fields ⟦<Logged<S> as Fields>⟧.fields };
-
-    ghost plain = { None };
+impl<S: Shape> Meant for Logged<S> {
+    ghost meaning = { struct_meaning ⟦<Logged<S> as Fields>⟧.fields };
 }
 
 impl<L: LendsText, S: Deserialize<L>> Deserialize<L> for Logged<S> {
@@ -109,16 +93,8 @@ impl<S: Shape> Fields for Log<S> {
         ∷ [] };
 }
 
-impl<S: Shape> Shape for Log<S> {
-    ghost reads = { reads_fields ⟦<Log<S> as Fields>⟧.fields };
-
-    ghost holds = { HoldsFields ⟦<Log<S> as Fields>⟧.fields };
-
-    ghost needs = { fields_needs ⟦<Log<S> as Fields>⟧.fields };
-
-    ghost asks = { asking_fields ⟦<Log<S> as Fields>⟧.fields };
-
-    ghost plain = { None };
+impl<S: Shape> Meant for Log<S> {
+    ghost meaning = { struct_meaning ⟦<Log<S> as Fields>⟧.fields };
 }
 
 impl<L: LendsText, S: Deserialize<L>> Deserialize<L> for Log<S> {

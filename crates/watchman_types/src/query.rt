@@ -1,6 +1,6 @@
 //! What a query finds.
-ghost use Rattle.std.specs.Prelude.{codes, [], ◌∷◌, None, refl};
-ghost use Rattle.serde_bser.specs.StructFields.{required, optional, reads_fields, HoldsFields, fields_needs, asking_fields, none_lent};
+ghost use Rattle.std.specs.Prelude.{codes, [], ◌∷◌, refl};
+ghost use Rattle.serde_bser.specs.StructFields.{required, optional, struct_meaning, none_lent};
 
 use serde_bser::de::{Answer, Deserializer};
 use serde_bser::prelude::*;
@@ -42,16 +42,8 @@ impl<S: Shape, F: Shape> Fields for QueryResult<S, F> {
         ∷ [] };
 }
 
-impl<S: Shape, F: Shape> Shape for QueryResult<S, F> {
-    ghost reads = { reads_fields ⟦<QueryResult<S, F> as Fields>⟧.fields };
-
-    ghost holds = { HoldsFields ⟦<QueryResult<S, F> as Fields>⟧.fields };
-
-    ghost needs = { fields_needs ⟦<QueryResult<S, F> as Fields>⟧.fields };
-
-    ghost asks = { asking_fields ⟦<QueryResult<S, F> as Fields>⟧.fields };
-
-    ghost plain = { None };
+impl<S: Shape, F: Shape> Meant for QueryResult<S, F> {
+    ghost meaning = { struct_meaning ⟦<QueryResult<S, F> as Fields>⟧.fields };
 }
 
 impl<L: LendsText, S: Deserialize<L>, F: Deserialize<L>> Deserialize<L> for QueryResult<S, F> {

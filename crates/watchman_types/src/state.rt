@@ -1,6 +1,6 @@
 //! States: what a client does with a folder, and tells the other clients.
-ghost use Rattle.std.specs.Prelude.{codes, [], ◌∷◌, None, refl};
-ghost use Rattle.serde_bser.specs.StructFields.{required, optional, reads_fields, HoldsFields, fields_needs, asking_fields, none_lent};
+ghost use Rattle.std.specs.Prelude.{codes, [], ◌∷◌, refl};
+ghost use Rattle.serde_bser.specs.StructFields.{required, optional, struct_meaning, none_lent};
 
 use serde_bser::de::{Answer, Deserializer};
 use serde_bser::prelude::*;
@@ -31,16 +31,8 @@ impl<S: Shape> Fields for StateEntered<S> {
         ∷ [] };
 }
 
-impl<S: Shape> Shape for StateEntered<S> {
-    ghost reads = { reads_fields ⟦<StateEntered<S> as Fields>⟧.fields };
-
-    ghost holds = { HoldsFields ⟦<StateEntered<S> as Fields>⟧.fields };
-
-    ghost needs = { fields_needs ⟦<StateEntered<S> as Fields>⟧.fields };
-
-    ghost asks = { asking_fields ⟦<StateEntered<S> as Fields>⟧.fields };
-
-    ghost plain = { None };
+impl<S: Shape> Meant for StateEntered<S> {
+    ghost meaning = { struct_meaning ⟦<StateEntered<S> as Fields>⟧.fields };
 }
 
 impl<L: LendsText, S: Deserialize<L>> Deserialize<L> for StateEntered<S> {
@@ -91,16 +83,8 @@ impl<S: Shape> Fields for StateLeft<S> {
         ∷ [] };
 }
 
-impl<S: Shape> Shape for StateLeft<S> {
-    ghost reads = { reads_fields ⟦<StateLeft<S> as Fields>⟧.fields };
-
-    ghost holds = { HoldsFields ⟦<StateLeft<S> as Fields>⟧.fields };
-
-    ghost needs = { fields_needs ⟦<StateLeft<S> as Fields>⟧.fields };
-
-    ghost asks = { asking_fields ⟦<StateLeft<S> as Fields>⟧.fields };
-
-    ghost plain = { None };
+impl<S: Shape> Meant for StateLeft<S> {
+    ghost meaning = { struct_meaning ⟦<StateLeft<S> as Fields>⟧.fields };
 }
 
 impl<L: LendsText, S: Deserialize<L>> Deserialize<L> for StateLeft<S> {

@@ -1,6 +1,6 @@
 //! Subscriptions, and what they tell.
-ghost use Rattle.std.specs.Prelude.{codes, [], ◌∷◌, None, refl};
-ghost use Rattle.serde_bser.specs.StructFields.{required, optional, reads_fields, HoldsFields, fields_needs, asking_fields, none_lent};
+ghost use Rattle.std.specs.Prelude.{codes, [], ◌∷◌, refl};
+ghost use Rattle.serde_bser.specs.StructFields.{required, optional, struct_meaning, none_lent};
 
 use serde_bser::de::{Answer, Deserializer};
 use serde_bser::prelude::*;
@@ -27,16 +27,8 @@ impl<S: Shape> Fields for Subscribed<S> {
         ∷ [] };
 }
 
-impl<S: Shape> Shape for Subscribed<S> {
-    ghost reads = { reads_fields ⟦<Subscribed<S> as Fields>⟧.fields };
-
-    ghost holds = { HoldsFields ⟦<Subscribed<S> as Fields>⟧.fields };
-
-    ghost needs = { fields_needs ⟦<Subscribed<S> as Fields>⟧.fields };
-
-    ghost asks = { asking_fields ⟦<Subscribed<S> as Fields>⟧.fields };
-
-    ghost plain = { None };
+impl<S: Shape> Meant for Subscribed<S> {
+    ghost meaning = { struct_meaning ⟦<Subscribed<S> as Fields>⟧.fields };
 }
 
 impl<L: LendsText, S: Deserialize<L>> Deserialize<L> for Subscribed<S> {
@@ -77,16 +69,8 @@ impl<S: Shape> Fields for Unsubscribed<S> {
         ∷ [] };
 }
 
-impl<S: Shape> Shape for Unsubscribed<S> {
-    ghost reads = { reads_fields ⟦<Unsubscribed<S> as Fields>⟧.fields };
-
-    ghost holds = { HoldsFields ⟦<Unsubscribed<S> as Fields>⟧.fields };
-
-    ghost needs = { fields_needs ⟦<Unsubscribed<S> as Fields>⟧.fields };
-
-    ghost asks = { asking_fields ⟦<Unsubscribed<S> as Fields>⟧.fields };
-
-    ghost plain = { None };
+impl<S: Shape> Meant for Unsubscribed<S> {
+    ghost meaning = { struct_meaning ⟦<Unsubscribed<S> as Fields>⟧.fields };
 }
 
 impl<L: LendsText, S: Deserialize<L>> Deserialize<L> for Unsubscribed<S> {
@@ -128,16 +112,8 @@ impl<S: Shape> Fields for Flushed<S> {
         ∷ [] };
 }
 
-impl<S: Shape> Shape for Flushed<S> {
-    ghost reads = { reads_fields ⟦<Flushed<S> as Fields>⟧.fields };
-
-    ghost holds = { HoldsFields ⟦<Flushed<S> as Fields>⟧.fields };
-
-    ghost needs = { fields_needs ⟦<Flushed<S> as Fields>⟧.fields };
-
-    ghost asks = { asking_fields ⟦<Flushed<S> as Fields>⟧.fields };
-
-    ghost plain = { None };
+impl<S: Shape> Meant for Flushed<S> {
+    ghost meaning = { struct_meaning ⟦<Flushed<S> as Fields>⟧.fields };
 }
 
 impl<L: LendsText, S: Deserialize<L>> Deserialize<L> for Flushed<S> {
@@ -194,16 +170,8 @@ impl<S: Shape, F: Shape> Fields for FilesChanged<S, F> {
         ∷ [] };
 }
 
-impl<S: Shape, F: Shape> Shape for FilesChanged<S, F> {
-    ghost reads = { reads_fields ⟦<FilesChanged<S, F> as Fields>⟧.fields };
-
-    ghost holds = { HoldsFields ⟦<FilesChanged<S, F> as Fields>⟧.fields };
-
-    ghost needs = { fields_needs ⟦<FilesChanged<S, F> as Fields>⟧.fields };
-
-    ghost asks = { asking_fields ⟦<FilesChanged<S, F> as Fields>⟧.fields };
-
-    ghost plain = { None };
+impl<S: Shape, F: Shape> Meant for FilesChanged<S, F> {
+    ghost meaning = { struct_meaning ⟦<FilesChanged<S, F> as Fields>⟧.fields };
 }
 
 impl<L: LendsText, S: Deserialize<L>, F: Deserialize<L>> Deserialize<L> for FilesChanged<S, F> {
@@ -244,16 +212,8 @@ impl<S: Shape> Fields for Canceled<S> {
         ∷ [] };
 }
 
-impl<S: Shape> Shape for Canceled<S> {
-    ghost reads = { reads_fields ⟦<Canceled<S> as Fields>⟧.fields };
-
-    ghost holds = { HoldsFields ⟦<Canceled<S> as Fields>⟧.fields };
-
-    ghost needs = { fields_needs ⟦<Canceled<S> as Fields>⟧.fields };
-
-    ghost asks = { asking_fields ⟦<Canceled<S> as Fields>⟧.fields };
-
-    ghost plain = { None };
+impl<S: Shape> Meant for Canceled<S> {
+    ghost meaning = { struct_meaning ⟦<Canceled<S> as Fields>⟧.fields };
 }
 
 impl<L: LendsText, S: Deserialize<L>> Deserialize<L> for Canceled<S> {

@@ -1,7 +1,7 @@
 //! The version of the server.
-ghost use Rattle.std.specs.Prelude.{◌≡◌, codes, [], ◌∷◌, None, refl, bytes_eq};
+ghost use Rattle.std.specs.Prelude.{◌≡◌, codes, [], ◌∷◌, refl, bytes_eq};
 ghost use Rattle.watchman_types.specs.Capabilities.{one_is_true, says_true, first_missing};
-ghost use Rattle.serde_bser.specs.StructFields.{required, optional, reads_fields, HoldsFields, fields_needs, asking_fields, none_lent};
+ghost use Rattle.serde_bser.specs.StructFields.{required, optional, struct_meaning, none_lent};
 
 use serde_bser::bytestring::ByteString;
 use serde_bser::de::{Answer, Deserializer, MapKey};
@@ -25,16 +25,8 @@ impl<S: Shape + MapKey> Fields for Version<S> {
         ∷ [] };
 }
 
-impl<S: Shape + MapKey> Shape for Version<S> {
-    ghost reads = { reads_fields ⟦<Version<S> as Fields>⟧.fields };
-
-    ghost holds = { HoldsFields ⟦<Version<S> as Fields>⟧.fields };
-
-    ghost needs = { fields_needs ⟦<Version<S> as Fields>⟧.fields };
-
-    ghost asks = { asking_fields ⟦<Version<S> as Fields>⟧.fields };
-
-    ghost plain = { None };
+impl<S: Shape + MapKey> Meant for Version<S> {
+    ghost meaning = { struct_meaning ⟦<Version<S> as Fields>⟧.fields };
 }
 
 impl<L: LendsText, S: Deserialize<L> + MapKey> Deserialize<L> for Version<S> {

@@ -1,6 +1,6 @@
 //! Directories that are watched, and their clocks.
-ghost use Rattle.std.specs.Prelude.{codes, [], ◌∷◌, None, refl};
-ghost use Rattle.serde_bser.specs.StructFields.{required, optional, reads_fields, HoldsFields, fields_needs, asking_fields, none_lent};
+ghost use Rattle.std.specs.Prelude.{codes, [], ◌∷◌, refl};
+ghost use Rattle.serde_bser.specs.StructFields.{required, optional, struct_meaning, none_lent};
 
 use serde_bser::de::{Answer, Deserializer};
 use serde_bser::prelude::*;
@@ -30,16 +30,8 @@ impl<S: Shape> Fields for WatchProject<S> {
         ∷ [] };
 }
 
-impl<S: Shape> Shape for WatchProject<S> {
-    ghost reads = { reads_fields ⟦<WatchProject<S> as Fields>⟧.fields };
-
-    ghost holds = { HoldsFields ⟦<WatchProject<S> as Fields>⟧.fields };
-
-    ghost needs = { fields_needs ⟦<WatchProject<S> as Fields>⟧.fields };
-
-    ghost asks = { asking_fields ⟦<WatchProject<S> as Fields>⟧.fields };
-
-    ghost plain = { None };
+impl<S: Shape> Meant for WatchProject<S> {
+    ghost meaning = { struct_meaning ⟦<WatchProject<S> as Fields>⟧.fields };
 }
 
 impl<L: LendsText, S: Deserialize<L>> Deserialize<L> for WatchProject<S> {
@@ -78,16 +70,8 @@ impl<S: Shape> Fields for WatchList<S> {
         ∷ [] };
 }
 
-impl<S: Shape> Shape for WatchList<S> {
-    ghost reads = { reads_fields ⟦<WatchList<S> as Fields>⟧.fields };
-
-    ghost holds = { HoldsFields ⟦<WatchList<S> as Fields>⟧.fields };
-
-    ghost needs = { fields_needs ⟦<WatchList<S> as Fields>⟧.fields };
-
-    ghost asks = { asking_fields ⟦<WatchList<S> as Fields>⟧.fields };
-
-    ghost plain = { None };
+impl<S: Shape> Meant for WatchList<S> {
+    ghost meaning = { struct_meaning ⟦<WatchList<S> as Fields>⟧.fields };
 }
 
 impl<L: LendsText, S: Deserialize<L>> Deserialize<L> for WatchList<S> {
@@ -122,16 +106,8 @@ impl<S: Shape> Fields for Clock<S> {
         ∷ [] };
 }
 
-impl<S: Shape> Shape for Clock<S> {
-    ghost reads = { reads_fields ⟦<Clock<S> as Fields>⟧.fields };
-
-    ghost holds = { HoldsFields ⟦<Clock<S> as Fields>⟧.fields };
-
-    ghost needs = { fields_needs ⟦<Clock<S> as Fields>⟧.fields };
-
-    ghost asks = { asking_fields ⟦<Clock<S> as Fields>⟧.fields };
-
-    ghost plain = { None };
+impl<S: Shape> Meant for Clock<S> {
+    ghost meaning = { struct_meaning ⟦<Clock<S> as Fields>⟧.fields };
 }
 
 impl<L: LendsText, S: Deserialize<L>> Deserialize<L> for Clock<S> {

@@ -1,7 +1,7 @@
 //! An enum with a variant of each form, read and written.
 ghost use Rattle.std.specs.Prelude.{codes, [], ◌∷◌, true, false, Some, None, refl};
 ghost use Rattle.bser_structs.specs.Fields.{none_lent};
-ghost use Rattle.bser_structs.specs.Variants.{unit, newtype, with_fields, no_fields, with_required, with_optional, reads_variants, HoldsVariants, variants_needs, asking_variants, variants_tree};
+ghost use Rattle.bser_structs.specs.Variants.{unit, newtype, with_fields, no_fields, with_required, with_optional, enum_meaning, variants_tree};
 
 use serde_bser::de::{Answer, Deserializer};
 use serde_bser::device::Sink;
@@ -34,16 +34,8 @@ impl<S: Shape + Serialize> Variants for Choice<S> {
         ∷ [] };
 }
 
-impl<S: Shape + Serialize> Shape for Choice<S> {
-    ghost reads = { reads_variants ⟦<Choice<S> as Variants>⟧.variants };
-
-    ghost holds = { HoldsVariants ⟦<Choice<S> as Variants>⟧.variants };
-
-    ghost needs = { variants_needs ⟦<Choice<S> as Variants>⟧.variants };
-
-    ghost asks = { asking_variants (codes "Choice") ⟦<Choice<S> as Variants>⟧.variants };
-
-    ghost plain = { None };
+impl<S: Shape + Serialize> Meant for Choice<S> {
+    ghost meaning = { enum_meaning (codes "Choice") ⟦<Choice<S> as Variants>⟧.variants };
 }
 
 impl<L: LendsText, S: Deserialize<L> + Serialize> Deserialize<L> for Choice<S> {

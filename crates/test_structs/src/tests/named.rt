@@ -1,6 +1,6 @@
 //! A file whose name is lent or owned, as the program asks for it.
-ghost use Rattle.std.specs.Prelude.{codes, [], ◌∷◌, None, refl};
-ghost use Rattle.bser_structs.specs.Fields.{required, optional, reads_fields, HoldsFields, fields_needs, asking_fields, fields_tree, none_lent};
+ghost use Rattle.std.specs.Prelude.{codes, [], ◌∷◌, refl};
+ghost use Rattle.bser_structs.specs.Fields.{required, optional, struct_meaning, fields_tree, none_lent};
 
 use serde_bser::de::{Answer, Deserializer};
 use serde_bser::device::Sink;
@@ -24,16 +24,8 @@ impl<S: Shape + Serialize> Fields for NamedFile<S> {
         ∷ [] };
 }
 
-impl<S: Shape + Serialize> Shape for NamedFile<S> {
-    ghost reads = { reads_fields ⟦<NamedFile<S> as Fields>⟧.fields };
-
-    ghost holds = { HoldsFields ⟦<NamedFile<S> as Fields>⟧.fields };
-
-    ghost needs = { fields_needs ⟦<NamedFile<S> as Fields>⟧.fields };
-
-    ghost asks = { asking_fields ⟦<NamedFile<S> as Fields>⟧.fields };
-
-    ghost plain = { None };
+impl<S: Shape + Serialize> Meant for NamedFile<S> {
+    ghost meaning = { struct_meaning ⟦<NamedFile<S> as Fields>⟧.fields };
 }
 
 impl<L: LendsText, S: Deserialize<L> + Serialize> Deserialize<L> for NamedFile<S> {

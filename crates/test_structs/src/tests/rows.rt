@@ -1,6 +1,6 @@
 //! Rows whose strings are lent, which are read alone.
-ghost use Rattle.std.specs.Prelude.{codes, [], ◌∷◌, None};
-ghost use Rattle.bser_structs.specs.Fields.{required, optional, reads_fields, HoldsFields, fields_needs, asking_fields};
+ghost use Rattle.std.specs.Prelude.{codes, [], ◌∷◌};
+ghost use Rattle.bser_structs.specs.Fields.{required, optional, struct_meaning};
 
 use serde_bser::de::read::LendsFrom;
 use serde_bser::de::{Answer, Deserializer};
@@ -22,16 +22,8 @@ impl<'a> Fields for Row<'a> {
         ∷ [] };
 }
 
-impl<'a> Shape for Row<'a> {
-    ghost reads = { reads_fields ⟦<Row<'a> as Fields>⟧.fields };
-
-    ghost holds = { HoldsFields ⟦<Row<'a> as Fields>⟧.fields };
-
-    ghost needs = { fields_needs ⟦<Row<'a> as Fields>⟧.fields };
-
-    ghost asks = { asking_fields ⟦<Row<'a> as Fields>⟧.fields };
-
-    ghost plain = { None };
+impl<'a> Meant for Row<'a> {
+    ghost meaning = { struct_meaning ⟦<Row<'a> as Fields>⟧.fields };
 }
 
 impl<'a, L: LendsFrom<'a>> Deserialize<L> for Row<'a> {

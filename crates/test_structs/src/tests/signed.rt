@@ -1,6 +1,6 @@
 //! Numbers with a sign.
-ghost use Rattle.std.specs.Prelude.{codes, [], ◌∷◌, None, refl};
-ghost use Rattle.bser_structs.specs.Fields.{required, optional, nullable, reads_fields, HoldsFields, fields_needs, asking_fields, fields_tree};
+ghost use Rattle.std.specs.Prelude.{codes, [], ◌∷◌, refl};
+ghost use Rattle.bser_structs.specs.Fields.{required, optional, nullable, struct_meaning, fields_tree};
 
 use serde_bser::de::{Answer, Deserializer};
 use serde_bser::device::Sink;
@@ -26,16 +26,8 @@ impl Fields for Shift {
         ∷ [] };
 }
 
-impl Shape for Shift {
-    ghost reads = { reads_fields ⟦<Shift as Fields>⟧.fields };
-
-    ghost holds = { HoldsFields ⟦<Shift as Fields>⟧.fields };
-
-    ghost needs = { fields_needs ⟦<Shift as Fields>⟧.fields };
-
-    ghost asks = { asking_fields ⟦<Shift as Fields>⟧.fields };
-
-    ghost plain = { None };
+impl Meant for Shift {
+    ghost meaning = { struct_meaning ⟦<Shift as Fields>⟧.fields };
 }
 
 impl<L: LendsText> Deserialize<L> for Shift {

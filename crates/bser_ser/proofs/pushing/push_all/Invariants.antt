@@ -1,6 +1,6 @@
 -- The bytes up to here were taken.
 use Rattle.std.proofs.Common.{◌≡◌, ◌-◌, ◌≤◌, length, take}
-use Rattle.bser_rewriting.proofs.buffered.send.Given as goal
+use Rattle.bser_ser.proofs.pushing.push_all.Given as goal
 
 abbrev pub invariant-loop-done : goal.invariant-loop-done
 invariant-loop-done g l = record {

@@ -2,7 +2,7 @@
 use Rattle.std.proofs.Common.{rules, [], arith, refl, drop, ℕ, List}
 use Rattle.std.proofs.lemmas.Grind.{common_steps}
 use Rattle.bser_ser.proofs.Sending.{took_more, took_no_more}
-use Rattle.bser_rewriting.proofs.buffered.send.Goals as goal
+use Rattle.bser_ser.proofs.pushing.push_all.Goals as goal
 
 pub loop-done-preserved : goal.loop-done-preserved
 loop-done-preserved g c = record {
