@@ -4,7 +4,7 @@
 //! each but the first comes with lines on standard error.
 #![tactic(auto)]
 
-use bser_commands::standard::run_process;
+use bser_cli::standard::run_process;
 use std::process::ExitCode;
 
 fn main(rt: HostRuntime) -> ExitCode {

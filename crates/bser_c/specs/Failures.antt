@@ -8,10 +8,10 @@ use Rattle.bser_messages.specs.Descriptions.{cause_of, place_of}
 use Rattle.bser_messages.specs.Lengths.{RefusesLength}
 use Rattle.bser_messages.specs.Messages.{RefusesSlice}
 use Rattle.bser_messages.specs.declared.description.Description.{Description}
-use Rattle.bser_rewriting.specs.Slices.{LiesInSlice, RefusesSliceRewriting}
-use Rattle.bser_rewriting.specs.declared.slice.Unwritten.{Unwritten}
-use Rattle.bser_rewriting.specs.declared.slice.Unwritten.TheVariants.{Refused, Failed, TooLong}
-use Rattle.bser_tape.specs.Codes.{byte_of, code_of}
+use Rattle.bser_canonical.specs.Slices.{LiesInSlice, RefusesSliceRewriting}
+use Rattle.bser_canonical.specs.declared.slice.Unwritten.{Unwritten}
+use Rattle.bser_canonical.specs.declared.slice.Unwritten.TheVariants.{Refused, Failed, TooLong}
+use Rattle.bser_c.specs.Codes.{byte_of, code_of}
 
 -- they are those of an error
 abbrev pub AreOf : Error → ℕ → ℕ → Type 0

@@ -4,29 +4,38 @@
 //! of the values that it gets: a length that does not fit and words that are no tape are answers.
 #![tactic(auto)]
 
+pub mod codes;
+pub mod comparing;
+mod front;
+mod heads;
+mod measure;
 mod outcome;
+pub mod reading;
+pub mod tags;
+pub mod untape;
+pub mod writing;
 
 ghost use Rattle.std.specs.Prelude.{◌≡◌, ◌≢◌, ◌<◌, ◌≤◌, length, take};
 ghost use Rattle.bser_format.specs.Compact.{fold_templates};
 ghost use Rattle.bser_format.specs.Named.{head, refuses, eof};
 ghost use Rattle.bser_messages.specs.Lengths.{HasLength, IsLengthOfEach};
-ghost use Rattle.bser_rewriting.specs.Canon.{canonical};
-ghost use Rattle.bser_rewriting.specs.Slices.{RewroteSlice};
-ghost use Rattle.bser_rewriting.specs.declared.slice.Unwritten.TheVariants.{TooLong};
-ghost use Rattle.bser_tape.specs.Codes.{TellsWhy};
-ghost use Rattle.bser_tape.specs.Tape.{BeginsWithTape, HasTape};
+ghost use Rattle.bser_canonical.specs.Canon.{canonical};
+ghost use Rattle.bser_canonical.specs.Slices.{RewroteSlice};
+ghost use Rattle.bser_canonical.specs.declared.slice.Unwritten.TheVariants.{TooLong};
+ghost use Rattle.bser_c.specs.Codes.{TellsWhy};
+ghost use Rattle.bser_c.specs.Tape.{BeginsWithTape, HasTape};
 ghost use Rattle.bser_c.specs.declared.outcome.TheConstants.{DONE, TOO_SMALL};
 ghost use Rattle.bser_c.specs.Failures.{IsRefused, Tells, TellsWhyNoLength, TellsWhyUnwritten};
 
+use crate::codes::{CONTRADICTION, NO_MEMORY, NOT_WHOLE, TAPE_INVALID};
 pub use crate::outcome::BserOutcome;
 use crate::outcome::{done, handed_out, refused, stopped, too_small};
+use crate::reading::tape_of;
+use crate::untape::{Untaped, message_of};
+use bser_canonical::slice::{Unwritten, canonical_of, compact_of};
 use bser_messages::described;
 use bser_messages::length::message_length;
 use bser_messages::told::Reason;
-use bser_rewriting::slice::{Unwritten, canonical_of, compact_of};
-use bser_tape::codes::{CONTRADICTION, NO_MEMORY, NOT_WHOLE, TAPE_INVALID};
-use bser_tape::reading::tape_of;
-use bser_tape::untape::{Untaped, message_of};
 use bser_types::impls::Ignored;
 use std::alloc::Global;
 

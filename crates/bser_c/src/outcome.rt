@@ -1,10 +1,10 @@
 //! What a call comes to.
 ghost use Rattle.std.specs.Prelude.{◌≡◌, ◌≢◌, ◌<◌, ◌≤◌, length, take};
-ghost use Rattle.bser_tape.specs.Codes.{byte_of, code_of};
+ghost use Rattle.bser_c.specs.Codes.{byte_of, code_of};
 ghost use Rattle.bser_c.specs.declared.outcome.TheConstants.{DONE, TOO_SMALL};
 
+use crate::codes;
 use bser_format::errors::Error;
-use bser_tape::codes;
 
 /// A number, and what it is about.
 #[repr(C)]

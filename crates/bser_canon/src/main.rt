@@ -5,7 +5,7 @@
 //! first comes with a line on standard error.
 #![tactic(auto)]
 
-use bser_rewriting::standard::rewrite;
+use bser_canonical::standard::rewrite;
 use std::process::ExitCode;
 
 fn main(rt: HostRuntime) -> ExitCode {

@@ -13,8 +13,8 @@ mod output;
 use crate::line::{End, Line};
 use crate::output::Output;
 use anyhow::Result;
-use bser_commands::program::run_bser;
-use bser_progress::screen::Terminals;
+use bser_cli::program::run_bser;
+use bser_views::screen::Terminals;
 use std::io::Read;
 use std::{fs, io};
 

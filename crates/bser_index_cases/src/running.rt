@@ -2,8 +2,8 @@
 
 use crate::output::Output;
 use anyhow::Result;
-use bser_indexing::program::run_index;
 use std::fs;
+use watchman_sqlite::program::run_index;
 
 /// What a run left.
 #[derive(Drop)]

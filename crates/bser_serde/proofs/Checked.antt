@@ -1,7 +1,7 @@
 -- What was checked is a well-formed message.
 use Rattle.std.proofs.Common.{◌≡◌, ◌-◌, ◌^◌, min, ℕ, List, ◌++◌, length, sym, ap, subst, ◌∙◌, arith, append-nil, length-append}
 use Rattle.std.proofs.lemmas.List.{nil_from_length}
-use Rattle.bser_checking.specs.HasMessage.{HasMessage}
+use Rattle.bser_serde.specs.HasMessage.{HasMessage}
 use Rattle.bser_messages.specs.declared.limits.Limits.{Limits}
 use Rattle.bser_deserializer.specs.declared.deserializer.TheConstants.{LEVELS}
 use Rattle.bser_messages.specs.Limited.{any_length, usual_limits}

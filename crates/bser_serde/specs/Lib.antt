@@ -1,3 +1,5 @@
 pub mod Messages
 pub mod Refusals
 pub mod Written
+pub mod Takes
+pub mod HasMessage

@@ -7,9 +7,12 @@
 
 mod bytes;
 mod failure;
+mod heads;
+pub mod message;
 mod reading;
 mod refusal;
 mod spelled;
+mod values;
 mod writer;
 mod writing;
 

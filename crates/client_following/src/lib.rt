@@ -10,12 +10,12 @@ use std::io::Write;
 use watchman_client::bounds::Bounds;
 use watchman_client::client::Client;
 use watchman_client::errors::ClientError;
-use watchman_requests::{
+use watchman_types::file::File;
+use watchman_types::query::QueryResult;
+use watchman_types::requests::{
     Bytes, Capabilities, ClockRequest, Moment, Query, QueryRequest, SubscribeRequest,
     VersionRequest, WatchProjectRequest,
 };
-use watchman_types::file::File;
-use watchman_types::query::QueryResult;
 use watchman_types::subscription::{FilesChanged, Subscribed};
 use watchman_types::version::Version;
 use watchman_types::watch::{Clock, WatchProject};

@@ -2,7 +2,7 @@
 use serde_bser::errors::Result;
 use serde_bser::ser::to_vec;
 use std::alloc::Global;
-use watchman_requests::{Bytes, Expression, FileType, Moment, Query, QueryRequest};
+use watchman_types::requests::{Bytes, Expression, FileType, Moment, Query, QueryRequest};
 
 /// Regular files whose name ends in `.c`.
 const C_FILES: &[Expression<'static>] = &[

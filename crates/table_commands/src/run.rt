@@ -1,8 +1,8 @@
 //! The program `bser`, run in memory.
 use crate::output::Output;
 use anyhow::{Result, ensure};
-use bser_commands::program::run_bser;
-use bser_progress::screen::Terminals;
+use bser_cli::program::run_bser;
+use bser_views::screen::Terminals;
 
 /// What a run left.
 #[derive(Drop)]

@@ -6,7 +6,7 @@ use serde_bser::errors::Result;
 use serde_bser::value::Value;
 use std::alloc::Global;
 use std::collections::BTreeMap;
-use watchman_requests::{
+use watchman_types::requests::{
     Capabilities, ClockRequest, FlushSubscriptionsRequest, LogLevel, LogLevelRequest, LogRequest,
     StateEnterRequest, StateLeaveRequest, UnsubscribeRequest, VersionRequest, WatchProjectRequest,
 };

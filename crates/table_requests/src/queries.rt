@@ -1,6 +1,6 @@
 //! Queries, and the subscription by one.
 use crate::recording::Recording;
-use watchman_requests::{
+use watchman_types::requests::{
     Bytes, Expression, Match, Moment, Name, Names, Query, QueryRequest, Scope, SubscribeRequest,
 };
 

@@ -26,7 +26,7 @@ mod table;
 
 use crate::rows::{Bytes, Files};
 use anyhow::{Context, Result, bail};
-use bser_rewriting::engine::canon;
+use bser_canonical::engine::canon;
 use serde_bser::bytestring::ByteString;
 use serde_bser::de::{Deserialize, DeserializeOwned, Ignored, Size};
 use serde_bser::device::Watched;

@@ -1,1 +1,3 @@
 pub mod Missing
+pub mod Operands
+pub mod Levels

@@ -2,3 +2,8 @@ pub mod Capabilities
 pub mod Kinds
 pub mod Messages
 pub mod Refusals
+pub mod Words
+pub mod Terms
+pub mod Expressions
+pub mod Queries
+pub mod Requests

@@ -18,6 +18,7 @@ pub mod kind;
 pub mod log;
 pub mod message;
 pub mod query;
+pub mod requests;
 pub mod state;
 pub mod subscription;
 pub mod version;

@@ -5,9 +5,9 @@ mod process;
 use super::{
     CANONICAL_ROWS, COMPACT_ROWS, EARLY_END, Parts, ROWS, check_bytes, check_printed, repeated,
 };
+use bser_canonical::engine::canon;
+use bser_canonical::program::{DONE, REFUSED, UNKNOWN_ARGUMENT, run};
 use bser_format::errors::Result;
-use bser_rewriting::engine::canon;
-use bser_rewriting::program::{DONE, REFUSED, UNKNOWN_ARGUMENT, run};
 use bser_source::device::{Sink, Source, Watched};
 use bser_vectors::devices::{Plan, PlannedWriter, Then};
 use std::alloc::Global;

@@ -1,5 +1,5 @@
 //! The message at the start of some bytes, as it is found before a type looks at it.
-use bser_checking::message::body_of;
+use bser_serde::message::body_of;
 use std::alloc::Global;
 use std::process::Abort;
 

@@ -1,6 +1,6 @@
 //! Messages that are rewritten.
 use super::{CANONICAL_ROWS, COMPACT_ROWS, ROWS, Tested, check_written, taking};
-use bser_rewriting::engine::{canon, canon_compact};
+use bser_canonical::engine::{canon, canon_compact};
 use bser_vectors::devices::{Plan, PlannedReader};
 use serde_bser::device::Watched;
 

@@ -1,7 +1,7 @@
 //! Tests of the compact form.
 use super::memory;
 use crate::tests::{COMPACT_ROWS, ROWS, check_bytes};
-use bser_rewriting::engine::canon_compact;
+use bser_canonical::engine::canon_compact;
 use bser_source::device::Watched;
 
 #[test]

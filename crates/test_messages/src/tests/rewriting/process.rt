@@ -1,7 +1,7 @@
 //! Tests of the program over what a process gives it.
 use super::{NULL, memory};
 use crate::tests::check_bytes;
-use bser_rewriting::process::{Arguments, Finish, process};
+use bser_canonical::process::{Arguments, Finish, process};
 use bser_source::device::{Sink, Watched};
 use std::alloc::Global;
 use std::env::FillError;

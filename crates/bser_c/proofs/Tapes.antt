@@ -1,0 +1,104 @@
+-- What a builder of this crate took is a tape.
+use Rattle.std.proofs.Common.{◌≡◌, ◌≤◌, ◌+◌, ◌-◌, ◌^◌, min, ℕ, List, [], ◌∷◌, ◌++◌, length, take, length-append, append-nil, append_assoc, refl, sym, ap, subst, ◌∙◌, arith}
+use Rattle.std.proofs.lemmas.List.{take_all, nil_from_length}
+use Rattle.bser_format.specs.Message.{IsMessage}
+use Rattle.bser_events.specs.Events.{Event, TakesAll, events, none, more}
+use Rattle.bser_events.specs.Places.{Placed}
+use Rattle.bser_messages.specs.declared.limits.Limits.{Limits}
+use Rattle.bser_messages.specs.Told.{BeginsTold}
+use Rattle.bser_messages.specs.declared.told.Header.{Header}
+use Rattle.bser_c.specs.Builders.{Grew, Agreed, words_in, words_before}
+use Rattle.bser_c.specs.Tape as tapes
+use Rattle.bser_c.specs.Tape.{AreWordsOfAll, BeginsWithTape, HasTape}
+use Rattle.bser_c.specs.declared.writing.Tape.{Tape}
+use Rattle.bser_c.specs.declared.comparing.Compared.{Compared}
+
+-- ---- a tape that is written
+
+-- it grew by the words of events
+record GrewByAll (old : Tape) (es : List Event) (new : Tape) : Type 0 where
+  through : new.words.ghost_name ≡ old.words.ghost_name
+  input : new.input ≡ old.input
+  room : length new.words.now ≡ length old.words.now
+  longer : old.len ≤ new.len
+  added : List ℕ
+  are : AreWordsOfAll old.input.now es added
+  grew : new.len ≤ length new.words.now → words_in new ≡ words_in old ++ added
+
+grew_by : (a b c : Tape) (e : Event) (es : List Event) → Grew a e b → GrewByAll b es c → GrewByAll a (e ∷ es) c
+grew_by a b c e es first p = record {
+  through = p.through ∙ first.through;
+  input = p.input ∙ first.input;
+  room = p.room ∙ first.room;
+  longer = omega (arith, first.longer, p.longer);
+  added = first.added ++ p.added;
+  are = tapes.more e es first.added p.added first.are (subst (λ i. AreWordsOfAll i.now es p.added) first.input p.are);
+  grew = λ fits. (let front : b.len ≤ length b.words.now = omega (arith, fits, p.longer, p.room) in p.grew fits ∙ ap (λ ws. ws ++ p.added) (first.grew front) ∙ append_assoc (words_in a) first.added p.added);
+}
+
+grew_by_all : (a b : ℕ × Tape) (es : List Event) → TakesAll (Placed (λ x e p y. Grew x e y)) a es b → GrewByAll a.1 es b.1
+grew_by_all a b es (none m) = record { through = refl; input = refl; room = refl; longer = omega arith; added = []; are = tapes.none; grew = λ fits. sym (append-nil (words_in m.1)) }
+grew_by_all a b es (more m n o e rest first after) = grew_by m.1 n.1 o.1 e rest first.took (grew_by_all n o rest after)
+
+pub taped : (limits : Limits) (bytes : List ℕ) (before after : Tape) (h : Header) (size len : ℕ) (words : List ℕ) → limits.levels ≡ 128 → before.len ≡ 0 → before.input.now ≡ bytes → BeginsTold limits (λ x e p y. Grew x e y) bytes before after h
+    → size ≡ min (h.start + h.len) (2 ^ 64 - 1) → len ≡ after.len → (after.words.ghost_name ≡ before.words.ghost_name → words ≡ after.words.now) → len ≤ length words → BeginsWithTape 128 bytes h.capabilities size (take len words)
+taped limits bytes before after h size len words levels fresh input t size_is len_is lent fits =
+    let m = t.tells in
+    let g = grew_by_all (h.start, before) (m.told.end, after) (events m.tree) m.told.told in
+    let words_are : words ≡ after.words.now = lent g.through in
+    let none_yet : words_in before ≡ [] = ap (λ n. take n before.words.now) fresh in
+    let room : after.len ≤ length after.words.now = omega (arith, fits, len_is, ap length words_are) in
+    let all : words_in after ≡ g.added = g.grew room ∙ ap (λ ws. ws ++ g.added) none_yet in
+    let these : take len words ≡ g.added = ap (λ n. take n words) len_is ∙ ap (λ ws. take after.len ws) words_are ∙ all in
+    let short = m.message.short in
+    let whole = m.whole in
+    record {
+      text = t.text;
+      rest = t.rest;
+      front = t.front;
+      size_is = omega (arith, whole, short, size_is);
+      has = record { tree = m.tree; message = subst (λ n. IsMessage n h.capabilities m.tree t.text) levels m.message; keys = m.keys; tape = subst (λ ws. AreWordsOfAll bytes (events m.tree) ws) (sym these) (subst (λ i. AreWordsOfAll i (events m.tree) g.added) input g.are) };
+    }
+
+-- ---- a tape that is compared
+
+-- the words of events stood where it was
+record AgreedAll (old : Compared) (es : List Event) (new : Compared) : Type 0 where
+  words : new.words ≡ old.words
+  strings : new.strings ≡ old.strings
+  added : List ℕ
+  are : AreWordsOfAll old.strings.now es added
+  grew : words_before new ≡ words_before old ++ added
+
+agreed_by : (a b c : Compared) (e : Event) (es : List Event) → Agreed a e b → AgreedAll b es c → AgreedAll a (e ∷ es) c
+agreed_by a b c e es first p = record {
+  words = p.words ∙ first.words;
+  strings = p.strings ∙ first.strings;
+  added = first.added ++ p.added;
+  are = tapes.more e es first.added p.added first.are (subst (λ i. AreWordsOfAll i.now es p.added) first.strings p.are);
+  grew = p.grew ∙ ap (λ ws. ws ++ p.added) first.grew ∙ append_assoc (words_before a) first.added p.added;
+}
+
+agreed_all : (a b : ℕ × Compared) (es : List Event) → TakesAll (Placed (λ x e p y. Agreed x e y)) a es b → AgreedAll a.1 es b.1
+agreed_all a b es (none m) = record { words = refl; strings = refl; added = []; are = tapes.none; grew = sym (append-nil (words_before m.1)) }
+agreed_all a b es (more m n o e rest first after) = agreed_by m.1 n.1 o.1 e rest first.took (agreed_all n o rest after)
+
+pub untaped : (limits : Limits) (words strings message : List ℕ) (before after : Compared) (h : Header) → limits.levels ≡ 128 → before.at ≡ 0 → before.words.now ≡ words → before.strings.now ≡ strings → BeginsTold limits (λ x e p y. Agreed x e y) message before after h
+    → min (h.start + h.len) (2 ^ 64 - 1) ≡ length message → h.capabilities ≡ 0 → after.at ≡ length words → HasTape 128 strings 0 message words
+untaped limits words strings message before after h levels fresh same_words same_strings t size free whole_tape =
+    let m = t.tells in
+    let a = agreed_all (h.start, before) (m.told.end, after) (events m.tree) m.told.told in
+    let none_yet : words_before before ≡ [] = ap (λ n. take n before.words.now) fresh in
+    let after_words : after.words.now ≡ words = ap (λ w. w.now) a.words ∙ same_words in
+    let all : words_before after ≡ words = ap (λ n. take n after.words.now) whole_tape ∙ ap (λ ws. take (length words) ws) after_words ∙ take_all (length words) words (omega arith) in
+    let are_added : words ≡ a.added = sym all ∙ a.grew ∙ ap (λ ws. ws ++ a.added) none_yet in
+    let short = m.message.short in
+    let whole = m.whole in
+    let no_rest : t.rest ≡ [] = nil_from_length t.rest (omega (arith, whole, short, size, ap length t.front, length-append t.text t.rest)) in
+    let is_text : message ≡ t.text = t.front ∙ ap (λ r. t.text ++ r) no_rest ∙ append-nil t.text in
+    record {
+      tree = m.tree;
+      message = subst (λ b. IsMessage 128 0 m.tree b) (sym is_text) (subst (λ c. IsMessage 128 c m.tree t.text) free (subst (λ n. IsMessage n h.capabilities m.tree t.text) levels m.message));
+      keys = m.keys;
+      tape = subst (λ ws. AreWordsOfAll strings (events m.tree) ws) (sym are_added) (subst (λ s. AreWordsOfAll s (events m.tree) a.added) same_strings a.are);
+    }

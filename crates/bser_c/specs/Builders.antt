@@ -1,0 +1,36 @@
+-- What the builders of this crate take.
+use Rattle.std.specs.Prelude.{◌≡◌, ◌≤◌, ℕ, List, ◌++◌, length, take}
+use Rattle.bser_events.specs.Events.{Event}
+use Rattle.bser_c.specs.Tape.{AreWordsOf}
+use Rattle.bser_c.specs.declared.writing.Tape.{Tape}
+use Rattle.bser_c.specs.declared.comparing.Compared.{Compared}
+
+-- ---- a tape that is written
+
+-- the words that have room
+abbrev pub words_in : Tape → List ℕ
+words_in t = take t.len t.words.now
+
+-- it grew by the words of an event, where they have room
+pub record Grew (old : Tape) (e : Event) (new : Tape) : Type 0 where
+  pub through : new.words.ghost_name ≡ old.words.ghost_name
+  pub input : new.input ≡ old.input
+  pub room : length new.words.now ≡ length old.words.now
+  pub longer : old.len ≤ new.len
+  pub added : List ℕ
+  pub are : AreWordsOf old.input.now e added
+  pub grew : new.len ≤ length new.words.now → words_in new ≡ words_in old ++ added
+
+-- ---- a tape that is compared
+
+-- the words that were compared
+abbrev pub words_before : Compared → List ℕ
+words_before c = take c.at c.words.now
+
+-- the words of an event stand where it is
+pub record Agreed (old : Compared) (e : Event) (new : Compared) : Type 0 where
+  pub words : new.words ≡ old.words
+  pub strings : new.strings ≡ old.strings
+  pub added : List ℕ
+  pub are : AreWordsOf old.strings.now e added
+  pub grew : words_before new ≡ words_before old ++ added

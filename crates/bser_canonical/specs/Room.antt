@@ -1,0 +1,11 @@
+-- A writer into memory, up to a number of bytes.
+use Rattle.std.specs.Prelude.{ℕ, List}
+use Rattle.bser_canonical.specs.declared.room.Room.{Room}
+
+-- the bytes in its vector
+abbrev pub bytes_in : Room → List ℕ
+bytes_in m = m.bytes.items
+
+-- its failures so far
+abbrev pub failures_in : Room → ℕ
+failures_in m = m.failures

@@ -1,4 +1,0 @@
-pub mod Binds
-pub mod Pieces
-pub mod Tags
-pub mod Begins

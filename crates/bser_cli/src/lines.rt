@@ -1,0 +1,48 @@
+//! Messages shown as JSON.
+
+use crate::printing::Layout;
+use crate::writing::write_json;
+use bser_document::document::Document;
+use bser_document::item::Item;
+use bser_messages::limits::Limits;
+use bser_source::device::Source;
+use bser_views::messages::{Failure, View};
+use std::alloc::Global;
+use std::io::Write;
+
+/// Shows a message as a JSON text, and a line's end. The message is kept, and its text is not.
+#[derive(Debug, Clone, Copy, PartialEq, Eq)]
+pub struct Json {
+    /// How the text is laid out.
+    pub layout: Layout,
+}
+
+impl View for Json {
+    fn show_next<S: Source, W: Write>(
+        &mut self,
+        alloc: Global,
+        _start: u64,
+        reader: &mut S,
+        out: &mut W,
+    ) -> Result<bool, Failure> {
+        match Document::next_message(alloc, Limits::new(), reader)? {
+            Some(document) => {
+                put_line(alloc, document.root(), self.layout, out)?;
+                Ok(true)
+            }
+            None => Ok(false),
+        }
+    }
+}
+
+/// Prints a value as a JSON text, and a line's end.
+pub(crate) fn put_line<W: Write>(
+    alloc: Global,
+    item: Item<'_>,
+    layout: Layout,
+    out: &mut W,
+) -> Result<(), Failure> {
+    let out = write_json(alloc, item, layout, out)?;
+    out.write_all(b"\n")?;
+    Ok(())
+}

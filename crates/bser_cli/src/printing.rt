@@ -1,0 +1,80 @@
+//! A JSON text that is written token by token, on one line or on several.
+ghost use Rattle.std.specs.Prelude.{[], ◌∷◌, List, Option, ℕ, IfOk, OnOk};
+ghost use Rattle.std.specs.Io.KnownBytes.{Appends};
+ghost use Rattle.json.specs.Print.{IsPrintable};
+ghost use Rattle.json.specs.Reads.{token_of};
+ghost use Rattle.json.specs.Token as tokens;
+ghost use Rattle.bser_cli.specs.Printed.{Prints, Puts, laid_out};
+ghost use Rattle.bser_cli.specs.declared.printing.Layout as layouts;
+
+use crate::indented::Indented;
+use crate::pending::Pending;
+use bser_views::trouble::Trouble;
+use json::Token;
+use std::alloc::{AllocError, Global};
+use std::io::Write;
+
+/// How a JSON text is laid out.
+#[derive(Debug, Clone, Copy, PartialEq, Eq)]
+pub enum Layout {
+    /// On one line, without spaces.
+    Line,
+    /// A line for each item and each member, indented by two spaces a level.
+    Pretty,
+}
+
+/// A JSON text, as far as it is put, and the writer that takes it.
+#[derive(Drop)]
+pub struct Printing<W> {
+    out: W,
+    text: Text,
+}
+
+/// What of a text is not written.
+#[derive(Drop)]
+enum Text {
+    /// The end of a text on one line.
+    Line(Pending),
+    /// The end of a text on several lines.
+    Pretty(Indented),
+}
+
+impl<W: Write + Drop> Printing<W> {
+    /// An empty text. The error is that there is no memory.
+    pub fn new(alloc: Global, layout: Layout, out: W) -> Result<Self, AllocError>
+        ensures { IfOk result (Prints W.contents (W.contents out) layout []) }
+    {
+        let text = match layout {
+            Layout::Line => Text::Line(Pending::new(alloc)?),
+            Layout::Pretty => Text::Pretty(Indented::new(alloc)),
+        };
+        Ok(Printing { out, text })
+    }
+
+    /// Writes what is not written, and gives the writer back.
+    pub fn finish(self) -> Result<W, Trouble>
+        ensures { (start : Option (List ℕ)) (layout : layouts.Layout) (ts : List tokens.Token)
+            → Prints W.contents start layout ts self
+            → IfOk result (λ out. Appends start (W.contents out) (laid_out layout ts)) }
+    {
+        let Printing { mut out, text } = self;
+        match text {
+            Text::Line(mut pending) => pending.write_to(&mut out)?,
+            Text::Pretty(mut indented) => indented.write_to(&mut out)?,
+        }
+        Ok(out)
+    }
+}
+
+impl<W: Write> Printing<W> {
+    /// Puts a token. What is put is written where it is enough.
+    pub fn token(&mut self, token: Token<'_>) -> Result<(), Trouble>
+        requires { IsPrintable (token_of token) }
+        ensures { OnOk result (Puts W.contents (token_of token.entry ∷ []) self.old self.new) }
+    {
+        match &mut self.text {
+            Text::Line(pending) => pending.put(token, &mut self.out),
+            Text::Pretty(indented) => indented.put(token, &mut self.out),
+        }
+    }
+}

@@ -1,0 +1,229 @@
+//! The program over any streams.
+
+use crate::canon::Canon;
+use crate::command::command;
+use crate::order::{Task, order_of};
+use crate::texts::{TextError, Writing, write_messages};
+use bser_format::errors::Error as MessageError;
+use bser_source::device::Watched;
+use bser_views::beside::Beside;
+use bser_views::counted::Counted;
+use bser_views::messages::{Input, View, show_messages};
+use bser_views::reports::Reports;
+use bser_views::screen::{Screen, Terminals};
+use bser_views::summary::Summary;
+use clap::Error;
+use std::alloc::Global;
+use std::fs::Files;
+use std::io::{BufWriter, ErrorKind, Read, Write};
+use std::{fs, io};
+
+/// The status where all was done.
+pub const DONE: u8 = 0;
+
+/// The status where a message is malformed, or could not be read or written.
+pub const FAILED: u8 = 1;
+
+/// The status where the arguments are not known.
+pub const UNKNOWN_ARGUMENT: u8 = 2;
+
+/// The name of standard input in reports.
+const STANDARD_INPUT: &str = "standard input";
+
+/// What is read, and what is done behind a message that fails.
+#[derive(Clone, Copy)]
+struct Inputs<'a> {
+    /// The names of files. Without them standard input is read.
+    names: &'a [&'a str],
+    /// Whether the messages behind one that fails are shown too.
+    keeps_going: bool,
+}
+
+/// Runs the program with these words, the first of which is its name, and answers its status. Files
+/// are opened by `files`, and where none is named `input` is read. What is wrong has a line on
+/// `errors`, and where these go to one of the `terminals`, a line there says how far a long input is
+/// read.
+///
+/// A closed pipe of the output ends the program, and is no error.
+pub fn run_bser<F: Files, R: Read, W: Write + Drop, E: Write>(
+    alloc: Global,
+    files: &F,
+    words: &[String],
+    terminals: Terminals,
+    input: &mut R,
+    output: W,
+    errors: &mut E,
+) -> u8 {
+    let screen = Screen::new(terminals);
+    let mut reports = Reports::new(&screen, errors);
+    let mut out = match BufWriter::new(alloc, Beside::new(&screen, output)) {
+        Ok(out) => out,
+        Err(fault) => return failed(&fault, &mut reports),
+    };
+    let done = obey(alloc, files, words, input, &mut out, &mut reports);
+    let flushed = out.flush();
+    reports.clear();
+    match (done, flushed) {
+        (Ok(status), Ok(())) => status,
+        (Err(fault), _) | (_, Err(fault)) => failed(&fault, &mut reports),
+    }
+}
+
+/// The status where the output failed, or there is no memory.
+fn failed<E: Write>(fault: &io::Error, reports: &mut Reports<'_, E>) -> u8 {
+    if fault.kind() == ErrorKind::BrokenPipe {
+        return DONE;
+    }
+    let _written = writeln!(reports, "bser: the output failed: {fault}");
+    FAILED
+}
+
+/// Does what the words ask for. The error is that of the output.
+fn obey<F: Files, R: Read, W: Write, E: Write>(
+    alloc: Global,
+    files: &F,
+    words: &[String],
+    input: &mut R,
+    out: &mut W,
+    reports: &mut Reports<'_, E>,
+) -> io::Result<u8> {
+    let matches = match command(alloc)?.try_get_matches_from(words) {
+        Ok(matches) => matches,
+        Err(error) => return put_usage(&error, out, reports),
+    };
+    let Some((name, inner)) = matches.subcommand() else {
+        return Ok(UNKNOWN_ARGUMENT);
+    };
+    let Some(order) = order_of(name, inner) else {
+        return Ok(UNKNOWN_ARGUMENT);
+    };
+    let inputs = Inputs {
+        names: inner.get_raw("FILE").unwrap_or(&[]),
+        keeps_going: order.keeps_going,
+    };
+    let done = do_task(alloc, files, order.task, inputs, input, out, reports)?;
+    Ok(if done { DONE } else { FAILED })
+}
+
+/// Does the task with each input, and tells whether all was done.
+fn do_task<F: Files, R: Read, W: Write, E: Write>(
+    alloc: Global,
+    files: &F,
+    task: Task<'_>,
+    inputs: Inputs<'_>,
+    input: &mut R,
+    out: &mut W,
+    reports: &mut Reports<'_, E>,
+) -> io::Result<bool> {
+    match task {
+        Task::Show(mut view) => show_all(alloc, files, inputs, &mut view, input, out, reports),
+        Task::Json(mut view) => show_all(alloc, files, inputs, &mut view, input, out, reports),
+        Task::Summary => show_all(alloc, files, inputs, &mut Summary, input, out, reports),
+        Task::Get(mut view) => show_all(alloc, files, inputs, &mut view, input, out, reports),
+        Task::Canon { is_compact } => {
+            let mut view = Canon { is_compact };
+            show_all(alloc, files, inputs, &mut view, input, out, reports)
+        }
+        Task::FromJson(writing) => write_all(alloc, files, inputs, writing, input, out, reports),
+    }
+}
+
+/// Prints the help that is asked for, or what is wrong with the words.
+fn put_usage<W: Write, E: Write>(
+    error: &Error,
+    out: &mut W,
+    reports: &mut Reports<'_, E>,
+) -> io::Result<u8> {
+    if error.use_stderr() {
+        let _written = write!(reports, "{error}");
+        return Ok(UNKNOWN_ARGUMENT);
+    }
+    write!(out, "{error}")?;
+    Ok(DONE)
+}
+
+/// Shows the messages of each input, and tells whether each was shown whole.
+fn show_all<F: Files, R: Read, V: View, W: Write, E: Write>(
+    alloc: Global,
+    files: &F,
+    inputs: Inputs<'_>,
+    view: &mut V,
+    input: &mut R,
+    out: &mut W,
+    reports: &mut Reports<'_, E>,
+) -> io::Result<bool> {
+    let keeps_going = inputs.keeps_going;
+    if inputs.names.is_empty() {
+        let name = STANDARD_INPUT;
+        let from = Input { name, keeps_going };
+        return show_messages(alloc, from, &mut Watched::new(input), view, out, reports);
+    }
+    let mut whole = true;
+    for name in inputs.names {
+        let from = Input {
+            name: *name,
+            keeps_going,
+        };
+        let shown = match fs::open(files, *name) {
+            Ok(file) => show_messages(alloc, from, &mut Watched::new(file), view, out, reports)?,
+            Err(fault) => not_read(*name, &fault, reports),
+        };
+        whole = whole && shown;
+    }
+    Ok(whole)
+}
+
+/// Writes the messages of the JSON texts in each input, and tells whether each was written.
+fn write_all<F: Files, R: Read, W: Write, E: Write>(
+    alloc: Global,
+    files: &F,
+    inputs: Inputs<'_>,
+    writing: Writing,
+    input: &mut R,
+    out: &mut W,
+    reports: &mut Reports<'_, E>,
+) -> io::Result<bool> {
+    if inputs.names.is_empty() {
+        return write_texts(alloc, writing, STANDARD_INPUT, input, out, reports);
+    }
+    let mut whole = true;
+    for name in inputs.names {
+        let written = match fs::open(files, *name) {
+            Ok(mut file) => write_texts(alloc, writing, *name, &mut file, out, reports)?,
+            Err(fault) => not_read(*name, &fault, reports),
+        };
+        whole = whole && written;
+    }
+    Ok(whole)
+}
+
+/// Reports that an input cannot be read. It is not shown whole.
+fn not_read<E: Write>(name: &str, fault: &io::Error, reports: &mut Reports<'_, E>) -> bool {
+    let _written = writeln!(reports, "bser: {name}: {fault}");
+    false
+}
+
+/// Writes the messages of a reader's JSON texts, and tells whether each was written.
+fn write_texts<R: Read, W: Write, E: Write>(
+    alloc: Global,
+    writing: Writing,
+    name: &str,
+    input: &mut R,
+    out: &mut W,
+    reports: &mut Reports<'_, E>,
+) -> io::Result<bool> {
+    let mut bytes = Vec::new(alloc);
+    if let Err(fault) = Counted::new(input, reports).read_to_end(&mut bytes) {
+        return Ok(not_read(name, &fault, reports));
+    }
+    let mut sink = Watched::new(&mut *out);
+    match write_messages(alloc, writing, &bytes, &mut sink, reports) {
+        Ok(()) => Ok(true),
+        Err(TextError::Message(MessageError::Io(fault))) => Err(fault),
+        Err(error) => {
+            out.flush()?;
+            let _written = writeln!(reports, "bser: {name}: {error}");
+            Ok(false)
+        }
+    }
+}

@@ -1,5 +1,0 @@
-use Rattle.bser_rewriting.proofs.Writing.{read_value, value_read}
-use Rattle.bser_rewriting.proofs.engine.value_is_its_tree.Goals as goal
-
-pub returns : goal.returns
-returns g = λ v c. (value_read v c, read_value v c)

@@ -1,4 +1,0 @@
-pub mod Codes
-pub mod Tape
-pub mod Builders
-pub mod Untaped

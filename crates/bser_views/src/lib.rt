@@ -1,0 +1,18 @@
+//! Shows messages of a stream: as trees of their parts, and by how much they have of each kind.
+//!
+//! A [`View`](messages::View) shows a message, and [`show_messages`](messages::show_messages) shows
+//! those of a reader and reports what is malformed.
+#![tactic(auto)]
+
+pub mod beside;
+pub mod counted;
+pub mod counts;
+pub mod messages;
+mod open;
+mod quoted;
+pub mod reports;
+pub mod screen;
+pub mod summary;
+pub mod tally;
+pub mod tree;
+pub mod trouble;

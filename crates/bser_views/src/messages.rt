@@ -1,0 +1,185 @@
+//! The messages of a reader, shown one after the other.
+
+use crate::counted::Counted;
+use crate::reports::Reports;
+use crate::trouble::Trouble;
+use bser_format::errors::{Error, ReadCause};
+use bser_messages::told::{Reason, Untold};
+use bser_source::device::Source;
+use std::alloc::{AllocError, Global};
+use std::io;
+use std::io::Write;
+
+/// Why a message was not shown whole.
+#[derive(Debug, Drop)]
+pub enum Failure {
+    /// The message, the memory or the reader failed.
+    Untold(Untold),
+    /// The message was taken, and cannot be written again.
+    Unwritten(Error),
+    /// The message was taken, and has nothing where it was asked for something.
+    Absent,
+    /// The message was taken, and there is no memory for what is to be shown of it.
+    Memory,
+    /// The output failed.
+    Output(io::Error),
+}
+
+impl From<io::Error> for Failure {
+    fn from(fault: io::Error) -> Self {
+        Failure::Output(fault)
+    }
+}
+
+impl From<Untold> for Failure {
+    fn from(untold: Untold) -> Self {
+        Failure::Untold(untold)
+    }
+}
+
+impl From<AllocError> for Failure {
+    fn from(_error: AllocError) -> Self {
+        Failure::Memory
+    }
+}
+
+impl From<Trouble> for Failure {
+    fn from(trouble: Trouble) -> Self {
+        match trouble {
+            Trouble::Memory => Failure::Memory,
+            Trouble::Output(fault) => Failure::Output(fault),
+        }
+    }
+}
+
+/// What is shown of a message.
+pub trait View {
+    /// Takes the reader's next message, which begins at byte `start` of the input, and shows it.
+    /// False where no byte is left.
+    fn show_next<S: Source, W: Write>(
+        &mut self,
+        alloc: Global,
+        start: u64,
+        reader: &mut S,
+        out: &mut W,
+    ) -> Result<bool, Failure>;
+}
+
+/// Where messages come from, and what is done after one that fails.
+#[derive(Debug, Clone, Copy)]
+pub struct Input<'a> {
+    /// The name of the input, in reports.
+    pub name: &'a str,
+    /// Whether the messages behind one that fails are shown too.
+    pub keeps_going: bool,
+}
+
+/// Shows the messages of the reader, and tells whether each was shown whole.
+///
+/// A message that fails has a line in the `reports`, behind all that was shown of it. It ends the
+/// showing, unless the input `keeps_going` and the end that the header announces can be reached:
+/// then the next message is shown. On a terminal the output has all of a message before the next is
+/// read. The error is that of the output.
+pub fn show_messages<S: Source, V: View, W: Write, E: Write>(
+    alloc: Global,
+    input: Input<'_>,
+    reader: &mut S,
+    view: &mut V,
+    out: &mut W,
+    reports: &mut Reports<'_, E>,
+) -> io::Result<bool> {
+    let mut counted = Counted::new(reader, reports);
+    let mut whole = true;
+    for _ in 0..u64::MAX {
+        let start = counted.given();
+        match view.show_next(alloc, start, &mut counted, out) {
+            Ok(true) => {
+                counted.reports().count_message();
+                if counted.reports().has_watched_output() {
+                    out.flush()?;
+                }
+            }
+            Ok(false) => return Ok(whole),
+            Err(Failure::Output(fault)) => return Err(fault),
+            Err(failure) => {
+                whole = false;
+                out.flush()?;
+                report(input.name, start, &failure, counted.reports());
+                if !input.keeps_going || !goes_on(alloc, input.name, &failure, &mut counted) {
+                    return Ok(false);
+                }
+            }
+        }
+    }
+    Ok(whole)
+}
+
+/// Writes a line on a message that begins at byte `start`, and was not shown whole.
+fn report<E: Write>(name: &str, start: u64, failure: &Failure, errors: &mut E) {
+    let _written = match failure {
+        Failure::Untold(untold) => {
+            let place = start.saturating_add(place_of(untold) as u64);
+            writeln!(
+                errors,
+                "bser: {name}: byte {place}: {untold} of the message at {start}"
+            )
+        }
+        Failure::Unwritten(error) => {
+            writeln!(errors, "bser: {name}: the message at {start}: {error}")
+        }
+        Failure::Absent => {
+            writeln!(
+                errors,
+                "bser: {name}: the message at {start} has nothing there"
+            )
+        }
+        Failure::Memory => {
+            writeln!(
+                errors,
+                "bser: {name}: the message at {start}: out of memory"
+            )
+        }
+        Failure::Output(fault) => writeln!(errors, "bser: the output failed: {fault}"),
+    };
+}
+
+/// Where a message failed, by the bytes before it.
+fn place_of(untold: &Untold) -> usize {
+    match &untold.reason {
+        Reason::Stopped { place } => *place,
+        Reason::Failed(description) => description.place(),
+    }
+}
+
+/// Goes to the next message, and tells whether the reader is there. Else a line says why not, but
+/// where the input ended or failed.
+fn goes_on<S: Source, E: Write>(
+    alloc: Global,
+    name: &str,
+    failure: &Failure,
+    counted: &mut Counted<'_, '_, S, E>,
+) -> bool {
+    let untold = match failure {
+        Failure::Untold(untold) if !is_of_reader(untold) => untold,
+        Failure::Absent | Failure::Memory | Failure::Unwritten(_) => return true,
+        _ => return false,
+    };
+    let why = match untold.skip_rest(alloc, counted) {
+        Ok(true) => return true,
+        Ok(false) => "the next message is not found",
+        Err(_error) => "the message is cut, and the last",
+    };
+    let _written = writeln!(counted.reports(), "bser: {name}: {why}");
+    false
+}
+
+/// Whether the reader ended or failed.
+fn is_of_reader(untold: &Untold) -> bool {
+    let Reason::Failed(description) = &untold.reason else {
+        return false;
+    };
+    match description.cause() {
+        Error::DeReaderError { source } => !matches!(source, ReadCause::Utf8),
+        _ => false,
+    }
+}

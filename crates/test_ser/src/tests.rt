@@ -1,7 +1,0 @@
-//! Tests by the public calls of the crates.
-mod bytestrings;
-mod checks;
-mod described;
-mod memory;
-mod printed;
-mod writing;

@@ -1,7 +1,0 @@
-use Rattle.std.proofs.Common.{drop, map}
-use Rattle.watchman_requests.specs.Expressions.{expression_tree}
-use Rattle.watchman_requests.proofs.Operands.{PartsPut}
-use Rattle.watchman_requests.proofs.expression.+put.Given as goal
-
-abbrev pub invariant-put_operands-loop-operand : goal.invariant-put_operands-loop-operand
-invariant-put_operands-loop-operand g l = PartsPut g.W.Sink l.word (map expression_tree l.operands) (map expression_tree (drop l.operand-index l.operands)) l.fn.out l.out

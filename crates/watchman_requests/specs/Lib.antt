@@ -1,5 +1,0 @@
-pub mod Words
-pub mod Terms
-pub mod Expressions
-pub mod Queries
-pub mod Requests
