@@ -1,7 +1,7 @@
 //! What a message has, printed.
 
 use crate::counts::Kinds;
-use crate::messages::{Failure, View};
+use crate::messages::{View, ViewError};
 use crate::tally::{Summed, next_summed};
 use bser_messages::limits::Limits;
 use bser_source::device::Source;
@@ -21,7 +21,7 @@ impl View for Summary {
         start: u64,
         reader: &mut S,
         out: &mut W,
-    ) -> Result<bool, Failure> {
+    ) -> Result<bool, ViewError> {
         match next_summed(alloc, Limits::new(), reader)? {
             Some(summed) => {
                 put_summary(out, start, &summed)?;

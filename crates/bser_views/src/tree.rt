@@ -1,6 +1,6 @@
 //! A line for each part of a message.
 
-use crate::messages::{Failure, View};
+use crate::messages::{View, ViewError};
 use crate::open::Open;
 use crate::quoted::{Quoted, Real};
 use crate::trouble::Trouble;
@@ -39,11 +39,11 @@ impl View for Show {
         start: u64,
         reader: &mut S,
         out: &mut W,
-    ) -> Result<bool, Failure> {
+    ) -> Result<bool, ViewError> {
         let mut tree = Tree::new(alloc, self.style, start, out);
         let told = telling::next_message(alloc, Limits::new(), reader, &mut tree);
         if let Some(fault) = tree.take_fault() {
-            return Err(Failure::Output(fault));
+            return Err(ViewError::Output(fault));
         }
         match told? {
             Some(header) => {
