@@ -24,7 +24,7 @@ ghost use Rattle.bser_canonical.specs.Slices.{RewroteSlice};
 ghost use Rattle.bser_canonical.specs.declared.slice.Unwritten.TheVariants.{TooLong};
 ghost use Rattle.bser_c.specs.Codes.{TellsWhy};
 ghost use Rattle.bser_c.specs.Tape.{BeginsWithTape, HasTape};
-ghost use Rattle.bser_c.specs.declared.outcome.TheConstants.{DONE, TOO_SMALL};
+ghost use Rattle.bser_c.specs.declared.codes.TheConstants.{DONE, TOO_SMALL};
 ghost use Rattle.bser_c.specs.Failures.{IsRefused, Tells, TellsWhyNoLength, TellsWhyUnwritten};
 
 use crate::codes::{CONTRADICTION, NO_MEMORY, NOT_WHOLE, TAPE_INVALID};
