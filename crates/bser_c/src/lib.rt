@@ -4,16 +4,16 @@
 //! of the values that it gets: a length that does not fit and words that are no tape are answers.
 #![tactic(auto)]
 
-pub mod codes;
-pub mod comparing;
+mod codes;
+mod comparing;
 mod front;
 mod heads;
 mod measure;
 mod outcome;
-pub mod reading;
-pub mod tags;
-pub mod untape;
-pub mod writing;
+mod reading;
+mod tags;
+mod untape;
+mod writing;
 
 ghost use Rattle.std.specs.Prelude.{◌≡◌, ◌≢◌, ◌<◌, ◌≤◌, length, take};
 ghost use Rattle.bser_format.specs.Compact.{fold_templates};
