@@ -2,15 +2,15 @@
 //! and opened containers.
 #![tactic(auto)]
 
-pub mod any;
+mod any;
 pub mod container;
 pub mod cursor;
 pub mod deserializer;
-pub mod due;
+mod due;
 pub mod field;
 pub mod frames;
 pub mod node;
 pub mod note;
-pub mod scalar;
-pub mod string;
+mod scalar;
+mod string;
 mod template;

@@ -11,7 +11,7 @@ ghost use Rattle.bser_deserializer.specs.View.{is_null_at, is_other_kind};
 
 use crate::cursor::Cursor;
 use crate::deserializer::{Deserializer, Due};
-pub use crate::node::Node;
+use crate::node::Node;
 use crate::note::Wanted;
 use bser_bunser::prefix::{Look, Unexpected};
 use bser_bunser::refusal::Answer;

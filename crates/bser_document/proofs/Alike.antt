@@ -14,7 +14,7 @@ use Rattle.bser_format.proofs.Least.{map_some}
 use Rattle.bser_format.proofs.Same.{same_tree_decides}
 use Rattle.bser_value.specs.Contents.{as_array, as_object, as_bool, as_i64, as_bytes, as_str}
 use Rattle.bser_document.specs.declared.item.Item.{Item}
-use Rattle.bser_document.specs.declared.item.Kind.TheVariants as kinds
+use Rattle.bser_document.specs.declared.item.ItemKind.TheVariants as kinds
 use Rattle.bser_document.specs.declared.items.Items.{Items}
 use Rattle.bser_document.specs.Holds.{HoldsItem, Part, tree, skipped, row_of, part_value, kind_of, is_null, as_real_bits}
 use Rattle.bser_document.specs.Walks.{HoldsItems, FindsItems, GivesItem}

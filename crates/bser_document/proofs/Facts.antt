@@ -20,8 +20,8 @@ use Rattle.bser_format.specs.Tree.{Tree, null, boolean, integer, real, bytes, te
 use Rattle.bser_format.specs.ValueTree.{IsValueTree, ItemsAreValueTrees, EntriesAreValueTrees}
 use Rattle.bser_format.proofs.Same.{same_tree_decides}
 use Rattle.bser_events.specs.Events.{Event}
-use Rattle.bser_document.specs.declared.document.Node.{Node}
-use Rattle.bser_document.specs.declared.document.Node.TheVariants.{Null, Bool, Int, Real, Bytes, Text, Key, Array, Object, Template, Rows as RowsOf, Skip, Close}
+use Rattle.bser_document.specs.declared.document.DocumentNode.{DocumentNode}
+use Rattle.bser_document.specs.declared.document.DocumentNode.TheVariants.{Null, Bool, Int, Real, Bytes, Text, Key, Array, Object, Template, Rows as RowsOf, Skip, Close}
 use Rattle.bser_document.specs.Nodes.{piece, Within}
 use Rattle.bser_deserializer.specs.WholeRows.{HasWholeRows, ItemsHaveWholeRows, EntriesHaveWholeRows, RowsHaveWholeRows, FieldsHaveWholeRows}
 
@@ -95,7 +95,7 @@ all_had P each (x ∷ xs) = both (each x) (all_had P each xs)
 
 -- ---- strings
 
-pub Within-had : (s : List ℕ) (n : Node) → Had (Within s n)
+pub Within-had : (s : List ℕ) (n : DocumentNode) → Had (Within s n)
 Within-had s Null = nothing
 Within-had s (Bool v) = nothing
 Within-had s (Int v) = nothing

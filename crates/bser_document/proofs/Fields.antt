@@ -13,8 +13,8 @@ use Rattle.bser_deserializer.specs.WholeRows.{HasWholeRows, FieldsHaveWholeRows,
 use Rattle.bser_events.specs.Events as told
 use Rattle.bser_events.specs.Events.{Event, events, key_events, row_events, field_events}
 use Rattle.bser_document.specs.declared.document.Document.{Document}
-use Rattle.bser_document.specs.declared.document.Node.{Node}
-use Rattle.bser_document.specs.declared.document.Node.TheVariants as nodes
+use Rattle.bser_document.specs.declared.document.DocumentNode.{DocumentNode}
+use Rattle.bser_document.specs.declared.document.DocumentNode.TheVariants as nodes
 use Rattle.bser_document.specs.declared.item.Item.{Item}
 use Rattle.bser_document.specs.declared.item.Keys.{Keys}
 use Rattle.bser_document.specs.declared.items.Items.{Items}
@@ -43,7 +43,7 @@ rows_read ks (row fs rs) us e k =
     rows_read ks rs vs rest λ ms later those.
     k (m ∷ ms) (ap (option_and_then (λ m. option_map (λ ms. m ∷ ms) (rows_value ks rs))) made ∙ ap (option_map (λ ms. m ∷ ms)) later) (ap (λ u. item u (row_objects ms)) is ∙ ap (item u) those ∙ same)
 
-pub rows_found : (i : Item) (n : Node) (len end : ℕ) (s : Items) (k : Keys) → n ≡ nodes.Template len end → IsPartNode i n → RowsBegin i len s → s.keys ≡ Some k → (u : Tree) → HoldsItem i u
+pub rows_found : (i : Item) (n : DocumentNode) (len end : ℕ) (s : Items) (k : Keys) → n ≡ nodes.Template len end → IsPartNode i n → RowsBegin i len s → s.keys ≡ Some k → (u : Tree) → HoldsItem i u
     → ReadsRows (record { document = s.document; at = s.at; left = s.left; keys = k }) u
 rows_found i n len end s k is first begin some u h = of_part h.part h.lies h.value h.whole
   where

@@ -13,11 +13,11 @@ use Rattle.bser_format.proofs.Least.{map_some}
 use Rattle.bser_events.specs.Events as told
 use Rattle.bser_events.specs.Events.{Event, events}
 use Rattle.bser_document.specs.declared.document.Document.{Document}
-use Rattle.bser_document.specs.declared.document.Node.{Node}
-use Rattle.bser_document.specs.declared.document.Node.TheVariants as nodes
+use Rattle.bser_document.specs.declared.document.DocumentNode.{DocumentNode}
+use Rattle.bser_document.specs.declared.document.DocumentNode.TheVariants as nodes
 use Rattle.bser_document.specs.declared.item.Item.{Item}
 use Rattle.bser_document.specs.declared.item.Keys.{Keys}
-use Rattle.bser_document.specs.declared.item.Kind.TheVariants as kinds
+use Rattle.bser_document.specs.declared.item.ItemKind.TheVariants as kinds
 use Rattle.bser_document.specs.DocumentView.{IsInside, Within, piece, event_of, HoldsDocument}
 use Rattle.bser_document.proofs.Ends.{whole_ends}
 use Rattle.bser_document.specs.Spans.{Lies, TreeLies, tree_ends}
@@ -59,15 +59,15 @@ first_same : (x y : Event) (xs ys : List Event) → x ∷ xs ≡ y ∷ ys → x 
 first_same x y xs ys e = ap (λ l. get_or l 0 x) e
 
 -- the node that is there
-pub node_at : (d : Document) (at : ℕ) (n : Node) → at < length d.nodes.items → ((z : Node) → n ≡ get_or d.nodes.items at z) → TellsFirst d at n
+pub node_at : (d : Document) (at : ℕ) (n : DocumentNode) → at < length d.nodes.items → ((z : DocumentNode) → n ≡ get_or d.nodes.items at z) → TellsFirst d at n
 node_at d at n less is e es ends h =
     let s : List ℕ = d.strings.items in
-    let ns : List Node = d.nodes.items in
+    let ns : List DocumentNode = d.nodes.items in
     first_same (event_of s n) e (map (event_of s) (drop (at + 1) ns)) (es ++ h.after)
     (ap (λ x. event_of s x ∷ map (event_of s) (drop (at + 1) ns)) (is n) ∙ sym (ap (map (event_of s)) (drop_more ns at n less)) ∙ h.here)
 
 -- there is none behind the last
-pub none_at : (d : Document) (at : ℕ) (n : Node) → length d.nodes.items ≤ at → TellsFirst d at n
+pub none_at : (d : Document) (at : ℕ) (n : DocumentNode) → length d.nodes.items ≤ at → TellsFirst d at n
 none_at d at n past e es ends h =
     let f : [] ≡ e ∷ (es ++ h.after) = sym (ap (map (event_of d.strings.items)) (drop_all at d.nodes.items past)) ∙ h.here in
     absurd cc
@@ -79,17 +79,17 @@ pub first_lies : (d : Document) (at : ℕ) (t : Tree) → TreeLies d t at → (e
 first_lies d at t h = let b = begins t in (b.0, subst (λ l. Lies d at l (tree_ends t at)) b.1 h)
 
 -- what is there is within the strings
-within_at : (s : List ℕ) (ns : List Node) (at : ℕ) (n : Node) → AllByRecursion (Within s) ns → ((z : Node) → n ≡ get_or ns at z) → at < length ns → Within s n
+within_at : (s : List ℕ) (ns : List DocumentNode) (at : ℕ) (n : DocumentNode) → AllByRecursion (Within s) ns → ((z : DocumentNode) → n ≡ get_or ns at z) → at < length ns → Within s n
 within_at s [] at n h is less = absurd (omega (arith, less))
 within_at s (x ∷ ns) zero n h is less = subst (Within s) (sym (is x)) h.0
 within_at s (x ∷ ns) (suc at) n h is less = within_at s ns at n h.1 is (omega (arith, less))
 
 -- a node that was found
-pub found_at : (d : Document) (at : ℕ) (n : Node) → at < length d.nodes.items → ((z : Node) → n ≡ get_or d.nodes.items at z) → IsNodeAt d at n
+pub found_at : (d : Document) (at : ℕ) (n : DocumentNode) → at < length d.nodes.items → ((z : DocumentNode) → n ≡ get_or d.nodes.items at z) → IsNodeAt d at n
 found_at d at n less is = (node_at d at n less is, λ h. within_at d.strings.items d.nodes.items at n h is less, λ past. absurd (omega (arith, less, past)))
 
 -- the node of an item
-pub plain_first : (i : Item) (n : Node) → i.keys ≡ None → IsNodeAt i.document.now i.at n → IsPartNode i n
+pub plain_first : (i : Item) (n : DocumentNode) → i.keys ≡ None → IsNodeAt i.document.now i.at n → IsPartNode i n
 plain_first i n none is (tree t) l = let f = first_lies i.document.now i.at t l.1 in is.0 (first_event t) f.0 (tree_ends t i.at) f.1
 plain_first i n none is skipped l = is.0 told.skip [] (None ∷ []) l.1
 plain_first i n none is (row_of ks fs) l = let e : None ≡ Some l.keys_at = sym none ∙ l.some in absurd cc
@@ -107,7 +107,7 @@ part_read_as (tree t) u e = read_as t u e
 part_read_as skipped u e = ap emptied (same_Some null u e)
 part_read_as (row_of ks fs) u e = row_read_as ks fs u e
 
-pub shown : (i : Item) (n : Node) → IsPartNode i n → (HasTexts i.document.now → Within i.document.now.strings.items n) → (u : Tree) → HoldsItem i u → ShowsNode u i.document.now n
+pub shown : (i : Item) (n : DocumentNode) → IsPartNode i n → (HasTexts i.document.now → Within i.document.now.strings.items n) → (u : Tree) → HoldsItem i u → ShowsNode u i.document.now n
 shown i n first within u h = record {
   same = ap event_tree (first h.part h.lies) ∙ part_read_as h.part u h.value;
   within = within h.texts;
@@ -116,7 +116,7 @@ shown i n first within u h = record {
 -- ---- answers
 
 -- what is asked of a value without a look into containers
-pub answered : {Z : Type 0} (f : Tree → Z) (d : Document) (n : Node) (r : Z) → ((t : Tree) → f (emptied t) ≡ f t) → ((s : List ℕ) → r ≡ f (node_tree s n)) → (u : Tree) → ShowsNode u d n → r ≡ f u
+pub answered : {Z : Type 0} (f : Tree → Z) (d : Document) (n : DocumentNode) (r : Z) → ((t : Tree) → f (emptied t) ≡ f t) → ((s : List ℕ) → r ≡ f (node_tree s n)) → (u : Tree) → ShowsNode u d n → r ≡ f u
 answered f d n r same is u h = is d.strings.items ∙ ap f h.same ∙ same u
 
 pub kind_of_emptied : (t : Tree) → kind_of (emptied t) ≡ kind_of t
@@ -222,7 +222,7 @@ as_str_emptied (template ks rs) = refl
 -- ---- strings
 
 -- the string of a node that is no text, and no byte string
-no_text : (s : List ℕ) (n : Node) → ((l a : ℕ) → n ≡ nodes.Text l a → ⊥) → None ≡ as_str (node_tree s n)
+no_text : (s : List ℕ) (n : DocumentNode) → ((l a : ℕ) → n ≡ nodes.Text l a → ⊥) → None ≡ as_str (node_tree s n)
 no_text s nodes.Null h = refl
 no_text s (nodes.Bool v) h = refl
 no_text s (nodes.Int v) h = refl
@@ -237,7 +237,7 @@ no_text s (nodes.Rows l) h = refl
 no_text s nodes.Skip h = refl
 no_text s nodes.Close h = refl
 
-no_bytes : (s : List ℕ) (n : Node) → ((l a : ℕ) → n ≡ nodes.Bytes l a → ⊥) → ((l a : ℕ) → n ≡ nodes.Text l a → ⊥) → None ≡ as_bytes (node_tree s n)
+no_bytes : (s : List ℕ) (n : DocumentNode) → ((l a : ℕ) → n ≡ nodes.Bytes l a → ⊥) → ((l a : ℕ) → n ≡ nodes.Text l a → ⊥) → None ≡ as_bytes (node_tree s n)
 no_bytes s nodes.Null h g = refl
 no_bytes s (nodes.Bool v) h g = refl
 no_bytes s (nodes.Int v) h g = refl
@@ -253,25 +253,25 @@ no_bytes s nodes.Skip h g = refl
 no_bytes s nodes.Close h g = refl
 
 -- the same where an item has the node
-pub no_text_there : (d : Document) (n : Node) → ((l a : ℕ) → n ≡ nodes.Text l a → ⊥) → (u : Tree) → ShowsNode u d n → None ≡ as_str u
+pub no_text_there : (d : Document) (n : DocumentNode) → ((l a : ℕ) → n ≡ nodes.Text l a → ⊥) → (u : Tree) → ShowsNode u d n → None ≡ as_str u
 no_text_there d n never u h = no_text d.strings.items n never ∙ ap as_str h.same ∙ as_str_emptied u
 
-pub no_bytes_there : (d : Document) (n : Node) → ((l a : ℕ) → n ≡ nodes.Bytes l a → ⊥) → ((l a : ℕ) → n ≡ nodes.Text l a → ⊥) → (u : Tree) → ShowsNode u d n → None ≡ as_bytes u
+pub no_bytes_there : (d : Document) (n : DocumentNode) → ((l a : ℕ) → n ≡ nodes.Bytes l a → ⊥) → ((l a : ℕ) → n ≡ nodes.Text l a → ⊥) → (u : Tree) → ShowsNode u d n → None ≡ as_bytes u
 no_bytes_there d n never neither u h = no_bytes d.strings.items n never neither ∙ ap as_bytes h.same ∙ as_bytes_emptied u
 
 -- the bytes of a byte string, and of a text
-pub bytes_there : (d : Document) (n : Node) (l a : ℕ) (r : List ℕ) → n ≡ nodes.Bytes l a → (IsInside d.strings.items l a → r ≡ piece d.strings.items l a) → (u : Tree) → ShowsNode u d n → Some r ≡ as_bytes u
+pub bytes_there : (d : Document) (n : DocumentNode) (l a : ℕ) (r : List ℕ) → n ≡ nodes.Bytes l a → (IsInside d.strings.items l a → r ≡ piece d.strings.items l a) → (u : Tree) → ShowsNode u d n → Some r ≡ as_bytes u
 bytes_there d n l a r is same u h =
     let w : Within d.strings.items (nodes.Bytes l a) = subst (Within d.strings.items) is h.within in
     ap Some (same w) ∙ ap (λ m. as_bytes (node_tree d.strings.items m)) (sym is) ∙ ap as_bytes h.same ∙ as_bytes_emptied u
 
-pub text_bytes_there : (d : Document) (n : Node) (l a : ℕ) (r : List ℕ) → n ≡ nodes.Text l a → (IsInside d.strings.items l a → r ≡ piece d.strings.items l a) → (u : Tree) → ShowsNode u d n → Some r ≡ as_bytes u
+pub text_bytes_there : (d : Document) (n : DocumentNode) (l a : ℕ) (r : List ℕ) → n ≡ nodes.Text l a → (IsInside d.strings.items l a → r ≡ piece d.strings.items l a) → (u : Tree) → ShowsNode u d n → Some r ≡ as_bytes u
 text_bytes_there d n l a r is same u h =
     let w : Within d.strings.items (nodes.Text l a) = subst (Within d.strings.items) is h.within in
     ap Some (same w.0) ∙ ap (λ m. as_bytes (node_tree d.strings.items m)) (sym is) ∙ ap as_bytes h.same ∙ as_bytes_emptied u
 
 -- a text, whose bytes are UTF-8
-pub text_there : (d : Document) (n : Node) (l a : ℕ) (b : List ℕ) (r : Option (Bor (List ℕ))) → n ≡ nodes.Text l a → (IsInside d.strings.items l a → b ≡ piece d.strings.items l a)
+pub text_there : (d : Document) (n : DocumentNode) (l a : ℕ) (b : List ℕ) (r : Option (Bor (List ℕ))) → n ≡ nodes.Text l a → (IsInside d.strings.items l a → b ≡ piece d.strings.items l a)
     → MatchOption r (¬ (IsUtf8 b)) (λ t. (t.now ≡ b) × IsUtf8 b) → (u : Tree) → ShowsNode u d n → option_map (λ t. t.now) r ≡ as_str u
 text_there d n l a b r is same found u h =
     let w : Within d.strings.items (nodes.Text l a) = subst (Within d.strings.items) is h.within in

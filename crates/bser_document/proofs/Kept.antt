@@ -6,8 +6,8 @@ use Rattle.std.specs.List.{AllByRecursion}
 use Rattle.bser_events.proofs.Outcomes.{both_ok}
 use Rattle.bser_events.specs.Events as told
 use Rattle.bser_events.specs.Events.{Event, TakesAll, none as no_more, more}
-use Rattle.bser_document.specs.declared.document.Node.{Node}
-use Rattle.bser_document.specs.declared.document.Node.TheVariants.{Null, Bool, Int, Real, Bytes, Text, Key, Array, Object, Template, Rows, Skip, Close}
+use Rattle.bser_document.specs.declared.document.DocumentNode.{DocumentNode}
+use Rattle.bser_document.specs.declared.document.DocumentNode.TheVariants.{Null, Bool, Int, Real, Bytes, Text, Key, Array, Object, Template, Rows, Skip, Close}
 use Rattle.bser_document.specs.declared.document.Document.{Document}
 use Rattle.bser_document.specs.declared.builder.DocumentBuilder.{DocumentBuilder}
 use Rattle.bser_document.specs.DocumentView.{piece, event_of, IsInside, IsText, Within, string_len, string_lens, Shows, Views, ViewsDocument, Takes, SameEvents, end_of, Marks, with_end, change, closed, noted, begun, mark, marks, unmarked, Marked, ClosesNodes, Closes}
@@ -29,7 +29,7 @@ piece_more s x len at h =
     let b : len ≤ length (drop at s) = omega (arith, h, length-drop at s) in
     ap (take len) (drop-append-le at s x a) ∙ take-append-le len (drop at s) x b
 
-event_more : (s x : List ℕ) (n : Node) → Within s n → event_of (s ++ x) n ≡ event_of s n
+event_more : (s x : List ℕ) (n : DocumentNode) → Within s n → event_of (s ++ x) n ≡ event_of s n
 event_more s x Null h = refl
 event_more s x (Bool v) h = refl
 event_more s x (Int v) h = refl
@@ -44,7 +44,7 @@ event_more s x (Rows len) h = refl
 event_more s x Skip h = refl
 event_more s x Close h = refl
 
-events_more : (s x : List ℕ) (ns : List Node) → AllByRecursion (Within s) ns → map (event_of (s ++ x)) ns ≡ map (event_of s) ns
+events_more : (s x : List ℕ) (ns : List DocumentNode) → AllByRecursion (Within s) ns → map (event_of (s ++ x)) ns ≡ map (event_of s) ns
 events_more s x [] h = refl
 events_more s x (n ∷ ns) h = both_same (λ e es. e ∷ es) (event_more s x n h.0) (events_more s x ns h.1)
 
@@ -54,7 +54,7 @@ inside_more s x len at h = omega (arith, h, length-append s x)
 text_more : (s x : List ℕ) (len at : ℕ) → IsText s len at → IsText (s ++ x) len at
 text_more s x len at h = (inside_more s x len at h.0, subst IsUtf8 (sym (piece_more s x len at h.0)) h.1)
 
-within_more : (s x : List ℕ) (n : Node) → Within s n → Within (s ++ x) n
+within_more : (s x : List ℕ) (n : DocumentNode) → Within s n → Within (s ++ x) n
 within_more s x Null h = tt
 within_more s x (Bool v) h = tt
 within_more s x (Int v) h = tt
@@ -69,11 +69,11 @@ within_more s x (Rows len) h = tt
 within_more s x Skip h = tt
 within_more s x Close h = tt
 
-all_within_more : (s x : List ℕ) (ns : List Node) → AllByRecursion (Within s) ns → AllByRecursion (Within (s ++ x)) ns
+all_within_more : (s x : List ℕ) (ns : List DocumentNode) → AllByRecursion (Within s) ns → AllByRecursion (Within (s ++ x)) ns
 all_within_more s x [] h = tt
 all_within_more s x (n ∷ ns) h = (within_more s x n h.0, all_within_more s x ns h.1)
 
-all_snoc : (s : List ℕ) (ns : List Node) (n : Node) → AllByRecursion (Within s) ns → Within s n → AllByRecursion (Within s) (ns ++ n ∷ [])
+all_snoc : (s : List ℕ) (ns : List DocumentNode) (n : DocumentNode) → AllByRecursion (Within s) ns → Within s n → AllByRecursion (Within s) (ns ++ n ∷ [])
 all_snoc s [] n h w = (w, tt)
 all_snoc s (y ∷ ns) n h w = (h.0, all_snoc s ns n h.1 w)
 
@@ -98,7 +98,7 @@ marks_snoc [] e m = refl
 marks_snoc (x ∷ es) e m = marks_snoc es e (mark x m)
 
 -- a node that is no container
-noted_taken : (old new : DocumentBuilder) (n : Node) (e : Event) → new.nodes.items ≡ old.nodes.items ++ n ∷ [] → new.begun ≡ old.begun → end_of n ≡ None → ((m : Marks) → mark e m ≡ noted m) → TakesMarked old e new
+noted_taken : (old new : DocumentBuilder) (n : DocumentNode) (e : Event) → new.nodes.items ≡ old.nodes.items ++ n ∷ [] → new.begun ≡ old.begun → end_of n ≡ None → ((m : Marks) → mark e m ≡ noted m) → TakesMarked old e new
 noted_taken old new n e nodes begun none makes es h =
     let made = marks_snoc es e unmarked ∙ makes (marks es unmarked) in
     record {
@@ -107,7 +107,7 @@ noted_taken old new n e nodes begun none makes es h =
     }
 
 -- a container's node
-begun_taken : (old new : DocumentBuilder) (n : Node) (e : Event) → new.nodes.items ≡ old.nodes.items ++ n ∷ [] → new.begun.items ≡ old.begun.items ++ length old.nodes.items ∷ []
+begun_taken : (old new : DocumentBuilder) (n : DocumentNode) (e : Event) → new.nodes.items ≡ old.nodes.items ++ n ∷ [] → new.begun.items ≡ old.begun.items ++ length old.nodes.items ∷ []
     → end_of n ≡ Some 0 → ((m : Marks) → mark e m ≡ begun m) → TakesMarked old e new
 begun_taken old new n e nodes opened some makes es h =
     let made = marks_snoc es e unmarked ∙ makes (marks es unmarked) in
@@ -127,13 +127,13 @@ closed_taken old new c es h =
     }
 
 -- a node was put behind the others, over more strings
-put_takes : (old new : DocumentBuilder) (n : Node) (x : List ℕ) (e : Event)
+put_takes : (old new : DocumentBuilder) (n : DocumentNode) (x : List ℕ) (e : Event)
     → new.nodes.items ≡ old.nodes.items ++ n ∷ [] → new.strings.items ≡ old.strings.items ++ x
     → event_of (old.strings.items ++ x) n ≡ e → Within (old.strings.items ++ x) n → string_len e ≡ length x → TakesShown old e new
 put_takes old new n x e nodes strings tells within len es views =
     let s : List ℕ = old.strings.items in
     let t : List ℕ = s ++ x in
-    let ns : List Node = old.nodes.items in
+    let ns : List DocumentNode = old.nodes.items in
     subst (λ l. Shows l new.strings.items (es ++ e ∷ [])) (sym nodes) (subst (λ l. Shows (ns ++ n ∷ []) l (es ++ e ∷ [])) (sym strings) (record {
       same = map_push (event_of t) ns n ∙ both_same (λ l y. l ++ y ∷ []) (events_more s x ns views.within ∙ views.same) tells;
       within = all_snoc t ns n (all_within_more s x ns views.within) within;
@@ -141,7 +141,7 @@ put_takes old new n x e nodes strings tells within len es views =
     }))
 
 -- the same, over the same strings
-put_plain : (old new : DocumentBuilder) (n : Node) (e : Event)
+put_plain : (old new : DocumentBuilder) (n : DocumentNode) (e : Event)
     → new.nodes.items ≡ old.nodes.items ++ n ∷ [] → new.strings ≡ old.strings
     → event_of old.strings.items n ≡ e → Within old.strings.items n → string_len e ≡ 0 → TakesShown old e new
 put_plain old new n e nodes strings tells within len =
@@ -171,7 +171,7 @@ all_taken old (x ∷ es) new (more a b c y ys first rest) begun views =
 -- ---- a container's end
 
 -- a node at its place is changed for one that tells the same
-pub same_set : (xs : List Node) (i : ℕ) (y : Node) → ((d : Node) → SameEvents (get_or xs i d ∷ []) (y ∷ [])) → SameEvents xs (set xs i y)
+pub same_set : (xs : List DocumentNode) (i : ℕ) (y : DocumentNode) → ((d : DocumentNode) → SameEvents (get_or xs i d ∷ []) (y ∷ [])) → SameEvents xs (set xs i y)
 same_set [] i y h = record { same = λ s. refl; within = λ n w. w }
 same_set (x ∷ xs) zero y h = record {
   same = λ s. ap (λ l. l ++ map (event_of s) xs) ((h x).same s);
@@ -190,28 +190,28 @@ pair_ok P Q (Ok x) p q = (p, q)
 pair_ok P Q (Err e) p q = tt
 
 -- a node without a string was put, where that is the event
-pub plain_ok : {X E : Type 0} (old new : DocumentBuilder) (n : Node) (e f : Event) (r : Result X E) → e ≡ f
+pub plain_ok : {X E : Type 0} (old new : DocumentBuilder) (n : DocumentNode) (e f : Event) (r : Result X E) → e ≡ f
     → OnOk r (new.nodes.items ≡ old.nodes.items ++ n ∷ []) → OnOk r (new.strings ≡ old.strings) → OnOk r (new.begun ≡ old.begun)
     → event_of old.strings.items n ≡ f → Within old.strings.items n → string_len f ≡ 0 → end_of n ≡ None → ((m : Marks) → mark f m ≡ noted m) → OnOk r (Takes old e new)
 plain_ok old new n e f r is nodes strings begun' tells within len none makes =
     both_ok _ _ _ r nodes (pair_ok _ _ r strings begun') λ a b. both_taken old new e f is (put_plain old new n f a b.0 tells within len) (noted_taken old new n f a b.1 none makes)
 
 -- a container's node was put
-pub begun_ok : {X E : Type 0} (old new : DocumentBuilder) (n : Node) (e f : Event) (r : Result X E) → e ≡ f
+pub begun_ok : {X E : Type 0} (old new : DocumentBuilder) (n : DocumentNode) (e f : Event) (r : Result X E) → e ≡ f
     → OnOk r (new.nodes.items ≡ old.nodes.items ++ n ∷ []) → OnOk r (new.strings ≡ old.strings) → OnOk r (new.begun.items ≡ old.begun.items ++ length old.nodes.items ∷ [])
     → event_of old.strings.items n ≡ f → Within old.strings.items n → string_len f ≡ 0 → end_of n ≡ Some 0 → ((m : Marks) → mark f m ≡ begun m) → OnOk r (Takes old e new)
 begun_ok old new n e f r is nodes strings opened tells within len some makes =
     both_ok _ _ _ r nodes (pair_ok _ _ r strings opened) λ a b. both_taken old new e f is (put_plain old new n f a b.0 tells within len) (begun_taken old new n f a b.1 some makes)
 
 -- a string was kept, and then its node was put
-pub string_ok : {X E : Type 0} (old mid new : DocumentBuilder) (node : ℕ → ℕ → Node) (tell : List ℕ → Event) (x : List ℕ) (len at : ℕ) (e : Event) (r : Result X E) → e ≡ tell x
+pub string_ok : {X E : Type 0} (old mid new : DocumentBuilder) (node : ℕ → ℕ → DocumentNode) (tell : List ℕ → Event) (x : List ℕ) (len at : ℕ) (e : Event) (r : Result X E) → e ≡ tell x
     → at ≡ length old.strings.items → len ≡ length x → mid.strings.items ≡ old.strings.items ++ x → mid.nodes ≡ old.nodes → mid.begun ≡ old.begun
     → OnOk r (new.nodes.items ≡ mid.nodes.items ++ node len at ∷ []) → OnOk r (new.strings ≡ mid.strings) → OnOk r (new.begun ≡ mid.begun)
     → ((s : List ℕ) (l a : ℕ) → event_of s (node l a) ≡ tell (piece s l a)) → ((s : List ℕ) (l a : ℕ) → IsInside s l a → piece s l a ≡ x → Within s (node l a)) → string_len (tell x) ≡ length x
     → ((l a : ℕ) → end_of (node l a) ≡ None) → ((m : Marks) → mark (tell x) m ≡ noted m) → OnOk r (Takes old e new)
 string_ok old mid new node tell x len at e r is place long strings nodes begun' nodes' strings' begun'' tells within count none makes =
     let s : List ℕ = old.strings.items in
-    let n : Node = node (length x) (length s) in
+    let n : DocumentNode = node (length x) (length s) in
     let same : node len at ≡ n = both_same node long place in
     both_ok _ _ _ r nodes' (pair_ok _ _ r strings' begun'') λ a b.
     let put : new.nodes.items ≡ old.nodes.items ++ n ∷ [] = a ∙ both_same (λ v n. v.items ++ n ∷ []) nodes same in
@@ -228,12 +228,12 @@ change_past [] at n h = refl
 change_past (x ∷ xs) zero n h = absurd (omega (arith, h))
 change_past (x ∷ xs) (suc at) n h = ap (λ l. x ∷ l) (change_past xs at n (omega (arith, h)))
 
-change_set : (ns : List Node) (at n : ℕ) (m : Node) → ((d : Node) → end_of m ≡ with_end n (end_of (get_or ns at d))) → map end_of (set ns at m) ≡ change (map end_of ns) at n
+change_set : (ns : List DocumentNode) (at n : ℕ) (m : DocumentNode) → ((d : DocumentNode) → end_of m ≡ with_end n (end_of (get_or ns at d))) → map end_of (set ns at m) ≡ change (map end_of ns) at n
 change_set [] at n m h = refl
 change_set (x ∷ ns) zero n m h = ap (λ e. e ∷ map end_of ns) (h x)
 change_set (x ∷ ns) (suc at) n m h = ap (λ l. end_of x ∷ l) (change_set ns at n m h)
 
-top : (ns ms : List Node) (bs cs : List ℕ) (at : ℕ) → bs ≡ cs ++ at ∷ [] → map end_of ms ≡ change (map end_of ns ++ None ∷ []) at (length (map end_of ns) + 1) → ClosesNodes ns ms bs cs
+top : (ns ms : List DocumentNode) (bs cs : List ℕ) (at : ℕ) → bs ≡ cs ++ at ∷ [] → map end_of ms ≡ change (map end_of ns ++ None ∷ []) at (length (map end_of ns) + 1) → ClosesNodes ns ms bs cs
 top ns ms bs cs at is ends =
     let e : reverse bs ≡ at ∷ reverse cs = ap reverse is ∙ reverse-append cs (at ∷ []) in
     record {
@@ -242,16 +242,16 @@ top ns ms bs cs at is ends =
     }
 
 -- the ends of the nodes with one that closes
-with_close : (ns : List Node) (at : ℕ) → change (map end_of (ns ++ Close ∷ [])) at (length ns + 1) ≡ change (map end_of ns ++ None ∷ []) at (length (map end_of ns) + 1)
+with_close : (ns : List DocumentNode) (at : ℕ) → change (map end_of (ns ++ Close ∷ [])) at (length ns + 1) ≡ change (map end_of ns ++ None ∷ []) at (length (map end_of ns) + 1)
 with_close ns at = both_same (λ l n. change l at (n + 1)) (map_push end_of ns Close) (sym (length-map ns end_of))
 
-pub close_at : (ns : List Node) (bs : List ℕ) (ms : List Node) (cs : List ℕ) (at n : ℕ) (m : Node) → ms ≡ ns ++ Close ∷ [] → bs ≡ cs ++ at ∷ [] → n ≡ length ms
-    → ((d : Node) → end_of m ≡ with_end n (end_of (get_or ms at d))) → ClosesNodes ns (set ms at m) bs cs
+pub close_at : (ns : List DocumentNode) (bs : List ℕ) (ms : List DocumentNode) (cs : List ℕ) (at n : ℕ) (m : DocumentNode) → ms ≡ ns ++ Close ∷ [] → bs ≡ cs ++ at ∷ [] → n ≡ length ms
+    → ((d : DocumentNode) → end_of m ≡ with_end n (end_of (get_or ms at d))) → ClosesNodes ns (set ms at m) bs cs
 close_at ns bs ms cs at n m pushed is last h =
     let long : n ≡ length ns + 1 = last ∙ ap length pushed ∙ length-append ns (Close ∷ []) in
     top ns (set ms at m) bs cs at is (change_set ms at n m h ∙ both_same (λ l k. change (map end_of l) at k) pushed long ∙ with_close ns at)
 
-pub close_past : (ns : List Node) (bs : List ℕ) (ms : List Node) (cs : List ℕ) (at : ℕ) → ms ≡ ns ++ Close ∷ [] → bs ≡ cs ++ at ∷ [] → length ms ≤ at → ClosesNodes ns ms bs cs
+pub close_past : (ns : List DocumentNode) (bs : List ℕ) (ms : List DocumentNode) (cs : List ℕ) (at : ℕ) → ms ≡ ns ++ Close ∷ [] → bs ≡ cs ++ at ∷ [] → length ms ≤ at → ClosesNodes ns ms bs cs
 close_past ns bs ms cs at pushed is past =
     top ns ms bs cs at is (sym (change_past (map end_of ms) at (length ns + 1) (subst (λ k. k ≤ at) (sym (length-map ms end_of)) past)) ∙ ap (λ l. change (map end_of l) at (length ns + 1)) pushed ∙ with_close ns at)
 

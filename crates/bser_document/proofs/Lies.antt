@@ -4,7 +4,7 @@ use Rattle.std.proofs.lemmas.List.{length-append, length-replicate, length-map, 
 use Rattle.bser_events.specs.Events as told
 use Rattle.bser_events.specs.Events.{Event}
 use Rattle.bser_document.specs.declared.document.Document.{Document}
-use Rattle.bser_document.specs.declared.document.Node.{Node}
+use Rattle.bser_document.specs.declared.document.DocumentNode.{DocumentNode}
 use Rattle.bser_document.specs.DocumentView.{event_of, end_of, Marks, change, closed, mark, marks}
 use Rattle.bser_document.specs.Spans.{around, Lies}
 use Rattle.bser_document.proofs.Ends.{Adds}
@@ -52,7 +52,7 @@ adds_length es f adds n =
 
 -- ---- parts
 
-beyond : {X : Type 0} (f : Node → X) (ns : List Node) (at n : ℕ) (xs ys : List X) → n ≡ length xs → map f (drop at ns) ≡ xs ++ ys → map f (drop (at + n) ns) ≡ ys
+beyond : {X : Type 0} (f : DocumentNode → X) (ns : List DocumentNode) (at n : ℕ) (xs ys : List X) → n ≡ length xs → map f (drop at ns) ≡ xs ++ ys → map f (drop (at + n) ns) ≡ ys
 beyond f ns at n xs ys long e =
     ap (map f) (sym (drop-drop n at ns)) ∙ sym (drop-map f n (drop at ns)) ∙ ap (drop n) e ∙ drop_at xs ys n (sym long)
 
@@ -81,12 +81,12 @@ inner_lies d at e es f long h =
     (rest_lies d at (e ∷ []) (es ++ told.close ∷ []) (Some (at + 1 + length (f (at + 1)) + 1) ∷ []) (f (at + 1) ++ None ∷ []) refl h)
 
 -- as many nodes as events are there
-filled : {X : Type 0} (f : Node → X) (ns : List Node) (at : ℕ) (xs ys : List X) → at ≤ length ns → map f (drop at ns) ≡ xs ++ ys → at + length xs ≤ length ns
+filled : {X : Type 0} (f : DocumentNode → X) (ns : List DocumentNode) (at : ℕ) (xs ys : List X) → at ≤ length ns → map f (drop at ns) ≡ xs ++ ys → at + length xs ≤ length ns
 filled f ns zero xs ys less e = omega (arith, ap length e, length-append xs ys, length-map ns f)
 filled f [] (suc at) xs ys less e = absurd (omega (arith, less))
 filled f (n ∷ ns) (suc at) xs ys less e = omega (arith, filled f ns at xs ys (omega (arith, less)) e)
 
-some_there : {X : Type 0} (f : Node → X) (ns : List Node) (at : ℕ) (x : X) (xs : List X) → map f (drop at ns) ≡ x ∷ xs → at < length ns
+some_there : {X : Type 0} (f : DocumentNode → X) (ns : List DocumentNode) (at : ℕ) (x : X) (xs : List X) → map f (drop at ns) ≡ x ∷ xs → at < length ns
 some_there f [] zero x xs e = absurd cc
 some_there f [] (suc at) x xs e = absurd cc
 some_there f (n ∷ ns) zero x xs e = omega arith

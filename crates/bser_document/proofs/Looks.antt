@@ -17,8 +17,8 @@ use Rattle.bser_value.specs.Contents.{as_object, get, entry_under}
 use Rattle.bser_events.specs.Events as told
 use Rattle.bser_events.specs.Events.{Event, events, entry_events, key_events, field_events}
 use Rattle.bser_document.specs.declared.document.Document.{Document}
-use Rattle.bser_document.specs.declared.document.Node.{Node}
-use Rattle.bser_document.specs.declared.document.Node.TheVariants as nodes
+use Rattle.bser_document.specs.declared.document.DocumentNode.{DocumentNode}
+use Rattle.bser_document.specs.declared.document.DocumentNode.TheVariants as nodes
 use Rattle.bser_document.specs.declared.item.Item.{Item}
 use Rattle.bser_document.specs.declared.item.Keys.{Keys}
 use Rattle.bser_document.specs.declared.entries.Entries.{Entries}
@@ -36,7 +36,7 @@ use Rattle.bser_document.proofs.Walks.{skip_lies, field_lies}
 same_key : (a b : List ℕ) → told.key a ≡ told.key b → a ≡ b
 same_key a b e = cc
 
-no_key : (s : List ℕ) (n : Node) (k : List ℕ) → ((l a : ℕ) → n ≡ nodes.Key l a → ⊥) → event_of s n ≡ told.key k → ⊥
+no_key : (s : List ℕ) (n : DocumentNode) (k : List ℕ) → ((l a : ℕ) → n ≡ nodes.Key l a → ⊥) → event_of s n ≡ told.key k → ⊥
 no_key s nodes.Null k h e = cc
 no_key s (nodes.Bool v) k h e = cc
 no_key s (nodes.Int v) k h e = cc
@@ -51,13 +51,13 @@ no_key s (nodes.Rows l) k h e = cc
 no_key s nodes.Skip k h e = cc
 no_key s nodes.Close k h e = cc
 
-pub key_there : (d : Document) (at : ℕ) (n : Node) (l a : ℕ) (r : List ℕ) → n ≡ nodes.Key l a → IsNodeAt d at n → (IsText d.strings.items l a → r ≡ piece d.strings.items l a) → IsKeyAt d at r
+pub key_there : (d : Document) (at : ℕ) (n : DocumentNode) (l a : ℕ) (r : List ℕ) → n ≡ nodes.Key l a → IsNodeAt d at n → (IsText d.strings.items l a → r ≡ piece d.strings.items l a) → IsKeyAt d at r
 key_there d at n l a r is there found texts k es xs h =
     let s : List ℕ = d.strings.items in
     let w : IsText s l a = subst (Within s) is (there.1 texts) in
     found w ∙ same_key (piece s l a) k (ap (event_of s) (sym is) ∙ there.0 (told.key k) es xs h)
 
-pub no_key_there : (d : Document) (at : ℕ) (n : Node) → ((l a : ℕ) → n ≡ nodes.Key l a → ⊥) → IsNodeAt d at n → IsKeyAt d at []
+pub no_key_there : (d : Document) (at : ℕ) (n : DocumentNode) → ((l a : ℕ) → n ≡ nodes.Key l a → ⊥) → IsNodeAt d at n → IsKeyAt d at []
 no_key_there d at n never there texts k es xs h = absurd (no_key d.strings.items n k never (there.0 (told.key k) es xs h))
 
 -- ---- the next entry
@@ -198,7 +198,7 @@ object_read es s u v holds =
     map_some (λ m. object (entries_of (last_entries m))) (normal_entries es) u v λ m made same.
     subst (λ u. FindsEntries (as_object u) (Some s)) same (record { spelled = m; same = refl; holds = holds m made })
 
-pub object_entries : (i : Item) (n : Node) (len end at : ℕ) → i.keys ≡ None → n ≡ nodes.Object len end → IsPartNode i n → (i.at + 1 ≤ length i.document.now.nodes.items → at ≡ i.at + 1)
+pub object_entries : (i : Item) (n : DocumentNode) (len end at : ℕ) → i.keys ≡ None → n ≡ nodes.Object len end → IsPartNode i n → (i.at + 1 ≤ length i.document.now.nodes.items → at ≡ i.at + 1)
     → (u : Tree) → HoldsItem i u → FindsEntries (as_object u) (Some (record { document = i.document; at = at; left = len; key = None }))
 object_entries i n len end at none is first place u h = of_part h.part h.lies h.value h.whole
   where
@@ -222,7 +222,7 @@ object_entries i n len end at none is first place u h = of_part h.part h.lies h.
     of_part skipped l v w = let e = begins skipped l in absurd cc
     of_part (row_of ks fs) l v w = let e : None ≡ Some l.keys_at = sym none ∙ l.some in absurd cc
 
-pub row_entries : (i : Item) (k : Keys) (n : Node) (len end : ℕ) → i.keys ≡ Some k → n ≡ nodes.Object len end → IsPartNode i n
+pub row_entries : (i : Item) (k : Keys) (n : DocumentNode) (len end : ℕ) → i.keys ≡ Some k → n ≡ nodes.Object len end → IsPartNode i n
     → (u : Tree) → HoldsItem i u → FindsEntries (as_object u) (Some (record { document = i.document; at = i.at; left = len; key = Some k.at }))
 row_entries i k n len end some is first u h = of_part h.part h.lies h.value h.whole
   where

@@ -13,8 +13,8 @@ use Rattle.bser_deserializer.specs.WholeRows.{HasWholeRows, ItemsHaveWholeRows, 
 use Rattle.bser_events.specs.Events as told
 use Rattle.bser_events.specs.Events.{Event, events, item_events, entry_events, key_events, row_events, field_events}
 use Rattle.bser_document.specs.declared.document.Document.{Document}
-use Rattle.bser_document.specs.declared.document.Node.{Node}
-use Rattle.bser_document.specs.declared.document.Node.TheVariants as nodes
+use Rattle.bser_document.specs.declared.document.DocumentNode.{DocumentNode}
+use Rattle.bser_document.specs.declared.document.DocumentNode.TheVariants as nodes
 use Rattle.bser_document.specs.declared.item.Keys.{Keys}
 use Rattle.bser_document.specs.declared.item.Item.{Item}
 use Rattle.bser_document.specs.DocumentView.{HoldsDocument, event_of, end_of, value_of}
@@ -34,7 +34,7 @@ use Rattle.bser_document.proofs.Whole.{document_holds, has_texts}
 -- a value begins here, or none does
 pub data There (d : Document) (at : ℕ) : Type 0 where
   a_value : (t u : Tree) → TreeLies d t at → normal (expand t) ≡ Some u → HasWholeRows t → There d at
-  no_value : ((n : Node) → IsNodeAt d at n → node_tree d.strings.items n ≡ null) → first_value (members_at d at) ≡ null → There d at
+  no_value : ((n : DocumentNode) → IsNodeAt d at n → node_tree d.strings.items n ≡ null) → first_value (members_at d at) ≡ null → There d at
 
 -- ---- places inside
 
@@ -170,7 +170,7 @@ place d m =
 
 -- what is read at a place, by a row's keys or by none
 abbrev ReadAt : Document → Option Keys → ℕ → Type 0
-ReadAt d keys at = IsPart d keys at (part_read d keys at) ⊎ (((keys ≡ None) × ((n : Node) → IsNodeAt d at n → node_tree d.strings.items n ≡ null)) × (part_read d keys at ≡ null))
+ReadAt d keys at = IsPart d keys at (part_read d keys at) ⊎ (((keys ≡ None) × ((n : DocumentNode) → IsNodeAt d at n → node_tree d.strings.items n ≡ null)) × (part_read d keys at ≡ null))
 
 read_there : (d : Document) (at : ℕ) → There d at → ReadAt d None at
 read_there d at (a_value t u l v w) =
@@ -195,26 +195,26 @@ item_shallow i count is = of_read (item_read i)
     of_read (inr (none, e)) = let zero : depth (item_value i) ≡ depth null = ap depth e in omega (arith, zero)
 
 -- an item with a container's node has its value
-held_there : (i : Item) (n : Node) (u : Tree) → IsOwnNode i n → (node_tree i.document.now.strings.items n ≡ null → ⊥) → IsReadAs i u → HoldsItem i u
+held_there : (i : Item) (n : DocumentNode) (u : Tree) → IsOwnNode i n → (node_tree i.document.now.strings.items n ≡ null → ⊥) → IsReadAs i u → HoldsItem i u
 held_there i n u own some (inl h) = h
 held_there i n u own some (inr (none, e)) = absurd (some (none.1 n (own none.0)))
 
-array_held : (i : Item) (n : Node) (len end : ℕ) (u : Tree) → n ≡ nodes.Array len end → IsOwnNode i n → IsReadAs i u → HoldsItem i u
+array_held : (i : Item) (n : DocumentNode) (len end : ℕ) (u : Tree) → n ≡ nodes.Array len end → IsOwnNode i n → IsReadAs i u → HoldsItem i u
 array_held i n len end u is own = held_there i n u own λ e. let f : node_tree i.document.now.strings.items (nodes.Array len end) ≡ null = ap (node_tree i.document.now.strings.items) (sym is) ∙ e in absurd cc
 
-object_held : (i : Item) (n : Node) (len end : ℕ) (u : Tree) → n ≡ nodes.Object len end → IsOwnNode i n → IsReadAs i u → HoldsItem i u
+object_held : (i : Item) (n : DocumentNode) (len end : ℕ) (u : Tree) → n ≡ nodes.Object len end → IsOwnNode i n → IsReadAs i u → HoldsItem i u
 object_held i n len end u is own = held_there i n u own λ e. let f : node_tree i.document.now.strings.items (nodes.Object len end) ≡ null = ap (node_tree i.document.now.strings.items) (sym is) ∙ e in absurd cc
 
-template_held : (i : Item) (n : Node) (len end : ℕ) (u : Tree) → n ≡ nodes.Template len end → IsOwnNode i n → IsReadAs i u → HoldsItem i u
+template_held : (i : Item) (n : DocumentNode) (len end : ℕ) (u : Tree) → n ≡ nodes.Template len end → IsOwnNode i n → IsReadAs i u → HoldsItem i u
 template_held i n len end u is own = held_there i n u own λ e. let f : node_tree i.document.now.strings.items (nodes.Template len end) ≡ null = ap (node_tree i.document.now.strings.items) (sym is) ∙ e in absurd cc
 
-pub container_held : (i : Item) (n : Node) (u : Tree) → ((l : ℕ) × (e : ℕ) × (n ≡ nodes.Array l e)) ⊎ (((l : ℕ) × (e : ℕ) × (n ≡ nodes.Object l e)) ⊎ ((l : ℕ) × (e : ℕ) × (n ≡ nodes.Template l e))) → IsOwnNode i n → IsReadAs i u → HoldsItem i u
+pub container_held : (i : Item) (n : DocumentNode) (u : Tree) → ((l : ℕ) × (e : ℕ) × (n ≡ nodes.Array l e)) ⊎ (((l : ℕ) × (e : ℕ) × (n ≡ nodes.Object l e)) ⊎ ((l : ℕ) × (e : ℕ) × (n ≡ nodes.Template l e))) → IsOwnNode i n → IsReadAs i u → HoldsItem i u
 container_held i n u (inl (l, e, is)) own = array_held i n l e u is own
 container_held i n u (inr (inl (l, e, is))) own = object_held i n l e u is own
 container_held i n u (inr (inr (l, e, is))) own = template_held i n l e u is own
 
 -- its node shows what it is read as
-pub shows_there : (i : Item) (n : Node) → IsOwnNode i n → ((u : Tree) → HoldsItem i u → ShowsNode u i.document.now n) → (u : Tree) → IsReadAs i u → ShowsNode u i.document.now n
+pub shows_there : (i : Item) (n : DocumentNode) → IsOwnNode i n → ((u : Tree) → HoldsItem i u → ShowsNode u i.document.now n) → (u : Tree) → IsReadAs i u → ShowsNode u i.document.now n
 shows_there i n own shows u (inl h) = shows u h
 shows_there i n own shows u (inr (none, e)) =
     let is = own none.0 in
@@ -223,7 +223,7 @@ shows_there i n own shows u (inr (none, e)) =
 -- ---- templates
 
 -- a row has no template's node
-pub own_template : (i : Item) (n : Node) (len end : ℕ) → n ≡ nodes.Template len end → IsPartNode i n → IsOwnNode i n → HasTemplateNode i len
+pub own_template : (i : Item) (n : DocumentNode) (len end : ℕ) → n ≡ nodes.Template len end → IsPartNode i n → IsOwnNode i n → HasTemplateNode i len
 own_template i n len end is first own = of_keys i.keys refl
   where
     d : Document

@@ -17,8 +17,8 @@ use Rattle.bser_ser.proofs.Ends.{Ends-both, Stops-second, Stops-none}
 use Rattle.bser_ser.proofs.Texts.{ItemsPut, items_start, items_more, items_put, items_writable, items_stop, EntriesPut, entries_start, entries_more, entries_put, entries_writable, entries_stop, entry_text}
 use Rattle.bser_value.specs.Contents.{as_array, as_object}
 use Rattle.bser_document.specs.declared.document.Document.{Document}
-use Rattle.bser_document.specs.declared.document.Node.{Node}
-use Rattle.bser_document.specs.declared.document.Node.TheVariants as nodes
+use Rattle.bser_document.specs.declared.document.DocumentNode.{DocumentNode}
+use Rattle.bser_document.specs.declared.document.DocumentNode.TheVariants as nodes
 use Rattle.bser_document.specs.declared.item.Item.{Item}
 use Rattle.bser_document.specs.declared.items.Items.{Items}
 use Rattle.bser_document.specs.Holds.{HoldsItem, ShowsNode, emptied, node_tree}
@@ -55,7 +55,7 @@ plain_whole (array ts) h = absurd h
 plain_whole (object es) h = absurd h
 plain_whole (template ks rs) h = absurd h
 
-plain_node : (s : List ℕ) (n : Node) → ((l e : ℕ) → n ≡ nodes.Array l e → ⊥) → ((l e : ℕ) → n ≡ nodes.Object l e → ⊥) → ((l e : ℕ) → n ≡ nodes.Template l e → ⊥) → IsPlain (node_tree s n)
+plain_node : (s : List ℕ) (n : DocumentNode) → ((l e : ℕ) → n ≡ nodes.Array l e → ⊥) → ((l e : ℕ) → n ≡ nodes.Object l e → ⊥) → ((l e : ℕ) → n ≡ nodes.Template l e → ⊥) → IsPlain (node_tree s n)
 plain_node s nodes.Null f g h = tt
 plain_node s (nodes.Bool v) f g h = tt
 plain_node s (nodes.Int v) f g h = tt
@@ -70,15 +70,15 @@ plain_node s (nodes.Rows l) f g h = tt
 plain_node s nodes.Skip f g h = tt
 plain_node s nodes.Close f g h = tt
 
-pub plain_shown : (d : Document) (n : Node) → ((l e : ℕ) → n ≡ nodes.Array l e → ⊥) → ((l e : ℕ) → n ≡ nodes.Object l e → ⊥) → ((l e : ℕ) → n ≡ nodes.Template l e → ⊥) → (u : Tree) → ShowsNode u d n → IsPlain u
+pub plain_shown : (d : Document) (n : DocumentNode) → ((l e : ℕ) → n ≡ nodes.Array l e → ⊥) → ((l e : ℕ) → n ≡ nodes.Object l e → ⊥) → ((l e : ℕ) → n ≡ nodes.Template l e → ⊥) → (u : Tree) → ShowsNode u d n → IsPlain u
 plain_shown d n f g h u shows = plain_inside u (subst IsPlain shows.same (plain_node d.strings.items n f g h))
 
 -- the value of a node that is no container
-pub plain_is : (d : Document) (n : Node) (u : Tree) → ShowsNode u d n → IsPlain u → node_tree d.strings.items n ≡ u
+pub plain_is : (d : Document) (n : DocumentNode) (u : Tree) → ShowsNode u d n → IsPlain u → node_tree d.strings.items n ≡ u
 plain_is d n u shows plain = shows.same ∙ plain_whole u plain
 
 -- nothing but null is left
-pub null_node : (s : List ℕ) (n : Node) → ((v : _) → n ≡ nodes.Bool v → ⊥) → ((v : _) → n ≡ nodes.Int v → ⊥) → ((v : ℕ) → n ≡ nodes.Real v → ⊥) → ((l a : ℕ) → n ≡ nodes.Bytes l a → ⊥) → ((l a : ℕ) → n ≡ nodes.Text l a → ⊥) → IsPlain (node_tree s n) → null ≡ node_tree s n
+pub null_node : (s : List ℕ) (n : DocumentNode) → ((v : _) → n ≡ nodes.Bool v → ⊥) → ((v : _) → n ≡ nodes.Int v → ⊥) → ((v : ℕ) → n ≡ nodes.Real v → ⊥) → ((l a : ℕ) → n ≡ nodes.Bytes l a → ⊥) → ((l a : ℕ) → n ≡ nodes.Text l a → ⊥) → IsPlain (node_tree s n) → null ≡ node_tree s n
 null_node s nodes.Null f g h i j p = refl
 null_node s (nodes.Bool v) f g h i j p = absurd (f v refl)
 null_node s (nodes.Int v) f g h i j p = absurd (g v refl)

@@ -18,7 +18,7 @@ use Rattle.bser_value.specs.ValueView.{tree_of, HoldsValue}
 use Rattle.bser_value.proofs.Made.{made}
 use Rattle.bser_value.proofs.Steps.{all_taken}
 use Rattle.bser_document.specs.declared.document.Document.{Document}
-use Rattle.bser_document.specs.declared.document.Node.{Node}
+use Rattle.bser_document.specs.declared.document.DocumentNode.{DocumentNode}
 use Rattle.bser_document.specs.DocumentView.{Within, event_of, HoldsDocument}
 use Rattle.bser_document.specs.Tells.{Told}
 
@@ -29,17 +29,17 @@ FrontTold takes d k before now = AllByRecursion (Within d.strings.items) d.nodes
 pub none_told : {B : Type 0} (takes : B → Event → B → Type 0) (d : Document) (before : B) → FrontTold takes d 0 before before
 none_told takes d before h = no_more before
 
-within_there : (s : List ℕ) (ns : List Node) (k : ℕ) (z : Node) → AllByRecursion (Within s) ns → k < length ns → Within s (get_or ns k z)
+within_there : (s : List ℕ) (ns : List DocumentNode) (k : ℕ) (z : DocumentNode) → AllByRecursion (Within s) ns → k < length ns → Within s (get_or ns k z)
 within_there s [] k z h less = absurd (omega (arith, less))
 within_there s (n ∷ ns) zero z h less = h.0
 within_there s (n ∷ ns) (suc k) z h less = within_there s ns k z h.1 (omega (arith, less))
 
-pub one_told : {B : Type 0} (takes : B → Event → B → Type 0) (d : Document) (ms : List Node) (k : ℕ) (z : Node) (e : Event) (before mid after : B) → ms ≡ d.nodes.items → k < length ms → (Within d.strings.items (get_or ms k z) → e ≡ event_of d.strings.items (get_or ms k z)) → takes mid e after
+pub one_told : {B : Type 0} (takes : B → Event → B → Type 0) (d : Document) (ms : List DocumentNode) (k : ℕ) (z : DocumentNode) (e : Event) (before mid after : B) → ms ≡ d.nodes.items → k < length ms → (Within d.strings.items (get_or ms k z) → e ≡ event_of d.strings.items (get_or ms k z)) → takes mid e after
     → FrontTold takes d k before mid → FrontTold takes d (k + 1) before after
 one_told takes d ms k z e before mid after same less' tells' taken front h =
     let s : List ℕ = d.strings.items in
-    let ns : List Node = d.nodes.items in
-    let n : Node = get_or ns k z in
+    let ns : List DocumentNode = d.nodes.items in
+    let n : DocumentNode = get_or ns k z in
     let less : k < length ns = subst (λ l. k < length l) same less' in
     let tells : Within s n → e ≡ event_of s n = subst (λ l. Within s (get_or l k z) → e ≡ event_of s (get_or l k z)) same tells' in
     let w : Within s n = within_there s ns k z h less in

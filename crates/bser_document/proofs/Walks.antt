@@ -14,8 +14,8 @@ use Rattle.bser_value.specs.Contents.{as_array}
 use Rattle.bser_events.specs.Events as told
 use Rattle.bser_events.specs.Events.{Event, events, item_events, key_events, row_events, field_events}
 use Rattle.bser_document.specs.declared.document.Document.{Document}
-use Rattle.bser_document.specs.declared.document.Node.{Node}
-use Rattle.bser_document.specs.declared.document.Node.TheVariants as nodes
+use Rattle.bser_document.specs.declared.document.DocumentNode.{DocumentNode}
+use Rattle.bser_document.specs.declared.document.DocumentNode.TheVariants as nodes
 use Rattle.bser_document.specs.declared.item.Item.{Item}
 use Rattle.bser_document.specs.declared.item.Keys.{Keys}
 use Rattle.bser_document.specs.declared.items.Items.{Items}
@@ -49,9 +49,9 @@ field_ends_there : (d : Document) (p : Option Tree) (at : ℕ) → FieldLies d p
 field_ends_there d None at h = (h.behind, h.ends)
 field_ends_there d (Some t) at h = (h.behind, h.ends)
 
-pub behind_at : (d : Document) (at : ℕ) (n : Node) → at < length d.nodes.items → ((z : Node) → n ≡ get_or d.nodes.items at z) → (p : Option Tree) → FieldLies d p at → stepped at (end_of n) ≡ at + length (field_ends p at)
+pub behind_at : (d : Document) (at : ℕ) (n : DocumentNode) → at < length d.nodes.items → ((z : DocumentNode) → n ≡ get_or d.nodes.items at z) → (p : Option Tree) → FieldLies d p at → stepped at (end_of n) ≡ at + length (field_ends p at)
 behind_at d at n less is p h =
-    let ns : List Node = d.nodes.items in
+    let ns : List DocumentNode = d.nodes.items in
     let f = field_ends_there d p at h in
     behind_is p at (end_of n) (map end_of (drop (at + 1) ns)) f.0
     (ap (λ x. end_of x ∷ map end_of (drop (at + 1) ns)) (is n) ∙ sym (ap (map end_of) (drop_more ns at n less)) ∙ f.1)
@@ -208,7 +208,7 @@ is_template (array ts) n e = absurd cc
 is_template (object es) n e = absurd cc
 is_template (template ks rs) n e = (ks, rs, refl, cc)
 
-no_array_node : (s : List ℕ) (n : Node) → ((l a : ℕ) → n ≡ nodes.Array l a → ⊥) → ((l a : ℕ) → n ≡ nodes.Template l a → ⊥) → as_array (node_tree s n) ≡ None
+no_array_node : (s : List ℕ) (n : DocumentNode) → ((l a : ℕ) → n ≡ nodes.Array l a → ⊥) → ((l a : ℕ) → n ≡ nodes.Template l a → ⊥) → as_array (node_tree s n) ≡ None
 no_array_node s nodes.Null f g = refl
 no_array_node s (nodes.Bool v) f g = refl
 no_array_node s (nodes.Int v) f g = refl
@@ -234,7 +234,7 @@ no_array_inside (array ts) e = absurd cc
 no_array_inside (object es) e = tt
 no_array_inside (template ks rs) e = tt
 
-pub no_array : (d : Document) (n : Node) → ((l a : ℕ) → n ≡ nodes.Array l a → ⊥) → ((l a : ℕ) → n ≡ nodes.Template l a → ⊥) → (u : Tree) → ShowsNode u d n → FindsItems (as_array u) None
+pub no_array : (d : Document) (n : DocumentNode) → ((l a : ℕ) → n ≡ nodes.Array l a → ⊥) → ((l a : ℕ) → n ≡ nodes.Template l a → ⊥) → (u : Tree) → ShowsNode u d n → FindsItems (as_array u) None
 no_array d n f g u h = no_array_inside u (ap as_array (sym h.same) ∙ no_array_node d.strings.items n f g)
 
 -- the items of an array that is read
@@ -247,7 +247,7 @@ array_holds i ts us len at count place none h v whole texts =
     let inner : ItemsLie d ts (i.at + 1) = inner_lies d i.at (told.open_array (length (items ts))) (item_events ts) (items_ends ts) (adds_length (item_events ts) (items_ends ts) (items_add ts) (i.at + 1)) h in
     record { parts = items_of ts; lie = (refl, subst (ItemsLie d ts) (sym to) inner); count = count; value = v; whole = whole; texts = texts }
 
-pub array_items : (i : Item) (n : Node) (len end at : ℕ) (keyed : ∥ Unit {0} ∥₁) → n ≡ nodes.Array len end → IsPartNode i n → (i.at + 1 ≤ length i.document.now.nodes.items → at ≡ i.at + 1)
+pub array_items : (i : Item) (n : DocumentNode) (len end at : ℕ) (keyed : ∥ Unit {0} ∥₁) → n ≡ nodes.Array len end → IsPartNode i n → (i.at + 1 ≤ length i.document.now.nodes.items → at ≡ i.at + 1)
     → (u : Tree) → HoldsItem i u → FindsItems (as_array u) (Some (record { document = i.document; at = at; left = len; keys = None; rows = keyed }))
 array_items i n len end at keyed is first place u h = of_part h.part h.lies h.value h.whole
   where
@@ -266,7 +266,7 @@ array_items i n len end at keyed is first place u h = of_part h.part h.lies h.va
 
 -- ---- the rows of a template
 
-pub template_rows : (i : Item) (n : Node) (len end : ℕ) (r : Items) → n ≡ nodes.Template len end → IsPartNode i n → RowsBegin i len r → (u : Tree) → HoldsItem i u → FindsItems (as_array u) (Some r)
+pub template_rows : (i : Item) (n : DocumentNode) (len end : ℕ) (r : Items) → n ≡ nodes.Template len end → IsPartNode i n → RowsBegin i len r → (u : Tree) → HoldsItem i u → FindsItems (as_array u) (Some r)
 template_rows i n len end r is first rows u h = of_part h.part h.lies h.value h.whole
   where
     begins : (p : Part) → PartLies i.document.now i.keys i.at p → told.open_template len ≡ part_event p
@@ -282,7 +282,7 @@ template_rows i n len end r is first rows u h = of_part h.part h.lies h.value h.
     of_part skipped l v w = let e = begins skipped l in absurd cc
     of_part (row_of ks fs) l v w = let e = begins (row_of ks fs) l in absurd cc
 
-is_rows : (s : List ℕ) (n : Node) (k : ℕ) → event_of s n ≡ told.open_rows k → n ≡ nodes.Rows k
+is_rows : (s : List ℕ) (n : DocumentNode) (k : ℕ) → event_of s n ≡ told.open_rows k → n ≡ nodes.Rows k
 is_rows s nodes.Null k e = absurd cc
 is_rows s (nodes.Bool v) k e = absurd cc
 is_rows s (nodes.Int v) k e = absurd cc
@@ -323,7 +323,7 @@ inner_adds ks rs =
     both_add (key_events ks) (told.open_rows (length (rows rs)) ∷ row_events rs) (keys_ends ks) (rows_inner rs) (keys_add ks)
     (both_add (told.open_rows (length (rows rs)) ∷ []) (row_events rs) (λ n. None ∷ []) (rows_ends rs) (single (told.open_rows (length (rows rs))) (λ m. refl)) (rows_add rs))
 
-pub rows_begin : (i : Item) (len at head body : ℕ) (n : Node) (left : ℕ) → (i.at + 1 ≤ length i.document.now.nodes.items → at ≡ i.at + 1) → (at + len ≤ length i.document.now.nodes.items → head ≡ at + len) → (head + 1 ≤ length i.document.now.nodes.items → body ≡ head + 1)
+pub rows_begin : (i : Item) (len at head body : ℕ) (n : DocumentNode) (left : ℕ) → (i.at + 1 ≤ length i.document.now.nodes.items → at ≡ i.at + 1) → (at + len ≤ length i.document.now.nodes.items → head ≡ at + len) → (head + 1 ≤ length i.document.now.nodes.items → body ≡ head + 1)
     → IsNodeAt i.document.now head n → ((k : ℕ) → n ≡ nodes.Rows k → left ≡ k)
     → (ks : List (List ℕ)) (rs : Rows) (us : trees.Items) → len ≡ length ks → TreeLies i.document.now (template ks rs) i.at → HasWholeRows (template ks rs) → HasTexts i.document.now → normal_items (expand_rows ks rs) ≡ Some us → AreParts i.document.now (Some (record { at = at; len = len })) body left us
 rows_begin i len at head body n left first second third is counts ks rs us long h w texts v =

@@ -11,7 +11,7 @@ use Rattle.bser_format.specs.ValueTree.{IsValueTree}
 use Rattle.bser_events.specs.Events.{events}
 use Rattle.bser_deserializer.specs.WholeRows.{HasWholeRows}
 use Rattle.bser_document.specs.declared.document.Document.{Document}
-use Rattle.bser_document.specs.declared.document.Node.{Node}
+use Rattle.bser_document.specs.declared.document.DocumentNode.{DocumentNode}
 use Rattle.bser_document.specs.declared.builder.DocumentBuilder.{DocumentBuilder}
 use Rattle.bser_document.specs.Nodes.{event_of, Within, string_lens, marks, unmarked}
 use Rattle.bser_document.specs.Spelled.{tree_told}
@@ -23,14 +23,14 @@ use Rattle.bser_document.proofs.Facts.{Tree-set, Event-set, List-set, Option-set
 
 -- ---- nodes that tell a tree
 
-pub tree_known : (ns : List Node) (s : List ℕ) (t : Tree) → map (event_of s) ns ≡ events t → HasWholeRows t → tree_in ns s ≡ t
+pub tree_known : (ns : List DocumentNode) (s : List ℕ) (t : Tree) → map (event_of s) ns ≡ events t → HasWholeRows t → tree_in ns s ≡ t
 tree_known ns s t e h = ap tree_told e ∙ tree_told_back t h
 
-pub value_known : (ns : List Node) (s : List ℕ) (t u : Tree) → map (event_of s) ns ≡ events t → HasWholeRows t → normal (expand t) ≡ Some u → value_in ns s ≡ u
+pub value_known : (ns : List DocumentNode) (s : List ℕ) (t u : Tree) → map (event_of s) ns ≡ events t → HasWholeRows t → normal (expand t) ≡ Some u → value_in ns s ≡ u
 value_known ns s t u e h read = ap (λ x. unwrap_or (normal (expand x)) null) (tree_known ns s t e h) ∙ ap (λ o. unwrap_or o null) read
 
 -- what is known of nodes and strings when a whole value was told
-pub record Known (ns : List Node) (s : List ℕ) : Type 0 where
+pub record Known (ns : List DocumentNode) (s : List ℕ) : Type 0 where
   pub tells : TellsTree ns s
   pub within : HoldsStrings ns s
   pub total : HoldsNoMore ns s
@@ -41,7 +41,7 @@ pub record Known (ns : List Node) (s : List ℕ) : Type 0 where
 
 pub known : (b : DocumentBuilder) → ViewsValue b → Known b.nodes.items b.strings.items
 known b v =
-    let ns : List Node = b.nodes.items in
+    let ns : List DocumentNode = b.nodes.items in
     let s : List ℕ = b.strings.items in
     let tree : v.tree ≡ tree_in ns s = sym (tree_known ns s v.tree v.views.shows.same v.rows) in
     let read : v.read ≡ value_in ns s = sym (value_known ns s v.tree v.read v.views.shows.same v.rows v.normal) in
@@ -88,7 +88,7 @@ document_value d u h =
 -- it is no deeper than there are nodes
 pub document_shallow : (d : Document) (count : ℕ) → count ≡ length d.nodes.items → depth (value_of d) < count + 1
 document_shallow d count is =
-    let ns : List Node = d.nodes.items in
+    let ns : List DocumentNode = d.nodes.items in
     let tree : Tree = tree_in ns d.strings.items in
     let reads : normal (expand tree) ≡ Some (value_of d) = once (Option-set Tree-set _ _) d.reads in
     omega (arith, is, read_deep tree (value_of d) reads, ap length (views_tree d).shows.same, length-map ns (event_of d.strings.items))

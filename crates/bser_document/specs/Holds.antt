@@ -4,11 +4,11 @@ use Rattle.bser_format.specs.Tree.{Tree, null, boolean, integer, real, bytes, te
 use Rattle.bser_events.specs.Events as told
 use Rattle.bser_events.specs.Events.{Event}
 use Rattle.bser_document.specs.declared.document.Document.{Document}
-use Rattle.bser_document.specs.declared.document.Node.{Node}
-use Rattle.bser_document.specs.declared.document.Node.TheVariants as nodes
+use Rattle.bser_document.specs.declared.document.DocumentNode.{DocumentNode}
+use Rattle.bser_document.specs.declared.document.DocumentNode.TheVariants as nodes
 use Rattle.bser_document.specs.declared.item.Item.{Item}
-use Rattle.bser_document.specs.declared.item.Kind.{Kind}
-use Rattle.bser_document.specs.declared.item.Kind.TheVariants as kinds
+use Rattle.bser_document.specs.declared.item.ItemKind.{ItemKind}
+use Rattle.bser_document.specs.declared.item.ItemKind.TheVariants as kinds
 use Rattle.bser_document.specs.DocumentView.{Within, event_of}
 pub use Rattle.bser_document.specs.Parts.{Part, tree, skipped, row_of, part_value, PartIsWhole, ShowsKeys, RowLies, PartLies, HasTexts, IsPart, part_read}
 use Rattle.bser_document.specs.Spans.{Lies, tree_ends, fields_ends}
@@ -20,7 +20,7 @@ HoldsItem i u = IsPart i.document.now i.keys i.at u
 -- ---- kinds
 
 -- of which kind a value is
-abbrev pub kind_of : Tree → Kind
+abbrev pub kind_of : Tree → ItemKind
 kind_of null = kinds.Null
 kind_of (boolean v) = kinds.Bool
 kind_of (integer v) = kinds.Integer
@@ -44,15 +44,15 @@ as_real_bits _ = None
 -- ---- nodes
 
 -- the node at this place tells the first of these events
-abbrev pub TellsFirst : Document → ℕ → Node → Type 0
+abbrev pub TellsFirst : Document → ℕ → DocumentNode → Type 0
 TellsFirst d at n = (e : Event) (es : List Event) (ends : List (Option ℕ)) → Lies d at (e ∷ es) ends → event_of d.strings.items n ≡ e
 
 -- the node at this place, or null behind the last
-abbrev pub IsNodeAt : Document → ℕ → Node → Type 0
+abbrev pub IsNodeAt : Document → ℕ → DocumentNode → Type 0
 IsNodeAt d at n = TellsFirst d at n × (HasTexts d → Within d.strings.items n) × (length d.nodes.items ≤ at → n ≡ nodes.Null)
 
 -- the node of an item that is no row is the one at its place
-abbrev pub IsOwnNode : Item → Node → Type 0
+abbrev pub IsOwnNode : Item → DocumentNode → Type 0
 IsOwnNode i n = i.keys ≡ None → IsNodeAt i.document.now i.at n
 
 -- an item is spelled as a template of so many keys
@@ -72,7 +72,7 @@ event_tree (told.open_object n) = object no_entries
 event_tree _ = null
 
 -- the same of a node over these strings
-abbrev pub node_tree : List ℕ → Node → Tree
+abbrev pub node_tree : List ℕ → DocumentNode → Tree
 node_tree s n = event_tree (event_of s n)
 
 -- the same value, but for what a container holds
@@ -100,11 +100,11 @@ part_event skipped = told.skip
 part_event (row_of ks fs) = told.open_object (length ks)
 
 -- the node of a part that begins here
-abbrev pub IsPartNode : Item → Node → Type 0
+abbrev pub IsPartNode : Item → DocumentNode → Type 0
 IsPartNode i n = (p : Part) → PartLies i.document.now i.keys i.at p → event_of i.document.now.strings.items n ≡ part_event p
 
 -- a node at an item of this value
-pub record ShowsNode (u : Tree) (d : Document) (n : Node) : Type 0 where
+pub record ShowsNode (u : Tree) (d : Document) (n : DocumentNode) : Type 0 where
   pub same : node_tree d.strings.items n ≡ emptied u
   pub within : Within d.strings.items n
 
@@ -128,7 +128,7 @@ part_ends (row_of ks fs) n = fields_ends fs n
 
 -- no value begins here, and no row
 abbrev pub HasNoValue : Item → Type 0
-HasNoValue i = (i.keys ≡ None) × ((n : Node) → IsNodeAt i.document.now i.at n → node_tree i.document.now.strings.items n ≡ null)
+HasNoValue i = (i.keys ≡ None) × ((n : DocumentNode) → IsNodeAt i.document.now i.at n → node_tree i.document.now.strings.items n ≡ null)
 
 -- an item is read as this value, and as null where no value begins
 abbrev pub IsReadAs : Item → Tree → Type 0

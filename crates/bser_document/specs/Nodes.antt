@@ -3,15 +3,15 @@ use Rattle.std.specs.Prelude.{◌≡◌, ◌≤◌, ℕ, ◌+◌, List, [], ◌�
 use Rattle.std.specs.List.{AllByRecursion}
 use Rattle.bser_events.specs.Events as told
 use Rattle.bser_events.specs.Events.{Event}
-use Rattle.bser_document.specs.declared.document.Node.{Node}
-use Rattle.bser_document.specs.declared.document.Node.TheVariants.{Null, Bool, Int, Real, Bytes, Text, Key, Array, Object, Template, Rows, Skip, Close}
+use Rattle.bser_document.specs.declared.document.DocumentNode.{DocumentNode}
+use Rattle.bser_document.specs.declared.document.DocumentNode.TheVariants.{Null, Bool, Int, Real, Bytes, Text, Key, Array, Object, Template, Rows, Skip, Close}
 
 -- so many bytes of the strings, from this place on
 abbrev pub piece : List ℕ → ℕ → ℕ → List ℕ
 piece s len at = take len (drop at s)
 
 -- what a node tells
-abbrev pub event_of : List ℕ → Node → Event
+abbrev pub event_of : List ℕ → DocumentNode → Event
 event_of s Null = told.null
 event_of s (Bool v) = told.boolean v
 event_of s (Int v) = told.integer v
@@ -35,7 +35,7 @@ abbrev pub IsText : List ℕ → ℕ → ℕ → Type 0
 IsText s len at = IsInside s len at × IsUtf8 (piece s len at)
 
 -- a node's string lies within these bytes, and a text and a key are UTF-8
-abbrev pub Within : List ℕ → Node → Type 0
+abbrev pub Within : List ℕ → DocumentNode → Type 0
 Within s (Bytes len at) = IsInside s len at
 Within s (Text len at) = IsText s len at
 Within s (Key len at) = IsText s len at
@@ -58,7 +58,7 @@ abbrev pub weight : List Event → ℕ
 weight es = length es + string_lens es
 
 -- these nodes over these strings tell these events, and no byte is kept beside
-pub record Shows (ns : List Node) (s : List ℕ) (es : List Event) : Type 0 where
+pub record Shows (ns : List DocumentNode) (s : List ℕ) (es : List Event) : Type 0 where
   pub same : map (event_of s) ns ≡ es
   pub within : AllByRecursion (Within s) ns
   pub total : length s ≡ string_lens es
@@ -66,7 +66,7 @@ pub record Shows (ns : List Node) (s : List ℕ) (es : List Event) : Type 0 wher
 -- ---- ends
 
 -- where a container ends
-abbrev pub end_of : Node → Option ℕ
+abbrev pub end_of : DocumentNode → Option ℕ
 end_of (Array len end) = Some end
 end_of (Object len end) = Some end
 end_of (Template len end) = Some end
@@ -119,16 +119,16 @@ abbrev pub unmarked : Marks
 unmarked = record { ends = []; around = [] }
 
 -- these nodes have the ends that the events give
-pub record Marked (ns : List Node) (bs : List ℕ) (es : List Event) : Type 0 where
+pub record Marked (ns : List DocumentNode) (bs : List ℕ) (es : List Event) : Type 0 where
   pub ends : map end_of ns ≡ (marks es unmarked).ends
   pub around : reverse bs ≡ (marks es unmarked).around
 
 -- the innermost container was closed
-pub record ClosesNodes (ns ms : List Node) (bs cs : List ℕ) : Type 0 where
+pub record ClosesNodes (ns ms : List DocumentNode) (bs cs : List ℕ) : Type 0 where
   pub ends : map end_of ms ≡ (closed (map end_of ns) (reverse bs)).ends
   pub around : reverse cs ≡ (closed (map end_of ns) (reverse bs)).around
 
 -- nodes that tell the same
-pub record SameEvents (old new : List Node) : Type 0 where
+pub record SameEvents (old new : List DocumentNode) : Type 0 where
   pub same : (s : List ℕ) → map (event_of s) new ≡ map (event_of s) old
   pub within : (s : List ℕ) → AllByRecursion (Within s) old → AllByRecursion (Within s) new

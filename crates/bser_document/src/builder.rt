@@ -3,9 +3,9 @@ ghost use Rattle.std.specs.Prelude.{◌≡◌, true, false, [], ◌∷◌, ◌++
 ghost use Rattle.bser_events.specs.Events as events;
 ghost use Rattle.bser_events.specs.Told.{told};
 ghost use Rattle.bser_document.specs.DocumentView.{Views, ViewsValue, Takes, SameEvents, Closes, end_of, with_end};
-ghost use Rattle.bser_document.specs.declared.document.Node.TheVariants as nodes;
+ghost use Rattle.bser_document.specs.declared.document.DocumentNode.TheVariants as nodes;
 
-use crate::document::{Document, Node};
+use crate::document::{Document, DocumentNode};
 use bser_events::builder::{Builder, Stop};
 use bser_events::event::{Event, Place};
 use std::alloc::{AllocError, Global};
@@ -13,7 +13,7 @@ use std::alloc::{AllocError, Global};
 /// Gathers the nodes.
 #[derive(Drop)]
 pub struct DocumentBuilder {
-    nodes: Vec<Node>,
+    nodes: Vec<DocumentNode>,
     strings: Vec<u8>,
     /// The nodes of the containers that are open.
     begun: Vec<usize>,
@@ -47,7 +47,7 @@ impl DocumentBuilder {
 
     /// Puts a node behind the others.
     #[inline(always)]
-    fn put(&mut self, node: Node) -> Result<(), AllocError>
+    fn put(&mut self, node: DocumentNode) -> Result<(), AllocError>
         ensures nodes { OnOk result (self.new.nodes.items ≡ self.old.nodes.items ++ node ∷ []) }
         ensures strings { OnOk result (self.new.strings ≡ self.old.strings) }
         ensures begun { OnOk result (self.new.begun ≡ self.old.begun) }
@@ -92,7 +92,7 @@ impl DocumentBuilder {
 
     /// Puts the head of a container behind the others.
     #[inline(never)]
-    fn begin(&mut self, node: Node) -> Result<(), AllocError>
+    fn begin(&mut self, node: DocumentNode) -> Result<(), AllocError>
         ensures nodes { OnOk result (self.new.nodes.items ≡ self.old.nodes.items ++ node ∷ []) }
         ensures strings { OnOk result (self.new.strings ≡ self.old.strings) }
         ensures begun { OnOk result (self.new.begun.items
@@ -111,7 +111,7 @@ impl DocumentBuilder {
         ensures strings { OnOk result (self.new.strings ≡ self.old.strings) }
         ensures ends { OnOk result (Closes self.old self.new) }
     {
-        self.nodes.push(Node::Close)?;
+        self.nodes.push(DocumentNode::Close)?;
         let Some(at) = self.begun.pop() else {
             return Ok(());
         };
@@ -125,14 +125,14 @@ impl DocumentBuilder {
 
 /// A container's node, with its end.
 #[inline(always)]
-fn ended(node: Node, last: usize) -> Node
+fn ended(node: DocumentNode, last: usize) -> DocumentNode
     ensures same { SameEvents (node ∷ []) (result ∷ []) }
     ensures ends { end_of result ≡ with_end last (end_of node) }
 {
     match node {
-        Node::Array { len, end: _ } => Node::Array { len, end: last },
-        Node::Object { len, end: _ } => Node::Object { len, end: last },
-        Node::Template { len, end: _ } => Node::Template { len, end: last },
+        DocumentNode::Array { len, end: _ } => DocumentNode::Array { len, end: last },
+        DocumentNode::Object { len, end: _ } => DocumentNode::Object { len, end: last },
+        DocumentNode::Template { len, end: _ } => DocumentNode::Template { len, end: last },
         _ => node,
     }
 }
@@ -144,33 +144,33 @@ impl DocumentBuilder {
         ensures { OnOk result (Takes self.old (told event.entry) self.new) }
     {
         match event {
-            Event::Null => self.put(Node::Null),
-            Event::Skip => self.put(Node::Skip),
-            Event::Bool(truth) => self.put(Node::Bool(truth)),
-            Event::Int(number) => self.put(Node::Int(number)),
-            Event::Real(bits) => self.put(Node::Real(bits)),
+            Event::Null => self.put(DocumentNode::Null),
+            Event::Skip => self.put(DocumentNode::Skip),
+            Event::Bool(truth) => self.put(DocumentNode::Bool(truth)),
+            Event::Int(number) => self.put(DocumentNode::Int(number)),
+            Event::Real(bits) => self.put(DocumentNode::Real(bits)),
             Event::Bytes(string) => {
                 let at = self.keep(string)?;
-                self.put(Node::Bytes {
+                self.put(DocumentNode::Bytes {
                     len: string.len(),
                     at,
                 })
             }
             Event::Text(string) => {
                 let at = self.keep(string.as_bytes())?;
-                self.put(Node::Text {
+                self.put(DocumentNode::Text {
                     len: string.len(),
                     at,
                 })
             }
-            Event::Array { len } => self.begin(Node::Array { len, end: 0 }),
-            Event::Object { len } => self.begin(Node::Object { len, end: 0 }),
+            Event::Array { len } => self.begin(DocumentNode::Array { len, end: 0 }),
+            Event::Object { len } => self.begin(DocumentNode::Object { len, end: 0 }),
             Event::Key(key) => {
                 let at = self.keep(key.as_bytes())?;
-                self.put(Node::Key { len: key.len(), at })
+                self.put(DocumentNode::Key { len: key.len(), at })
             }
-            Event::Template { len } => self.begin(Node::Template { len, end: 0 }),
-            Event::Rows { len } => self.put(Node::Rows { len }),
+            Event::Template { len } => self.begin(DocumentNode::Template { len, end: 0 }),
+            Event::Rows { len } => self.put(DocumentNode::Rows { len }),
             Event::Close => self.close(),
         }
     }
@@ -183,7 +183,7 @@ impl DocumentBuilder {
     {
         let len = text.len();
         let at = self.keep_whole(text.into_bytes())?;
-        self.put(Node::Text { len, at })
+        self.put(DocumentNode::Text { len, at })
     }
 
     /// Takes a byte string.
@@ -192,7 +192,7 @@ impl DocumentBuilder {
     {
         let len = string.len();
         let at = self.keep_whole(string)?;
-        self.put(Node::Bytes { len, at })
+        self.put(DocumentNode::Bytes { len, at })
     }
 }
 

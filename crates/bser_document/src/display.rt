@@ -12,7 +12,7 @@ ghost use Rattle.bser_document.specs.Put.{IsPlain};
 ghost use Rattle.bser_document.specs.Sorted.{Lists};
 ghost use Rattle.bser_document.specs.Walks.{HoldsItems};
 
-use crate::document::{Document, Node};
+use crate::document::{Document, DocumentNode};
 use crate::entries::Entries;
 use crate::item::Item;
 use crate::items::Items;
@@ -51,9 +51,9 @@ fn show<W: fmt::Write>(item: Item<'_>, room: usize, f: &mut fmt::Formatter<W>) -
         → DisplaysOnOk W.write_str_gives f.old result (tree_text u) f.new }
 {
     match item.node() {
-        Node::Array { len: _, end: _ }
-        | Node::Object { len: _, end: _ }
-        | Node::Template { len: _, end: _ } => show_container(item, room, f),
+        DocumentNode::Array { len: _, end: _ }
+        | DocumentNode::Object { len: _, end: _ }
+        | DocumentNode::Template { len: _, end: _ } => show_container(item, room, f),
         node => item.document.show_plain(node, f),
     }
 }
@@ -166,16 +166,20 @@ fn show_entry<W: fmt::Write>(
 
 impl Document {
     /// Prints a value that is no container, given by its node; a skipped field is null.
-    fn show_plain<W: fmt::Write>(&self, node: Node, f: &mut fmt::Formatter<W>) -> fmt::Result
+    fn show_plain<W: fmt::Write>(
+        &self,
+        node: DocumentNode,
+        f: &mut fmt::Formatter<W>,
+    ) -> fmt::Result
         ensures { (u : Tree) → ShowsNode u self.now node → IsPlain u
             → DisplaysOnOk W.write_str_gives f.old result (tree_text u) f.new }
     {
         match node {
-            Node::Bool(truth) => write!(f, "{truth}"),
-            Node::Int(number) => write!(f, "{number}"),
-            Node::Real(bits) => write_real(bits, f),
-            Node::Bytes { len, at } => write_bytes(self.string(len, at), f),
-            Node::Text { len, at } => write_quoted(self.text(len, at), f),
+            DocumentNode::Bool(truth) => write!(f, "{truth}"),
+            DocumentNode::Int(number) => write!(f, "{number}"),
+            DocumentNode::Real(bits) => write_real(bits, f),
+            DocumentNode::Bytes { len, at } => write_bytes(self.string(len, at), f),
+            DocumentNode::Text { len, at } => write_quoted(self.text(len, at), f),
             _ => f.write_str("null"),
         }
     }

@@ -3,7 +3,7 @@ ghost use Rattle.bser_document.specs.Whole.{TellsTree, HoldsStrings, HoldsNoMore
 
 /// A part of a message, in the order of reading.
 #[derive(Clone, Copy)]
-pub enum Node {
+pub enum DocumentNode {
     /// Null.
     Null,
     /// A truth value.
@@ -37,21 +37,21 @@ pub enum Node {
     Array {
         /// How many items follow.
         len: usize,
-        /// The place behind its [`Node::Close`].
+        /// The place behind its [`DocumentNode::Close`].
         end: usize,
     },
     /// An object.
     Object {
         /// How many entries follow, each a key and a value.
         len: usize,
-        /// The place behind its [`Node::Close`].
+        /// The place behind its [`DocumentNode::Close`].
         end: usize,
     },
     /// A template.
     Template {
         /// How many keys follow, and then the rows.
         len: usize,
-        /// The place behind its [`Node::Close`].
+        /// The place behind its [`DocumentNode::Close`].
         end: usize,
     },
     /// The rows of a template.
@@ -68,7 +68,7 @@ pub enum Node {
 /// Any value, as it is spelled in a message.
 #[derive(Drop)]
 pub struct Document {
-    pub(crate) nodes: Vec<Node>,
+    pub(crate) nodes: Vec<DocumentNode>,
     pub(crate) strings: Vec<u8>,
     ghost tells: { ∥ TellsTree nodes.items strings.items ∥₁ },
     ghost within: { ∥ HoldsStrings nodes.items strings.items ∥₁ },

@@ -6,7 +6,7 @@ ghost use Rattle.bser_value.specs.Contents.{as_object, get};
 ghost use Rattle.bser_document.specs.Holds.{HoldsItem};
 ghost use Rattle.bser_document.specs.Pairs.{HoldsEntries, FindsEntries, FindsItem, IsKeyAt, last_from, picked};
 
-use crate::document::{Document, Node};
+use crate::document::{Document, DocumentNode};
 use crate::item::Item;
 
 /// The entries of an object that are still to come, as they are spelled, or the keys of a row with
@@ -104,7 +104,7 @@ impl<'d> Item<'d> {
     pub fn entries(self) -> Option<Entries<'d>>
         ensures { (u : Tree) → HoldsItem self.entry u → FindsEntries (as_object u) result }
     {
-        let Node::Object { len, end: _ } = self.node() else {
+        let DocumentNode::Object { len, end: _ } = self.node() else {
             return None;
         };
         match self.keys {
@@ -142,7 +142,7 @@ impl Document {
         ensures { IsKeyAt self.now at result.now }
     {
         match self.node(at) {
-            Node::Key { len, at } => self.text(len, at),
+            DocumentNode::Key { len, at } => self.text(len, at),
             _ => "",
         }
     }

@@ -5,7 +5,7 @@ use crate::document::Document;
 
 /// What kind a value is of.
 #[derive(Debug, Clone, Copy, PartialEq, Eq)]
-pub enum Kind {
+pub enum ItemKind {
     /// Null, as a skipped field of a row is.
     Null,
     /// A truth value.

@@ -4,12 +4,12 @@ ghost use Rattle.bser_format.specs.Tree.{Tree, Fields, fields};
 ghost use Rattle.bser_format.specs.Tree as trees;
 ghost use Rattle.bser_value.specs.Contents.{as_array};
 ghost use Rattle.bser_document.specs.DocumentView.{end_of};
-ghost use Rattle.bser_document.specs.declared.document.Node.TheVariants as nodes;
+ghost use Rattle.bser_document.specs.declared.document.DocumentNode.TheVariants as nodes;
 ghost use Rattle.bser_document.specs.Spans.{FieldLies, FieldsLie, fields_ends};
 ghost use Rattle.bser_document.specs.Holds.{HasTemplateNode, HoldsItem, PartLies, Part, part_ends, field_ends, stepped};
 ghost use Rattle.bser_document.specs.Parts.{AreRowsIfKeyed};
 
-use crate::document::{Document, Node};
+use crate::document::{Document, DocumentNode};
 use crate::item::{Item, Keys};
 
 /// The items of an array that are still to come, or the rows of a template.
@@ -67,13 +67,13 @@ impl<'d> Item<'d> {
         ensures { (u : Tree) → HoldsItem self.entry u → FindsItems (as_array u) result }
     {
         match self.node() {
-            Node::Array { len, end: _ } => Some(Items {
+            DocumentNode::Array { len, end: _ } => Some(Items {
                 document: self.document,
                 at: self.document.place(self.at, 1),
                 left: len,
                 keys: None,
             }),
-            Node::Template { len, end: _ } => Some(self.all_rows(len)),
+            DocumentNode::Template { len, end: _ } => Some(self.all_rows(len)),
             _ => None,
         }
     }
@@ -154,25 +154,25 @@ impl Document {
 
 /// The place behind a node that is here, or behind what it opens.
 #[inline(always)]
-fn behind(node: Node, at: usize) -> usize
+fn behind(node: DocumentNode, at: usize) -> usize
     requires { at + 1 < 2 ^ 64 }
     ensures { result ≡ stepped at (end_of node) }
 {
     match node {
-        Node::Array { len: _, end }
-        | Node::Object { len: _, end }
-        | Node::Template { len: _, end } => end,
+        DocumentNode::Array { len: _, end }
+        | DocumentNode::Object { len: _, end }
+        | DocumentNode::Template { len: _, end } => end,
         _ => at + 1,
     }
 }
 
 /// How many rows a node announces.
 #[inline(always)]
-fn count_at(node: Node) -> usize
+fn count_at(node: DocumentNode) -> usize
     ensures { (n : ℕ) → node ≡ nodes.Rows n → result ≡ n }
 {
     match node {
-        Node::Rows { len } => len,
+        DocumentNode::Rows { len } => len,
         _ => 0,
     }
 }

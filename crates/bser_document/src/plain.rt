@@ -6,8 +6,8 @@ ghost use Rattle.bser_value.specs.Contents.{as_bool, as_i64, as_f64, as_bytes, a
 ghost use Rattle.bser_document.specs.DocumentView.{HoldsDocument, IsInside, piece, value_of};
 ghost use Rattle.bser_document.specs.Holds.{HoldsItem, IsNodeAt, IsOwnNode, IsPartNode, ShowsNode, item_value, kind_of, is_null, as_real_bits, node_tree};
 
-use crate::document::{Document, Node};
-use crate::item::{Item, Kind};
+use crate::document::{Document, DocumentNode};
+use crate::item::{Item, ItemKind};
 use bser_format::real::float_of;
 use bser_source::text::as_text;
 use std::num::nearest_i64_to_f64;
@@ -28,12 +28,12 @@ impl Document {
 
     /// The node at this place.
     #[inline(always)]
-    pub(crate) fn node(&self, at: usize) -> Node
+    pub(crate) fn node(&self, at: usize) -> DocumentNode
         ensures { IsNodeAt self.now at result }
     {
         match self.nodes.get(at) {
             Some(node) => *node,
-            None => Node::Null,
+            None => DocumentNode::Null,
         }
     }
 
@@ -56,14 +56,14 @@ impl Document {
 impl<'d> Item<'d> {
     /// The node of the value, and of a row that of an object.
     #[inline(always)]
-    pub(crate) fn node(self) -> Node
+    pub(crate) fn node(self) -> DocumentNode
         ensures first { IsPartNode self.entry result }
         ensures own { IsOwnNode self.entry result }
         ensures shows { (u : Tree) → HoldsItem self.entry u
             → ShowsNode u self.entry.document.now result }
     {
         match self.keys {
-            Some(keys) => Node::Object {
+            Some(keys) => DocumentNode::Object {
                 len: keys.len,
                 end: 0,
             },
@@ -72,7 +72,7 @@ impl<'d> Item<'d> {
     }
 
     /// What kind the value is of.
-    pub fn kind(self) -> Kind
+    pub fn kind(self) -> ItemKind
         ensures { (u : Tree) → HoldsItem self.entry u → result ≡ kind_of u }
     {
         kind_at(self.node())
@@ -82,7 +82,7 @@ impl<'d> Item<'d> {
     pub fn is_null(self) -> bool
         ensures { (u : Tree) → HoldsItem self.entry u → result ≡ is_null u }
     {
-        matches!(self.kind(), Kind::Null)
+        matches!(self.kind(), ItemKind::Null)
     }
 
     /// The truth value, and `None` for all else.
@@ -120,8 +120,8 @@ impl<'d> Item<'d> {
             → option_map (λ bytes. bytes.now) result ≡ as_bytes u }
     {
         match self.node() {
-            Node::Bytes { len, at } => Some(self.document.string(len, at)),
-            Node::Text { len, at } => Some(self.document.string(len, at)),
+            DocumentNode::Bytes { len, at } => Some(self.document.string(len, at)),
+            DocumentNode::Text { len, at } => Some(self.document.string(len, at)),
             _ => None,
         }
     }
@@ -132,7 +132,7 @@ impl<'d> Item<'d> {
             → option_map (λ text. text.now) result ≡ as_str u }
     {
         match self.node() {
-            Node::Text { len, at } => as_text(self.document.string(len, at)),
+            DocumentNode::Text { len, at } => as_text(self.document.string(len, at)),
             _ => None,
         }
     }
@@ -140,62 +140,63 @@ impl<'d> Item<'d> {
 
 /// What kind a node is of.
 #[inline(always)]
-fn kind_at(node: Node) -> Kind
+fn kind_at(node: DocumentNode) -> ItemKind
     ensures { (s : List ℕ) → result ≡ kind_of (node_tree s node) }
 {
     match node {
-        Node::Bool(_) => Kind::Bool,
-        Node::Int(_) => Kind::Integer,
-        Node::Real(_) => Kind::Real,
-        Node::Bytes { len: _, at: _ } => Kind::Bytes,
-        Node::Text { len: _, at: _ } => Kind::Text,
-        Node::Array { len: _, end: _ } | Node::Template { len: _, end: _ } => Kind::Array,
-        Node::Object { len: _, end: _ } => Kind::Object,
-        _ => Kind::Null,
+        DocumentNode::Bool(_) => ItemKind::Bool,
+        DocumentNode::Int(_) => ItemKind::Integer,
+        DocumentNode::Real(_) => ItemKind::Real,
+        DocumentNode::Bytes { len: _, at: _ } => ItemKind::Bytes,
+        DocumentNode::Text { len: _, at: _ } => ItemKind::Text,
+        DocumentNode::Array { len: _, end: _ } | DocumentNode::Template { len: _, end: _ } =>
+            ItemKind::Array,
+        DocumentNode::Object { len: _, end: _ } => ItemKind::Object,
+        _ => ItemKind::Null,
     }
 }
 
 /// The truth value of a node.
 #[inline(always)]
-fn bool_at(node: Node) -> Option<bool>
+fn bool_at(node: DocumentNode) -> Option<bool>
     ensures { (s : List ℕ) → result ≡ as_bool (node_tree s node) }
 {
     match node {
-        Node::Bool(truth) => Some(truth),
+        DocumentNode::Bool(truth) => Some(truth),
         _ => None,
     }
 }
 
 /// The integer of a node.
 #[inline(always)]
-fn i64_at(node: Node) -> Option<i64>
+fn i64_at(node: DocumentNode) -> Option<i64>
     ensures { (s : List ℕ) → result ≡ as_i64 (node_tree s node) }
 {
     match node {
-        Node::Int(number) => Some(number),
+        DocumentNode::Int(number) => Some(number),
         _ => None,
     }
 }
 
 /// The bits of a node's real.
 #[inline(always)]
-fn real_bits_at(node: Node) -> Option<u64>
+fn real_bits_at(node: DocumentNode) -> Option<u64>
     ensures { (s : List ℕ) → result ≡ as_real_bits (node_tree s node) }
 {
     match node {
-        Node::Real(bits) => Some(bits),
+        DocumentNode::Real(bits) => Some(bits),
         _ => None,
     }
 }
 
 /// The number of a node as a float.
 #[inline(always)]
-fn f64_at(node: Node) -> Option<f64>
+fn f64_at(node: DocumentNode) -> Option<f64>
     ensures { (s : List ℕ) → result ≡ as_f64 (node_tree s node) }
 {
     match node {
-        Node::Real(bits) => float_of(bits),
-        Node::Int(number) => Some(nearest_i64_to_f64(number)),
+        DocumentNode::Real(bits) => float_of(bits),
+        DocumentNode::Int(number) => Some(nearest_i64_to_f64(number)),
         _ => None,
     }
 }

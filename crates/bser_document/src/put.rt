@@ -15,7 +15,7 @@ ghost use Rattle.bser_document.specs.Rows.{HoldsRows, Pair, row_object, row_obje
 ghost use Rattle.bser_document.specs.Sorted.{Lists};
 ghost use Rattle.bser_document.specs.Walks.{HoldsItems};
 
-use crate::document::{Document, Node};
+use crate::document::{Document, DocumentNode};
 use crate::entries::Entries;
 use crate::item::Item;
 use crate::items::Items;
@@ -90,9 +90,9 @@ fn add_item<W: Sink>(
         → AddsItem W.Sink out.old out.new u result }
 {
     match item.node() {
-        Node::Array { len: _, end: _ }
-        | Node::Object { len: _, end: _ }
-        | Node::Template { len: _, end: _ } => add_container(alloc, item, room, out),
+        DocumentNode::Array { len: _, end: _ }
+        | DocumentNode::Object { len: _, end: _ }
+        | DocumentNode::Template { len: _, end: _ } => add_container(alloc, item, room, out),
         node => Ok(item.document.add_plain(node, out)?),
     }
 }
@@ -267,7 +267,7 @@ impl Document {
     #[inline(always)]
     fn add_plain<W: Sink>(
         &self,
-        node: Node,
+        node: DocumentNode,
         out: &mut Serializer<W>,
     ) -> result::Result<(), PutRefused>
         ensures put { (u : Tree) → ShowsNode u self.now node → IsPlain u
@@ -276,11 +276,11 @@ impl Document {
             → OnOk result (IsWritable u) }
     {
         match node {
-            Node::Bool(truth) => out.add_bool(truth),
-            Node::Int(number) => out.add_i64(number),
-            Node::Real(bits) => out.add_real_bits(bits),
-            Node::Bytes { len, at } => out.add_bytes(self.string(len, at)),
-            Node::Text { len, at } => out.add_text(self.text(len, at)),
+            DocumentNode::Bool(truth) => out.add_bool(truth),
+            DocumentNode::Int(number) => out.add_i64(number),
+            DocumentNode::Real(bits) => out.add_real_bits(bits),
+            DocumentNode::Bytes { len, at } => out.add_bytes(self.string(len, at)),
+            DocumentNode::Text { len, at } => out.add_text(self.text(len, at)),
             _ => out.add_null(),
         }
     }

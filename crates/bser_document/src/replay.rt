@@ -7,7 +7,7 @@ ghost use Rattle.bser_value.specs.ValueView.{HoldsValue};
 ghost use Rattle.bser_document.specs.DocumentView.{HoldsDocument, IsText, Within, event_of, piece, value_of};
 ghost use Rattle.bser_document.specs.Tells.{Told};
 
-use crate::document::{Document, Node};
+use crate::document::{Document, DocumentNode};
 use bser_events::builder::{Builder, Stop};
 use bser_events::event::{Event, Place};
 use bser_source::text::as_text;
@@ -51,24 +51,24 @@ impl Document {
 
     /// What a node tells.
     #[inline(always)]
-    fn event(&self, node: Node) -> Event<'_>
+    fn event(&self, node: DocumentNode) -> Event<'_>
         ensures { Within self.now.strings.items node
             → told result ≡ event_of self.now.strings.items node }
     {
         match node {
-            Node::Null => Event::Null,
-            Node::Bool(truth) => Event::Bool(truth),
-            Node::Int(number) => Event::Int(number),
-            Node::Real(bits) => Event::Real(bits),
-            Node::Bytes { len, at } => Event::Bytes(self.string(len, at)),
-            Node::Text { len, at } => Event::Text(self.text(len, at)),
-            Node::Key { len, at } => Event::Key(self.text(len, at)),
-            Node::Array { len, end: _ } => Event::Array { len },
-            Node::Object { len, end: _ } => Event::Object { len },
-            Node::Template { len, end: _ } => Event::Template { len },
-            Node::Rows { len } => Event::Rows { len },
-            Node::Skip => Event::Skip,
-            Node::Close => Event::Close,
+            DocumentNode::Null => Event::Null,
+            DocumentNode::Bool(truth) => Event::Bool(truth),
+            DocumentNode::Int(number) => Event::Int(number),
+            DocumentNode::Real(bits) => Event::Real(bits),
+            DocumentNode::Bytes { len, at } => Event::Bytes(self.string(len, at)),
+            DocumentNode::Text { len, at } => Event::Text(self.text(len, at)),
+            DocumentNode::Key { len, at } => Event::Key(self.text(len, at)),
+            DocumentNode::Array { len, end: _ } => Event::Array { len },
+            DocumentNode::Object { len, end: _ } => Event::Object { len },
+            DocumentNode::Template { len, end: _ } => Event::Template { len },
+            DocumentNode::Rows { len } => Event::Rows { len },
+            DocumentNode::Skip => Event::Skip,
+            DocumentNode::Close => Event::Close,
         }
     }
 
@@ -87,12 +87,12 @@ impl Document {
 
 /// No place, of a node of this kind.
 #[inline(always)]
-fn place(node: Node) -> Place
+fn place(node: DocumentNode) -> Place
     ensures start { result.start ≡ 0 }
     ensures end { result.end ≡ 0 }
 {
     let is_text = match node {
-        Node::Text { .. } => true,
+        DocumentNode::Text { .. } => true,
         _ => false,
     };
     Place {

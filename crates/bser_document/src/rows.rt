@@ -6,7 +6,7 @@ ghost use Rattle.bser_document.specs.Holds.{HoldsItem};
 ghost use Rattle.bser_document.specs.Pairs.{FindsItem};
 ghost use Rattle.bser_document.specs.Rows.{HoldsRows, HoldsRow, FindsRows, LeadsTo, Pair, place_of, field_there};
 
-use crate::document::{Document, Node};
+use crate::document::{Document, DocumentNode};
 use crate::item::{Item, Keys};
 
 /// The rows of a template that are still to come.
@@ -102,7 +102,7 @@ impl<'d> Item<'d> {
     pub fn rows(self) -> Option<Rows<'d>>
         ensures { (u : Tree) → HoldsItem self.entry u → FindsRows self.entry u result }
     {
-        let Node::Template { len, end: _ } = self.node() else {
+        let DocumentNode::Template { len, end: _ } = self.node() else {
             return None;
         };
         let items = self.all_rows(len);

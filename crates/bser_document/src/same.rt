@@ -13,7 +13,7 @@ ghost use Rattle.bser_document.specs.Sorted.{Lists};
 ghost use Rattle.bser_document.specs.Walks.{HoldsItems};
 
 use crate::document::Document;
-use crate::item::{Item, Kind};
+use crate::item::{Item, ItemKind};
 use crate::items::Items;
 use std::alloc::{AllocError, Global};
 use std::collections::BTreeMap;
@@ -127,13 +127,13 @@ fn is_same_plain(item: Item<'_>, other: Item<'_>) -> bool
         → result ≡ same_tree u v }
 {
     match item.kind() {
-        Kind::Null => other.is_null(),
-        Kind::Bool => item.as_bool() == other.as_bool(),
-        Kind::Integer => item.as_i64() == other.as_i64(),
-        Kind::Real => item.as_real_bits() == other.as_real_bits(),
-        Kind::Text => other.as_str().is_some() && item.as_bytes() == other.as_bytes(),
-        Kind::Bytes => other.as_str().is_none() && item.as_bytes() == other.as_bytes(),
-        Kind::Array => false,
-        Kind::Object => false,
+        ItemKind::Null => other.is_null(),
+        ItemKind::Bool => item.as_bool() == other.as_bool(),
+        ItemKind::Integer => item.as_i64() == other.as_i64(),
+        ItemKind::Real => item.as_real_bits() == other.as_real_bits(),
+        ItemKind::Text => other.as_str().is_some() && item.as_bytes() == other.as_bytes(),
+        ItemKind::Bytes => other.as_str().is_none() && item.as_bytes() == other.as_bytes(),
+        ItemKind::Array => false,
+        ItemKind::Object => false,
     }
 }

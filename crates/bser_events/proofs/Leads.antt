@@ -7,8 +7,8 @@ use Rattle.std.specs.Prelude.{Option, Some, None}
 use Rattle.bser_events.specs.Events.{Event, key, close, events, part_events, item_events, row_events}
 use Rattle.bser_events.specs.Frames.{Left, parts_of, Fits, left_events, Takes, IsDone}
 use Rattle.bser_events.specs.declared.frame.Frame.{Frame}
-use Rattle.bser_events.specs.declared.frame.Parts.{Parts}
-use Rattle.bser_events.specs.declared.frame.Parts.TheVariants.{Items, Entries, Rows}
+use Rattle.bser_events.specs.declared.frame.Remaining.{Remaining}
+use Rattle.bser_events.specs.declared.frame.Remaining.TheVariants.{Items, Entries, Rows}
 use Rattle.bser_events.specs.declared.frame.Part.{Part}
 use Rattle.bser_events.specs.declared.frame.Part.TheVariants.{Item, Entry, Field}
 
@@ -58,7 +58,7 @@ AwaitsDue Entry n Next now es = Awaits (text_of MapKey) (λ s. key s ∷ []) (Aw
 AwaitsDue due n Next now es = AwaitsPart due n Next now es
 
 -- a container of these parts
-abbrev pub frame_of : ℕ → Parts → Frame
+abbrev pub frame_of : ℕ → Remaining → Frame
 frame_of n p = record { levels = n; parts = p }
 
 regroup : (a b c d : List Event) → a ++ ((b ++ c) ++ d) ≡ (a ++ b) ++ (c ++ d)
@@ -140,7 +140,7 @@ row_due ev n r w fs now es (k0, same, rest) =
     )
 
 -- the next part is due
-pub leads_due : {Y : Type 0} (ev : Y → List Event) (due : Part) (n : ℕ) (p q : Parts) (fs : List Frame) (now : Reader Y) (es : List Event)
+pub leads_due : {Y : Type 0} (ev : Y → List Event) (due : Part) (n : ℕ) (p q : Remaining) (fs : List Frame) (now : Reader Y) (es : List Event)
     → Takes due p q → Leads ev (frame_of n p ∷ fs) now es → AwaitsDue due n (Leads ev (frame_of n q ∷ fs)) now es
 leads_due ev Item n p q fs now es (k, old, new) h =
     subst (λ z. Awaits (with_text_keys n) events (Leads ev (frame_of n z ∷ fs)) now es) (sym new)
@@ -165,7 +165,7 @@ no_rows n (suc r) =
     ([] ∷ h.0, ap suc h.1, (λ x. ap (and_then (λ rs. give ([] ∷ rs))) (h.2 x)), h.3)
 
 -- nothing is read then
-pub done_reads : (n : ℕ) (p : Parts) → IsDone p → (l : Left p) × Fits p l × ((x : List ℕ) → parts_of n p x ≡ reads l x) × (left_events p l ≡ [])
+pub done_reads : (n : ℕ) (p : Remaining) → IsDone p → (l : Left p) × Fits p l × ((x : List ℕ) → parts_of n p x ≡ reads l x) × (left_events p l ≡ [])
 done_reads n (Items k) none = subst (λ z. (l : Left (Items z)) × Fits (Items z) l × ((x : List ℕ) → parts_of n (Items z) x ≡ reads l x) × (left_events (Items z) l ≡ [])) (sym none) ([], refl, (λ x. refl), refl)
 done_reads n (Entries k) none = subst (λ z. (l : Left (Entries z)) × Fits (Entries z) l × ((x : List ℕ) → parts_of n (Entries z) x ≡ reads l x) × (left_events (Entries z) l ≡ [])) (sym none) ([], refl, (λ x. refl), refl)
 done_reads n (Rows f r w) (none, inl last) =

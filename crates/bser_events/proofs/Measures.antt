@@ -6,14 +6,14 @@ use Rattle.std.specs.Prelude.{reverse, Option, Some}
 use Rattle.bser_events.specs.Found.{IsInside}
 use Rattle.bser_events.specs.Frames.{Takes, IsSmall}
 use Rattle.bser_events.specs.declared.frame.Frame.{Frame}
-use Rattle.bser_events.specs.declared.frame.Parts.{Parts}
-use Rattle.bser_events.specs.declared.frame.Parts.TheVariants.{Items, Entries, Rows}
+use Rattle.bser_events.specs.declared.frame.Remaining.{Remaining}
+use Rattle.bser_events.specs.declared.frame.Remaining.TheVariants.{Items, Entries, Rows}
 use Rattle.bser_events.specs.declared.frame.Part.{Part}
 use Rattle.bser_events.specs.declared.frame.Part.TheVariants.{Item, Entry, Field}
 use Rattle.bser_events.proofs.Leads.{frame_of}
 
 -- how many parts are left
-abbrev pub parts_left : Parts → ℕ
+abbrev pub parts_left : Remaining → ℕ
 parts_left (Items k) = k
 parts_left (Entries k) = k
 parts_left (Rows f r w) = f + r * w
@@ -33,14 +33,14 @@ unfolding cost
 cost_some zero = omega arith
 cost_some (suc n) = let h = cost_some n in omega (arith, h)
 
-pub one_less : (due : Part) (p q : Parts) → Takes due p q → parts_left p ≡ suc (parts_left q)
+pub one_less : (due : Part) (p q : Remaining) → Takes due p q → parts_left p ≡ suc (parts_left q)
 one_less Item p q (k, old, new) = rw (old, new) refl
 one_less Entry p q (k, old, new) = rw (old, new) refl
 one_less Field p q (f, r, w, new, inl old) = rw (old, new) (grind arith)
 one_less Field p q (f, r, w, new, inr (wide, old)) = rw (old, new, wide) (grind arith)
 
 -- a part was taken
-pub part_taken : (n m : ℕ) (p q : Parts) (fs : List Frame) → m ≡ n → parts_left q < parts_left p → work (frame_of m q ∷ fs) < work (frame_of n p ∷ fs)
+pub part_taken : (n m : ℕ) (p q : Remaining) (fs : List Frame) → m ≡ n → parts_left q < parts_left p → work (frame_of m q ∷ fs) < work (frame_of n p ∷ fs)
 unfolding work
 part_taken n m p q fs same less =
     rw same
@@ -53,7 +53,7 @@ pub closed_falls : (f g : Frame) (fs : List Frame) → work (g ∷ fs) < work (f
 unfolding work
 closed_falls f g fs = omega arith
 
-few_parts : (p : Parts) → IsSmall p → parts_left p ≤ 2 ^ 129
+few_parts : (p : Remaining) → IsSmall p → parts_left p ≤ 2 ^ 129
 few_parts (Items k) h = omega (arith, h)
 few_parts (Entries k) h = omega (arith, h)
 few_parts (Rows f r w) h =
@@ -61,7 +61,7 @@ few_parts (Rows f r w) h =
     omega (arith, m, h.0)
 
 -- a container was opened
-pub opened_falls : (n m : ℕ) (p q i : Parts) (fs : List Frame) → parts_left q < parts_left p → n ≡ suc m → IsSmall i
+pub opened_falls : (n m : ℕ) (p q i : Remaining) (fs : List Frame) → parts_left q < parts_left p → n ≡ suc m → IsSmall i
     → work (frame_of m i ∷ frame_of n q ∷ fs) < work (frame_of n p ∷ fs)
 unfolding work cost
 opened_falls n m p q i fs less deeper small =
@@ -89,17 +89,17 @@ pub popped_falls : (f g : Frame) (fs all : List Frame) → all ≡ g ∷ fs → 
 popped_falls f g fs all around = subst (λ l. work (g ∷ fs) < work (f ∷ l)) (sym around) (closed_falls f g fs)
 
 -- parts were taken
-pub deep_taken : (levels n m : ℕ) (p q : Parts) (fs : List Frame) → m ≡ n → (IsSmall p → IsSmall q) → Deep levels (frame_of n p ∷ fs) → Deep levels (frame_of m q ∷ fs)
+pub deep_taken : (levels n m : ℕ) (p q : Remaining) (fs : List Frame) → m ≡ n → (IsSmall p → IsSmall q) → Deep levels (frame_of n p ∷ fs) → Deep levels (frame_of m q ∷ fs)
 deep_taken levels n m p q fs same small deep = (omega (arith, same, deep.0), small deep.1, deep.2)
 
 -- a container was opened
-pub deep_pushed : (levels n : ℕ) (q : Parts) (o : Option Frame) (f : Frame) (fs all : List Frame) → all ≡ frame_of n q ∷ fs → o ≡ Some f → IsInside n o
+pub deep_pushed : (levels n : ℕ) (q : Remaining) (o : Option Frame) (f : Frame) (fs all : List Frame) → all ≡ frame_of n q ∷ fs → o ≡ Some f → IsInside n o
     → Deep levels (frame_of n q ∷ fs) → Deep levels (f ∷ all)
 deep_pushed levels n q o f fs all around is inside deep =
     let i = subst (IsInside n) is inside in
     subst (λ l. Deep levels (f ∷ l)) (sym around) (omega (arith, i.0, deep.0), i.1, deep)
 
-pub pushed_falls : (n m : ℕ) (p q : Parts) (o : Option Frame) (f : Frame) (fs all : List Frame) → all ≡ frame_of m q ∷ fs → o ≡ Some f → IsInside m o
+pub pushed_falls : (n m : ℕ) (p q : Remaining) (o : Option Frame) (f : Frame) (fs all : List Frame) → all ≡ frame_of m q ∷ fs → o ≡ Some f → IsInside m o
     → m ≡ n → parts_left q < parts_left p → work (f ∷ all) < work (frame_of n p ∷ fs)
 pushed_falls n m p q o f fs all around is inside same less =
     let i = subst (IsInside m) is inside in

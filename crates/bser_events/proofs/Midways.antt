@@ -20,7 +20,7 @@ use Rattle.bser_events.specs.Events.{Event, TakesAll, none, key, skip, close, ev
 use Rattle.bser_events.specs.Frames.{Left, parts_of, Fits, left_events, Takes, IsDone}
 use Rattle.bser_events.specs.Found.{Found, Opened, FoundOrOpened, KeyFound, Refuses, token_at, value_rest, IsContainer}
 use Rattle.bser_events.specs.declared.frame.Frame.{Frame}
-use Rattle.bser_events.specs.declared.frame.Parts.{Parts}
+use Rattle.bser_events.specs.declared.frame.Remaining.{Remaining}
 use Rattle.bser_events.specs.declared.frame.Part.{Part}
 use Rattle.bser_events.specs.declared.frame.Part.TheVariants.{Item, Entry, Field}
 use Rattle.bser_events.proofs.Takings.{takes_one, takes_then}
@@ -91,7 +91,7 @@ midway_found takes whole r told_of Next a b c before mid after m found =
     }
 
 -- the next part of the innermost container is due
-pub midway_due : {Y B : Type 0} (takes : B → Event → B → Type 0) (whole : Reader Y) (ev : Y → List Event) (due : Part) (n : ℕ) (p q : Parts) (fs : List Frame)
+pub midway_due : {Y B : Type 0} (takes : B → Event → B → Type 0) (whole : Reader Y) (ev : Y → List Event) (due : Part) (n : ℕ) (p q : Remaining) (fs : List Frame)
     (a b : Window) (before after : B)
     → Takes due p q → Midway takes whole (Leads ev (frame_of n p ∷ fs)) a b before after
     → Midway takes whole (AwaitsDue due n (Leads ev (frame_of n q ∷ fs))) a b before after

@@ -12,7 +12,7 @@ use Rattle.bser_events.specs.Frames.{CountsDown, CountsOn, IsDone}
 use Rattle.bser_events.specs.Found.{Found, Refuses}
 use Rattle.bser_events.specs.Pieces.{InFront, DueInFront}
 use Rattle.bser_events.specs.declared.frame.Frame.{Frame}
-use Rattle.bser_events.specs.declared.frame.Parts.{Parts}
+use Rattle.bser_events.specs.declared.frame.Remaining.{Remaining}
 use Rattle.bser_events.specs.declared.frame.Part.{Part}
 use Rattle.bser_events.specs.declared.frame.Part.TheVariants.{Item, Entry, Field}
 use Rattle.bser_events.proofs.Takings.{takes_one}
@@ -24,7 +24,7 @@ use Rattle.bser_events.proofs.InFront.{rest_whole}
 -- ---- what is due
 
 -- this is due, or no part is left of the innermost container
-abbrev pub AwaitsNext : {Y : Type 0} → (Y → List Event) → Option Part → ℕ → Parts → List Frame → Reader Y → List Event → Type 0
+abbrev pub AwaitsNext : {Y : Type 0} → (Y → List Event) → Option Part → ℕ → Remaining → List Frame → Reader Y → List Event → Type 0
 AwaitsNext ev None n p fs now es = Leads ev (frame_of n p ∷ fs) now es × IsDone p
 AwaitsNext ev (Some due) n p fs now es = AwaitsDue due n (Leads ev (frame_of n p ∷ fs)) now es
 
@@ -33,7 +33,7 @@ abbrev pub AwaitsMore : {Y : Type 0} → Part → ℕ → (Reader Y → List Eve
 AwaitsMore Entry n Next now es = Awaits (with_text_keys n) events Next now es
 AwaitsMore _ n Next now es = Next now es
 
-pub midway_next : {Y B : Type 0} (takes : B → Event → B → Type 0) (whole : Reader Y) (ev : Y → List Event) (d : Option Part) (n : ℕ) (p q : Parts) (fs : List Frame)
+pub midway_next : {Y B : Type 0} (takes : B → Event → B → Type 0) (whole : Reader Y) (ev : Y → List Event) (d : Option Part) (n : ℕ) (p q : Remaining) (fs : List Frame)
     (a b : Window) (before after : B)
     → CountsDown p q d → Midway takes whole (Leads ev (frame_of n p ∷ fs)) a b before after → Midway takes whole (AwaitsNext ev d n q fs) a b before after
 midway_next takes whole ev None n p q fs a b before after counted m =
@@ -41,7 +41,7 @@ midway_next takes whole ev None n p q fs a b before after counted m =
     (midway_seen takes whole (Leads ev (frame_of n p ∷ fs)) (AwaitsNext ev None n p fs) a b before after (λ now es h. (h, counted.0)) m)
 midway_next takes whole ev (Some due) n p q fs a b before after counted m = midway_due takes whole ev due n p q fs a b before after counted m
 
-midway_on : {Y B : Type 0} (takes : B → Event → B → Type 0) (whole : Reader Y) (ev : Y → List Event) (due : Part) (d : Option Part) (n : ℕ) (p q : Parts) (fs : List Frame)
+midway_on : {Y B : Type 0} (takes : B → Event → B → Type 0) (whole : Reader Y) (ev : Y → List Event) (due : Part) (d : Option Part) (n : ℕ) (p q : Remaining) (fs : List Frame)
     (a b : Window) (before after : B)
     → CountsOn due p q d → Midway takes whole (AwaitsMore due n (Leads ev (frame_of n p ∷ fs))) a b before after → Midway takes whole (AwaitsNext ev d n q fs) a b before after
 midway_on takes whole ev Entry d n p q fs a b before after (is, same) m =
@@ -84,7 +84,7 @@ midway_piece takes whole Field levels Next at n e a b before mid after is small 
     (piece_found takes (field_of (with_text_keys levels)) part_events at n e b mid after (is levels) small m.took.failed told)
 
 -- a piece that is due was told, and what comes after it is due
-pub run_on : {Y B : Type 0} (takes : B → Event → B → Type 0) (whole : Reader Y) (ev : Y → List Event) (due : Part) (now d : Option Part) (levels : ℕ) (p q : Parts) (fs : List Frame)
+pub run_on : {Y B : Type 0} (takes : B → Event → B → Type 0) (whole : Reader Y) (ev : Y → List Event) (due : Part) (now d : Option Part) (levels : ℕ) (p q : Remaining) (fs : List Frame)
     (at n : ℕ) (e : Event) (bytes : List ℕ) (a b : Window) (before mid after : B)
     → DueInFront due (take (length bytes - at) (drop at bytes)) n e → AreOctets bytes → b.buffered ≡ bytes → takes mid e after → now ≡ Some due → CountsOn due p q d
     → Midway takes whole (AwaitsNext ev now levels p fs) a (consumed at b) before mid
@@ -112,7 +112,7 @@ run_begins takes whole Next a b before after m = subst (λ w. Midway takes whole
     same = ap (λ k. record b { count = k }) (let e : b.count + 0 ≡ b.count = omega arith in e)
 
 -- what was taken of the buffered bytes, and is not counted yet
-pub ran_at : {Y B : Type 0} (takes : B → Event → B → Type 0) (whole : Reader Y) (ev : Y → List Event) (first d : Option Part) (n m at : ℕ) (p o q : Parts) (fs : List Frame)
+pub ran_at : {Y B : Type 0} (takes : B → Event → B → Type 0) (whole : Reader Y) (ev : Y → List Event) (first d : Option Part) (n m at : ℕ) (p o q : Remaining) (fs : List Frame)
     (a b : Window) (before mid after : B)
     → Midway takes whole (Leads ev (frame_of n p ∷ fs)) a b before mid → CountsDown p o first
     → (Midway takes whole (AwaitsNext ev first n o fs) a b before mid → Midway takes whole (AwaitsNext ev d m q fs) a (consumed at b) before after)
@@ -121,7 +121,7 @@ ran_at takes whole ev first d n m at p o q fs a b before mid after m0 counted ru
     run (midway_next takes whole ev first n p o fs a b before mid counted m0)
 
 -- the same, once it is counted
-pub ran : {Y B : Type 0} (takes : B → Event → B → Type 0) (whole : Reader Y) (ev : Y → List Event) (first d : Option Part) (n m at : ℕ) (p o q : Parts) (fs : List Frame)
+pub ran : {Y B : Type 0} (takes : B → Event → B → Type 0) (whole : Reader Y) (ev : Y → List Event) (first d : Option Part) (n m at : ℕ) (p o q : Remaining) (fs : List Frame)
     (a b c : Window) (before mid : B) (after : Window → B)
     → Midway takes whole (Leads ev (frame_of n p ∷ fs)) a b before mid → CountsDown p o first
     → (Midway takes whole (AwaitsNext ev first n o fs) a b before mid → Midway takes whole (AwaitsNext ev d m q fs) a (consumed at b) before (after (consumed at b)))
@@ -131,20 +131,20 @@ ran takes whole ev first d n m at p o q fs a b c before mid after m0 counted run
     (ran_at takes whole ev first d n m at p o q fs a b before mid (after (consumed at b)) m0 counted run)
 
 -- something is due then
-pub ran_due : {Y B : Type 0} (takes : B → Event → B → Type 0) (whole : Reader Y) (ev : Y → List Event) (d e : Option Part) (due : Part) (n : ℕ) (q : Parts) (fs : List Frame)
+pub ran_due : {Y B : Type 0} (takes : B → Event → B → Type 0) (whole : Reader Y) (ev : Y → List Event) (d e : Option Part) (due : Part) (n : ℕ) (q : Remaining) (fs : List Frame)
     (a b : Window) (before after : B)
     → e ≡ d → e ≡ Some due → Midway takes whole (AwaitsNext ev d n q fs) a b before after → Midway takes whole (AwaitsDue due n (Leads ev (frame_of n q ∷ fs))) a b before after
 ran_due takes whole ev d e due n q fs a b before after same is m =
     subst (λ z. Midway takes whole (AwaitsNext ev z n q fs) a b before after) (sym same ∙ is) m
 
 -- no part is left then
-pub ran_out : {Y B : Type 0} (takes : B → Event → B → Type 0) (whole : Reader Y) (ev : Y → List Event) (d e : Option Part) (n : ℕ) (q : Parts) (fs : List Frame)
+pub ran_out : {Y B : Type 0} (takes : B → Event → B → Type 0) (whole : Reader Y) (ev : Y → List Event) (d e : Option Part) (n : ℕ) (q : Remaining) (fs : List Frame)
     (a b : Window) (before after : B)
     → e ≡ d → e ≡ None → Midway takes whole (AwaitsNext ev d n q fs) a b before after → Midway takes whole (AwaitsNext ev None n q fs) a b before after
 ran_out takes whole ev d e n q fs a b before after same is m =
     subst (λ z. Midway takes whole (AwaitsNext ev z n q fs) a b before after) (sym same ∙ is) m
 
-pub all_left : {Y B : Type 0} (takes : B → Event → B → Type 0) (whole : Reader Y) (ev : Y → List Event) (n : ℕ) (q : Parts) (fs : List Frame) (a b : Window) (before after : B)
+pub all_left : {Y B : Type 0} (takes : B → Event → B → Type 0) (whole : Reader Y) (ev : Y → List Event) (n : ℕ) (q : Remaining) (fs : List Frame) (a b : Window) (before after : B)
     → Midway takes whole (AwaitsNext ev None n q fs) a b before after → Midway takes whole (Leads ev (frame_of n q ∷ fs)) a b before after
 all_left takes whole ev n q fs a b before after m = midway_seen takes whole (AwaitsNext ev None n q fs) (Leads ev (frame_of n q ∷ fs)) a b before after (λ now es h. h.0) m
 
@@ -169,15 +169,15 @@ run_refused takes wants whole Next at e a b c before after m is why end =
 -- ---- how much is left
 
 -- where something is due, fewer parts are left than there were
-abbrev pub Falls : Option Part → Parts → Parts → Type 0
+abbrev pub Falls : Option Part → Remaining → Remaining → Type 0
 Falls None p q = Unit {0}
 Falls (Some due) p q = parts_left q < parts_left p
 
-pub falls_first : (d : Option Part) (p q : Parts) → CountsDown p q d → Falls d p q
+pub falls_first : (d : Option Part) (p q : Remaining) → CountsDown p q d → Falls d p q
 falls_first None p q counted = tt
 falls_first (Some due) p q counted = omega (arith, one_less due p q counted)
 
-pub falls_on : (due : Part) (d : Option Part) (o p q : Parts) → CountsOn due p q d → Falls (Some due) o p → Falls d o q
+pub falls_on : (due : Part) (d : Option Part) (o p q : Remaining) → CountsOn due p q d → Falls (Some due) o p → Falls d o q
 falls_on Entry d o p q (is, same) less = subst (λ z. Falls z o q) (sym is) (subst (λ z. parts_left z < parts_left o) (sym same) less)
 falls_on Item d o p q counted less = further d counted
   where
@@ -190,24 +190,24 @@ falls_on Field d o p q counted less = further d counted
     further None c = tt
     further (Some due) c = omega (arith, less, one_less due p q c)
 
-pub ran_falls : (d e : Option Part) (due : Part) (p q : Parts) → e ≡ d → e ≡ Some due → Falls d p q → parts_left q < parts_left p
+pub ran_falls : (d e : Option Part) (due : Part) (p q : Remaining) → e ≡ d → e ≡ Some due → Falls d p q → parts_left q < parts_left p
 ran_falls d e due p q same is falls = subst (λ z. Falls z p q) (sym same ∙ is) falls
 
 -- a number that falls with each piece
-pub pieces_left : Option Part → Parts → ℕ
+pub pieces_left : Option Part → Remaining → ℕ
 pieces_left None p = 0
 pieces_left (Some Entry) p = 2 + 2 * parts_left p
 pieces_left (Some Item) p = 1 + 2 * parts_left p
 pieces_left (Some Field) p = 1 + 2 * parts_left p
 
-fewer_left : (d : Option Part) (p q : Parts) → CountsDown p q d → pieces_left d q < 1 + 2 * parts_left p
+fewer_left : (d : Option Part) (p q : Remaining) → CountsDown p q d → pieces_left d q < 1 + 2 * parts_left p
 unfolding pieces_left
 fewer_left None p q counted = omega arith
 fewer_left (Some Entry) p q counted = omega (arith, one_less Entry p q counted)
 fewer_left (Some Item) p q counted = omega (arith, one_less Item p q counted)
 fewer_left (Some Field) p q counted = omega (arith, one_less Field p q counted)
 
-pub pieces_fall : (due : Part) (d : Option Part) (p q : Parts) → CountsOn due p q d → pieces_left d q < pieces_left (Some due) p
+pub pieces_fall : (due : Part) (d : Option Part) (p q : Remaining) → CountsOn due p q d → pieces_left d q < pieces_left (Some due) p
 unfolding pieces_left
 pieces_fall Entry d p q (is, same) = rw (is, same) (omega arith)
 pieces_fall Item d p q counted = fewer_left d p q counted

@@ -22,7 +22,7 @@ use Rattle.bser_events.specs.Events as events
 use Rattle.bser_events.specs.Events.{Event, TakesAll, none, item_events, entry_events, row_events, key_events, open_template, open_rows, close}
 use Rattle.bser_events.specs.Frames.{Left, parts_of, Fits, left_events}
 use Rattle.bser_events.specs.Found.{Found, Opened, Refuses, IsContainer, keys_at, table_at, value_rest}
-use Rattle.bser_events.specs.declared.frame.Parts.TheVariants as parts
+use Rattle.bser_events.specs.declared.frame.Remaining.TheVariants as parts
 use Rattle.bser_events.proofs.Takings.{takes_one, takes_then}
 use Rattle.bser_events.proofs.Leads.{map_then, two_steps, Awaits, frame_of}
 use Rattle.bser_events.proofs.Midways.{Midway, took_none, midway_at, midway_seen, midway_refused}

@@ -1,5 +1,6 @@
 pub mod Events
 pub mod Told
+pub mod Kinds
 pub mod Places
 pub mod Frames
 pub mod Found

@@ -94,7 +94,7 @@ pub fn taken<R: DeRead>(bunser: &Bunser<R>) -> usize
 
 /// The place from `start` on to where reading is.
 #[inline(always)]
-pub fn place_from<R: DeRead>(bunser: &Bunser<R>, start: usize, is_text: bool) -> Place
+pub(crate) fn place_from<R: DeRead>(bunser: &Bunser<R>, start: usize, is_text: bool) -> Place
     ensures start { result.start ≡ start }
     ensures end { result.end ≡ reading_at bunser.now.window }
     ensures text { result.is_text ≡ is_text }
@@ -133,7 +133,10 @@ pub fn tell<R: DeRead, B: Builder>(
 
 /// Reports the end of a container to the builder, where reading is.
 #[inline(always)]
-pub fn tell_close<R: DeRead, B: Builder>(bunser: &mut Bunser<R>, builder: &mut B) -> Answer<()>
+pub(crate) fn tell_close<R: DeRead, B: Builder>(
+    bunser: &mut Bunser<R>,
+    builder: &mut B,
+) -> Answer<()>
     ensures ok { OnOk result (Placed B.takes (reading_at bunser.old.window, builder.old)
         events.close (reading_at bunser.new.window, builder.new)) }
     ensures same { OnOk result (bunser.new ≡ bunser.old) }

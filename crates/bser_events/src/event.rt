@@ -1,4 +1,12 @@
 //! What is found in a value, in the order of reading.
+ghost use Rattle.std.specs.Prelude.{◌≡◌, ◌<◌, ◌-◌, Some, slice_get};
+ghost use Rattle.bser_events.specs.Kinds.{kind_of, index_of, tag_of, count_of};
+ghost use Rattle.bser_events.specs.Told.{told};
+
+use bser_format::header::{
+    BSER_ARRAY, BSER_BYTESTRING, BSER_FALSE, BSER_NULL, BSER_OBJECT, BSER_REAL, BSER_SKIP,
+    BSER_TEMPLATE, BSER_TRUE, BSER_UTF8STRING, integer_tag,
+};
 
 /// Where an event stands, by how many bytes of the source were taken before it.
 ///
@@ -15,6 +23,16 @@ pub struct Place {
     pub end: usize,
     /// Whether it is a string or a key, under the tag of a text.
     pub is_text: bool,
+}
+
+impl Place {
+    /// How many bytes stand there.
+    #[inline]
+    pub fn size(self) -> usize
+        ensures { result ≡ self.end - self.start }
+    {
+        self.end.saturating_sub(self.start)
+    }
 }
 
 /// A scalar, a string, or the beginning or the end of a container.
@@ -58,4 +76,133 @@ pub enum Event<'s> {
     Skip,
     /// The end of a container.
     Close,
+}
+
+/// What an [`Event`] is, without its content.
+#[derive(Debug, Clone, Copy, PartialEq, Eq)]
+pub enum EventKind {
+    /// Null.
+    Null,
+    /// A truth value.
+    Bool,
+    /// An integer.
+    Int,
+    /// A real.
+    Real,
+    /// A byte string.
+    Bytes,
+    /// A text.
+    Text,
+    /// The beginning of an array.
+    Array,
+    /// The beginning of an object.
+    Object,
+    /// A key of an object or of a template.
+    Key,
+    /// The beginning of a template.
+    Template,
+    /// The rows of a template.
+    Rows,
+    /// A missing field of a row.
+    Skip,
+    /// The end of a container.
+    Close,
+}
+
+impl EventKind {
+    /// How many kinds there are.
+    pub const COUNT: usize = 13;
+
+    /// All kinds, each at its [`index`](Self::index).
+    pub const ALL: [EventKind; EventKind::COUNT] = [
+        EventKind::Null,
+        EventKind::Bool,
+        EventKind::Int,
+        EventKind::Real,
+        EventKind::Bytes,
+        EventKind::Text,
+        EventKind::Array,
+        EventKind::Object,
+        EventKind::Key,
+        EventKind::Template,
+        EventKind::Rows,
+        EventKind::Skip,
+        EventKind::Close,
+    ];
+
+    /// The place among [`Self::ALL`].
+    #[inline]
+    pub fn index(self) -> usize
+        ensures place { result ≡ index_of self }
+        ensures within { result < EventKind.COUNT }
+        ensures listed { slice_get EventKind.ALL result ≡ Some self }
+    {
+        self as usize
+    }
+}
+
+impl Event<'_> {
+    /// What it is, without its content.
+    #[inline]
+    pub fn kind(&self) -> EventKind
+        ensures { result ≡ kind_of (told self.now) }
+    {
+        match self {
+            Event::Null => EventKind::Null,
+            Event::Bool(_) => EventKind::Bool,
+            Event::Int(_) => EventKind::Int,
+            Event::Real(_) => EventKind::Real,
+            Event::Bytes(_) => EventKind::Bytes,
+            Event::Text(_) => EventKind::Text,
+            Event::Array { len: _ } => EventKind::Array,
+            Event::Object { len: _ } => EventKind::Object,
+            Event::Key(_) => EventKind::Key,
+            Event::Template { len: _ } => EventKind::Template,
+            Event::Rows { len: _ } => EventKind::Rows,
+            Event::Skip => EventKind::Skip,
+            Event::Close => EventKind::Close,
+        }
+    }
+
+    /// The tag that it begins with where it stands at this place. An integer's tag is that of the
+    /// place's size, and a key's that of a text or of a byte string. The rows of a template and the
+    /// end of a container have none.
+    #[inline]
+    pub fn tag(&self, place: Place) -> Option<u8>
+        ensures { result ≡ tag_of (told self.now) place }
+    {
+        match self {
+            Event::Null => Some(BSER_NULL),
+            Event::Bool(true) => Some(BSER_TRUE),
+            Event::Bool(false) => Some(BSER_FALSE),
+            Event::Int(_) => Some(integer_tag(place.size().saturating_sub(1))),
+            Event::Real(_) => Some(BSER_REAL),
+            Event::Bytes(_) => Some(BSER_BYTESTRING),
+            Event::Text(_) => Some(BSER_UTF8STRING),
+            Event::Array { len: _ } => Some(BSER_ARRAY),
+            Event::Object { len: _ } => Some(BSER_OBJECT),
+            Event::Key(_) if place.is_text => Some(BSER_UTF8STRING),
+            Event::Key(_) => Some(BSER_BYTESTRING),
+            Event::Template { len: _ } => Some(BSER_TEMPLATE),
+            Event::Skip => Some(BSER_SKIP),
+            Event::Rows { len: _ } | Event::Close => None,
+        }
+    }
+
+    /// How many bytes a string or a key has, or how many items, entries, keys or rows follow, and 0
+    /// for all else.
+    #[inline]
+    pub fn count(&self) -> usize
+        ensures { result ≡ count_of (told self.now) }
+    {
+        match self {
+            Event::Bytes(string) => string.len(),
+            Event::Text(string) | Event::Key(string) => string.len(),
+            Event::Array { len }
+            | Event::Object { len }
+            | Event::Template { len }
+            | Event::Rows { len } => *len,
+            _ => 0,
+        }
+    }
 }

@@ -3,7 +3,7 @@ ghost use Rattle.bser_events.specs.Frames.{CountsDown, CountsOn, IsSmall};
 
 /// The parts of a container that are still wanted.
 #[derive(Clone, Copy)]
-pub enum Parts {
+pub(crate) enum Remaining {
     /// So many items of an array.
     Items(usize),
     /// So many entries of an object.
@@ -23,14 +23,14 @@ pub enum Parts {
 #[derive(Clone, Copy)]
 pub struct Frame {
     /// How many levels are left inside.
-    pub levels: usize,
+    pub(crate) levels: usize,
     /// What is still wanted of it.
-    pub parts: Parts,
+    pub(crate) parts: Remaining,
 }
 
 /// The part of a container that is expected.
 #[derive(Clone, Copy)]
-pub enum Part {
+pub(crate) enum Part {
     /// A value.
     Item,
     /// A key, and then a value.
@@ -39,29 +39,29 @@ pub enum Part {
     Field,
 }
 
-impl Parts {
+impl Remaining {
     /// Counts the next part down. None where none is left.
     #[inline(always)]
-    pub fn next(&mut self) -> Option<Part>
+    pub(crate) fn next(&mut self) -> Option<Part>
         ensures counted { CountsDown self.old self.new result }
         ensures small { IsSmall self.old → IsSmall self.new }
     {
         match self {
-            Parts::Items(len) => {
+            Remaining::Items(len) => {
                 if *len == 0 {
                     return None;
                 }
                 *len -= 1;
                 Some(Part::Item)
             }
-            Parts::Entries(len) => {
+            Remaining::Entries(len) => {
                 if *len == 0 {
                     return None;
                 }
                 *len -= 1;
                 Some(Part::Entry)
             }
-            Parts::Rows {
+            Remaining::Rows {
                 fields,
                 rows,
                 width,
@@ -82,7 +82,7 @@ impl Parts {
     /// What is expected after this piece: the value of an entry after its key, or the next part.
     /// None where none is left.
     #[inline(always)]
-    pub fn next_after(&mut self, due: Part) -> Option<Part>
+    pub(crate) fn next_after(&mut self, due: Part) -> Option<Part>
         ensures counted { CountsOn due self.old self.new result }
         ensures small { IsSmall self.old → IsSmall self.new }
     {

@@ -18,7 +18,7 @@ ghost use Rattle.bser_events.specs.Places.{reading_at};
 
 use crate::builder::{Builder, taken, tell};
 use crate::event::Event;
-use crate::frame::{Frame, Parts};
+use crate::frame::{Frame, Remaining};
 use crate::pieces::scalar;
 use crate::refusal::{Fault, refuse_with};
 use crate::strings::{read_bytes, read_key, read_text};
@@ -68,14 +68,14 @@ pub fn read_after<R: DeRead, B: Builder>(
             tell(bunser, builder, Event::Array { len }, start, false)?;
             Ok(Some(Frame {
                 levels: levels - 1,
-                parts: Parts::Items(len),
+                parts: Remaining::Items(len),
             }))
         }
         Token::Object { len } => {
             tell(bunser, builder, Event::Object { len }, start, false)?;
             Ok(Some(Frame {
                 levels: levels - 1,
-                parts: Parts::Entries(len),
+                parts: Remaining::Entries(len),
             }))
         }
         Token::Template => {
@@ -125,7 +125,7 @@ fn read_table<R: DeRead, B: Builder>(
     tell(bunser, builder, Event::Rows { len: rows }, begun, false)?;
     Ok(Frame {
         levels,
-        parts: Parts::Rows {
+        parts: Remaining::Rows {
             fields: 0,
             rows,
             width,

@@ -10,7 +10,7 @@ ghost use Rattle.bser_events.specs.Found.{TellsValue, TellsDueKey, RefusesValue,
 use crate::around::{pop_frame, push_frame};
 use crate::builder::{Builder, taken, tell, tell_close};
 use crate::event::Event;
-use crate::frame::{Frame, Part, Parts};
+use crate::frame::{Frame, Part, Remaining};
 use crate::heads::{check_working, token_within};
 use crate::outermost::Outermost;
 use crate::parts::read_after;
@@ -50,7 +50,7 @@ pub fn read_value<R: DeRead, B: Builder>(
 {
     check_working(bunser)?;
     frames.clear();
-    let parts = Parts::Items(1);
+    let parts = Remaining::Items(1);
     let mut frame = Frame { levels, parts };
     let mut outermost = Outermost::new(frame);
     'parts: loop {

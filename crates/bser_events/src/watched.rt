@@ -6,20 +6,20 @@ use crate::builder::{Builder, Stop};
 use crate::event::{Event, Place};
 
 /// A builder, and whether it wanted no more.
-pub struct Watched<B: Builder> {
+pub struct WatchedBuilder<B: Builder> {
     builder: B,
     asked: bool,
     ghost may: { asked ≡ true → B.asks ≡ true },
 }
 
-impl<B: Builder> Watched<B> {
+impl<B: Builder> WatchedBuilder<B> {
     ghost use Rattle.bser_events.specs.Watched.{builder_of};
 
     /// Watches this builder from now on.
     pub fn new(builder: B) -> Self
         ensures { builder_of result ≡ builder }
     {
-        Watched {
+        WatchedBuilder {
             builder,
             asked: false,
         }
@@ -49,12 +49,12 @@ impl<B: Builder> Watched<B> {
     pub fn into_inner(self) -> B
         ensures { result ≡ builder_of self }
     {
-        let Watched { builder, asked: _ } = self;
+        let WatchedBuilder { builder, asked: _ } = self;
         builder
     }
 }
 
-impl<B: Builder> Builder for Watched<B> {
+impl<B: Builder> Builder for WatchedBuilder<B> {
     ghost use Rattle.bser_events.specs.Watched.{builder_of};
 
     ghost takes = { λ a e p b. B.takes (builder_of a) e p (builder_of b) };

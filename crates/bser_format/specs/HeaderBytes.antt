@@ -1,6 +1,14 @@
--- The names of the tags.
+-- The tags: those of integers, and the names of all.
 use Rattle.std.specs.Prelude.{ℕ, List, ◌++◌, Option, Some, None, codes, ◌==◌, if◌then◌else◌}
 use Rattle.std.specs.Fmt.{decimal}
+
+-- the tag of an integer of so many bytes: 1, 2, 4 or 8
+abbrev pub integer_tag : ℕ → ℕ
+integer_tag width =
+    if width == 1 then 0x03
+    else if width == 2 then 0x04
+    else if width == 4 then 0x05
+    else 0x06
 
 -- the name of the tag, where the byte is one
 abbrev pub tag_name : ℕ → Option (List ℕ)

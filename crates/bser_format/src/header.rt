@@ -1,6 +1,6 @@
 //! The tags of the format, and the header of a message.
 ghost use Rattle.std.specs.Prelude.{◌≡◌, ◌∷◌, ◌++◌, replicate, IfOk, option_map, string_bytes};
-ghost use Rattle.bser_format.specs.HeaderBytes.{tag_name, description};
+ghost use Rattle.bser_format.specs.HeaderBytes.{integer_tag, tag_name, description};
 ghost use Rattle.bser_format.specs.declared.header.TheConstants.{BSER_CAP_DISABLE_UNICODE};
 ghost use Rattle.bser_format.specs.declared.header.TheConstants.{BSER_CAP_DISABLE_UNICODE_FOR_ERRORS};
 ghost use Rattle.bser_format.specs.declared.header.TheConstants.{EMPTY_HEADER};
@@ -37,6 +37,10 @@ pub const BSER_SKIP: u8 = 0x0c;
 /// The tag of a text: a length and the bytes follow, which are UTF-8.
 pub const BSER_UTF8STRING: u8 = 0x0d;
 
+/// What a message with no capability begins with: the magic and the capabilities. The length of the
+/// body follows.
+pub const HEADER_START: [u8; 6] = [0, 2, 0, 0, 0, 0];
+
 /// The header of a message with no capability, and room for a length of four bytes.
 pub const EMPTY_HEADER: &[u8] = b"\x00\x02\x00\x00\x00\x00\x05\x00\x00\x00\x00";
 
@@ -53,6 +57,19 @@ pub fn constants()
     ensures empty_header { EMPTY_HEADER.now
         ≡ 0x00 ∷ 0x02 ∷ replicate 4 0x00 ++ (0x05 ∷ replicate 4 0x00) }
 {}
+
+/// The tag of an integer of so many bytes: 1, 2, 4 or 8.
+#[inline]
+pub fn integer_tag(width: usize) -> u8
+    ensures { result ≡ integer_tag width }
+{
+    match width {
+        1 => BSER_INT8,
+        2 => BSER_INT16,
+        4 => BSER_INT32,
+        _ => BSER_INT64,
+    }
+}
 
 /// Prints a byte by the name of the tag that it is, and an unknown one in decimal.
 #[derive(Debug, Clone, Copy, PartialEq, Eq)]

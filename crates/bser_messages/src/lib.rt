@@ -6,7 +6,7 @@ mod counted;
 pub mod described;
 pub mod description;
 pub mod length;
-pub mod limited;
+mod limited;
 pub mod limited_slice;
 pub mod limits;
 mod locating;

@@ -103,7 +103,7 @@ pub fn from_reader_within<S: Source, T: DeserializeOwned>(
 /// Reads one message as a value, by a deserializer that has read nothing.
 ///
 /// Fails as [`from_slice_within`] and [`from_reader_within`] do.
-pub fn read_message<R: DeRead, T: Deserialize<R::Lent>>(
+pub(crate) fn read_message<R: DeRead, T: Deserialize<R::Lent>>(
     alloc: Global,
     limit: usize,
     from: &mut Deserializer<R>,

@@ -22,7 +22,7 @@ use crate::told::{Header, Reason, Untold};
 use crate::told_message::tell_message;
 use bser_deserializer::deserializer::Deserializer;
 use bser_events::builder::Builder;
-use bser_events::watched::Watched;
+use bser_events::watched::WatchedBuilder;
 use bser_format::errors::{Error, ReadCause};
 use bser_source::device::Source;
 use bser_source::io_read::IoRead;
@@ -54,7 +54,7 @@ pub fn from_slice<B: Builder>(
     ensures given { IfErr result (λ e. e.given ≡ length bytes.now) }
 {
     let mut from = Deserializer::unread(alloc, SliceRead::new(bytes));
-    let mut watched = Watched::new(builder);
+    let mut watched = WatchedBuilder::new(builder);
     let answer = tell_message(limits, &mut from, &mut watched);
     let asked = watched.has_asked();
     let _builder = watched.into_inner();
@@ -90,7 +90,7 @@ pub fn next_message<S: Source, B: Builder>(
     match read.peek() {
         Ok(_first) => {
             let mut from = Deserializer::unread(alloc, read);
-            let mut watched = Watched::new(builder);
+            let mut watched = WatchedBuilder::new(builder);
             let answer = tell_message(limits, &mut from, &mut watched);
             let asked = watched.has_asked();
             let _builder = watched.into_inner();

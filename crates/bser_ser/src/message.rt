@@ -10,13 +10,17 @@ use crate::Serialize;
 use crate::integer::{LONGEST, spell};
 use crate::serializer::Serializer;
 use bser_format::errors::{Complaint, Error, Result};
+use bser_format::header::HEADER_START;
 use bser_source::count::CountWrite;
 use bser_source::device::Sink;
 use bser_source::memory::InMemory;
 use std::alloc::{AllocError, Global};
 
-/// The most bytes that a header takes: magic, capabilities and the longest integer.
-const LONGEST_HEADER: usize = 6 + LONGEST;
+/// The bytes of a header in front of the length: magic and capabilities.
+const START: usize = HEADER_START.len();
+
+/// The most bytes that a header takes.
+const LONGEST_HEADER: usize = START + LONGEST;
 
 /// The bytes of the shortest header.
 const SHORTEST_HEADER: usize = 8;
@@ -117,8 +121,9 @@ fn put_in_gap(message: &mut Vec<u8>, body: i64) -> std::result::Result<(), Alloc
     ensures ok { OnOk result (message.new.items ≡ front_of body
         ++ drop SHORTEST_HEADER message.old.items) }
 {
-    let mut header = [0, 2, 0, 0, 0, 0, 0, 0, 0, 0, 0, 0, 0, 0, 0];
-    let len = 6 + spell(&mut header[6..], body);
+    let mut header = [0; LONGEST_HEADER];
+    header[..START].copy_from_slice(&HEADER_START);
+    let len = START + spell(&mut header[START..], body);
     let more = len - SHORTEST_HEADER;
     message.extend_from_slice(&header[..more])?;
     message.rotate_right(more);

@@ -10,7 +10,7 @@ use crate::adds::Parts;
 use crate::integer::{LONGEST, spell};
 use crate::serializer::Serializer;
 use bser_format::errors::{Collection, Complaint, Error, Result};
-use bser_format::header::{BSER_ARRAY, BSER_OBJECT, BSER_SKIP};
+use bser_format::header::{BSER_ARRAY, BSER_OBJECT, BSER_SKIP, HEADER_START};
 use bser_source::device::Sink;
 
 /// Each put appends its piece, or nothing where it fails.
@@ -226,7 +226,7 @@ impl<W: Sink> Serializer<W> {
     {
         let mut integer = [0; LONGEST];
         let len = spell(&mut integer, body);
-        match self.append_parts(&[0, 2, 0, 0, 0, 0], &integer[..len]) {
+        match self.append_parts(&HEADER_START, &integer[..len]) {
             Ok(()) => Ok(()),
             Err(_) => Err(self.refusal()),
         }

@@ -6,13 +6,13 @@
 //! writes. [`ObjectOr`] chooses by the kind of what is expected.
 #![tactic(auto)]
 
-pub mod entries;
+mod entries;
 pub mod enums;
 pub mod fields;
 pub mod object_or;
-pub mod payload;
-pub mod payloads;
-pub mod reading;
+mod payload;
+mod payloads;
+mod reading;
 pub mod slot;
 pub mod slots;
 pub mod struct_reader;
@@ -22,8 +22,8 @@ pub mod writing;
 pub use crate::enums::{Variants, read_variants};
 pub use crate::fields::{Codec, Fields, ReadOnly, WriteOnly};
 pub use crate::object_or::ObjectOr;
-pub use crate::payload::{Newtype, ReadPayload, Struct, Unit};
-pub use crate::payloads::{OneOf, ReadPayloads};
+pub use crate::payload::{Newtype, Struct, Unit};
+pub use crate::payloads::OneOf;
 pub use crate::slot::{Optional, Required};
 pub use crate::variants::{put_variant, put_variant_fields};
 pub use crate::writing::{Given, PutField, PutFields, put_fields};

@@ -2,7 +2,7 @@
 #![tactic(auto)]
 
 pub mod access;
-pub mod collects;
+mod collects;
 pub mod container;
 pub mod deserialize;
 pub mod impls;

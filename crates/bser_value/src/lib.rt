@@ -8,7 +8,7 @@ mod building;
 pub mod compact;
 mod gathered;
 mod places;
-pub mod reading;
+mod reading;
 mod table;
 mod template;
 pub mod value;

@@ -19,7 +19,7 @@ pub mod document {
     //! Any message as it is spelled, and looking into it.
     pub use bser_document::document::Document;
     pub use bser_document::entries::{Entries, Entry};
-    pub use bser_document::item::{Item, Kind};
+    pub use bser_document::item::{Item, ItemKind as Kind};
     pub use bser_document::items::Items;
     pub use bser_document::rows::{Row, Rows};
 }

@@ -2,7 +2,7 @@
 //! that are described.
 
 pub use bser_events::builder::{Builder, Stop};
-pub use bser_events::event::{Event, Place};
+pub use bser_events::event::{Event, EventKind, Place};
 pub use bser_messages::limits::Limits;
 pub use bser_messages::telling::{from_slice, next_message};
 pub use bser_messages::told::{Header, Reason, Untold};

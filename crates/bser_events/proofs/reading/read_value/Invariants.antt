@@ -5,7 +5,7 @@ use Rattle.bser_format.specs.Named.{with_text_keys}
 use Rattle.bser_events.specs.Around.{around}
 use Rattle.bser_events.specs.Events.{events}
 use Rattle.bser_events.specs.Frames.{IsSmall}
-use Rattle.bser_events.specs.declared.frame.Parts.{Parts}
+use Rattle.bser_events.specs.declared.frame.Remaining.{Remaining}
 use Rattle.bser_events.specs.Places.{Placed, reading_at}
 use Rattle.bser_events.proofs.Leads.{Leads}
 use Rattle.bser_events.proofs.Midways.{Midway}
@@ -22,7 +22,7 @@ invariant-pieces g l = record {
       → Midway (Placed g.B.Builder.takes) (with_text_keys l.fn.levels) (AwaitsNext events l.initial.due l.initial.frame.levels l.initial.frame.parts (reverse (around l.outermost l.frames.items))) l.fn.bunser.window b (reading_at l.fn.bunser.window, l.fn.builder) (reading_at b, l.initial.builder)
       → Midway (Placed g.B.Builder.takes) (with_text_keys l.fn.levels) (AwaitsNext events l.due l.frame.levels l.frame.parts (reverse (around l.outermost l.frames.items))) l.fn.bunser.window (consumed l.at b) (reading_at l.fn.bunser.window, l.fn.builder) (reading_at (consumed l.at b), l.builder);
   small : IsSmall l.initial.frame.parts → IsSmall l.frame.parts;
-  falls : (p : Parts) → Falls l.initial.due p l.initial.frame.parts → Falls l.due p l.frame.parts;
+  falls : (p : Remaining) → Falls l.initial.due p l.initial.frame.parts → Falls l.due p l.frame.parts;
 }
 
 abbrev pub decreases-pieces : goal.decreases-pieces

@@ -1,6 +1,6 @@
 -- A container's node is changed at its place.
 use Rattle.std.proofs.Common.{◌≡◌, ◌≤◌, ◌++◌, get_or, length, [], ◌∷◌, rules, subst, ap, ◌∙◌, slice_set}
-use Rattle.bser_document.specs.declared.document.Node.TheVariants as nodes
+use Rattle.bser_document.specs.declared.document.DocumentNode.TheVariants as nodes
 use Rattle.bser_document.specs.DocumentView.{SameEvents, end_of, with_end}
 use Rattle.bser_document.proofs.Kept.{same_set, close_at, close_past}
 use Rattle.bser_document.proofs.builder.DocumentBuilder.close.Goals as goal

@@ -1,6 +1,6 @@
 use Rattle.std.proofs.Common.{◌≡◌, refl, length, rules}
 use Rattle.bser_events.specs.Events as events
-use Rattle.bser_document.specs.declared.document.Node.TheVariants as nodes
+use Rattle.bser_document.specs.declared.document.DocumentNode.TheVariants as nodes
 use Rattle.bser_document.proofs.Kept.{string_ok}
 use Rattle.bser_document.proofs.builder.DocumentBuilder.put_bytes.Goals as goal
 

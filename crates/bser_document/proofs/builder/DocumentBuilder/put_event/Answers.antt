@@ -6,7 +6,7 @@ use Rattle.std.proofs.Common.{refl, ap, length, rules, ◌∙◌, ◌++◌, subs
 use Rattle.std.specs.Prelude.{IsUtf8}
 use Rattle.bser_events.specs.Events as events
 use Rattle.bser_events.specs.Told.{told}
-use Rattle.bser_document.specs.declared.document.Node.TheVariants as nodes
+use Rattle.bser_document.specs.declared.document.DocumentNode.TheVariants as nodes
 use Rattle.bser_document.proofs.Kept.{plain_ok, begun_ok, string_ok, close_ok}
 use Rattle.bser_document.proofs.builder.DocumentBuilder.put_event.Goals as goal
 

@@ -2,7 +2,7 @@ use Rattle.std.proofs.Common.{◌≡◌, ◌++◌, ◌∙◌, refl, sym, ap, sub
 use Rattle.std.proofs.lemmas.Str.{IsUtf8-string_bytes}
 use Rattle.std.specs.Vec.{vec_items}
 use Rattle.bser_events.specs.Events as events
-use Rattle.bser_document.specs.declared.document.Node.TheVariants as nodes
+use Rattle.bser_document.specs.declared.document.DocumentNode.TheVariants as nodes
 use Rattle.bser_document.proofs.Kept.{string_ok}
 use Rattle.bser_document.proofs.builder.DocumentBuilder.put_text.Goals as goal
 

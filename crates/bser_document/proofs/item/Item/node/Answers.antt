@@ -1,6 +1,6 @@
 -- The node at the item's place, or that of a row.
 use Rattle.std.proofs.Common.{◌≡◌, None, Some, sym, ◌∙◌}
-use Rattle.bser_document.specs.declared.document.Node.TheVariants as nodes
+use Rattle.bser_document.specs.declared.document.DocumentNode.TheVariants as nodes
 use Rattle.bser_document.proofs.Holds.{plain_first, row_first, shown}
 use Rattle.bser_document.proofs.item.Item.node.Goals as goal
 
