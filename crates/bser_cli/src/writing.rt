@@ -23,7 +23,7 @@ ghost use Rattle.bser_cli.specs.Said.{
 use crate::printing::{Layout, Printing};
 use bser_deserializer::deserializer::MOST_LEVELS;
 use bser_document::entries::Entries;
-use bser_document::item::{Item, Kind};
+use bser_document::item::{Item, ItemKind};
 use bser_document::items::Items;
 use bser_format::real::float_of;
 use bser_views::trouble::Trouble;
@@ -70,7 +70,7 @@ fn put_item<W: Write>(
         → OnOk result (PutsSaid W.contents (Says u) out.old out.new) }
 {
     match item.kind() {
-        Kind::Array | Kind::Object => put_container(alloc, item, room, out),
+        ItemKind::Array | ItemKind::Object => put_container(alloc, item, room, out),
         _ => put_scalar(alloc, item, out),
     }
 }
