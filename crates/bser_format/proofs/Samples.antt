@@ -1,5 +1,5 @@
 -- What the definitions say of single inputs, which a wrong body would answer otherwise.
-use Rattle.std.proofs.Common.{◌≡◌, refl, List, [], ◌∷◌, Some, None, ℕ, Less}
+use Rattle.std.proofs.Common.{◌≡◌, refl, [], ◌∷◌, Some, Less}
 use Rattle.std.specs.Prelude.{codes}
 use Rattle.std.specs.Ordering.{nat_cmp}
 use Rattle.std.specs.Cmp.Lexicographic.{slice_cmp}
