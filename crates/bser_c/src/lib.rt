@@ -4,16 +4,16 @@
 //! of the values that it gets: a length that does not fit and words that are no tape are answers.
 #![tactic(auto)]
 
-pub mod codes;
-pub mod comparing;
+mod codes;
+mod comparing;
 mod front;
 mod heads;
 mod measure;
 mod outcome;
-pub mod reading;
-pub mod tags;
-pub mod untape;
-pub mod writing;
+mod reading;
+mod tags;
+mod untape;
+mod writing;
 
 ghost use Rattle.std.specs.Prelude.{◌≡◌, ◌≢◌, ◌<◌, ◌≤◌, length, take};
 ghost use Rattle.bser_format.specs.Compact.{fold_templates};
@@ -24,7 +24,7 @@ ghost use Rattle.bser_canonical.specs.Slices.{RewroteSlice};
 ghost use Rattle.bser_canonical.specs.declared.slice.Unwritten.TheVariants.{TooLong};
 ghost use Rattle.bser_c.specs.Codes.{TellsWhy};
 ghost use Rattle.bser_c.specs.Tape.{BeginsWithTape, HasTape};
-ghost use Rattle.bser_c.specs.declared.outcome.TheConstants.{DONE, TOO_SMALL};
+ghost use Rattle.bser_c.specs.declared.codes.TheConstants.{DONE, TOO_SMALL};
 ghost use Rattle.bser_c.specs.Failures.{IsRefused, Tells, TellsWhyNoLength, TellsWhyUnwritten};
 
 use crate::codes::{CONTRADICTION, NO_MEMORY, NOT_WHOLE, TAPE_INVALID};

@@ -1,9 +1,10 @@
 //! What a call comes to.
 ghost use Rattle.std.specs.Prelude.{◌≡◌, ◌≢◌, ◌<◌, ◌≤◌, length, take};
 ghost use Rattle.bser_c.specs.Codes.{byte_of, code_of};
-ghost use Rattle.bser_c.specs.declared.outcome.TheConstants.{DONE, TOO_SMALL};
+ghost use Rattle.bser_c.specs.declared.codes.TheConstants.{DONE, TOO_SMALL};
 
 use crate::codes;
+use crate::codes::{DONE, TOO_SMALL};
 use bser_format::errors::Error;
 
 /// A number, and what it is about.
@@ -20,12 +21,6 @@ pub struct BserOutcome {
     /// How many bytes or words were written, or are wanted.
     pub length: usize,
 }
-
-/// The call did what it is for.
-pub const DONE: u32 = 0;
-
-/// There is no room for what is written.
-pub const TOO_SMALL: u32 = 2;
 
 /// So many bytes were written.
 pub fn done(length: usize) -> BserOutcome

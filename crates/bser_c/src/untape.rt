@@ -11,7 +11,7 @@ use crate::tags::{BYTES_KEY, CLOSE, KEY, ROWS};
 use bser_format::errors::Error;
 use bser_format::header::{
     BSER_ARRAY, BSER_BYTESTRING, BSER_FALSE, BSER_INT64, BSER_NULL, BSER_OBJECT, BSER_REAL,
-    BSER_SKIP, BSER_TEMPLATE, BSER_TRUE, BSER_UTF8STRING,
+    BSER_SKIP, BSER_TEMPLATE, BSER_TRUE, BSER_UTF8STRING, HEADER_START,
 };
 use bser_messages::limits::Limits;
 use bser_messages::telling;
@@ -67,7 +67,7 @@ fn write(words: &[u64], strings: &[u8], out: &mut [u8]) -> Result<usize, Untaped
         Ok(body) => body,
         Err(at) => return Err(Untaped::Invalid { at }),
     };
-    let size = (6 + size_of_count(body as u64)).saturating_add(body);
+    let size = (HEADER_START.len() + size_of_count(body as u64)).saturating_add(body);
     if size > out.len() {
         return Err(Untaped::TooLong { size });
     }
@@ -97,7 +97,7 @@ fn put_all(body: usize, words: &[u64], strings: &[u8], front: &mut Front<'_>) ->
 
 /// Puts the magic, no capabilities, and the length of the body.
 fn put_header(body: usize, front: &mut Front<'_>) -> Option<()> {
-    front.put(&[0, 2, 0, 0, 0, 0])?;
+    front.put(&HEADER_START)?;
     front.put_count(body)
 }
 

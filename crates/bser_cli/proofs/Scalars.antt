@@ -3,7 +3,7 @@ use Rattle.std.proofs.Common.{◌≡◌, ℕ, ℤ, Bool, List, Some, None, refl}
 use Rattle.bser_format.specs.Tree.{Tree, null, boolean, integer, real, bytes, text, array, object, template}
 use Rattle.bser_value.specs.Contents.{as_bool, as_i64, as_bytes, as_str}
 use Rattle.bser_document.specs.Holds.{as_real_bits, kind_of}
-use Rattle.bser_document.specs.declared.item.Kind.TheVariants as kinds
+use Rattle.bser_document.specs.declared.item.ItemKind.TheVariants as kinds
 use Rattle.bser_document.specs.Put.{IsPlain}
 
 pub bool_is : (u : Tree) (x : Bool) → Some x ≡ as_bool u → u ≡ boolean x

@@ -6,7 +6,7 @@ use bser_messages::limits::Limits;
 use bser_ser::message::serialize_to;
 use bser_source::device::{Source, Watched};
 use bser_value::compact::serialize_compact;
-use bser_views::messages::{Failure, View};
+use bser_views::messages::{View, ViewError};
 use std::alloc::Global;
 use std::io::Write;
 
@@ -23,7 +23,7 @@ impl View for Canon {
         _start: u64,
         reader: &mut S,
         out: &mut W,
-    ) -> Result<bool, Failure> {
+    ) -> Result<bool, ViewError> {
         let Some(document) = Document::next_message(alloc, Limits::new(), reader)? else {
             return Ok(false);
         };
@@ -35,8 +35,8 @@ impl View for Canon {
         };
         match written {
             Ok(()) => Ok(true),
-            Err(Error::Io(fault)) => Err(Failure::Output(fault)),
-            Err(error) => Err(Failure::Unwritten(error)),
+            Err(Error::Io(fault)) => Err(ViewError::Output(fault)),
+            Err(error) => Err(ViewError::Unwritten(error)),
         }
     }
 }

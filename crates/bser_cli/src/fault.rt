@@ -82,7 +82,7 @@ impl fmt::Display for Place {
 }
 
 /// How many bytes of blanks begin here.
-pub fn blanks(bytes: &[u8]) -> usize
+pub(crate) fn blanks(bytes: &[u8]) -> usize
     ensures { result ≤ length bytes.now }
 {
     for at in 0..bytes.len() {
@@ -94,12 +94,12 @@ pub fn blanks(bytes: &[u8]) -> usize
 }
 
 /// Whether JSON passes over the byte between tokens.
-pub fn is_blank(byte: u8) -> bool {
+pub(crate) fn is_blank(byte: u8) -> bool {
     matches!(byte, b' ' | b'\t' | b'\n' | b'\r')
 }
 
 /// Why no token begins here.
-pub fn fault_of(rest: &[u8]) -> Fault {
+pub(crate) fn fault_of(rest: &[u8]) -> Fault {
     let Some(first) = rest.first() else {
         return Fault::EndsEarly;
     };

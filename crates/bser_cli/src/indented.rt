@@ -30,7 +30,7 @@ enum Last {
 /// The kit's `Pretty` gives its text as a whole. So its layout is made here, and its writer gives the
 /// text of each token.
 #[derive(Drop)]
-pub struct Indented {
+pub(crate) struct Indented {
     alloc: Global,
     text: Vec<u8>,
     last: Last,
@@ -40,7 +40,7 @@ pub struct Indented {
 
 impl Indented {
     /// Nothing is put.
-    pub fn new(alloc: Global) -> Self
+    pub(crate) fn new(alloc: Global) -> Self
         ensures { (start : Option (List ℕ)) → PrintsLines start start [] result }
     {
         Indented {
@@ -53,7 +53,7 @@ impl Indented {
 
     /// Puts a token, and writes what is put where that is enough. The errors are that there is no
     /// memory for the token, and those of the writer.
-    pub fn put<W: Write>(&mut self, token: Token<'_>, out: &mut W) -> Result<(), Trouble>
+    pub(crate) fn put<W: Write>(&mut self, token: Token<'_>, out: &mut W) -> Result<(), Trouble>
         requires { IsPrintable (token_of token) }
         ensures { (start : Option (List ℕ)) (ts : List tokens.Token)
             → PrintsLines start (W.contents out.old) ts self.old
@@ -68,7 +68,7 @@ impl Indented {
     }
 
     /// Writes what is put. The errors are those of the writer.
-    pub fn write_to<W: Write>(&mut self, out: &mut W) -> Result<(), Trouble>
+    pub(crate) fn write_to<W: Write>(&mut self, out: &mut W) -> Result<(), Trouble>
         ensures kept { (start : Option (List ℕ)) (ts : List tokens.Token)
             → PrintsLines start (W.contents out.old) ts self.old
             → OnOk result (PrintsLines start (W.contents out.new) ts self.new) }

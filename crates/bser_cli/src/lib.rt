@@ -3,16 +3,16 @@
 
 mod canon;
 mod command;
-pub mod fault;
+mod fault;
 mod indented;
-pub mod lines;
-pub mod order;
+mod lines;
+mod order;
 mod pending;
-pub mod pointer;
-pub mod printing;
+mod pointer;
+mod printing;
 pub mod program;
-pub mod reading;
+mod reading;
 mod split;
 pub mod standard;
-pub mod texts;
-pub mod writing;
+mod texts;
+mod writing;

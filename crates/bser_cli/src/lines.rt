@@ -6,7 +6,7 @@ use bser_document::document::Document;
 use bser_document::item::Item;
 use bser_messages::limits::Limits;
 use bser_source::device::Source;
-use bser_views::messages::{Failure, View};
+use bser_views::messages::{View, ViewError};
 use std::alloc::Global;
 use std::io::Write;
 
@@ -24,7 +24,7 @@ impl View for Json {
         _start: u64,
         reader: &mut S,
         out: &mut W,
-    ) -> Result<bool, Failure> {
+    ) -> Result<bool, ViewError> {
         match Document::next_message(alloc, Limits::new(), reader)? {
             Some(document) => {
                 put_line(alloc, document.root(), self.layout, out)?;
@@ -41,7 +41,7 @@ pub(crate) fn put_line<W: Write>(
     item: Item<'_>,
     layout: Layout,
     out: &mut W,
-) -> Result<(), Failure> {
+) -> Result<(), ViewError> {
     let out = write_json(alloc, item, layout, out)?;
     out.write_all(b"\n")?;
     Ok(())

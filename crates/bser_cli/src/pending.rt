@@ -20,7 +20,7 @@ const MOST_BYTES: usize = 8192;
 /// The kit's writer places commas by what stands before. So its text begins with a token that ends a
 /// value where what is written does, and the bytes of this lead are left out.
 #[derive(Drop)]
-pub struct Pending {
+pub(crate) struct Pending {
     alloc: Global,
     writer: Writer,
     // whether the lead ends a value
@@ -33,7 +33,7 @@ pub struct Pending {
 
 impl Pending {
     /// Nothing is put.
-    pub fn new(alloc: Global) -> Result<Self, AllocError>
+    pub(crate) fn new(alloc: Global) -> Result<Self, AllocError>
         ensures { (start : Option (List ℕ)) → IfOk result (PrintsLine start start []) }
     {
         Ok(Pending {
@@ -47,7 +47,7 @@ impl Pending {
 
     /// Puts a token, and writes what is put where that is enough. The errors are that there is no
     /// memory for the token, and those of the writer.
-    pub fn put<W: Write>(&mut self, token: Token<'_>, out: &mut W) -> Result<(), Trouble>
+    pub(crate) fn put<W: Write>(&mut self, token: Token<'_>, out: &mut W) -> Result<(), Trouble>
         requires { IsPrintable (token_of token) }
         ensures { (start : Option (List ℕ)) (ts : List tokens.Token)
             → PrintsLine start (W.contents out.old) ts self.old
@@ -62,7 +62,7 @@ impl Pending {
     }
 
     /// Writes what is put. The errors are those of the writer, and that there is no memory.
-    pub fn write_to<W: Write>(&mut self, out: &mut W) -> Result<(), Trouble>
+    pub(crate) fn write_to<W: Write>(&mut self, out: &mut W) -> Result<(), Trouble>
         ensures kept { (start : Option (List ℕ)) (ts : List tokens.Token)
             → PrintsLine start (W.contents out.old) ts self.old
             → OnOk result (PrintsLine start (W.contents out.new) ts self.new) }

@@ -5,7 +5,7 @@ use crate::printing::Layout;
 use bser_document::document::Document;
 use bser_messages::limits::Limits;
 use bser_source::device::Source;
-use bser_views::messages::{Failure, View};
+use bser_views::messages::{View, ViewError};
 use std::alloc::Global;
 use std::io::Write;
 
@@ -26,14 +26,14 @@ impl View for Get<'_> {
         _start: u64,
         reader: &mut S,
         out: &mut W,
-    ) -> Result<bool, Failure> {
+    ) -> Result<bool, ViewError> {
         match Document::next_message(alloc, Limits::new(), reader)? {
             Some(document) => match document.root().pointer(self.pointer) {
                 Some(item) => {
                     put_line(alloc, item, self.layout, out)?;
                     Ok(true)
                 }
-                None => Err(Failure::Absent),
+                None => Err(ViewError::Absent),
             },
             None => Ok(false),
         }

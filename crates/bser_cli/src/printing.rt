@@ -25,7 +25,7 @@ pub enum Layout {
 
 /// A JSON text, as far as it is put, and the writer that takes it.
 #[derive(Drop)]
-pub struct Printing<W> {
+pub(crate) struct Printing<W> {
     out: W,
     text: Text,
 }
@@ -41,7 +41,7 @@ enum Text {
 
 impl<W: Write + Drop> Printing<W> {
     /// An empty text. The error is that there is no memory.
-    pub fn new(alloc: Global, layout: Layout, out: W) -> Result<Self, AllocError>
+    pub(crate) fn new(alloc: Global, layout: Layout, out: W) -> Result<Self, AllocError>
         ensures { IfOk result (Prints W.contents (W.contents out) layout []) }
     {
         let text = match layout {
@@ -52,7 +52,7 @@ impl<W: Write + Drop> Printing<W> {
     }
 
     /// Writes what is not written, and gives the writer back.
-    pub fn finish(self) -> Result<W, Trouble>
+    pub(crate) fn finish(self) -> Result<W, Trouble>
         ensures { (start : Option (List ℕ)) (layout : layouts.Layout) (ts : List tokens.Token)
             → Prints W.contents start layout ts self
             → IfOk result (λ out. Appends start (W.contents out) (laid_out layout ts)) }
@@ -68,7 +68,7 @@ impl<W: Write + Drop> Printing<W> {
 
 impl<W: Write> Printing<W> {
     /// Puts a token. What is put is written where it is enough.
-    pub fn token(&mut self, token: Token<'_>) -> Result<(), Trouble>
+    pub(crate) fn token(&mut self, token: Token<'_>) -> Result<(), Trouble>
         requires { IsPrintable (token_of token) }
         ensures { OnOk result (Puts W.contents (token_of token.entry ∷ []) self.old self.new) }
     {

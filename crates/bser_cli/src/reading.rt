@@ -2,15 +2,13 @@
 ghost use Rattle.std.specs.Prelude.{◌<◌, IfOk};
 
 use crate::fault::{Fault, JsonError, blanks, fault_of, place_of};
+use bser_deserializer::deserializer::LEVELS;
 use bser_format::bytestring::ByteString;
 use bser_value::value::Value;
 use hex::FromHexError;
 use json::{Reader, Scratch, Token};
 use std::alloc::Global;
 use std::collections::BTreeMap;
-
-/// How deep a value may nest, as a message.
-const LEVELS: usize = 128;
 
 /// Under which tag strings are written.
 #[derive(Debug, Clone, Copy, PartialEq, Eq)]

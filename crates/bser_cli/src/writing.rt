@@ -21,8 +21,9 @@ ghost use Rattle.bser_cli.specs.Said.{
 };
 
 use crate::printing::{Layout, Printing};
+use bser_deserializer::deserializer::MOST_LEVELS;
 use bser_document::entries::Entries;
-use bser_document::item::{Item, Kind};
+use bser_document::item::{Item, ItemKind};
 use bser_document::items::Items;
 use bser_format::real::float_of;
 use bser_views::trouble::Trouble;
@@ -31,8 +32,9 @@ use std::alloc::Global;
 use std::collections::BTreeMap;
 use std::io::Write;
 
-/// How many containers a value may be inside of. A message that is read nests no deeper.
-const MOST_AROUND: usize = 4096;
+/// How many containers a value may be inside of. A message that is read nests no deeper: a level is
+/// one container, and two where it is a template and one of its rows.
+const MOST_AROUND: usize = 2 * MOST_LEVELS;
 
 /// Writes the value as a JSON text, as `{}` prints it, in this layout, and gives the writer back. An
 /// object has each key once, in rising order, with its last value; a template is an array of objects,
@@ -68,7 +70,7 @@ fn put_item<W: Write>(
         → OnOk result (PutsSaid W.contents (Says u) out.old out.new) }
 {
     match item.kind() {
-        Kind::Array | Kind::Object => put_container(alloc, item, room, out),
+        ItemKind::Array | ItemKind::Object => put_container(alloc, item, room, out),
         _ => put_scalar(alloc, item, out),
     }
 }

@@ -49,3 +49,4 @@ pub mod CompactMessages
 pub mod Shorter
 pub mod LastKeys
 pub mod LeastCompact
+pub mod Samples

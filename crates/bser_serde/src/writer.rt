@@ -16,7 +16,7 @@ const MOST_COUNTED: usize = i64::MAX as usize;
 
 /// A map that is open.
 #[derive(Clone, Copy, Drop)]
-enum Open {
+enum OpenMap {
     /// Its number of entries was given.
     Given,
     /// Its entries are counted here.
@@ -27,7 +27,7 @@ enum Open {
 
 /// What the next value is.
 #[derive(Clone, Copy, PartialEq, Eq, Drop)]
-enum Due {
+enum Role {
     Value,
     Key,
     /// A map whose entries go into the one that is open, or a unit that has none.
@@ -41,10 +41,10 @@ enum Due {
 #[derive(Drop)]
 pub(crate) struct Writer {
     out: Puts<InMemory>,
-    due: Due,
+    role: Role,
     /// Whether the innermost map that is open does not know its number of entries.
     is_counting: bool,
-    open: Vec<Open>,
+    open: Vec<OpenMap>,
     /// The entries of each map that does not know their number, in the order of their beginnings.
     counts: Vec<usize>,
     /// Those that an earlier writer counted, and how many of these were used.
@@ -80,7 +80,7 @@ impl Writer {
     pub(crate) fn new(alloc: Global, known: Vec<usize>) -> Writer {
         Writer {
             out: Puts::new(alloc, InMemory::new(Vec::new(alloc))),
-            due: Due::Value,
+            role: Role::Value,
             is_counting: false,
             open: Vec::new(alloc),
             counts: Vec::new(alloc),
@@ -102,7 +102,7 @@ impl Writer {
     /// The value that comes is no map and no text.
     #[inline(always)]
     fn expect_value(&self) -> Put {
-        if self.due == Due::Value {
+        if self.role == Role::Value {
             return Ok(());
         }
         Err(self.unexpected())
@@ -112,7 +112,7 @@ impl Writer {
     #[cold]
     #[inline(never)]
     fn unexpected(&self) -> Failure {
-        if self.due == Due::Key {
+        if self.role == Role::Key {
             return refusal(self.alloc, "a key that is no text");
         }
         refusal(self.alloc, "a flattened value that is no object")
@@ -125,8 +125,8 @@ impl Writer {
         for _ in 0..self.open.len() {
             level = level.saturating_sub(1);
             match self.open.get(level) {
-                Some(Open::Merged) => {}
-                Some(Open::Counted(place)) => {
+                Some(OpenMap::Merged) => {}
+                Some(OpenMap::Counted(place)) => {
                     if let Some(count) = self.counts.get_mut(*place) {
                         *count = count.saturating_add(1);
                     }
@@ -149,13 +149,13 @@ impl Writer {
     /// Puts a text, or a key where one is due.
     #[inline(always)]
     fn put_str(&mut self, text: &str) -> Put {
-        match self.due {
-            Due::Value => answered(self.out.add_text(text)),
-            Due::Key => {
-                self.due = Due::Value;
+        match self.role {
+            Role::Value => answered(self.out.add_text(text)),
+            Role::Key => {
+                self.role = Role::Value;
                 self.put_key(text)
             }
-            Due::Flat => Err(self.unexpected()),
+            Role::Flat => Err(self.unexpected()),
         }
     }
 
@@ -185,7 +185,7 @@ impl Writer {
 
     /// Puts the head of a map, which is open then.
     #[inline(always)]
-    fn open_map(&mut self, count: usize, open: Open) -> Put {
+    fn open_map(&mut self, count: usize, open: OpenMap) -> Put {
         if count > MOST_COUNTED {
             return Err(self.too_many());
         }
@@ -195,8 +195,8 @@ impl Writer {
 
     /// A map is open.
     #[inline(always)]
-    fn push(&mut self, open: Open) -> Put {
-        self.is_counting = !matches!(open, Open::Given);
+    fn push(&mut self, open: OpenMap) -> Put {
+        self.is_counting = !matches!(open, OpenMap::Given);
         match self.open.push(open) {
             Ok(()) => Ok(()),
             Err(_) => Err(Failure::MEMORY),
@@ -206,8 +206,8 @@ impl Writer {
     /// Begins a map whose entries go into the one that is open.
     #[inline(never)]
     fn merge(&mut self) -> Put {
-        self.due = Due::Value;
-        self.push(Open::Merged)
+        self.role = Role::Value;
+        self.push(OpenMap::Merged)
     }
 
     /// Begins a map that does not know how many entries it has.
@@ -222,7 +222,7 @@ impl Writer {
             None => 0,
         };
         self.used = self.used.saturating_add(1);
-        self.open_map(count, Open::Counted(place))
+        self.open_map(count, OpenMap::Counted(place))
     }
 
     /// A count has no form in a message.

@@ -1,10 +1,7 @@
 //! A copy of a message, made as it is told.
 ghost use Rattle.std.specs.Prelude.{true, false};
 
-use bser_format::header::{
-    BSER_ARRAY, BSER_BYTESTRING, BSER_FALSE, BSER_INT8, BSER_INT16, BSER_INT32, BSER_INT64,
-    BSER_NULL, BSER_OBJECT, BSER_REAL, BSER_SKIP, BSER_TEMPLATE, BSER_TRUE, BSER_UTF8STRING,
-};
+use bser_format::header::{BSER_ARRAY, integer_tag};
 use serde_bser::tell::{Builder, Event, Place, Stop};
 use std::alloc::{AllocError, Global};
 
@@ -30,38 +27,27 @@ impl Copied {
         self.bytes.as_slice()
     }
 
-    /// Puts a tag and what follows it.
-    fn put_tagged(&mut self, tag: u8, bytes: &[u8]) -> Result<(), AllocError> {
-        self.bytes.push(tag)?;
-        self.bytes.extend_from_slice(bytes)
-    }
-
-    /// Puts an integer of so many bytes, its tag among them.
-    fn put_integer(&mut self, number: i64, size: usize) -> Result<(), AllocError> {
+    /// Puts an integer in so many bytes.
+    fn put_number(&mut self, number: i64, width: usize) -> Result<(), AllocError> {
         let bytes = number.to_le_bytes();
-        match size {
-            2 => self.put_tagged(BSER_INT8, &bytes[..1]),
-            3 => self.put_tagged(BSER_INT16, &bytes[..2]),
-            5 => self.put_tagged(BSER_INT32, &bytes[..4]),
-            _ => self.put_tagged(BSER_INT64, &bytes),
+        match width {
+            1 => self.bytes.extend_from_slice(&bytes[..1]),
+            2 => self.bytes.extend_from_slice(&bytes[..2]),
+            4 => self.bytes.extend_from_slice(&bytes[..4]),
+            _ => self.bytes.extend_from_slice(&bytes),
         }
     }
 
-    /// Puts a head of so many bytes: these tags, and a count.
-    fn put_head(&mut self, tags: &[u8], count: usize, size: usize) -> Result<(), AllocError> {
-        self.bytes.extend_from_slice(tags)?;
-        let count = i64::try_from(count).unwrap_or(i64::MAX);
-        self.put_integer(count, size.saturating_sub(tags.len()))
+    /// Puts a length or a count, which has so many bytes with its tag.
+    fn put_count(&mut self, count: usize, size: usize) -> Result<(), AllocError> {
+        let width = size.saturating_sub(1);
+        self.bytes.push(integer_tag(width))?;
+        self.put_number(i64::try_from(count).unwrap_or(i64::MAX), width)
     }
 
-    /// Puts a string, which has so many bytes with its head.
-    fn put_string(&mut self, string: &[u8], is_text: bool, size: usize) -> Result<(), AllocError> {
-        let tag = if is_text {
-            BSER_UTF8STRING
-        } else {
-            BSER_BYTESTRING
-        };
-        self.put_head(&[tag], string.len(), size.saturating_sub(string.len()))?;
+    /// Puts a string behind its tag. It has so many bytes with its length.
+    fn put_string(&mut self, string: &[u8], size: usize) -> Result<(), AllocError> {
+        self.put_count(string.len(), size.saturating_sub(string.len()))?;
         self.bytes.extend_from_slice(string)
     }
 
@@ -70,22 +56,23 @@ impl Copied {
         for _ in self.bytes.len()..place.start {
             self.bytes.push(0)?;
         }
-        let size = place.end.saturating_sub(place.start);
+        if let Some(tag) = event.tag(place) {
+            self.bytes.push(tag)?;
+        }
+        let size = place.size();
+        let behind = size.saturating_sub(1);
         match event {
-            Event::Null => self.bytes.extend_from_slice(&[BSER_NULL]),
-            Event::Skip => self.bytes.extend_from_slice(&[BSER_SKIP]),
-            Event::Bool(true) => self.bytes.extend_from_slice(&[BSER_TRUE]),
-            Event::Bool(false) => self.bytes.extend_from_slice(&[BSER_FALSE]),
-            Event::Int(number) => self.put_integer(number, size),
-            Event::Real(bits) => self.put_tagged(BSER_REAL, &bits.to_le_bytes()),
-            Event::Bytes(string) => self.put_string(string, false, size),
-            Event::Text(text) => self.put_string(text.as_bytes(), true, size),
-            Event::Key(key) => self.put_string(key.as_bytes(), place.is_text, size),
-            Event::Array { len } => self.put_head(&[BSER_ARRAY], len, size),
-            Event::Object { len } => self.put_head(&[BSER_OBJECT], len, size),
-            Event::Template { len } => self.put_head(&[BSER_TEMPLATE, BSER_ARRAY], len, size),
-            Event::Rows { len } => self.put_head(&[], len, size),
-            Event::Close => Ok(()),
+            Event::Int(number) => self.put_number(number, behind),
+            Event::Real(bits) => self.bytes.extend_from_slice(&bits.to_le_bytes()),
+            Event::Bytes(string) => self.put_string(string, behind),
+            Event::Text(string) | Event::Key(string) => self.put_string(string.as_bytes(), behind),
+            Event::Array { len } | Event::Object { len } => self.put_count(len, behind),
+            Event::Template { len } => {
+                self.bytes.push(BSER_ARRAY)?;
+                self.put_count(len, behind.saturating_sub(1))
+            }
+            Event::Rows { len } => self.put_count(len, size),
+            Event::Null | Event::Bool(_) | Event::Skip | Event::Close => Ok(()),
         }
     }
 }

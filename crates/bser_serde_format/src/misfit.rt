@@ -1,6 +1,5 @@
 //! What a type does not read of a well-formed message.
-use serde_bser::describe::Path;
-use serde_bser::describe::{FieldName, Wanted};
+use serde_bser::describe::{FieldName, Path, Wanted};
 use serde_bser::document::Kind;
 use std::fmt;
 

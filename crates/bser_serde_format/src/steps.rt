@@ -9,7 +9,7 @@ use std::alloc::{AllocError, Global};
 
 /// A container that is open, and which of its parts was begun last.
 #[derive(Clone, Copy, Drop)]
-enum Open {
+enum Container {
     /// So many items were begun.
     Array(usize),
     /// The value of this key was.
@@ -26,7 +26,7 @@ enum Open {
 /// A container that is open.
 #[derive(Clone, Copy, Drop)]
 struct Level {
-    open: Open,
+    container: Container,
     /// How many items, keys and values, or fields are not begun yet.
     left: usize,
 }
@@ -48,10 +48,10 @@ impl<'m> Opened<'m> {
     /// An item, a key, a value or a field begins.
     fn begin(&mut self) {
         if let Some(level) = self.levels.last_mut() {
-            match &mut level.open {
-                Open::Array(items) => *items = items.saturating_add(1),
-                Open::Template { fields, .. } => *fields = fields.saturating_add(1),
-                Open::Object(key) => {
+            match &mut level.container {
+                Container::Array(items) => *items = items.saturating_add(1),
+                Container::Template { fields, .. } => *fields = fields.saturating_add(1),
+                Container::Object(key) => {
                     if level.left % 2 == 0 {
                         *key = None;
                     }
@@ -65,7 +65,7 @@ impl<'m> Opened<'m> {
     fn put_key(&mut self) {
         let span = string_at(self.bytes, self.at);
         if let Some(level) = self.levels.last_mut() {
-            if let Open::Object(key) = &mut level.open {
+            if let Container::Object(key) = &mut level.container {
                 if level.left % 2 == 1 {
                     *key = span;
                 }
@@ -74,9 +74,9 @@ impl<'m> Opened<'m> {
     }
 
     /// Opens a container whose parts begin at this place.
-    fn open(&mut self, open: Open, left: usize, at: usize) -> Result<(), AllocError> {
+    fn open(&mut self, container: Container, left: usize, at: usize) -> Result<(), AllocError> {
         self.at = at;
-        self.levels.push(Level { open, left })?;
+        self.levels.push(Level { container, left })?;
         Ok(())
     }
 
@@ -86,12 +86,12 @@ impl<'m> Opened<'m> {
             self.at = self.bytes.len();
             return Ok(());
         };
-        let open = Open::Template {
+        let container = Container::Template {
             keys: table.keys,
             len: table.len,
             fields: 0,
         };
-        self.open(open, table.size(), table.fields)
+        self.open(container, table.size(), table.fields)
     }
 
     /// Goes past the scalar, the string or the head that comes.
@@ -102,8 +102,12 @@ impl<'m> Opened<'m> {
         };
         let after = self.at.saturating_add(len);
         match token {
-            Token::Array { len } => self.open(Open::Array(0), len, after),
-            Token::Object { len } => self.open(Open::Object(None), len.saturating_mul(2), after),
+            Token::Array { len } => self.open(Container::Array(0), len, after),
+            Token::Object { len } => self.open(
+                Container::Object(None),
+                len.saturating_mul(2),
+                after,
+            ),
             Token::Template => self.open_template(),
             Token::Str { is_text: _, len } => {
                 self.put_key();
@@ -148,17 +152,17 @@ impl<'m> Opened<'m> {
     fn put(
         &self,
         alloc: Global,
-        open: Open,
+        container: Container,
         is_whole: bool,
         steps: &mut Vec<Step>,
     ) -> Result<(), AllocError> {
-        match open {
-            Open::Array(items) if !is_whole && items > 0 => {
+        match container {
+            Container::Array(items) if !is_whole && items > 0 => {
                 steps.push(Step::Index(items - 1))?;
                 Ok(())
             }
-            Open::Object(Some(span)) if !is_whole => self.put_step(alloc, span, steps),
-            Open::Template { keys, len, fields } if fields > 0 && len > 0 => {
+            Container::Object(Some(span)) if !is_whole => self.put_step(alloc, span, steps),
+            Container::Template { keys, len, fields } if fields > 0 && len > 0 => {
                 steps.push(Step::Index((fields - 1) / len))?;
                 match self.key_at(keys, (fields - 1) % len) {
                     Some(span) if !is_whole => self.put_step(alloc, span, steps),
@@ -194,9 +198,9 @@ pub fn steps_to(
     let mut steps = Vec::new(alloc);
     let count = opened.levels.len();
     for level in 0..count {
-        if let Some(Level { open, .. }) = opened.levels.get(level) {
+        if let Some(Level { container, .. }) = opened.levels.get(level) {
             let is_last = level.saturating_add(1) == count;
-            opened.put(alloc, *open, is_last && site.is_whole, &mut steps)?;
+            opened.put(alloc, *container, is_last && site.is_whole, &mut steps)?;
         }
     }
     Ok(steps)

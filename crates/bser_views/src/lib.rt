@@ -6,13 +6,13 @@
 
 pub mod beside;
 pub mod counted;
-pub mod counts;
+mod counts;
 pub mod messages;
 mod open;
 mod quoted;
 pub mod reports;
 pub mod screen;
 pub mod summary;
-pub mod tally;
+mod tally;
 pub mod tree;
 pub mod trouble;

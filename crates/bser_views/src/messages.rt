@@ -12,7 +12,7 @@ use std::io::Write;
 
 /// Why a message was not shown whole.
 #[derive(Debug, Drop)]
-pub enum Failure {
+pub enum ViewError {
     /// The message, the memory or the reader failed.
     Untold(Untold),
     /// The message was taken, and cannot be written again.
@@ -25,29 +25,29 @@ pub enum Failure {
     Output(io::Error),
 }
 
-impl From<io::Error> for Failure {
+impl From<io::Error> for ViewError {
     fn from(fault: io::Error) -> Self {
-        Failure::Output(fault)
+        ViewError::Output(fault)
     }
 }
 
-impl From<Untold> for Failure {
+impl From<Untold> for ViewError {
     fn from(untold: Untold) -> Self {
-        Failure::Untold(untold)
+        ViewError::Untold(untold)
     }
 }
 
-impl From<AllocError> for Failure {
+impl From<AllocError> for ViewError {
     fn from(_error: AllocError) -> Self {
-        Failure::Memory
+        ViewError::Memory
     }
 }
 
-impl From<Trouble> for Failure {
+impl From<Trouble> for ViewError {
     fn from(trouble: Trouble) -> Self {
         match trouble {
-            Trouble::Memory => Failure::Memory,
-            Trouble::Output(fault) => Failure::Output(fault),
+            Trouble::Memory => ViewError::Memory,
+            Trouble::Output(fault) => ViewError::Output(fault),
         }
     }
 }
@@ -62,7 +62,7 @@ pub trait View {
         start: u64,
         reader: &mut S,
         out: &mut W,
-    ) -> Result<bool, Failure>;
+    ) -> Result<bool, ViewError>;
 }
 
 /// Where messages come from, and what is done after one that fails.
@@ -100,7 +100,7 @@ pub fn show_messages<S: Source, V: View, W: Write, E: Write>(
                 }
             }
             Ok(false) => return Ok(whole),
-            Err(Failure::Output(fault)) => return Err(fault),
+            Err(ViewError::Output(fault)) => return Err(fault),
             Err(failure) => {
                 whole = false;
                 out.flush()?;
@@ -115,31 +115,31 @@ pub fn show_messages<S: Source, V: View, W: Write, E: Write>(
 }
 
 /// Writes a line on a message that begins at byte `start`, and was not shown whole.
-fn report<E: Write>(name: &str, start: u64, failure: &Failure, errors: &mut E) {
+fn report<E: Write>(name: &str, start: u64, failure: &ViewError, errors: &mut E) {
     let _written = match failure {
-        Failure::Untold(untold) => {
+        ViewError::Untold(untold) => {
             let place = start.saturating_add(place_of(untold) as u64);
             writeln!(
                 errors,
                 "bser: {name}: byte {place}: {untold} of the message at {start}"
             )
         }
-        Failure::Unwritten(error) => {
+        ViewError::Unwritten(error) => {
             writeln!(errors, "bser: {name}: the message at {start}: {error}")
         }
-        Failure::Absent => {
+        ViewError::Absent => {
             writeln!(
                 errors,
                 "bser: {name}: the message at {start} has nothing there"
             )
         }
-        Failure::Memory => {
+        ViewError::Memory => {
             writeln!(
                 errors,
                 "bser: {name}: the message at {start}: out of memory"
             )
         }
-        Failure::Output(fault) => writeln!(errors, "bser: the output failed: {fault}"),
+        ViewError::Output(fault) => writeln!(errors, "bser: the output failed: {fault}"),
     };
 }
 
@@ -156,12 +156,12 @@ fn place_of(untold: &Untold) -> usize {
 fn goes_on<S: Source, E: Write>(
     alloc: Global,
     name: &str,
-    failure: &Failure,
+    failure: &ViewError,
     counted: &mut Counted<'_, '_, S, E>,
 ) -> bool {
     let untold = match failure {
-        Failure::Untold(untold) if !is_of_reader(untold) => untold,
-        Failure::Absent | Failure::Memory | Failure::Unwritten(_) => return true,
+        ViewError::Untold(untold) if !is_of_reader(untold) => untold,
+        ViewError::Absent | ViewError::Memory | ViewError::Unwritten(_) => return true,
         _ => return false,
     };
     let why = match untold.skip_rest(alloc, counted) {

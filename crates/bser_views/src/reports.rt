@@ -36,12 +36,12 @@ impl<'s, E: Write> Reports<'s, E> {
     }
 
     /// Whether somebody waits for the output of each message, since it goes to a terminal.
-    pub fn has_watched_output(&self) -> bool {
+    pub(crate) fn has_watched_output(&self) -> bool {
         self.screen.has_output()
     }
 
     /// Counts bytes that were read.
-    pub fn count_bytes(&mut self, count: usize) {
+    pub(crate) fn count_bytes(&mut self, count: usize) {
         self.bytes = self.bytes.saturating_add(count as u64);
         self.work(count);
     }

@@ -1,13 +1,29 @@
 //! What a message has, printed.
 
-use crate::counts::Kinds;
-use crate::messages::{Failure, View};
+use crate::messages::{View, ViewError};
 use crate::tally::{Summed, next_summed};
+use bser_events::event::EventKind;
 use bser_messages::limits::Limits;
 use bser_source::device::Source;
 use std::alloc::Global;
 use std::io;
 use std::io::Write;
+
+/// The kinds that have a line each, in the order of the lines, with their names there.
+const NAMES: [(EventKind, &str); 12] = [
+    (EventKind::Array, "array"),
+    (EventKind::Object, "object"),
+    (EventKind::Template, "template"),
+    (EventKind::Rows, "row counts"),
+    (EventKind::Key, "key"),
+    (EventKind::Bytes, "bytes"),
+    (EventKind::Text, "text"),
+    (EventKind::Int, "integer"),
+    (EventKind::Real, "real"),
+    (EventKind::Bool, "true, false"),
+    (EventKind::Null, "null"),
+    (EventKind::Skip, "skip"),
+];
 
 /// Shows how long a message is, how many values it has and how deep they nest, and for each kind
 /// how many parts there are and how many bytes they take.
@@ -21,7 +37,7 @@ impl View for Summary {
         start: u64,
         reader: &mut S,
         out: &mut W,
-    ) -> Result<bool, Failure> {
+    ) -> Result<bool, ViewError> {
         match next_summed(alloc, Limits::new(), reader)? {
             Some(summed) => {
                 put_summary(out, start, &summed)?;
@@ -42,28 +58,16 @@ fn put_summary<W: Write>(out: &mut W, start: u64, summed: &Summed) -> io::Result
         out,
         "message at {start}: bytes {len}, nodes {nodes}, depth {depth}"
     )?;
-    if counts.kinds.template > 0 {
-        let (templates, rows) = (counts.kinds.template, counts.rows);
+    let templates = counts.kinds.of(EventKind::Template);
+    if templates > 0 {
+        let rows = counts.rows;
         writeln!(out, "  templates {templates}, rows of them {rows}")?;
     }
     put_kind(out, "header", 1, header.start as u64)?;
-    put_kinds(out, &counts.kinds, &tally.bytes)
-}
-
-/// Prints a line for each kind that there is: its name, how many, and how many bytes.
-fn put_kinds<W: Write>(out: &mut W, counts: &Kinds, bytes: &Kinds) -> io::Result<()> {
-    put_kind(out, "array", counts.array, bytes.array)?;
-    put_kind(out, "object", counts.object, bytes.object)?;
-    put_kind(out, "template", counts.template, bytes.template)?;
-    put_kind(out, "row counts", counts.rows, bytes.rows)?;
-    put_kind(out, "key", counts.key, bytes.key)?;
-    put_kind(out, "bytes", counts.bytes, bytes.bytes)?;
-    put_kind(out, "text", counts.text, bytes.text)?;
-    put_kind(out, "integer", counts.integer, bytes.integer)?;
-    put_kind(out, "real", counts.real, bytes.real)?;
-    put_kind(out, "true, false", counts.boolean, bytes.boolean)?;
-    put_kind(out, "null", counts.null, bytes.null)?;
-    put_kind(out, "skip", counts.skip, bytes.skip)
+    for (kind, name) in NAMES {
+        put_kind(out, name, counts.kinds.of(kind), tally.bytes.of(kind))?;
+    }
+    Ok(())
 }
 
 /// Prints the line of a kind, if there are parts of it.

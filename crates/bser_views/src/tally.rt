@@ -3,9 +3,9 @@ ghost use Rattle.std.specs.Prelude.{◌≤◌, IfOk};
 ghost use Rattle.bser_deserializer.specs.declared.deserializer.TheConstants.{MOST_LEVELS};
 ghost use Rattle.bser_views.specs.Summed.{IsNextSummed};
 
-use crate::counts::{Counts, Kinds, Part, part_of};
+use crate::counts::{Counts, Kinds};
 use bser_events::builder::{Builder, Stop};
-use bser_events::event::{Event, Place};
+use bser_events::event::{Event, EventKind, Place};
 use bser_messages::limits::Limits;
 use bser_messages::telling;
 use bser_messages::told::{Header, Untold};
@@ -48,14 +48,12 @@ impl Builder for Tally {
 
     fn take(&mut self, event: Event<'_>, place: Place) -> Result<(), Stop> {
         self.counts.count(&event);
-        let width = place.end.saturating_sub(place.start);
-        self.bytes.add(part_of(&event), width as u64);
+        self.bytes.add(event.kind(), place.size() as u64);
         Ok(())
     }
 
     fn bytes_passed(&mut self, _len: usize, place: Place) -> Result<(), Stop> {
-        let width = place.end.saturating_sub(place.start);
-        self.bytes.add(Part::Bytes, width as u64);
+        self.bytes.add(EventKind::Bytes, place.size() as u64);
         Ok(())
     }
 }

@@ -1,6 +1,6 @@
 //! A line for each part of a message.
 
-use crate::messages::{Failure, View};
+use crate::messages::{View, ViewError};
 use crate::open::Open;
 use crate::quoted::{Quoted, Real};
 use crate::trouble::Trouble;
@@ -39,11 +39,11 @@ impl View for Show {
         start: u64,
         reader: &mut S,
         out: &mut W,
-    ) -> Result<bool, Failure> {
+    ) -> Result<bool, ViewError> {
         let mut tree = Tree::new(alloc, self.style, start, out);
         let told = telling::next_message(alloc, Limits::new(), reader, &mut tree);
         if let Some(fault) = tree.take_fault() {
-            return Err(Failure::Output(fault));
+            return Err(ViewError::Output(fault));
         }
         match told? {
             Some(header) => {
@@ -116,7 +116,7 @@ impl<'o, W: Write> Tree<'o, W> {
         match self.style {
             Style::Full => put_full(self.out, event, place)?,
             Style::Offsets => put_kind(self.out, event, place)?,
-            Style::Values => put_value(self.out, event)?,
+            Style::Values => put_value(self.out, event, place)?,
         }
         self.keep(event)?;
         Ok(())
@@ -137,8 +137,8 @@ impl<'o, W: Write> Tree<'o, W> {
             return write!(self.out, "{:indent$}", "");
         }
         let offset = self.start.saturating_add(place.start as u64);
-        let width = width_of(place);
-        match tag_of(event, place) {
+        let width = place.size();
+        match event.tag(place) {
             Some(tag) => write!(self.out, "{offset:>8} {tag:02x} {width:>6}  {:indent$}", ""),
             None => write!(self.out, "{offset:>8}    {width:>6}  {:indent$}", ""),
         }
@@ -216,49 +216,17 @@ impl<W: Write> Builder for Tree<'_, W> {
     }
 }
 
-/// How many bytes a part has: a container's head, or all of another.
-fn width_of(place: Place) -> usize {
-    place.end.saturating_sub(place.start)
-}
-
-/// The tag that a part begins with. The rows of a template have none.
-fn tag_of(event: &Event<'_>, place: Place) -> Option<u8> {
-    let string = if place.is_text { 0x0d } else { 0x02 };
-    match event {
-        Event::Null => Some(0x0a),
-        Event::Bool(true) => Some(0x08),
-        Event::Bool(false) => Some(0x09),
-        Event::Int(_) => Some(int_tag(width_of(place))),
-        Event::Real(_) => Some(0x07),
-        Event::Bytes(_) | Event::Text(_) | Event::Key(_) => Some(string),
-        Event::Array { .. } => Some(0x00),
-        Event::Object { .. } => Some(0x01),
-        Event::Template { .. } => Some(0x0b),
-        Event::Skip => Some(0x0c),
-        Event::Rows { .. } | Event::Close => None,
-    }
-}
-
-/// The tag of an integer that has so many bytes with it.
-fn int_tag(width: usize) -> u8 {
-    match width {
-        2 => 0x03,
-        3 => 0x04,
-        5 => 0x05,
-        _ => 0x06,
-    }
-}
-
 /// Prints the kind and the value of a part.
 fn put_full<W: Write>(out: &mut W, event: Event<'_>, place: Place) -> io::Result<()> {
     match event {
-        Event::Int(number) => writeln!(out, "int{} {number}", int_bits(place)),
-        Event::Real(bits) => writeln!(out, "real {}", Real(bits)),
-        Event::Bytes(bytes) => writeln!(out, "bytes {}", Quoted(bytes)),
-        Event::Text(text) => writeln!(out, "text {text:?}"),
-        Event::Key(key) => writeln!(out, "{} {key:?}", string_name(place)),
-        other => put_kind(out, other, place),
+        Event::Int(_) => write!(out, "int{} ", int_bits(place))?,
+        Event::Real(_) => write!(out, "real ")?,
+        Event::Bytes(_) | Event::Text(_) | Event::Key(_) => {
+            write!(out, "{} ", string_name(place))?;
+        }
+        _ => {}
     }
+    put_value(out, event, place)
 }
 
 /// Prints the kind of a part, and of a container how much is in it.
@@ -280,28 +248,21 @@ fn put_kind<W: Write>(out: &mut W, event: Event<'_>, place: Place) -> io::Result
     }
 }
 
-/// Prints the value of a part.
-fn put_value<W: Write>(out: &mut W, event: Event<'_>) -> io::Result<()> {
+/// Prints the value of a part, and of a container how much is in it.
+fn put_value<W: Write>(out: &mut W, event: Event<'_>, place: Place) -> io::Result<()> {
     match event {
-        Event::Null => writeln!(out, "null"),
-        Event::Bool(truth) => writeln!(out, "{truth}"),
         Event::Int(number) => writeln!(out, "{number}"),
         Event::Real(bits) => writeln!(out, "{}", Real(bits)),
         Event::Bytes(bytes) => writeln!(out, "{}", Quoted(bytes)),
         Event::Text(text) => writeln!(out, "{text:?}"),
         Event::Key(key) => writeln!(out, "{key:?}"),
-        Event::Array { len } => writeln!(out, "array of {len}"),
-        Event::Object { len } => writeln!(out, "object of {len}"),
-        Event::Template { len } => writeln!(out, "template of {len} keys"),
-        Event::Rows { len } => writeln!(out, "{len} rows"),
-        Event::Skip => writeln!(out, "skip"),
-        Event::Close => Ok(()),
+        other => put_kind(out, other, place),
     }
 }
 
 /// How many bits an integer has.
 fn int_bits(place: Place) -> usize {
-    width_of(place).saturating_sub(1).saturating_mul(8)
+    place.size().saturating_sub(1).saturating_mul(8)
 }
 
 /// What a string is by its tag.

@@ -7,7 +7,7 @@ use serde_bser::value::Value;
 use std::alloc::Global;
 use std::collections::BTreeMap;
 use watchman_types::requests::{
-    Capabilities, ClockRequest, FlushSubscriptionsRequest, LogLevel, LogLevelRequest, LogRequest,
+    Capabilities, ClockRequest, FlushSubscriptionsRequest, Level, LogLevelRequest, LogRequest,
     StateEnterRequest, StateLeaveRequest, UnsubscribeRequest, VersionRequest, WatchProjectRequest,
 };
 
@@ -81,11 +81,11 @@ fn is_built(alloc: Global) -> Result<BTreeMap<String, bool>> {
 
 /// Requests that are about the log.
 pub fn compare_log(recording: &mut Recording<'_>) {
-    let level = LogLevel::Error;
+    let level = Level::Error;
     recording.compare("log-level", &LogLevelRequest { level });
     let line = "a line with \"quotes\" and café";
     recording.compare("log", &LogRequest { level, line });
-    let level = LogLevel::Off;
+    let level = Level::Off;
     recording.compare("log-level-off", &LogLevelRequest { level });
 }
 

@@ -12,7 +12,7 @@ use std::marker::Model;
 
 /// The messages of a reader, of which the next may be looked at before it is taken.
 #[derive(Drop)]
-pub struct Incoming<S> {
+pub(crate) struct Incoming<S> {
     frames: Frames<S>,
     held: bool,
     ghost whole: { held ≡ true → IsWhole frames.frame },
@@ -30,7 +30,7 @@ impl<S: Source> Incoming<S> {
     ghost use Rattle.watchman_client.specs.Views.{StopsHere, left_of};
 
     /// Reads from the reader's next byte on, messages whose bodies have at most so many bytes.
-    pub fn new(alloc: Global, most: usize, reader: S) -> Self
+    pub(crate) fn new(alloc: Global, most: usize, reader: S) -> Self
         ensures left { left_of S.remaining result ≡ S.remaining reader }
         ensures held { result.held ≡ false }
     {
@@ -45,7 +45,7 @@ impl<S: Source> Incoming<S> {
     }
 
     /// Has the next message in hand, or answers `false` where no byte is left.
-    pub fn reach(&mut self) -> Result<bool, FrameError>
+    pub(crate) fn reach(&mut self) -> Result<bool, FrameError>
         ensures kept { Keeps (left_of S.remaining self.old) (left_of S.remaining self.new) }
         ensures held { IfOk result (λ there. self.new.held ≡ there) }
         ensures frame { IfOk result (λ there. there ≡ true → IsWhole self.new.stream.frame) }
@@ -66,14 +66,14 @@ impl<S: Source> Incoming<S> {
     }
 
     /// The message that was read last.
-    pub fn frame(&self) -> &[u8]
+    pub(crate) fn frame(&self) -> &[u8]
         ensures { result.now ≡ self.now.stream.frame }
     {
         self.frames.frame()
     }
 
     /// Lets the message in hand go. It stays what was read last, until the next is read.
-    pub fn release(&mut self)
+    pub(crate) fn release(&mut self)
         requires { self.old.held ≡ true }
         ensures taken { Consumes (left_of S.remaining self.old) (left_of S.remaining self.new)
             self.old.stream.frame }

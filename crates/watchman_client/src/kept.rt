@@ -9,7 +9,7 @@ use std::marker::Model;
 
 /// Why a message is not kept.
 #[derive(Debug, Clone, Copy, PartialEq, Eq)]
-pub enum Unkept {
+pub(crate) enum Unkept {
     /// As many are kept as may be, or too many bytes.
     Full,
     /// No memory was left.
@@ -18,7 +18,7 @@ pub enum Unkept {
 
 /// Messages that are kept in their order, with the number of their bytes.
 #[derive(Drop)]
-pub struct Kept {
+pub(crate) struct Kept {
     alloc: Global,
     messages: VecDeque<Vec<u8>>,
     bytes: usize,
@@ -37,7 +37,7 @@ impl Kept {
     ghost use Rattle.watchman_client.specs.Kept.{is_full};
 
     /// None.
-    pub fn new(alloc: Global) -> Self
+    pub(crate) fn new(alloc: Global) -> Self
         ensures { result ≡ [] }
     {
         Kept {
@@ -49,7 +49,7 @@ impl Kept {
 
     /// Keeps a copy of the message behind the others.
     #[tactic(auto, using(crate::proofs::Sizes::size_snoc, std::proofs::lemmas::Grind::common_steps))]
-    pub fn push(&mut self, bounds: Bounds, message: &[u8]) -> Result<(), Unkept>
+    pub(crate) fn push(&mut self, bounds: Bounds, message: &[u8]) -> Result<(), Unkept>
         ensures ok { OnOk result (self.new ≡ self.old ++ message.now ∷ []) }
         ensures number { OnOk result (length self.old < bounds.kept_messages) }
         ensures bytes { OnOk result
@@ -74,7 +74,7 @@ impl Kept {
     }
 
     /// Takes the first message.
-    pub fn pop(&mut self) -> Option<Vec<u8>>
+    pub(crate) fn pop(&mut self) -> Option<Vec<u8>>
         ensures some { IfSome result (λ m. self.old ≡ m.items ∷ self.new) }
         ensures none { IfNone result (self.old ≡ []) }
         ensures none_left { IfNone result (self.new ≡ []) }

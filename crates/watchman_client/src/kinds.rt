@@ -18,7 +18,7 @@ use std::alloc::{AllocError, Global};
 
 /// What a message tells of itself.
 #[derive(Drop)]
-pub struct Mark {
+pub(crate) struct Mark {
     /// Whether it is unsolicited.
     pub unilateral: bool,
 }
@@ -40,7 +40,7 @@ impl<L: LendsText> Deserialize<L> for Mark {
 
 /// What a server answers where it cannot do what was asked.
 #[derive(Drop)]
-pub struct Failure {
+pub(crate) struct Failure {
     /// Why.
     pub error: ByteString,
 }

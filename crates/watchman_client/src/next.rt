@@ -12,7 +12,7 @@ use std::alloc::Global;
 
 /// What comes next.
 #[derive(Debug, Clone, Copy, PartialEq, Eq)]
-pub enum Next {
+pub(crate) enum Next {
     /// No byte is left.
     End,
     /// An unsolicited message.
@@ -22,7 +22,10 @@ pub enum Next {
 }
 
 /// Has the next message in hand, and tells what it is.
-pub fn next_kind<S: Source>(alloc: Global, incoming: &mut Incoming<S>) -> Result<Next, ClientError>
+pub(crate) fn next_kind<S: Source>(
+    alloc: Global,
+    incoming: &mut Incoming<S>,
+) -> Result<Next, ClientError>
     ensures kept { Keeps (left_of S.remaining incoming.old) (left_of S.remaining incoming.new) }
     ensures next { IfOk result (IsNext S.remaining incoming.new) }
     ensures err { IfErr result (λ e. IsHindered S.remaining e incoming.new) }

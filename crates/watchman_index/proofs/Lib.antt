@@ -2,3 +2,4 @@ pub mod Same
 pub mod Names
 pub mod Puts
 pub mod Forgets
+pub mod Samples

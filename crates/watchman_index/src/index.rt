@@ -30,7 +30,7 @@ pub struct Index {
 
 /// What changed after a clock.
 #[derive(Drop)]
-pub struct Since<'a> {
+pub struct ChangesSince<'a> {
     /// Whether the clock is not known, so that the files are all that there are.
     pub is_fresh_instance: bool,
     /// The files in rising order of their names.
@@ -107,7 +107,11 @@ impl Index {
 
     /// The files that messages changed after this clock, also those that were deleted. For a clock
     /// that was not told, all files that exist. The error is that there is no memory for the list.
-    pub fn changes_since(&self, alloc: Global, clock: &ByteString) -> Result<Since<'_>, AllocError>
+    pub fn changes_since(
+        &self,
+        alloc: Global,
+        clock: &ByteString,
+    ) -> Result<ChangesSince<'_>, AllocError>
         ensures fresh { IfOk result (λ since. since.is_fresh_instance
             ≡ not (is_some (of_name self.now.clocks clock.now))) }
         ensures files { IfOk result (λ since. map deref_pair since.files.items
@@ -120,7 +124,7 @@ impl Index {
                 files.push((name, row))?;
             }
         }
-        Ok(Since {
+        Ok(ChangesSince {
             is_fresh_instance: known.is_none(),
             files,
         })

@@ -7,7 +7,6 @@
 
 pub mod changes;
 pub mod index;
-pub mod letter;
 pub mod listed;
 pub mod origin;
 pub mod row;

@@ -81,7 +81,7 @@ impl Listed {
     }
 
     /// The name, and what is said of the file.
-    pub fn into_entry(self) -> (ByteString, FileState)
+    pub(crate) fn into_entry(self) -> (ByteString, FileState)
         ensures { result ≡ entry_of self }
     {
         let state = self.state();

@@ -32,7 +32,7 @@ pub struct Row {
 impl Row {
     /// The row of a file that the message of this number lists so. Where nothing else was known of
     /// it before, it stays as it was.
-    pub fn told(number: u64, was: Option<Row>, state: FileState) -> Row
+    pub(crate) fn told(number: u64, was: Option<Row>, state: FileState) -> Row
         ensures { IsTold number was state result }
     {
         let new = Row {
@@ -47,7 +47,7 @@ impl Row {
 
     /// The row of a file that the message of this number says to be gone, since it tells all files
     /// and not this one. One that did not exist stays as it was.
-    pub fn gone(self, number: u64) -> Row
+    pub(crate) fn gone(self, number: u64) -> Row
         ensures { result ≡ gone number self }
     {
         if !self.state.exists {
@@ -65,7 +65,7 @@ impl Row {
 
     /// The row after the message of this number, which tells all files, and this one where it
     /// `is_listed`.
-    pub fn kept(self, number: u64, is_listed: bool) -> Row
+    pub(crate) fn kept(self, number: u64, is_listed: bool) -> Row
         ensures { result ≡ (if is_listed then self else gone number self) }
     {
         if is_listed { self } else { self.gone(number) }
@@ -73,7 +73,7 @@ impl Row {
 
     /// Whether a message behind that of this number changed it. Where no message is known, whether
     /// the file exists.
-    pub fn is_since(&self, number: Option<u64>) -> bool
+    pub(crate) fn is_since(&self, number: Option<u64>) -> bool
         ensures { result ≡ is_since number self.now }
     {
         match number {

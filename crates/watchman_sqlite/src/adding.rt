@@ -1,7 +1,7 @@
 //! Adds what messages tell to an index, each message in a transaction.
 
 use crate::connection::{has_tables, read_stored};
-use crate::failure::Failure;
+use crate::error::IndexError;
 use crate::messages::Taker;
 use crate::schema::{CLOCK, CREATE, FORGET, PUT, SOURCE};
 use serde_bser::bytestring::ByteString;
@@ -9,7 +9,6 @@ use sqlite::{Alter, Connection, Statement, Transaction, params};
 use std::alloc::Global;
 use std::collections::BTreeMap;
 use watchman_index::changes::Changes;
-use watchman_index::letter::letter_of;
 use watchman_index::origin::Origin;
 use watchman_index::row::FileState;
 use watchman_index::suffix::suffix_of;
@@ -24,7 +23,7 @@ struct Statements {
 }
 
 impl Statements {
-    fn new<S: Alter>(conn: &mut Connection<S>) -> Result<Self, Failure> {
+    fn new<S: Alter>(conn: &mut Connection<S>) -> Result<Self, IndexError> {
         let put = conn.prepare(PUT)?;
         let forget = conn.prepare(FORGET)?;
         let clock = conn.prepare(CLOCK)?;
@@ -50,7 +49,7 @@ pub(crate) struct Adder<'c, S: Alter> {
 
 impl<'c, S: Alter> Adder<'c, S> {
     /// Adds to the index of this connection, which is made where there are no tables.
-    pub(crate) fn new(alloc: Global, conn: &'c mut Connection<S>) -> Result<Self, Failure> {
+    pub(crate) fn new(alloc: Global, conn: &'c mut Connection<S>) -> Result<Self, IndexError> {
         if !has_tables(conn)? {
             conn.execute_batch(CREATE)?;
         }
@@ -67,9 +66,9 @@ impl<'c, S: Alter> Adder<'c, S> {
 }
 
 impl<S: Alter> Taker for Adder<'_, S> {
-    fn take_changes(&mut self, changes: Changes) -> Result<(), Failure> {
+    fn take_changes(&mut self, changes: Changes) -> Result<(), IndexError> {
         if let Err(refusal) = self.origin.check(&changes) {
-            return Err(Failure::Refused(refusal));
+            return Err(IndexError::Refused(refusal));
         }
         let number = self.messages.saturating_add(1);
         add_changes(self.alloc, self.conn, &self.statements, number, &changes)?;
@@ -78,7 +77,7 @@ impl<S: Alter> Taker for Adder<'_, S> {
         Ok(())
     }
 
-    fn take_clock(&mut self, clock: ByteString) -> Result<(), Failure> {
+    fn take_clock(&mut self, clock: ByteString) -> Result<(), IndexError> {
         add_clock(self.conn, &self.statements, self.messages, &clock)
     }
 }
@@ -95,9 +94,9 @@ fn add_changes<S: Alter>(
     with: &Statements,
     number: u64,
     changes: &Changes,
-) -> Result<(), Failure> {
+) -> Result<(), IndexError> {
     if !conn.is_autocommit() {
-        return Err(Failure::NoIndex);
+        return Err(IndexError::NoIndex);
     }
     let mut transaction = conn.transaction();
     put_files(alloc, &mut transaction, with, number, &changes.files)?;
@@ -116,7 +115,7 @@ fn put_files<S: Alter>(
     with: &Statements,
     number: u64,
     files: &BTreeMap<ByteString, FileState>,
-) -> Result<(), Failure> {
+) -> Result<(), IndexError> {
     for (name, state) in files {
         put_file(alloc, transaction, with, number, name.as_bytes(), *state)?;
     }
@@ -131,9 +130,9 @@ fn put_file<S: Alter>(
     number: u64,
     name: &[u8],
     state: FileState,
-) -> Result<(), Failure> {
+) -> Result<(), IndexError> {
     let suffix = lower_suffix(alloc, name)?;
-    let kind = state.kind.map(letter_of);
+    let kind = state.kind.map(|kind| kind.word());
     transaction.execute_prepared(
         &with.put,
         params![
@@ -151,7 +150,7 @@ fn put_file<S: Alter>(
 }
 
 /// The suffix of a name, with ASCII letters in lower case.
-fn lower_suffix(alloc: Global, name: &[u8]) -> Result<Option<Vec<u8>>, Failure> {
+fn lower_suffix(alloc: Global, name: &[u8]) -> Result<Option<Vec<u8>>, IndexError> {
     match suffix_of(name) {
         Some(suffix) => {
             let mut lower = Vec::from_slice(alloc, suffix)?;
@@ -168,7 +167,7 @@ fn put_message<S: Alter>(
     with: &Statements,
     number: u64,
     changes: &Changes,
-) -> Result<(), Failure> {
+) -> Result<(), IndexError> {
     let clock = changes.clock.as_bytes();
     let root = changes.root.as_ref().map(|root| root.as_bytes());
     let subscription = changes.subscription.as_ref().map(|name| name.as_bytes());
@@ -186,7 +185,7 @@ fn add_clock<S: Alter>(
     with: &Statements,
     number: u64,
     clock: &ByteString,
-) -> Result<(), Failure> {
+) -> Result<(), IndexError> {
     with.clock
         .execute(conn, params![clock.as_bytes(), param(number)])?;
     Ok(())

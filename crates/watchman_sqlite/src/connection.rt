@@ -1,6 +1,6 @@
 //! What an index is asked for.
 
-use crate::failure::Failure;
+use crate::error::IndexError;
 use crate::record::{Record, Visitor};
 use crate::schema::TABLES;
 use serde_bser::bytestring::ByteString;
@@ -20,7 +20,7 @@ pub(crate) struct Stored {
 }
 
 /// Whether the database is an index, or has no tables at all.
-pub(crate) fn has_tables<S: Alter>(conn: &mut Connection<S>) -> Result<bool, Failure> {
+pub(crate) fn has_tables<S: Alter>(conn: &mut Connection<S>) -> Result<bool, IndexError> {
     let names = conn.query_all(
         "SELECT name FROM sqlite_schema WHERE type = 'table' ORDER BY name",
         params![],
@@ -31,12 +31,12 @@ pub(crate) fn has_tables<S: Alter>(conn: &mut Connection<S>) -> Result<bool, Fai
     if are_tables(&names)? {
         Ok(true)
     } else {
-        Err(Failure::NoIndex)
+        Err(IndexError::NoIndex)
     }
 }
 
 /// Whether these rows name the tables of an index.
-fn are_tables(names: &[Row]) -> Result<bool, Failure> {
+fn are_tables(names: &[Row]) -> Result<bool, IndexError> {
     if names.len() != TABLES.len() {
         return Ok(false);
     }
@@ -50,7 +50,7 @@ fn are_tables(names: &[Row]) -> Result<bool, Failure> {
 }
 
 /// What the index has of its messages.
-pub(crate) fn read_stored<S: Alter>(conn: &mut Connection<S>) -> Result<Stored, Failure> {
+pub(crate) fn read_stored<S: Alter>(conn: &mut Connection<S>) -> Result<Stored, IndexError> {
     let row = conn.query_row(
         "SELECT messages, root, subscription, clock FROM source WHERE id = 1",
         params![],
@@ -66,7 +66,7 @@ pub(crate) fn read_stored<S: Alter>(conn: &mut Connection<S>) -> Result<Stored, 
 }
 
 /// The byte string of this column, if it has one.
-fn bytes_at(row: &Row, column: usize) -> Result<Option<ByteString>, Failure> {
+fn bytes_at(row: &Row, column: usize) -> Result<Option<ByteString>, IndexError> {
     let bytes: Option<Vec<u8>> = row.get(column)?;
     Ok(bytes.map(ByteString::from_vec))
 }
@@ -75,7 +75,7 @@ fn bytes_at(row: &Row, column: usize) -> Result<Option<ByteString>, Failure> {
 pub(crate) fn number_of<S: Alter>(
     conn: &mut Connection<S>,
     clock: &[u8],
-) -> Result<Option<u64>, Failure> {
+) -> Result<Option<u64>, IndexError> {
     let rows = conn.query_all("SELECT message FROM clock WHERE clock = ?1", params![clock])?;
     match rows.first() {
         Some(row) => Ok(Some(row.get(0)?)),
@@ -89,7 +89,7 @@ pub(crate) fn visit_all<S: Alter, V: Visitor>(
     question: &str,
     params: &[ValueRef<'_>],
     visitor: &mut V,
-) -> Result<(), Failure> {
+) -> Result<(), IndexError> {
     let mut rows = conn.query(question, params)?;
     for _ in 0..u64::MAX {
         match rows.next()? {

@@ -8,7 +8,7 @@
 mod adding;
 mod command;
 mod connection;
-mod failure;
+mod error;
 mod messages;
 pub mod program;
 mod questions;

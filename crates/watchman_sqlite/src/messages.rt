@@ -1,6 +1,6 @@
 //! The messages of the inputs, each handed to what takes them.
 
-use crate::failure::Failure;
+use crate::error::IndexError;
 use bser_frames::frames::Frames;
 use bser_source::device::{Source, Watched};
 use serde_bser::bytestring::ByteString;
@@ -17,15 +17,15 @@ const STANDARD_INPUT: &str = "standard input";
 /// What takes what messages tell.
 pub(crate) trait Taker {
     /// Takes which files a message tells.
-    fn take_changes(&mut self, changes: Changes) -> Result<(), Failure>;
+    fn take_changes(&mut self, changes: Changes) -> Result<(), IndexError>;
 
     /// Takes the clock of a message that tells no files.
-    fn take_clock(&mut self, clock: ByteString) -> Result<(), Failure>;
+    fn take_clock(&mut self, clock: ByteString) -> Result<(), IndexError>;
 }
 
 /// How many messages there were.
 #[derive(Debug, Clone, Copy, Default, PartialEq, Eq)]
-pub(crate) struct Counts {
+pub(crate) struct Totals {
     /// Those that told files.
     pub(crate) messages: u64,
     /// The files that these listed.
@@ -48,31 +48,31 @@ pub(crate) fn take_inputs<F: Files, R: Read, T: Taker, E: Write>(
     input: &mut R,
     taker: &mut T,
     errors: &mut E,
-) -> Counts {
-    let mut counts = Counts::default();
+) -> Totals {
+    let mut totals = Totals::default();
     if names.is_empty() {
         let reader = Watched::new(input);
-        take_stream(alloc, STANDARD_INPUT, reader, taker, &mut counts, errors);
-        return counts;
+        take_stream(alloc, STANDARD_INPUT, reader, taker, &mut totals, errors);
+        return totals;
     }
     for name in names {
         match fs::open(files, *name) {
             Ok(file) => {
                 let reader = Watched::new(file);
-                take_stream(alloc, *name, reader, taker, &mut counts, errors);
+                take_stream(alloc, *name, reader, taker, &mut totals, errors);
             }
-            Err(fault) => not_opened(*name, &fault, &mut counts, errors),
+            Err(fault) => not_opened(*name, &fault, &mut totals, errors),
         }
-        if counts.refused > 0 {
+        if totals.refused > 0 {
             break;
         }
     }
-    counts
+    totals
 }
 
 /// Reports that an input cannot be read.
-fn not_opened<E: Write>(name: &str, fault: &io::Error, counts: &mut Counts, errors: &mut E) {
-    counts.refused = counts.refused.saturating_add(1);
+fn not_opened<E: Write>(name: &str, fault: &io::Error, totals: &mut Totals, errors: &mut E) {
+    totals.refused = totals.refused.saturating_add(1);
     let _written = writeln!(errors, "bser_index: {name}: {fault}");
 }
 
@@ -82,17 +82,17 @@ fn take_stream<S: Source + Drop, T: Taker, E: Write>(
     name: &str,
     reader: S,
     taker: &mut T,
-    counts: &mut Counts,
+    totals: &mut Totals,
     errors: &mut E,
 ) {
     let mut frames = Frames::new(alloc, reader);
     for _ in 0..u64::MAX {
-        match take_next(alloc, &mut frames, taker, counts) {
+        match take_next(alloc, &mut frames, taker, totals) {
             Ok(Next::Taken) => {}
             Ok(Next::ServerError(error)) => report_server(name, frames.position(), &error, errors),
             Ok(Next::End) => return,
             Err(failure) => {
-                counts.refused = counts.refused.saturating_add(1);
+                totals.refused = totals.refused.saturating_add(1);
                 let place = frames.position();
                 let _written = writeln!(
                     errors,
@@ -125,36 +125,36 @@ fn take_next<S: Source, T: Taker>(
     alloc: Global,
     frames: &mut Frames<S>,
     taker: &mut T,
-    counts: &mut Counts,
-) -> Result<Next, Failure> {
+    totals: &mut Totals,
+) -> Result<Next, IndexError> {
     match frames.next_frame() {
         Ok(true) => {}
         Ok(false) => return Ok(Next::End),
-        Err(error) => return Err(Failure::Frame(error)),
+        Err(error) => return Err(IndexError::Frame(error)),
     }
     let told = match read_told(alloc, frames.frame()) {
         Ok(told) => told,
-        Err(error) => return Err(Failure::Message(error)),
+        Err(error) => return Err(IndexError::Message(error)),
     };
     match told {
         Told::Files(changes) => {
             let files = changes.files.len() as u64;
             taker.take_changes(changes)?;
-            counts.messages = counts.messages.saturating_add(1);
-            counts.files = counts.files.saturating_add(files);
+            totals.messages = totals.messages.saturating_add(1);
+            totals.files = totals.files.saturating_add(files);
             Ok(Next::Taken)
         }
         Told::Clock(clock) => {
             taker.take_clock(clock)?;
-            counts.others = counts.others.saturating_add(1);
+            totals.others = totals.others.saturating_add(1);
             Ok(Next::Taken)
         }
         Told::Nothing => {
-            counts.others = counts.others.saturating_add(1);
+            totals.others = totals.others.saturating_add(1);
             Ok(Next::Taken)
         }
         Told::ServerError(error) => {
-            counts.errors = counts.errors.saturating_add(1);
+            totals.errors = totals.errors.saturating_add(1);
             Ok(Next::ServerError(error))
         }
     }

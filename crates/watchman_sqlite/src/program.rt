@@ -2,8 +2,8 @@
 
 use crate::adding::Adder;
 use crate::command::command;
-use crate::failure::Failure;
-use crate::messages::{Counts, take_inputs};
+use crate::error::IndexError;
+use crate::messages::{Totals, take_inputs};
 use crate::questions::{Which, print_changes, print_list, print_stat, require_tables};
 use crate::verifying::{Folder, print_differences};
 use clap::{ArgMatches, Error};
@@ -22,7 +22,7 @@ pub const UNKNOWN_ARGUMENT: u8 = 2;
 
 /// What is done with an index.
 #[derive(Clone, Copy)]
-enum Task<'a> {
+enum Action<'a> {
     /// Messages are added.
     Add,
     /// What changed after this clock is printed.
@@ -81,11 +81,11 @@ fn obey<R: Read, W: Write, E: Write>(
     let Some((name, inner)) = matches.subcommand() else {
         return Ok(UNKNOWN_ARGUMENT);
     };
-    let (Some(task), Some(path)) = (task_of(name, inner), inner.get_str("INDEX")) else {
+    let (Some(action), Some(path)) = (action_of(name, inner), inner.get_str("INDEX")) else {
         return Ok(UNKNOWN_ARGUMENT);
     };
     let names = inner.get_raw("FILE").unwrap_or(&[]);
-    run_task(rt, path, task, names, input, out, errors)
+    run_action(rt, path, action, names, input, out, errors)
 }
 
 /// Prints the help that is asked for, or what is wrong with the words.
@@ -99,13 +99,13 @@ fn put_usage<W: Write, E: Write>(error: &Error, out: &mut W, errors: &mut E) -> 
 }
 
 /// What the words of a command ask for. `None` for a name that is no command's.
-fn task_of<'a>(name: &str, matches: &ArgMatches<'a>) -> Option<Task<'a>> {
+fn action_of<'a>(name: &str, matches: &ArgMatches<'a>) -> Option<Action<'a>> {
     match name {
-        "add" => Some(Task::Add),
-        "changes" => Some(Task::Changes(matches.get_str("since")?)),
-        "list" => Some(Task::List(which_of(matches))),
-        "stat" => Some(Task::Stat(matches.get_str("PATH")?)),
-        "verify" => Some(Task::Verify),
+        "add" => Some(Action::Add),
+        "changes" => Some(Action::Changes(matches.get_str("since")?)),
+        "list" => Some(Action::List(which_of(matches))),
+        "stat" => Some(Action::Stat(matches.get_str("PATH")?)),
+        "verify" => Some(Action::Verify),
         _ => None,
     }
 }
@@ -119,19 +119,19 @@ fn which_of<'a>(matches: &ArgMatches<'a>) -> Which<'a> {
     }
 }
 
-/// Does the task with the index at this path. The error is that of the output.
-fn run_task<R: Read, W: Write, E: Write>(
+/// Takes the action with the index at this path. The error is that of the output.
+fn run_action<R: Read, W: Write, E: Write>(
     rt: &HostRuntime,
     path: &str,
-    task: Task<'_>,
+    action: Action<'_>,
     names: &[&str],
     input: &mut R,
     out: &mut W,
     errors: &mut E,
 ) -> io::Result<u8> {
-    let done = match with_index(rt, path, task, names, input, out, errors) {
+    let done = match with_index(rt, path, action, names, input, out, errors) {
         Ok(done) => done,
-        Err(Failure::Output(fault)) => return Err(fault),
+        Err(IndexError::Output(fault)) => return Err(fault),
         Err(failure) => {
             out.flush()?;
             let _written = writeln!(errors, "bser_index: {path}: {failure}");
@@ -141,41 +141,41 @@ fn run_task<R: Read, W: Write, E: Write>(
     Ok(if done { DONE } else { FAILED })
 }
 
-/// Opens the index at this path, does the task, and closes it. Tells whether all was done.
+/// Opens the index at this path, takes the action, and closes it. Tells whether all was done.
 fn with_index<R: Read, W: Write, E: Write>(
     rt: &HostRuntime,
     path: &str,
-    task: Task<'_>,
+    action: Action<'_>,
     names: &[&str],
     input: &mut R,
     out: &mut W,
     errors: &mut E,
-) -> Result<bool, Failure> {
-    if !matches!(task, Task::Add) && fs::open(rt, path).is_err() {
-        return Err(Failure::NoIndex);
+) -> Result<bool, IndexError> {
+    if !matches!(action, Action::Add) && fs::open(rt, path).is_err() {
+        return Err(IndexError::NoIndex);
     }
     let mut conn = Connection::open(rt, path)?;
-    let done = act(rt, &mut conn, task, names, input, out, errors);
+    let done = act(rt, &mut conn, action, names, input, out, errors);
     let closed = conn.close();
     let done = done?;
     closed?;
     Ok(done)
 }
 
-/// Does the task with an index. Tells whether all was done.
+/// Takes the action with an index. Tells whether all was done.
 fn act<S: Alter, R: Read, W: Write, E: Write>(
     rt: &HostRuntime,
     conn: &mut Connection<S>,
-    task: Task<'_>,
+    action: Action<'_>,
     names: &[&str],
     input: &mut R,
     out: &mut W,
     errors: &mut E,
-) -> Result<bool, Failure> {
-    match task {
-        Task::Add => add(rt, conn, names, input, out, errors),
-        Task::Verify => verify(rt, conn, names, input, out, errors),
-        _ => answer(rt, conn, task, out),
+) -> Result<bool, IndexError> {
+    match action {
+        Action::Add => add(rt, conn, names, input, out, errors),
+        Action::Verify => verify(rt, conn, names, input, out, errors),
+        _ => answer(rt, conn, action, out),
     }
 }
 
@@ -183,15 +183,15 @@ fn act<S: Alter, R: Read, W: Write, E: Write>(
 fn answer<S: Alter, W: Write>(
     rt: &HostRuntime,
     conn: &mut Connection<S>,
-    task: Task<'_>,
+    action: Action<'_>,
     out: &mut W,
-) -> Result<bool, Failure> {
+) -> Result<bool, IndexError> {
     require_tables(conn)?;
-    match task {
-        Task::Changes(clock) => print_changes(rt.alloc(), conn, clock, out),
-        Task::List(which) => print_list(rt.alloc(), conn, which, out),
-        Task::Stat(path) => print_stat(conn, path, out),
-        Task::Add | Task::Verify => Ok(false),
+    match action {
+        Action::Changes(clock) => print_changes(rt.alloc(), conn, clock, out),
+        Action::List(which) => print_list(rt.alloc(), conn, which, out),
+        Action::Stat(path) => print_stat(conn, path, out),
+        Action::Add | Action::Verify => Ok(false),
     }
 }
 
@@ -204,22 +204,22 @@ fn add<S: Alter, R: Read, W: Write, E: Write>(
     input: &mut R,
     out: &mut W,
     errors: &mut E,
-) -> Result<bool, Failure> {
+) -> Result<bool, IndexError> {
     let mut adder = Adder::new(rt.alloc(), conn)?;
-    let counts = take_inputs(rt.alloc(), rt, names, input, &mut adder, errors);
-    print_counts(counts, out)?;
-    Ok(counts.refused == 0 && counts.errors == 0)
+    let totals = take_inputs(rt.alloc(), rt, names, input, &mut adder, errors);
+    print_totals(totals, out)?;
+    Ok(totals.refused == 0 && totals.errors == 0)
 }
 
 /// Prints how many messages were added.
-fn print_counts<W: Write>(counts: Counts, out: &mut W) -> io::Result<()> {
-    let Counts {
+fn print_totals<W: Write>(totals: Totals, out: &mut W) -> io::Result<()> {
+    let Totals {
         messages,
         files,
         others,
         errors,
         refused,
-    } = counts;
+    } = totals;
     writeln!(
         out,
         "messages {messages}, files {files}, others {others}, errors {errors}, refused {refused}"
@@ -234,11 +234,11 @@ fn verify<S: Alter, R: Read, W: Write, E: Write>(
     input: &mut R,
     out: &mut W,
     errors: &mut E,
-) -> Result<bool, Failure> {
+) -> Result<bool, IndexError> {
     require_tables(conn)?;
     let mut folder = Folder::new(rt.alloc());
-    let counts = take_inputs(rt.alloc(), rt, names, input, &mut folder, errors);
-    if counts.refused > 0 {
+    let totals = take_inputs(rt.alloc(), rt, names, input, &mut folder, errors);
+    if totals.refused > 0 {
         return Ok(false);
     }
     print_differences(conn, folder, out)

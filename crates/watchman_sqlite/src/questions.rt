@@ -1,7 +1,7 @@
 //! Answers what an index is asked.
 
 use crate::connection::{Stored, has_tables, number_of, read_stored, visit_all};
-use crate::failure::Failure;
+use crate::error::IndexError;
 use crate::record::Printer;
 use crate::schema::{CHANGED, FILES, NAMED, PRESENT, SUFFIX};
 use sqlite::{Alter, Connection, params};
@@ -15,7 +15,7 @@ pub(crate) fn print_changes<S: Alter, W: Write>(
     conn: &mut Connection<S>,
     clock: &str,
     out: &mut W,
-) -> Result<bool, Failure> {
+) -> Result<bool, IndexError> {
     print_clock(alloc, conn, out)?;
     match number_of(conn, clock.as_bytes())? {
         Some(number) => {
@@ -35,7 +35,7 @@ fn print_clock<S: Alter, W: Write>(
     alloc: Global,
     conn: &mut Connection<S>,
     out: &mut W,
-) -> Result<(), Failure> {
+) -> Result<(), IndexError> {
     let Stored { clock, .. } = read_stored(conn)?;
     match clock {
         Some(clock) => {
@@ -64,7 +64,7 @@ pub(crate) fn print_list<S: Alter, W: Write>(
     conn: &mut Connection<S>,
     which: Which<'_>,
     out: &mut W,
-) -> Result<bool, Failure> {
+) -> Result<bool, IndexError> {
     let mut printer = Printer::new(out);
     match which {
         Which::Present => visit_all(conn, PRESENT, params![], &mut printer)?,
@@ -83,17 +83,17 @@ pub(crate) fn print_stat<S: Alter, W: Write>(
     conn: &mut Connection<S>,
     path: &str,
     out: &mut W,
-) -> Result<bool, Failure> {
+) -> Result<bool, IndexError> {
     let mut printer = Printer::new(out);
     visit_all(conn, NAMED, params![path.as_bytes()], &mut printer)?;
     Ok(printer.lines() > 0)
 }
 
 /// Fails where the database is no index, or has nothing in it.
-pub(crate) fn require_tables<S: Alter>(conn: &mut Connection<S>) -> Result<(), Failure> {
+pub(crate) fn require_tables<S: Alter>(conn: &mut Connection<S>) -> Result<(), IndexError> {
     if has_tables(conn)? {
         Ok(())
     } else {
-        Err(Failure::NoIndex)
+        Err(IndexError::NoIndex)
     }
 }

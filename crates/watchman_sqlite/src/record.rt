@@ -1,12 +1,12 @@
 //! Rows of the table of files.
 
-use crate::failure::Failure;
+use crate::error::IndexError;
 use serde_bser::bytestring::ByteString;
 use sqlite::Row as DatabaseRow;
 use std::io;
 use std::io::Write;
-use watchman_index::letter::{kind_of, letter_of};
 use watchman_index::row::{FileState, Row};
+use watchman_types::file_type::FileType;
 
 /// What the index has of a file.
 #[derive(Debug, Drop)]
@@ -17,7 +17,7 @@ pub(crate) struct Record {
 
 impl Record {
     /// The record of a row with the columns that the questions ask for.
-    pub(crate) fn read(row: &DatabaseRow) -> Result<Record, Failure> {
+    pub(crate) fn read(row: &DatabaseRow) -> Result<Record, IndexError> {
         let name: Vec<u8> = row.get(0)?;
         let letter: Option<String> = row.get(4)?;
         let state = FileState {
@@ -25,7 +25,7 @@ impl Record {
             size: row.get(2)?,
             mode: row.get(3)?,
             kind: match letter {
-                Some(letter) => kind_of(letter.as_str()),
+                Some(letter) => FileType::from_word(letter.as_str()),
                 None => None,
             },
             mtime_ms: row.get(5)?,
@@ -41,7 +41,7 @@ impl Record {
 /// What takes records, one after the other.
 pub(crate) trait Visitor {
     /// Takes the next record.
-    fn visit(&mut self, record: Record) -> Result<(), Failure>;
+    fn visit(&mut self, record: Record) -> Result<(), IndexError>;
 }
 
 /// Prints a line for each record.
@@ -64,7 +64,7 @@ impl<'w, W: Write> Printer<'w, W> {
 }
 
 impl<W: Write> Visitor for Printer<'_, W> {
-    fn visit(&mut self, record: Record) -> Result<(), Failure> {
+    fn visit(&mut self, record: Record) -> Result<(), IndexError> {
         print_record(self.out, &record)?;
         self.lines = self.lines.saturating_add(1);
         Ok(())
@@ -78,7 +78,7 @@ fn print_record<W: Write>(out: &mut W, record: &Record) -> io::Result<()> {
     let sign = if state.exists { '+' } else { '-' };
     write!(out, "{sign} {} ", record.row.changed)?;
     match state.kind {
-        Some(kind) => out.write_all(letter_of(kind).as_bytes())?,
+        Some(kind) => out.write_all(kind.word().as_bytes())?,
         None => out.write_all(b"?")?,
     }
     match state.mode {

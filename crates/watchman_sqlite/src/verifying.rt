@@ -1,7 +1,7 @@
 //! Compares an index with the messages that were added to it.
 
 use crate::connection::{number_of, read_stored, visit_all};
-use crate::failure::Failure;
+use crate::error::IndexError;
 use crate::messages::Taker;
 use crate::record::{Record, Visitor};
 use crate::schema::FILES;
@@ -30,18 +30,18 @@ impl Folder {
 }
 
 impl Taker for Folder {
-    fn take_changes(&mut self, changes: Changes) -> Result<(), Failure> {
+    fn take_changes(&mut self, changes: Changes) -> Result<(), IndexError> {
         let number = self.messages.saturating_add(1);
         match self.index.apply(number, changes) {
             Ok(()) => {
                 self.messages = number;
                 Ok(())
             }
-            Err(refusal) => Err(Failure::Refused(refusal)),
+            Err(refusal) => Err(IndexError::Refused(refusal)),
         }
     }
 
-    fn take_clock(&mut self, clock: ByteString) -> Result<(), Failure> {
+    fn take_clock(&mut self, clock: ByteString) -> Result<(), IndexError> {
         self.index.apply_clock(self.messages, clock)?;
         Ok(())
     }
@@ -57,7 +57,7 @@ struct Comparer<'f, 'w, W: Write> {
 
 impl<W: Write> Comparer<'_, '_, W> {
     /// Prints a difference.
-    fn tell(&mut self, what: &str, name: &ByteString) -> Result<(), Failure> {
+    fn tell(&mut self, what: &str, name: &ByteString) -> Result<(), IndexError> {
         self.differences = self.differences.saturating_add(1);
         writeln!(self.out, "{what} {name}")?;
         Ok(())
@@ -65,7 +65,7 @@ impl<W: Write> Comparer<'_, '_, W> {
 }
 
 impl<W: Write> Visitor for Comparer<'_, '_, W> {
-    fn visit(&mut self, record: Record) -> Result<(), Failure> {
+    fn visit(&mut self, record: Record) -> Result<(), IndexError> {
         match self.index.files.remove(&record.name) {
             Some(row) if row == record.row => Ok(()),
             Some(_) => self.tell("another row of", &record.name),
@@ -80,7 +80,7 @@ pub(crate) fn print_differences<S: Alter, W: Write>(
     conn: &mut Connection<S>,
     mut folded: Folder,
     out: &mut W,
-) -> Result<bool, Failure> {
+) -> Result<bool, IndexError> {
     let mut differences = differing_clocks(conn, &folded, out)?;
     let mut comparer = Comparer {
         index: &mut folded.index,
@@ -106,7 +106,7 @@ fn differing_clocks<S: Alter, W: Write>(
     conn: &mut Connection<S>,
     folded: &Folder,
     out: &mut W,
-) -> Result<u64, Failure> {
+) -> Result<u64, IndexError> {
     let found = read_stored(conn)?;
     let mut differences = 0u64;
     if found.messages != folded.messages {

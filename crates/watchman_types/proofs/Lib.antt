@@ -1,3 +1,4 @@
 pub mod Missing
 pub mod Operands
 pub mod Levels
+pub mod Samples

@@ -1,25 +1,76 @@
 //! Types of files.
-ghost use Rattle.std.specs.Prelude.{codes, [], ◌∷◌, true, false, refl};
+ghost use Rattle.std.specs.Prelude.{◌≡◌, ◌≢◌, codes, [], ◌∷◌, true, false, refl, Ok, IfSome, IfNone};
+ghost use Rattle.bser_format.specs.Tree.{text};
 ghost use Rattle.serde_bser.specs.EnumVariants.{unit, enum_meaning};
+ghost use Rattle.watchman_types.specs.Words.{file_type_word};
+ghost use Rattle.watchman_types.specs.declared.file_type.FileType.{FileType};
 
+use bser_format::errors::Result;
+use bser_ser::{Serialize, Serializer};
+use bser_source::device::Sink;
 use serde_bser::de::{Answer, Deserializer};
 use serde_bser::prelude::*;
 use std::alloc::Global;
 
-/// The type of a file.
+/// The type of a file, as Watchman names it by a letter.
 #[derive(Debug, Clone, Copy, PartialEq, Eq)]
 pub enum FileType {
+    /// `f`
     Regular,
+    /// `d`
     Directory,
+    /// `l`
     Symlink,
+    /// `b`
     BlockDevice,
+    /// `c`
     CharacterDevice,
+    /// `p`, a named pipe
     Fifo,
+    /// `s`
     Socket,
-    /// A door of Solaris.
+    /// `D`, of Solaris
     Door,
-    /// None that the server knows.
+    /// `?`, none that the server knows. In a request it is the server's error.
     Unknown,
+}
+
+impl FileType {
+    /// Watchman's letter for it.
+    pub fn word(self) -> &'static str
+        ensures { result.now ≡ file_type_word self }
+    {
+        match self {
+            FileType::Regular => "f",
+            FileType::Directory => "d",
+            FileType::Symlink => "l",
+            FileType::BlockDevice => "b",
+            FileType::CharacterDevice => "c",
+            FileType::Fifo => "p",
+            FileType::Socket => "s",
+            FileType::Door => "D",
+            FileType::Unknown => "?",
+        }
+    }
+
+    /// The type of this letter. `None` for a text that is none of the letters.
+    pub fn from_word(word: &str) -> Option<FileType>
+        ensures found { IfSome result (λ t. file_type_word t ≡ word.now) }
+        ensures none { IfNone result ((t : FileType) → file_type_word t ≢ word.now) }
+    {
+        match word {
+            "f" => Some(FileType::Regular),
+            "d" => Some(FileType::Directory),
+            "l" => Some(FileType::Symlink),
+            "b" => Some(FileType::BlockDevice),
+            "c" => Some(FileType::CharacterDevice),
+            "p" => Some(FileType::Fifo),
+            "s" => Some(FileType::Socket),
+            "D" => Some(FileType::Door),
+            "?" => Some(FileType::Unknown),
+            _ => None,
+        }
+    }
 }
 
 impl Variants for FileType {
@@ -63,4 +114,12 @@ impl<L: LendsText> Deserialize<L> for FileType {
 
 impl OwnedShape for FileType {
     ghost owned = { refl };
+}
+
+impl Serialize for FileType {
+    ghost meaning = { λ t. Ok (text (file_type_word t)) };
+
+    fn serialize<W: Sink>(&self, _alloc: Global, out: &mut Serializer<W>) -> Result<()> {
+        out.put_text(self.word())
+    }
 }

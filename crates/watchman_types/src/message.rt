@@ -37,12 +37,12 @@ pub enum Message<S, F, T> {
 }
 
 /// What the events with such texts and files are read as.
-pub trait Events<F> {
+pub trait EventShape<F> {
     // what each event is read as
     ghost events: { EventTypes Self F };
 }
 
-impl<S: Shape, F: Shape> Events<F> for S {
+impl<S: Shape, F: Shape> EventShape<F> for S {
     ghost events = { record {
       log = ⟦<Log<S> as Shape>⟧;
       entered = ⟦<StateEntered<S> as Shape>⟧;
@@ -62,8 +62,8 @@ pub fn read_event<'de, S: Deserialize<&'de [u8]>, F: Deserialize<&'de [u8]>>(
     bytes: &'de [u8],
 ) -> Result<Event<S, F>>
     ensures kind { IfOk result (λ event. kind_of_event event ≡ kind) }
-    ensures found { IfOk result (IsEvent ⟦<S as Events<F>>⟧.events bytes.now) }
-    ensures refused { IfErr result (RefusesEvent ⟦<S as Events<F>>⟧.events kind bytes.now) }
+    ensures found { IfOk result (IsEvent ⟦<S as EventShape<F>>⟧.events bytes.now) }
+    ensures refused { IfErr result (RefusesEvent ⟦<S as EventShape<F>>⟧.events kind bytes.now) }
 {
     match kind {
         EventKind::Log => {
@@ -104,10 +104,10 @@ where
     T: Deserialize<&'de [u8]>,
     ensures kind { IfOk result (λ message. IsOfKind ⟦<Header as Shape>⟧ bytes.now
         (kind_of_message message)) }
-    ensures found { IfOk result (IsMessage ⟦<S as Events<F>>⟧.events T.Shape
+    ensures found { IfOk result (IsMessage ⟦<S as EventShape<F>>⟧.events T.Shape
         ⟦<ErrorReply<S> as Shape>⟧ bytes.now) }
     ensures refused { IfErr result (RefusesMessage ⟦<Header as Shape>⟧
-        ⟦<S as Events<F>>⟧.events T.Shape ⟦<ErrorReply<S> as Shape>⟧ bytes.now) }
+        ⟦<S as EventShape<F>>⟧.events T.Shape ⟦<ErrorReply<S> as Shape>⟧ bytes.now) }
 {
     let header: Header = from_slice(alloc, bytes)?;
     read_by_kind(alloc, header.kind(), bytes)
@@ -126,9 +126,9 @@ where
     F: Deserialize<&'de [u8]>,
     T: Deserialize<&'de [u8]>,
     ensures kind { IfOk result (λ message. kind_of_message message ≡ kind) }
-    ensures found { IfOk result (IsMessage ⟦<S as Events<F>>⟧.events T.Shape
+    ensures found { IfOk result (IsMessage ⟦<S as EventShape<F>>⟧.events T.Shape
         ⟦<ErrorReply<S> as Shape>⟧ bytes.now) }
-    ensures refused { IfErr result (RefusesKind ⟦<S as Events<F>>⟧.events T.Shape
+    ensures refused { IfErr result (RefusesKind ⟦<S as EventShape<F>>⟧.events T.Shape
         ⟦<ErrorReply<S> as Shape>⟧ kind bytes.now) }
 {
     match kind {

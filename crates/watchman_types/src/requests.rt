@@ -6,7 +6,6 @@
 pub mod bytes;
 pub mod comparison;
 pub mod expression;
-pub mod file_type;
 pub mod log;
 pub mod moment;
 pub mod nesting;
@@ -18,11 +17,11 @@ pub mod terms;
 pub mod version;
 pub mod watch;
 
+pub use crate::file_type::FileType;
 pub use crate::requests::bytes::Bytes;
 pub use crate::requests::comparison::{Comparison, Operator};
 pub use crate::requests::expression::Expression;
-pub use crate::requests::file_type::FileType;
-pub use crate::requests::log::{LogLevel, LogLevelRequest, LogRequest};
+pub use crate::requests::log::{Level, LogLevelRequest, LogRequest};
 pub use crate::requests::moment::{Moment, TimeField};
 pub use crate::requests::query::{Path, Query, QueryRequest};
 pub use crate::requests::state::{StateEnterRequest, StateLeaveRequest};

@@ -1,6 +1,6 @@
 //! The writer as a serializer of serde's.
 use crate::failure::Failure;
-use crate::writer::{Due, MOST_COUNTED, Open, Put, Writer, answered, refusal};
+use crate::writer::{MOST_COUNTED, OpenMap, Put, Role, Writer, answered, refusal};
 use bser_ser::Parts;
 use serde::{Case, NameKind, Serializer};
 
@@ -64,7 +64,7 @@ impl Serializer for Writer {
 
     #[inline(always)]
     fn bytes(&mut self, v: &[u8]) -> Put {
-        if self.due == Due::Key {
+        if self.role == Role::Key {
             return match str::from_utf8(v) {
                 Ok(key) => self.put_str(key),
                 Err(_) => Err(self.unexpected()),
@@ -76,8 +76,8 @@ impl Serializer for Writer {
 
     #[inline(always)]
     fn unit(&mut self) -> Put {
-        if self.due == Due::Flat {
-            self.due = Due::Value;
+        if self.role == Role::Flat {
+            self.role = Role::Value;
             return Ok(());
         }
         self.expect_value()?;
@@ -109,20 +109,23 @@ impl Serializer for Writer {
 
     #[inline(always)]
     fn begin_map(&mut self, len: Option<usize>) -> Put {
-        if self.due == Due::Flat {
+        if self.role == Role::Flat {
             return self.merge();
         }
         self.expect_value()?;
         match len {
             None => self.begin_counted(),
-            Some(count) => self.open_map(count, Open::Given),
+            Some(count) => self.open_map(count, OpenMap::Given),
         }
     }
 
     #[inline(always)]
     fn end_map(&mut self) -> Put {
         let _closed = self.open.pop();
-        self.is_counting = matches!(self.open.last(), Some(Open::Counted(_) | Open::Merged));
+        self.is_counting = matches!(
+            self.open.last(),
+            Some(OpenMap::Counted(_) | OpenMap::Merged)
+        );
         Ok(())
     }
 
@@ -142,7 +145,7 @@ impl Serializer for Writer {
     }
 
     fn begin_key(&mut self) -> Put {
-        self.due = Due::Key;
+        self.role = Role::Key;
         Ok(())
     }
 
@@ -151,7 +154,7 @@ impl Serializer for Writer {
     }
 
     fn flatten_next(&mut self) -> Put {
-        self.due = Due::Flat;
+        self.role = Role::Flat;
         Ok(())
     }
 

@@ -3,8 +3,8 @@ ghost use Rattle.std.specs.Prelude.{OnOk, IfErr};
 ghost use Rattle.bser_ser.specs.Ends.{Ends, Stops, text_of, CanBeWritten};
 ghost use Rattle.watchman_types.specs.Expressions.{expression_tree, expression_meaning, operands_tree, negation_tree};
 
+use crate::file_type::FileType;
 use crate::requests::comparison::Comparison;
-use crate::requests::file_type::FileType;
 use crate::requests::nesting::nests_within;
 use crate::requests::terms::{Dirname, Match, Name, Pcre, Since};
 use bser_format::errors::{Error, Kind, Result};

@@ -11,7 +11,7 @@ use std::alloc::Global;
 
 /// Which lines of the log are told.
 #[derive(Clone, Copy)]
-pub enum LogLevel {
+pub enum Level {
     /// `debug`: all
     Debug,
     /// `error`: errors
@@ -20,15 +20,15 @@ pub enum LogLevel {
     Off,
 }
 
-impl LogLevel {
+impl Level {
     /// Watchman's word for it.
     pub fn word(self) -> &'static str
         ensures { result.now ≡ log_level_word self }
     {
         match self {
-            LogLevel::Debug => "debug",
-            LogLevel::Error => "error",
-            LogLevel::Off => "off",
+            Level::Debug => "debug",
+            Level::Error => "error",
+            Level::Off => "off",
         }
     }
 }
@@ -36,7 +36,7 @@ impl LogLevel {
 /// `log-level`: the server tells lines of its log from now on, or no longer.
 #[derive(Clone, Copy)]
 pub struct LogLevelRequest {
-    pub level: LogLevel,
+    pub level: Level,
 }
 
 impl Serialize for LogLevelRequest {
@@ -50,7 +50,7 @@ impl Serialize for LogLevelRequest {
 /// `log`: the server writes this line into its log. The level `Off` is the server's error.
 #[derive(Clone, Copy)]
 pub struct LogRequest<'a> {
-    pub level: LogLevel,
+    pub level: Level,
     pub line: &'a str,
 }
 

@@ -9,7 +9,7 @@ use watchman_index::told::Unread;
 
 /// Why the program cannot do what it was asked for.
 #[derive(Debug, Drop)]
-pub enum Failure {
+pub enum IndexError {
     /// The index cannot be opened, read or written.
     Database(DatabaseError),
     /// The file is a database of something else.
@@ -26,34 +26,34 @@ pub enum Failure {
     OutOfMemory,
 }
 
-impl fmt::Display for Failure {
+impl fmt::Display for IndexError {
     fn fmt<W: fmt::Write>(&self, f: &mut fmt::Formatter<W>) -> fmt::Result {
         match self {
-            Failure::Database(error) => write!(f, "{error}"),
-            Failure::NoIndex => f.write_str("the file is no index"),
-            Failure::Frame(error) => write!(f, "{error}"),
-            Failure::Message(error) => write!(f, "{error}"),
-            Failure::Refused(error) => write!(f, "{error}"),
-            Failure::Output(error) => write!(f, "the output failed: {error}"),
-            Failure::OutOfMemory => f.write_str("out of memory"),
+            IndexError::Database(error) => write!(f, "{error}"),
+            IndexError::NoIndex => f.write_str("the file is no index"),
+            IndexError::Frame(error) => write!(f, "{error}"),
+            IndexError::Message(error) => write!(f, "{error}"),
+            IndexError::Refused(error) => write!(f, "{error}"),
+            IndexError::Output(error) => write!(f, "the output failed: {error}"),
+            IndexError::OutOfMemory => f.write_str("out of memory"),
         }
     }
 }
 
-impl From<DatabaseError> for Failure {
+impl From<DatabaseError> for IndexError {
     fn from(error: DatabaseError) -> Self {
-        Failure::Database(error)
+        IndexError::Database(error)
     }
 }
 
-impl From<io::Error> for Failure {
+impl From<io::Error> for IndexError {
     fn from(error: io::Error) -> Self {
-        Failure::Output(error)
+        IndexError::Output(error)
     }
 }
 
-impl From<AllocError> for Failure {
+impl From<AllocError> for IndexError {
     fn from(_: AllocError) -> Self {
-        Failure::OutOfMemory
+        IndexError::OutOfMemory
     }
 }
