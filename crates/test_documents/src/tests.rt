@@ -1,9 +1,6 @@
-//! Tests of documents.
+//! Tests of documents, frames and structs.
 mod answers;
 mod frames;
-mod gathered;
-mod items;
-mod kinds;
 mod parts;
 mod pointer;
 mod printed;

@@ -1,4 +1,4 @@
-//! Tests of what is read over a window, and of what is read of one message.
+//! Tests of what is read over a window, of what is read of one message, and of types.
 
 mod bunser;
 mod deserializer;

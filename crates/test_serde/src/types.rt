@@ -73,7 +73,7 @@ pub struct Person<'a> {
 
 /// A file whose name is owned, and need not be UTF-8.
 #[derive(Debug, PartialEq, Drop, Serialize, Deserialize)]
-pub struct File {
+pub struct ByteFile {
     pub name: ByteBuf,
     pub size: u64,
     #[serde(skip_serializing_if = "Option::is_none")]
@@ -91,14 +91,15 @@ pub struct FileRef<'a> {
 
 /// Files.
 #[derive(Debug, PartialEq, Drop, Serialize, Deserialize)]
-pub struct Files {
-    pub files: Vec<File>,
+pub struct ByteFiles {
+    pub files: Vec<ByteFile>,
 }
 
-/// Numbers, by name.
+/// Numbers by name, a truth value that may be absent, a pair and nothing.
 #[derive(Debug, PartialEq, Drop, Serialize, Deserialize)]
 pub struct Scores {
     pub by_name: BTreeMap<String, f64>,
+    pub is_exact: Option<bool>,
     pub pair: (i8, char),
     pub nothing: (),
 }

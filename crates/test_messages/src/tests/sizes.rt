@@ -1,12 +1,8 @@
 //! What a message stands for.
 //!
 //! The numbers were computed by hand, and for the recorded message by another program.
-use crate::tests::{EARLY_END, Parts, ROWS, check_printed, repeated};
-use serde_bser::de::{Limits, Size, size_of, size_of_limited};
-use serde_bser::device::Watched;
-use serde_bser::{from_reader, from_slice};
-use std::alloc::Global;
-use std::process::Abort;
+use crate::tests::{Parts, repeated};
+use serde_bser::de::{Limits, size_of, size_of_limited};
 
 /// A server's answer to `query`, with a template of one row.
 const ONE_ROW: &[u8] =
@@ -41,76 +37,27 @@ const AMPLIFYING_PARTS: Parts<'static> = &[
     (b"\x0c", 30_000),
 ];
 
-/// A size.
-fn size(values: u64, key_bytes: u64, depth: usize) -> Size {
-    Size {
-        values,
-        key_bytes,
-        depth,
+/// Messages, and how many values each is, how many bytes its keys have, and how deep it is.
+static SIZES: [(Parts<'static>, (u64, u64, usize)); 6] = [
+    // a template's keys count for each row
+    (AMPLIFYING_PARTS, (60_001, 900_000_000, 2)),
+    (&[(NESTED, 1)], (14, 13, 4)),
+    // what follows a template is no deeper
+    (&[(SIBLINGS, 1)], (8, 1, 4)),
+    // a template without rows is an empty array
+    (&[(NO_ROWS, 1)], (1, 0, 1)),
+    // equal keys count each time
+    (&[(EQUAL_KEYS, 1)], (4, 3, 2)),
+    (&[(ONE_ROW, 1)], (8, 42, 3)),
+];
+
+#[test]
+fn a_message_has_the_size_of_its_templates_written_out(rt: HostRuntime) {
+    for (parts, size) in &SIZES {
+        let message = repeated(&rt, rt.alloc(), parts);
+        let found = size_of(rt.alloc(), &message).expect(&rt, "the message is read");
+        assert_eq!(rt; (found.values, found.key_bytes, found.depth), *size);
+        let within = size_of_limited(rt.alloc(), Limits::new(), &message);
+        assert!(rt; within.expect(&rt, "the message is read") == found);
     }
-}
-
-/// Checks the size of a message.
-fn check_size(rt: &impl Abort, alloc: Global, message: &[u8], expected: Size) {
-    let found = size_of(alloc, message).expect(rt, "the message is read");
-    assert_eq!(rt; found, expected);
-}
-
-#[test]
-fn a_templates_keys_count_for_each_row(rt: HostRuntime) {
-    let message = repeated(&rt, rt.alloc(), AMPLIFYING_PARTS);
-    check_size(&rt, rt.alloc(), &message, size(60_001, 900_000_000, 2));
-}
-
-#[test]
-fn templates_inside_templates_are_written_out(rt: HostRuntime) {
-    check_size(&rt, rt.alloc(), NESTED, size(14, 13, 4));
-}
-
-#[test]
-fn what_follows_a_template_is_no_deeper(rt: HostRuntime) {
-    check_size(&rt, rt.alloc(), SIBLINGS, size(8, 1, 4));
-}
-
-#[test]
-fn a_template_without_rows_is_an_empty_array(rt: HostRuntime) {
-    check_size(&rt, rt.alloc(), NO_ROWS, size(1, 0, 1));
-}
-
-#[test]
-fn equal_keys_count_each_time(rt: HostRuntime) {
-    check_size(&rt, rt.alloc(), EQUAL_KEYS, size(4, 3, 2));
-}
-
-#[test]
-fn a_recorded_message_has_its_size(rt: HostRuntime) {
-    check_size(&rt, rt.alloc(), ONE_ROW, size(8, 42, 3));
-}
-
-#[test]
-fn a_size_is_read_as_any_type(rt: HostRuntime) {
-    let mut reader = Watched::new(NESTED);
-    let whole: Size = from_reader(rt.alloc(), &mut reader).expect(&rt, "the message is read");
-    assert_eq!(rt; whole, size(14, 13, 4));
-    let rows: Vec<Size> = from_slice(rt.alloc(), ROWS).expect(&rt, "the message is read");
-    assert_eq!(rt; rows.as_slice(), [size(4, 9, 1), size(4, 9, 1)].as_slice());
-}
-
-#[test]
-fn a_broken_message_has_no_size(rt: HostRuntime) {
-    let cut = &NESTED[..NESTED.len() - 1];
-    check_printed(&rt, rt.alloc(), &size_of(rt.alloc(), cut), EARLY_END);
-}
-
-#[test]
-fn limits_hold_for_sizes(rt: HostRuntime) {
-    let limits = |levels: usize, bytes: usize| Limits { levels, bytes };
-    let exact = size_of_limited(rt.alloc(), limits(3, 36), NESTED);
-    assert_eq!(rt; exact.expect(&rt, "the message is read"), size(14, 13, 4));
-    let long = size_of_limited(rt.alloc(), limits(3, 35), NESTED);
-    let expected = "Err(DeTooLong { announced: 36, most: 35 })";
-    check_printed(&rt, rt.alloc(), &long, expected);
-    let deep = size_of_limited(rt.alloc(), limits(2, 36), NESTED);
-    let expected = "Err(DeRecursionLimitExceeded { kind: Array })";
-    check_printed(&rt, rt.alloc(), &deep, expected);
 }

@@ -1,17 +1,8 @@
-//! Tests by the public calls of reading.
+//! Types that are read: what no contract says.
 mod announced;
 mod checks;
 mod described;
-mod entries;
-mod entry;
-mod enums;
 mod faults;
-mod lent;
-mod levels;
 mod lists;
 mod maps;
-mod open;
-mod order;
 mod printed;
-mod steps;
-mod typed;

@@ -12,8 +12,14 @@ const ROWS: &[u8] = b"\x00\x02\x00\x00\x00\x00\x03\x3e\x0b\x00\x03\x01\x02\x03\x
 /// An array of an array.
 const NESTED: &[u8] = b"\x00\x02\x00\x00\x00\x00\x03\x07\x00\x03\x01\x00\x03\x01\x0a";
 
-/// What begins with no well-formed message.
-const WRONG: [&[u8]; 14] = [
+/// A template of two keys, with two rows: an array and a skipped field, and a real and a text.
+const TWO_KEYS: &[u8] =
+    b"\x00\x02\x00\x00\x00\x00\x03\x1f\x0b\x00\x03\x02\x02\x03\x01a\x02\x03\x01b\x03\x02\
+\x00\x03\x00\x0c\x07\x00\x00\x00\x00\x00\x00\xf0\x3f\x0d\x03\x01x";
+
+/// What begins with no well-formed message. The last two have a text of nine bytes, of which eight
+/// are a text.
+const WRONG: [&[u8]; 16] = [
     b"\x00\x01\x00\x00\x00\x00\x03\x01\x0a",
     b"\x00\x02\x00\x00\x00\x00\x03\xff\x0a",
     b"\x00\x02\x00\x00\x00\x00\x03\x02\x0a\x0a",
@@ -30,6 +36,8 @@ const WRONG: [&[u8]; 14] = [
 \x0d\x03\x06\xff\x00\x00\x00\x00\x00",
     b"\x00\x02\x00\x00\x00\x00\x03\x13\x0b\x00\x03\x01\x02\x03\x01a\x03\x01\
 \x0f\x00\x00\x00\x00\x00\x00\x00\x00",
+    b"\x00\x02\x00\x00\x00\x00\x03\x0c\x0d\x03\x09aaaaaaaa\xff",
+    b"\x00\x02\x00\x00\x00\x00\x03\x16\x0b\x00\x03\x01\x02\x03\x01a\x03\x01\x0d\x03\x09aaaaaaaa\xff",
 ];
 
 /// How many bytes stand before the body, and how many it has.
@@ -41,60 +49,53 @@ fn found(message: &[u8]) -> Option<(usize, usize)> {
 #[test]
 fn whole(rt: HostRuntime) {
     assert!(rt; found(ROWS) == Some((8, 62)));
+    assert!(rt; found(TWO_KEYS) == Some((8, 31)));
     assert!(rt; found(NESTED) == Some((8, 7)));
     assert!(rt; found(b"\x00\x02\x00\x00\x00\x00\x04\x01\x00\x0a\x0b") == Some((9, 1)));
 }
 
 #[test]
-fn cut(rt: HostRuntime) {
-    for len in 0..ROWS.len() {
-        assert!(rt; found(&ROWS[..len]) == None);
+fn cut_or_wrong(rt: HostRuntime) {
+    for message in [ROWS, TWO_KEYS, NESTED] {
+        for len in 0..message.len() {
+            assert!(rt; found(&message[..len]) == None, "{len}");
+        }
     }
-    for len in 0..NESTED.len() {
-        assert!(rt; found(&NESTED[..len]) == None);
+    for message in &WRONG {
+        assert!(rt; found(message) == None, "{message:?}");
     }
+}
+
+/// Messages, how many levels and bytes they may have, and whether they are found then.
+const LIMITED: [(&[u8], usize, usize, bool); 7] = [
+    (NESTED, 2, 7, true),
+    (NESTED, 1, 7, false),
+    (NESTED, 2, 6, false),
+    (NESTED, 2, 0, false),
+    (ROWS, 3, 62, true),
+    (ROWS, 2, 62, true),
+    (ROWS, 1, 62, false),
+];
+
+/// An array in an array, so many levels deep, with nothing in the innermost one.
+fn nested(rt: &impl Abort, alloc: Global, levels: u16) -> Vec<u8> {
+    let [low, high] = levels.saturating_mul(3).to_le_bytes();
+    let head = [0x00, 0x02, 0x00, 0x00, 0x00, 0x00, 0x04, low, high];
+    let mut message = Vec::from_slice(alloc, &head).expect(rt, "memory");
+    for level in 0..levels {
+        let array = [0x00, 0x03, u8::from(level.saturating_add(1) < levels)];
+        message.extend_from_slice(&array).expect(rt, "memory");
+    }
+    message
 }
 
 #[test]
 fn limited(rt: HostRuntime) {
-    assert!(rt; body_of(NESTED, 2, 7).is_some());
-    assert!(rt; body_of(NESTED, 1, 7).is_none());
-    assert!(rt; body_of(NESTED, 2, 6).is_none());
-    assert!(rt; body_of(ROWS, 3, 62).is_some());
-    assert!(rt; body_of(ROWS, 2, 62).is_some());
-    assert!(rt; body_of(ROWS, 1, 62).is_none());
-}
-
-#[test]
-fn wrong(rt: HostRuntime) {
-    for message in &WRONG {
-        assert!(rt; found(message) == None);
+    for (message, levels, most, is_found) in &LIMITED {
+        let body = body_of(message, *levels, *most);
+        assert!(rt; body.is_some() == *is_found, "{levels} {most}");
     }
-}
-
-/// An array in an array, so many levels deep, with nothing in the innermost one.
-fn nested(rt: &impl Abort, alloc: Global, levels: usize) -> Vec<u8> {
-    let mut message = Vec::new(alloc);
-    let body = i32::try_from(levels.saturating_mul(3)).unwrap_or(0);
-    message
-        .extend_from_slice(b"\x00\x02\x00\x00\x00\x00\x05")
-        .expect(rt, "memory");
-    message
-        .extend_from_slice(&body.to_le_bytes())
-        .expect(rt, "memory");
-    for level in 0..levels {
-        let count = u8::from(level.saturating_add(1) < levels);
-        message
-            .extend_from_slice(&[0, 3, count])
-            .expect(rt, "memory");
-    }
-    message
-}
-
-#[test]
-fn deep(rt: HostRuntime) {
-    let alloc = rt.alloc();
-    let message = nested(&rt, alloc, 1024);
-    assert!(rt; body_of(&message, 1024, usize::MAX).is_some());
-    assert!(rt; body_of(&message, 1023, usize::MAX).is_none());
+    let deep = nested(&rt, rt.alloc(), 1024);
+    assert!(rt; body_of(&deep, 1024, usize::MAX).is_some());
+    assert!(rt; body_of(&deep, 1023, usize::MAX).is_none());
 }

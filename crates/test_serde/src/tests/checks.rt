@@ -17,7 +17,7 @@ pub fn check_written<T: DeserializeOwned + Serialize + PartialEq>(
     let message = to_vec(alloc, value).expect(rt, "a message");
     let document: Document = serde_bser::from_slice(alloc, &message).expect(rt, "a document");
     let text = document.to_string(alloc).expect(rt, "memory");
-    assert!(rt; text.as_str() == shown);
+    assert_eq!(rt; text.as_str(), shown);
     let mut memory = InMemory::new(Vec::new(alloc));
     to_writer(alloc, &mut memory, value).expect(rt, "the same message");
     assert!(rt; *memory.get_ref() == message);
@@ -42,7 +42,7 @@ pub fn check_refused<'de, T: Deserialize<'de>>(
 /// Checks how a refusal prints.
 pub fn check_told(rt: &impl Abort, alloc: Global, refusal: &Refusal, told: &str) {
     let text = refusal.to_string(alloc).expect(rt, "memory");
-    assert!(rt; text.as_str() == told);
+    assert_eq!(rt; text.as_str(), told);
 }
 
 /// A text of its own.

@@ -6,60 +6,58 @@ use std::collections::BTreeMap;
 #[test]
 fn variants(rt: HostRuntime) {
     let alloc = rt.alloc();
-    check_written(&rt, alloc, &Kind::RegularFile, "\"regularFile\"");
-    let link = Kind::SymbolicLink(owned(&rt, alloc, "there"));
-    check_written(&rt, alloc, &link, "{\"symbolicLink\": \"there\"}");
-    check_written(&rt, alloc, &Kind::Pair(-5, true), "{\"pair\": [-5, true]}");
     let folder = Kind::Folder {
         depth: 3,
         root: None,
     };
-    check_written(
-        &rt,
-        alloc,
-        &folder,
-        "{\"d\": {\"depth\": 3, \"root\": null}}",
-    );
+    let link = Kind::SymbolicLink(owned(&rt, alloc, "there"));
+    for (kind, shown) in [
+        (Kind::RegularFile, "\"regularFile\""),
+        (link, "{\"symbolicLink\": \"there\"}"),
+        (Kind::Pair(-5, true), "{\"pair\": [-5, true]}"),
+        (folder, "{\"d\": {\"depth\": 3, \"root\": null}}"),
+    ] {
+        check_written(&rt, alloc, &kind, shown);
+    }
 }
 
 #[test]
 fn tags(rt: HostRuntime) {
     let alloc = rt.alloc();
-    check_written(&rt, alloc, &Term::Not, "{\"op\": \"Not\"}");
-    let mut terms = Vec::new(alloc);
-    terms.push(owned(&rt, alloc, "x")).expect(&rt, "memory");
-    check_written(
-        &rt,
-        alloc,
-        &Term::All { terms },
-        "{\"op\": \"All\", \"terms\": [\"x\"]}",
-    );
-    check_written(&rt, alloc, &Shape::Dot, "{\"kind\": \"Dot\"}");
-    check_written(
-        &rt,
-        alloc,
-        &Shape::Line(-9),
-        "{\"kind\": \"Line\", \"of\": -9}",
-    );
-    check_written(
-        &rt,
-        alloc,
-        &Shape::Box { width: 70000 },
-        "{\"kind\": \"Box\", \"of\": {\"width\": 70000}}",
-    );
+    let terms = vec![in alloc; owned(&rt, alloc, "x")].expect(&rt, "memory");
+    for (term, shown) in [
+        (Term::Not, "{\"op\": \"Not\"}"),
+        (Term::All { terms }, "{\"op\": \"All\", \"terms\": [\"x\"]}"),
+    ] {
+        check_written(&rt, alloc, &term, shown);
+    }
+    for (shape, shown) in [
+        (Shape::Dot, "{\"kind\": \"Dot\"}"),
+        (Shape::Line(-9), "{\"kind\": \"Line\", \"of\": -9}"),
+        (
+            Shape::Box { width: 70000 },
+            "{\"kind\": \"Box\", \"of\": {\"width\": 70000}}",
+        ),
+    ] {
+        check_written(&rt, alloc, &shape, shown);
+    }
 }
 
 #[test]
 fn untagged(rt: HostRuntime) {
     let alloc = rt.alloc();
-    let name = NameOrFile::Name(owned(&rt, alloc, "a.c"));
-    check_written(&rt, alloc, &name, "\"a.c\"");
     let file = NameOrFile::File {
         name: owned(&rt, alloc, "a.c"),
         size: 300,
     };
-    check_written(&rt, alloc, &file, "{\"name\": \"a.c\", \"size\": 300}");
-    check_written(&rt, alloc, &NameOrFile::Number(-1), "-1");
+    let name = NameOrFile::Name(owned(&rt, alloc, "a.c"));
+    for (value, shown) in [
+        (name, "\"a.c\""),
+        (file, "{\"name\": \"a.c\", \"size\": 300}"),
+        (NameOrFile::Number(-1), "-1"),
+    ] {
+        check_written(&rt, alloc, &value, shown);
+    }
 }
 
 #[test]
@@ -91,6 +89,7 @@ fn maps_and_tuples(rt: HostRuntime) {
     assert!(rt; inserted.is_ok());
     let scores = Scores {
         by_name,
+        is_exact: Some(false),
         pair: (-3, 'é'),
         nothing: (),
     };
@@ -98,6 +97,6 @@ fn maps_and_tuples(rt: HostRuntime) {
         &rt,
         alloc,
         &scores,
-        "{\"by_name\": {\"x\": 1.5}, \"nothing\": null, \"pair\": [-3, \"é\"]}",
+        "{\"by_name\": {\"x\": 1.5}, \"is_exact\": false, \"nothing\": null, \"pair\": [-3, \"é\"]}",
     );
 }

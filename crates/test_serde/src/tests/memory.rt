@@ -8,7 +8,7 @@ use std::process::Abort;
 /// A struct that owns nothing, with the fields of another among its own.
 #[derive(Drop, Serialize)]
 #[serde(rename_all = "camelCase")]
-struct Told<'a> {
+struct LentClock<'a> {
     the_clock: &'a str,
     #[serde(flatten)]
     file: FileRef<'a>,
@@ -31,7 +31,7 @@ fn check_memory(rt: &impl Abort, error: &Error) {
 fn written_or_out_of_memory(rt: HostRuntime) {
     let alloc = rt.alloc();
     let name = [b'x'; 130];
-    let told = Told {
+    let told = LentClock {
         the_clock: "c:1:2",
         file: FileRef {
             name: Bytes(&name),

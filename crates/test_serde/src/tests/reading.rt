@@ -1,5 +1,5 @@
 //! Reading where an allocation fails.
-use crate::types::File;
+use crate::types::ByteFile;
 use bser_serde::{ByteBuf, Misfit, Reason, Refusal, from_reader, from_slice};
 use serde::Deserialize;
 use serde_bser::device::Watched;
@@ -44,18 +44,15 @@ fn check_place(rt: &impl Abort, misfit: &Misfit, place: usize) {
 
 #[test]
 fn rows_or_out_of_memory(rt: HostRuntime) {
-    match from_slice::<Vec<Owner>>(rt.alloc(), PEOPLE) {
-        Ok(people) => check_people(&rt, &people),
-        Err(refusal) => check_memory(&rt, &refusal),
-    }
-}
-
-#[test]
-fn next_rows_or_out_of_memory(rt: HostRuntime) {
     let mut reader = Watched::new(PEOPLE);
-    match from_reader::<_, Vec<Owner>>(rt.alloc(), &mut reader) {
-        Ok(people) => check_people(&rt, &people),
-        Err(refusal) => check_memory(&rt, &refusal),
+    for read in [
+        from_slice::<Vec<Owner>>(rt.alloc(), PEOPLE),
+        from_reader(rt.alloc(), &mut reader),
+    ] {
+        match read {
+            Ok(people) => check_people(&rt, &people),
+            Err(refusal) => check_memory(&rt, &refusal),
+        }
     }
 }
 
@@ -70,7 +67,7 @@ fn misfit_or_out_of_memory(rt: HostRuntime) {
 
 #[test]
 fn missing_or_out_of_memory(rt: HostRuntime) {
-    match from_slice::<Vec<File>>(rt.alloc(), PEOPLE) {
+    match from_slice::<Vec<ByteFile>>(rt.alloc(), PEOPLE) {
         Ok(_files) => assert!(rt; false),
         Err(Refusal::Misfit(misfit)) => {
             assert!(rt; matches!(misfit.reason, Reason::Missing(_)));

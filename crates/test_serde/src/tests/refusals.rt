@@ -1,6 +1,6 @@
 //! How messages and values are refused.
 use crate::tests::checks::{check_refused, check_told, owned};
-use crate::types::{File, Files, Strict, Version};
+use crate::types::{ByteFile, Strict, Version};
 use bser_serde::{ByteBuf, from_frame, from_reader, to_vec};
 use serde_bser::bytestring::ByteString;
 use serde_bser::device::Watched;
@@ -10,10 +10,13 @@ use std::collections::BTreeMap;
 const VERSION: &[u8] =
     b"\x00\x02\x00\x00\x00\x00\x03\x13\x01\x03\x01\x0d\x03\x07version\x0d\x03\x034.9\x0a";
 
+/// False.
+const FALSE: &[u8] = b"\x00\x02\x00\x00\x00\x00\x03\x01\x09";
+
 #[test]
 fn misfits(rt: HostRuntime) {
     let alloc = rt.alloc();
-    check_refused::<File>(
+    check_refused::<ByteFile>(
         &rt,
         alloc,
         VERSION,
@@ -32,6 +35,8 @@ fn misfits(rt: HostRuntime) {
         VERSION,
         "wrong type: a text where an integer is wanted, at byte 21, in version",
     );
+    let told = "a value that the type does not hold, at byte 8, in .";
+    check_refused::<()>(&rt, alloc, FALSE, told);
 }
 
 /// A template with the keys `name` and `age` and a row of 20 years.

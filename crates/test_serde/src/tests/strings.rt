@@ -1,6 +1,6 @@
 //! Byte strings, borrowed texts, rows of a template, and reals by their bits.
 use crate::tests::checks::{check_written, owned};
-use crate::types::{File, FileRef, Files, Person};
+use crate::types::{ByteFile, ByteFiles, FileRef, Person};
 use bser_serde::{ByteBuf, Bytes, from_frame, from_slice, to_vec};
 use serde_bser::bytestring::ByteString;
 
@@ -13,7 +13,7 @@ const PEOPLE: &[u8] =
 fn byte_strings(rt: HostRuntime) {
     let alloc = rt.alloc();
     let name = Vec::from_slice(alloc, b"a\xff.c").expect(&rt, "memory");
-    let file = File {
+    let file = ByteFile {
         name: ByteBuf(ByteString::from_vec(name)),
         size: 129,
         mtime_ms: None,
@@ -23,7 +23,7 @@ fn byte_strings(rt: HostRuntime) {
     files.push(file).expect(&rt, "memory");
     let shown =
         "{\"files\": [{\"name\": {\"$bytes\": \"61ff2e63\"}, \"size\": 129, \"type\": \"f\"}]}";
-    check_written(&rt, alloc, &Files { files }, shown);
+    check_written(&rt, alloc, &ByteFiles { files }, shown);
 }
 
 #[test]

@@ -82,8 +82,10 @@ fn made(rt: &impl Abort, alloc: Global) -> Error {
 }
 
 #[test]
-fn refusals_of_reading(rt: HostRuntime) {
+fn refusals(rt: HostRuntime) {
     let kind = Kind::ObjectLikeEnum(EnumName::new("TestEnum"));
+    let (sequence, map) = (Collection::Sequence, Collection::Map);
+    let great = 9223372036854775808;
     let refusals = [
         (
             Error::de_reader_error(reader_fault()),
@@ -98,15 +100,6 @@ fn refusals_of_reading(rt: HostRuntime) {
             Error::DeRecursionLimitExceeded { kind },
             "while deserializing BSER: recursion limit exceeded with object-like enum 'TestEnum'",
         ),
-    ];
-    check_texts(&rt, rt.alloc(), &refusals);
-}
-
-#[test]
-fn refusals_of_writing(rt: HostRuntime) {
-    let (sequence, map) = (Collection::Sequence, Collection::Map);
-    let great = 9223372036854775808;
-    let refusals = [
         (
             Error::SerNeedSize { kind: sequence },
             "while serializing BSER: need size of sequence",

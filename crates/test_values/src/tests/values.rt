@@ -1,10 +1,6 @@
-//! Tests of values. Expected texts of printing are made by hand, after the rules that `Display` states.
-mod access;
+//! Values: their texts, how often a reader is called for one, and what a fault leaves. Expected texts
+//! of printing are made by hand, after the rules that `Display` states.
 mod checks;
-mod files;
-mod lengths;
-mod messages;
 mod printing;
-mod sizes;
-mod value;
+mod readers;
 mod writing;

@@ -6,15 +6,15 @@ use std::process::Abort;
 
 /// The bytes of a reader, how many bytes a body may have, and what the calls answer, whether the
 /// reader gives one byte a call or all.
-struct Row {
+struct StreamCase {
     bytes: &'static [u8],
     most: usize,
     lines: &'static [&'static str],
 }
 
-static ROWS: [Row; 7] = [
+static STREAMS: [StreamCase; 7] = [
     // a text in a body of 15 bytes announces 8000: the message ends where its header says
-    Row {
+    StreamCase {
         bytes: b"\x00\x02\0\0\0\0\x03\x02\x03\x05\
                  \x00\x02\0\0\0\0\x03\x0f\x01\x03\x01\x0d\x03\x03log\x0d\x04\x40\x1fhi\
                  \x00\x02\0\0\0\0\x03\x02\x03\x06",
@@ -28,7 +28,7 @@ static ROWS: [Row; 7] = [
         ],
     },
     // a text in a body of 8 bytes announces 100,000
-    Row {
+    StreamCase {
         bytes: b"\x00\x02\0\0\0\0\x03\x08\x0d\x05\xa0\x86\x01\x00xy\
                  \x00\x02\0\0\0\0\x03\x02\x03\x06",
         most: 100,
@@ -39,7 +39,7 @@ static ROWS: [Row; 7] = [
         ],
     },
     // a header announces 200 bytes, and at most 100 are taken: it is asked for no byte more
-    Row {
+    StreamCase {
         bytes: b"\x00\x02\0\0\0\0\x04\xc8\x00\x00\x03\x02\x03\x05\x03\x05",
         most: 100,
         lines: &[
@@ -47,13 +47,13 @@ static ROWS: [Row; 7] = [
             "0+9, asked 9: 200 bytes announced, and at most 100 are taken",
         ],
     },
-    Row {
+    StreamCase {
         bytes: b"\x00\x02\0\0\0\0\x05\xa0\x86\x01\x00\x03\x05",
         most: 100,
         lines: &["0+11, asked 11: 100000 bytes announced, and at most 100 are taken"],
     },
     // a body may be as long as the limit
-    Row {
+    StreamCase {
         bytes: b"\x00\x02\0\0\0\0\x06\x02\0\0\0\0\0\0\0\x03\x05\x00\x02\0\0\0\0\x03\x03\x04\x05\x00",
         most: 2,
         lines: &[
@@ -62,7 +62,7 @@ static ROWS: [Row; 7] = [
         ],
     },
     // a body that is longer than its value, and one without a value
-    Row {
+    StreamCase {
         bytes: b"\x00\x02\0\0\0\0\x03\x04\x03\x05\x03\x06\x00\x02\0\0\0\0\x03\x00",
         most: 100,
         lines: &[
@@ -72,7 +72,7 @@ static ROWS: [Row; 7] = [
         ],
     },
     // the length of a body is no integer, or below 0
-    Row {
+    StreamCase {
         bytes: b"\x00\x02\0\0\0\0\x0a",
         most: 100,
         lines: &[
@@ -82,7 +82,7 @@ static ROWS: [Row; 7] = [
 ];
 
 /// Checks the row over a reader that gives its bytes by the plan.
-fn check_row(rt: &impl Abort, alloc: Global, row: &Row, plan: Plan) {
+fn check_row(rt: &impl Abort, alloc: Global, row: &StreamCase, plan: Plan) {
     check_lines(
         rt,
         alloc,
@@ -93,7 +93,7 @@ fn check_row(rt: &impl Abort, alloc: Global, row: &Row, plan: Plan) {
 
 #[test]
 fn a_frame_is_what_its_header_announces(rt: HostRuntime) {
-    for row in &ROWS {
+    for row in &STREAMS {
         check_row(&rt, rt.alloc(), row, Plan::whole());
         check_row(&rt, rt.alloc(), row, Plan::pieces(1));
     }

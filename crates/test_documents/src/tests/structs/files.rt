@@ -12,7 +12,7 @@ use std::alloc::Global;
 
 /// What is known of a file.
 #[derive(Debug, Drop)]
-pub struct File {
+pub struct KnownFile {
     pub name: ByteString,
     pub size: u64,
     pub mtime_ms: Option<u64>,
@@ -20,7 +20,7 @@ pub struct File {
     pub kind: Option<String>,
 }
 
-impl Fields for File {
+impl Fields for KnownFile {
     ghost fields = { required (codes "name") (λ v. v.name) ⟦<ByteString as Codec>⟧.coding
         ∷ required (codes "size") (λ v. v.size) ⟦<u64 as Codec>⟧.coding
         ∷ nullable (codes "mtime_ms") (λ v. v.mtime_ms) ⟦<u64 as Codec>⟧.coding
@@ -29,16 +29,19 @@ impl Fields for File {
         ∷ [] };
 }
 
-impl Meant for File {
-    ghost meaning = { struct_meaning ⟦<File as Fields>⟧.fields };
+impl Meant for KnownFile {
+    ghost meaning = { struct_meaning ⟦<KnownFile as Fields>⟧.fields };
 }
 
-impl<L: LendsText> Deserialize<L> for File {
-    fn deserialize<R: DeRead<Lent = L>>(alloc: Global, from: &mut Deserializer<R>) -> Answer<File> {
+impl<L: LendsText> Deserialize<L> for KnownFile {
+    fn deserialize<R: DeRead<Lent = L>>(
+        alloc: Global,
+        from: &mut Deserializer<R>,
+    ) -> Answer<KnownFile> {
         read_struct!(
             alloc,
             from,
-            File {
+            KnownFile {
                 name: Required("name"),
                 size: Required("size"),
                 mtime_ms: Nullable("mtime_ms"),
@@ -49,12 +52,12 @@ impl<L: LendsText> Deserialize<L> for File {
     }
 }
 
-impl OwnedShape for File {
+impl OwnedShape for KnownFile {
     ghost owned = { refl };
 }
 
-impl Serialize for File {
-    ghost meaning = { fields_tree ⟦<File as Fields>⟧.fields };
+impl Serialize for KnownFile {
+    ghost meaning = { fields_tree ⟦<KnownFile as Fields>⟧.fields };
 
     fn serialize<W: Sink>(&self, alloc: Global, out: &mut Serializer<W>) -> Result<()> {
         put_struct!(alloc, out, self, {

@@ -1,13 +1,11 @@
 //! Structs by one list: files, names, numbers, rows and a query.
-use super::files::File;
+use super::files::KnownFile;
 use super::named::NamedFile;
 use super::queries::Query;
-use super::rows::Row;
-use super::signed::Shift;
-use super::{Case, check_lent, check_message, check_owned, check_slice, check_written};
+use super::rows::LentRow;
+use super::{Case, check_lent, check_message, check_owned, check_written};
 use serde_bser::de::ObjectOr;
 use std::alloc::Global;
-use std::collections::BTreeMap;
 use std::process::Abort;
 
 /// Files, as they are written.
@@ -16,60 +14,20 @@ static FILES: [Case<'static>; 2] = [
     (
         b"\x00\x02\0\0\0\0\x03\x2e\x01\x03\x04\x0d\x03\x04name\x02\x03\x01a\
 \x0d\x03\x04size\x03\x05\x0d\x03\x08mtime_ms\x03\x07\x0d\x03\x06exists\x08",
-        "Ok(File { name: \"a\", size: 5, mtime_ms: Some(7), exists: Some(true), kind: None })",
+        "Ok(KnownFile { name: \"a\", size: 5, mtime_ms: Some(7), exists: Some(true), kind: None })",
     ),
     // a name that is no text, and a time that is null
     (
         b"\x00\x02\0\0\0\0\x03\x2f\x01\x03\x04\x0d\x03\x04name\x02\x03\x01\xff\
 \x0d\x03\x04size\x04\x80\x00\x0d\x03\x08mtime_ms\x0a\x0d\x03\x04type\x0d\x03\x01f",
-        "Ok(File { name: \"\\\\xff\", size: 128, mtime_ms: None, exists: None, kind: Some(\"f\") })",
+        "Ok(KnownFile { name: \"\\\\xff\", size: 128, mtime_ms: None, exists: None, kind: Some(\"f\") })",
     ),
 ];
 
 #[test]
 fn a_struct_is_read_as_it_is_written_and_what_is_none_is_null_or_left_out(rt: HostRuntime) {
-    check_owned::<File>(&rt, rt.alloc(), &FILES);
-    check_written::<File>(&rt, rt.alloc(), &FILES);
-}
-
-/// Other objects that are read as a file.
-static OTHER_FILES: [Case<'static>; 3] = [
-    // other names are passed over, and a kind may be null
-    (
-        b"\x00\x02\0\0\0\0\x03\x42\x01\x03\x06\x0d\x03\x06exists\x08\
-\x0d\x03\x05other\x00\x03\x01\x0a\x0d\x03\x08mtime_ms\x03\x07\x0d\x03\x04size\x03\x05\
-\x0d\x03\x04type\x0a\x0d\x03\x04name\x02\x03\x01a",
-        "Ok(File { name: \"a\", size: 5, mtime_ms: Some(7), exists: Some(true), kind: None })",
-    ),
-    // no size
-    (
-        b"\x00\x02\0\0\0\0\x03\x0e\x01\x03\x01\x0d\x03\x04name\x02\x03\x01a",
-        "Err(DeCustom { msg: Fixed(TooFewItems) })",
-    ),
-    // two sizes
-    (
-        b"\x00\x02\0\0\0\0\x03\x15\x01\x03\x02\x0d\x03\x04size\x03\x05\x0d\x03\x04size\x03\x05",
-        "Err(DeCustom { msg: Fixed(ItemsLeft) })",
-    ),
-];
-
-#[test]
-fn fields_come_in_any_order_each_that_has_to_be_there_once(rt: HostRuntime) {
-    check_owned::<File>(&rt, rt.alloc(), &OTHER_FILES);
-}
-
-/// The two files as rows of a template.
-static ROWS_OF_FILES: [Case<'static>; 1] = [(
-    b"\x00\x02\0\0\0\0\x03\x46\x0b\x00\x03\x05\x0d\x03\x04name\x0d\x03\x04size\
-\x0d\x03\x08mtime_ms\x0d\x03\x06exists\x0d\x03\x04type\x03\x02\
-\x02\x03\x01a\x03\x05\x03\x07\x08\x0c\x02\x03\x01\xff\x04\x80\x00\x0c\x0c\x0d\x03\x01f",
-    "Ok([File { name: \"a\", size: 5, mtime_ms: Some(7), exists: Some(true), kind: None }, \
-File { name: \"\\\\xff\", size: 128, mtime_ms: None, exists: None, kind: Some(\"f\") }])",
-)];
-
-#[test]
-fn rows_of_a_template_are_structs(rt: HostRuntime) {
-    check_owned::<Vec<File>>(&rt, rt.alloc(), &ROWS_OF_FILES);
+    check_owned::<KnownFile>(&rt, rt.alloc(), &FILES);
+    check_written::<KnownFile>(&rt, rt.alloc(), &FILES);
 }
 
 /// A file, as it is written.
@@ -87,27 +45,18 @@ fn a_name_is_lent_or_owned(rt: HostRuntime) {
     check_written::<NamedFile<String>>(&rt, rt.alloc(), &NAMED_FILES);
 }
 
-#[test]
-fn strings_are_lent(rt: HostRuntime) {
-    let bytes = b"\x00\x02\0\0\0\0\x03\x32\x0b\x00\x03\x03\x0d\x03\x04name\x0d\x03\x04type\
+/// Two rows of a template.
+static LENT_ROWS: [Case<'static>; 1] = [(
+    b"\x00\x02\0\0\0\0\x03\x32\x0b\x00\x03\x03\x0d\x03\x04name\x0d\x03\x04type\
 \x0d\x03\x04tags\x03\x02\x02\x03\x01\xff\x0c\x00\x03\x00\x02\x03\x01b\x0d\x03\x01f\
-\x00\x03\x01\x0d\x03\x01t";
-    let printed = "Ok([Row { name: [255], kind: None, tags: [] }, \
-Row { name: [98], kind: Some(\"f\"), tags: [\"t\"] }])";
-    check_slice::<Vec<Row>>(&rt, rt.alloc(), bytes, printed);
-}
-
-/// Numbers, as they are written.
-static SHIFTS: [Case<'static>; 1] = [(
-    b"\x00\x02\0\0\0\0\x03\x2b\x01\x03\x04\x0d\x03\x07seconds\x04\x7f\xff\
-\x0d\x03\x04zone\x03\x80\x0d\x03\x05drift\x03\xff\x0d\x03\x04leap\x0a",
-    "Ok(Shift { seconds: -129, zone: -128, drift: Some(-1), leap: None })",
+\x00\x03\x01\x0d\x03\x01t",
+    "Ok([LentRow { name: [255], kind: None, tags: [] }, \
+LentRow { name: [98], kind: Some(\"f\"), tags: [\"t\"] }])",
 )];
 
 #[test]
-fn numbers_have_a_sign(rt: HostRuntime) {
-    check_owned::<Shift>(&rt, rt.alloc(), &SHIFTS);
-    check_written::<Shift>(&rt, rt.alloc(), &SHIFTS);
+fn strings_are_lent(rt: HostRuntime) {
+    check_lent::<Vec<LentRow>>(&rt, rt.alloc(), &LENT_ROWS);
 }
 
 /// A name alone and a file, as they are written.
@@ -134,27 +83,6 @@ fn files_are_names_or_objects_or_rows(rt: HostRuntime) {
         check_owned::<Vec<Listed<String>>>(&rt, rt.alloc(), cases);
     }
     check_written::<Vec<Listed<String>>>(&rt, rt.alloc(), &NAMES_AND_FILES);
-}
-
-/// A file, or texts under their names.
-type FileOrMap = ObjectOr<NamedFile<String>, BTreeMap<String, String>>;
-
-/// What is neither a file nor a map.
-static NO_FILES: [Case<'static>; 2] = [
-    // a map of a name
-    (
-        b"\x00\x02\0\0\0\0\x03\x0e\x01\x03\x01\x0d\x03\x04name\x0d\x03\x01b",
-        "Err(DeCustom { msg: Fixed(TooFewItems) })",
-    ),
-    (
-        b"\x00\x02\0\0\0\0\x03\x01\x0a",
-        "Err(DeCustom { msg: Fixed(WrongType) })",
-    ),
-];
-
-#[test]
-fn an_object_is_not_read_as_the_other_type(rt: HostRuntime) {
-    check_owned::<FileOrMap>(&rt, rt.alloc(), &NO_FILES);
 }
 
 /// Checks that this message is written for a query of the names.

@@ -9,32 +9,32 @@ use std::alloc::Global;
 
 /// A name that may be no text, a kind, and tags.
 #[derive(Debug, Drop)]
-pub struct Row<'a> {
+pub struct LentRow<'a> {
     pub name: &'a [u8],
     pub kind: Option<&'a str>,
     pub tags: Vec<&'a str>,
 }
 
-impl<'a> Fields for Row<'a> {
+impl<'a> Fields for LentRow<'a> {
     ghost fields = { required (codes "name") (λ v. v.name) ⟦<&'a [u8] as ReadOnly>⟧.coding
         ∷ optional (codes "type") (λ v. v.kind) ⟦<&'a str as ReadOnly>⟧.coding
         ∷ required (codes "tags") (λ v. v.tags) ⟦<Vec<&'a str> as ReadOnly>⟧.coding
         ∷ [] };
 }
 
-impl<'a> Meant for Row<'a> {
-    ghost meaning = { struct_meaning ⟦<Row<'a> as Fields>⟧.fields };
+impl<'a> Meant for LentRow<'a> {
+    ghost meaning = { struct_meaning ⟦<LentRow<'a> as Fields>⟧.fields };
 }
 
-impl<'a, L: LendsFrom<'a>> Deserialize<L> for Row<'a> {
+impl<'a, L: LendsFrom<'a>> Deserialize<L> for LentRow<'a> {
     fn deserialize<R: DeRead<Lent = L>>(
         alloc: Global,
         from: &mut Deserializer<R>,
-    ) -> Answer<Row<'a>> {
+    ) -> Answer<LentRow<'a>> {
         read_struct!(
             alloc,
             from,
-            Row {
+            LentRow {
                 name: Required("name"),
                 kind: Optional("type"),
                 tags: Required("tags"),

@@ -34,14 +34,10 @@ fn check_copy(
 }
 
 #[test]
-fn a_byte_string_is_copied_and_cloned(rt: HostRuntime) -> Tested {
+fn a_byte_string_is_copied_and_cloned_and_made_of_a_text(rt: HostRuntime) -> Tested {
     let name = name(rt.alloc())?;
     check_copy(&rt, &name, name.try_clone(rt.alloc()))?;
-    check_copy(&rt, &name, name.clone())
-}
-
-#[test]
-fn a_byte_string_is_made_of_a_text(rt: HostRuntime) -> Tested {
+    check_copy(&rt, &name, name.clone())?;
     let made = ByteString::from_text(rt.alloc(), "Tom")?;
     check_bytes(&rt, made.as_bytes(), b"Tom")
 }

@@ -24,14 +24,10 @@ fn check_copy(
 }
 
 #[test]
-fn a_value_is_copied_and_cloned(rt: HostRuntime) -> Tested {
+fn a_value_is_copied_and_cloned_and_made_of_a_text(rt: HostRuntime) -> Tested {
     let (value, same) = (rows(rt.alloc())?, rows(rt.alloc())?);
     check_copy(&rt, &value, value.try_clone(rt.alloc()), &same)?;
-    check_copy(&rt, &value, value.clone(), &same)
-}
-
-#[test]
-fn a_value_is_made_of_a_text(rt: HostRuntime) -> Tested {
+    check_copy(&rt, &value, value.clone(), &same)?;
     let made = Value::from_text(rt.alloc(), "Tom")?;
     assert_eq!(rt; made.as_str(), Some("Tom"));
     Ok(())

@@ -1,6 +1,5 @@
 //! The messages of a reader that gives one byte a call.
 use super::{FIVE, HUGE, MIXED, NUMBERS, check_answer, check_equal};
-use crate::tests::EARLY_END;
 use bser_messages::limits::Limits;
 use bser_messages::next::{from_reader_limited, next_message, next_message_limited};
 use bser_messages::reader_messages::ReaderMessages;
@@ -40,21 +39,8 @@ fn the_messages_of_a_reader_are_read_in_turn(rt: HostRuntime) {
     ];
     check_next(&rt, rt.alloc(), &mut messages, &answers);
     assert!(rt; !messages.is_failed());
-}
-
-/// Checks the answer to the first message as a number.
-fn check_first(rt: &impl Abort, alloc: Global, bytes: &[u8], expected: &str) {
-    let answer = next_message::<_, i64>(alloc, &mut one_by_one(bytes));
-    check_answer(rt, alloc, answer, expected);
-}
-
-#[test]
-fn the_end_of_a_stream_is_told_from_a_cut_message(rt: HostRuntime) {
-    check_first(&rt, rt.alloc(), b"", "Ok(None)");
-    for count in 1..10 {
-        check_first(&rt, rt.alloc(), &MIXED[..count], EARLY_END);
-    }
-    check_first(&rt, rt.alloc(), &MIXED[..10], "Ok(Some(5))");
+    let first = next_message::<_, i64>(rt.alloc(), &mut one_by_one(NUMBERS));
+    check_answer(&rt, rt.alloc(), first, "Ok(Some(300))");
 }
 
 /// Checks that the messages end with a refusal, after which nothing more is read.

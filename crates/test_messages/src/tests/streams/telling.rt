@@ -78,6 +78,12 @@ fn long_strings(alloc: Global) -> Result<Vec<u8>, AllocError> {
     Ok(message)
 }
 
+/// How many events are taken, and how that is told.
+static STOPPED: [(usize, &str); 2] = [
+    (1, "stopped by the builder, at byte 5016"),
+    (2, "stopped by the builder, at byte 10020"),
+];
+
 #[test]
 fn long_strings_of_a_reader_are_told_in_their_places(rt: HostRuntime) {
     let alloc = rt.alloc();
@@ -88,19 +94,10 @@ fn long_strings_of_a_reader_are_told_in_their_places(rt: HostRuntime) {
     assert!(rt; answer.expect(&rt, "the message is told").is_some());
     assert_eq!(rt; witness.taken, 4);
     assert!(rt; witness.in_place);
-}
-
-#[test]
-fn a_builder_stops_at_a_long_string(rt: HostRuntime) {
-    let alloc = rt.alloc();
-    let message = long_strings(alloc).expect(&rt, "memory is left");
-    for (most, expected) in [
-        (1, "stopped by the builder, at byte 5016"),
-        (2, "stopped by the builder, at byte 10020"),
-    ] {
+    for (most, expected) in &STOPPED {
         let mut reader = Watched::new(message.as_slice());
-        let answer = tell_next(alloc, Limits::new(), &mut reader, most);
-        let _error = check_error(&rt, alloc, answer, expected);
+        let answer = tell_next(alloc, Limits::new(), &mut reader, *most);
+        check_error(&rt, alloc, answer, expected);
     }
 }
 
@@ -125,14 +122,6 @@ fn tell_next<S: Source>(
 fn check_next<S: Source>(rt: &impl Abort, alloc: Global, reader: &mut S, expected: Option<Header>) {
     let answer = tell_next(alloc, Limits::new(), reader, ALL);
     assert!(rt; answer.expect(rt, "the message is told") == expected);
-}
-
-#[test]
-fn the_messages_of_a_reader_are_told_in_turn(rt: HostRuntime) {
-    let mut reader = one_by_one(NUMBERS);
-    check_next(&rt, rt.alloc(), &mut reader, Some(short_header(5)));
-    check_next(&rt, rt.alloc(), &mut reader, Some(short_header(3)));
-    check_next(&rt, rt.alloc(), &mut reader, None);
 }
 
 /// Checks how the first message fails, and that the reader is at the next one then.
@@ -171,12 +160,4 @@ fn a_message_is_passed_over_after_its_error(rt: HostRuntime) {
         bytes: 4,
     };
     check_skipped(&rt, rt.alloc(), NUMBERS, four, long, short_header(3));
-}
-
-#[test]
-fn a_message_that_is_cut_has_no_rest(rt: HostRuntime) {
-    let mut reader = one_by_one(&MIXED[..9]);
-    let answer = tell_next(rt.alloc(), Limits::new(), &mut reader, ALL);
-    let error = check_error(&rt, rt.alloc(), answer, "end of input, at byte 9");
-    assert!(rt; error.skip_rest(rt.alloc(), &mut reader).is_err());
 }

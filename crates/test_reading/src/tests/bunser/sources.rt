@@ -9,7 +9,7 @@ use std::process::Abort;
 
 /// A call, or what the scratch holds.
 #[derive(Clone, Copy)]
-enum Call {
+enum SourceCall {
     /// The next byte, which is taken.
     Next,
     /// The next byte, which is not taken.
@@ -31,7 +31,7 @@ enum Call {
 }
 
 /// A call, and how its answer is printed.
-type Step = (Call, &'static str);
+type Step = (SourceCall, &'static str);
 
 fn are_buffered<R: DeRead>(text: &str, read: &mut R) -> bool {
     if read.fill(2).is_err() {
@@ -51,16 +51,16 @@ fn are_bytes<R: DeRead>(len: usize, text: &str, scratch: &mut Vec<u8>, read: &mu
 
 fn is_answered<R: DeRead>(scratch: &mut Vec<u8>, (call, text): Step, read: &mut R) -> bool {
     match call {
-        Call::Next => is_printed(read.next(), text),
-        Call::Peek => is_printed(read.peek(), text),
-        Call::Buffered => are_buffered(text, read),
-        Call::U32 => is_printed(read.next_u32(scratch), text),
-        Call::Bytes(len) => are_bytes(len, text, scratch, read),
-        Call::Refusal(len) => is_printed(read.next_bytes(len, scratch).err(), text),
-        Call::Count => is_printed(read.read_count(), text),
-        Call::Scratch => is_printed(scratch.as_slice(), text),
-        Call::ScratchLen => is_printed(scratch.len(), text),
-        Call::IsScratchSmall => is_printed(scratch.capacity() <= 65_542, text),
+        SourceCall::Next => is_printed(read.next(), text),
+        SourceCall::Peek => is_printed(read.peek(), text),
+        SourceCall::Buffered => are_buffered(text, read),
+        SourceCall::U32 => is_printed(read.next_u32(scratch), text),
+        SourceCall::Bytes(len) => are_bytes(len, text, scratch, read),
+        SourceCall::Refusal(len) => is_printed(read.next_bytes(len, scratch).err(), text),
+        SourceCall::Count => is_printed(read.read_count(), text),
+        SourceCall::Scratch => is_printed(scratch.as_slice(), text),
+        SourceCall::ScratchLen => is_printed(scratch.len(), text),
+        SourceCall::IsScratchSmall => is_printed(scratch.capacity() <= 65_542, text),
     }
 }
 
@@ -93,13 +93,13 @@ type Case = (Source, &'static [u8], &'static [Step]);
 
 /// What is buffered is taken first.
 const WINDOW: [Step; 7] = [
-    (Call::Peek, "Ok(97)"),
-    (Call::Count, "0"),
-    (Call::Bytes(0), "Some(\"\")"),
-    (Call::Buffered, "[97, 98]"),
-    (Call::U32, "Ok(1701077858)"),
-    (Call::Next, "Ok(102)"),
-    (Call::Count, "6"),
+    (SourceCall::Peek, "Ok(97)"),
+    (SourceCall::Count, "0"),
+    (SourceCall::Bytes(0), "Some(\"\")"),
+    (SourceCall::Buffered, "[97, 98]"),
+    (SourceCall::U32, "Ok(1701077858)"),
+    (SourceCall::Next, "Ok(102)"),
+    (SourceCall::Count, "6"),
 ];
 
 static CASES: [Case; 9] = [
@@ -107,13 +107,19 @@ static CASES: [Case; 9] = [
     (
         Source::Slice,
         b"",
-        &[(Call::Next, "Err(Eof)"), (Call::Peek, "Err(Eof)")],
+        &[
+            (SourceCall::Next, "Err(Eof)"),
+            (SourceCall::Peek, "Err(Eof)"),
+        ],
     ),
     // an empty reader ends and then has failed
     (
         Source::Reader(9, 9),
         b"",
-        &[(Call::Next, "Err(Eof)"), (Call::Peek, "Err(Failed)")],
+        &[
+            (SourceCall::Next, "Err(Eof)"),
+            (SourceCall::Peek, "Err(Failed)"),
+        ],
     ),
     (Source::Slice, b"abcdef", &WINDOW),
     (Source::Reader(1, 9), b"abcdef", &WINDOW),
@@ -122,14 +128,17 @@ static CASES: [Case; 9] = [
     (
         Source::Slice,
         b"abc",
-        &[(Call::Bytes(2), "Some(\"ab\")"), (Call::Scratch, "[]")],
+        &[
+            (SourceCall::Bytes(2), "Some(\"ab\")"),
+            (SourceCall::Scratch, "[]"),
+        ],
     ),
     (
         Source::Reader(9, 9),
         b"abc",
         &[
-            (Call::Bytes(2), "Some(\"ab\")"),
-            (Call::Scratch, "[97, 98]"),
+            (SourceCall::Bytes(2), "Some(\"ab\")"),
+            (SourceCall::Scratch, "[97, 98]"),
         ],
     ),
     // a scratch grows only as bytes arrive
@@ -137,8 +146,8 @@ static CASES: [Case; 9] = [
         Source::Reader(9, 9),
         b"abc",
         &[
-            (Call::Refusal(1 << 62), "Some(Eof)"),
-            (Call::IsScratchSmall, "true"),
+            (SourceCall::Refusal(1 << 62), "Some(Eof)"),
+            (SourceCall::IsScratchSmall, "true"),
         ],
     ),
     // an interruption is a fault
@@ -146,20 +155,20 @@ static CASES: [Case; 9] = [
         Source::Reader(9, 2),
         b"\x00\x02\x00",
         &[
-            (Call::Next, "Ok(0)"),
-            (Call::Next, "Ok(2)"),
-            (Call::Next, "Err(Reader(Kind(Interrupted)))"),
-            (Call::Next, "Err(Failed)"),
+            (SourceCall::Next, "Ok(0)"),
+            (SourceCall::Next, "Ok(2)"),
+            (SourceCall::Next, "Err(Reader(Kind(Interrupted)))"),
+            (SourceCall::Next, "Err(Failed)"),
         ],
     ),
 ];
 
 /// Of 10,001 bytes one is taken, and then all others go to the scratch.
 const GATHERED: [Step; 4] = [
-    (Call::Next, "Ok(7)"),
-    (Call::Refusal(10_000), "None"),
-    (Call::ScratchLen, "10000"),
-    (Call::Count, "10001"),
+    (SourceCall::Next, "Ok(7)"),
+    (SourceCall::Refusal(10_000), "None"),
+    (SourceCall::ScratchLen, "10000"),
+    (SourceCall::Count, "10001"),
 ];
 
 #[test]

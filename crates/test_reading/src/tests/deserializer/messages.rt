@@ -198,6 +198,6 @@ static MESSAGES: [(&[u8], &[Step]); 8] = [
 #[test]
 fn messages_are_read_call_by_call_to_an_end_that_is_where_the_head_says(rt: HostRuntime) {
     for (message, steps) in &MESSAGES {
-        check_steps(&rt, rt.alloc(), 128, message, (steps, &[]));
+        check_steps(&rt, rt.alloc(), message, steps);
     }
 }

@@ -52,8 +52,6 @@ pub enum Call {
     Reason,
     Levels,
     Capabilities,
-    /// The length and the start of the body.
-    Body,
     /// What is due.
     Due,
     /// Whether a call has failed.
@@ -66,9 +64,6 @@ pub type Step = (Call, &'static str);
 
 /// The answer of a call that is refused, and keeps the reason.
 pub const REFUSED: &str = "Err(Refused)";
-
-/// The reason of a call after another was refused.
-pub const FAILED: &str = "DeReaderError { source: Failed }";
 
 /// What is open, and what is open outside of it.
 #[derive(Drop)]
@@ -176,7 +171,6 @@ fn is_told<R: DeRead>((call, text): Step, from: &mut Deserializer<R>) -> bool {
         Call::Reason => return is_printed(from.take_refusal(), text),
         Call::Levels => return is_printed(from.levels(), text),
         Call::Capabilities => return is_printed(from.capabilities(), text),
-        Call::Body => return is_printed((from.body_length(), from.start()), text),
         Call::Due => return is_printed(from.due(), text),
         Call::IsFailed => return is_printed(from.is_failed(), text),
         _ => return is_printed(from.end(), text),
@@ -233,40 +227,19 @@ where
     steps.len()
 }
 
-/// Checks that the source's message, of at most so many levels, is answered so step by step,
-/// first and then, and gives the source back.
-pub fn check_source<R: DeRead + Drop>(
-    rt: &impl Abort,
-    alloc: Global,
-    levels: u8,
-    (first, then): (&[Step], &[Step]),
-    read: R,
-) -> R
+/// Checks that the source's message is answered so step by step, and shows the first step that is
+/// not.
+fn check_source<R: DeRead + Drop>(rt: &impl Abort, alloc: Global, steps: &[Step], read: R)
 where
     R::Lent: LendsText,
 {
-    let mut from = Deserializer::with_limit(alloc, usize::from(levels), read).expect(
-        rt,
-        "the head is whole",
-    );
-    check_taken(rt, first, steps_taken(alloc, first, &mut from));
-    check_taken(rt, then, steps_taken(alloc, then, &mut from));
-    from.into_inner()
-}
-
-/// Checks that each step was taken, and shows the one that was not.
-fn check_taken(rt: &impl Abort, steps: &[Step], taken: usize) {
+    let mut from = Deserializer::new(alloc, read).expect(rt, "the head is whole");
+    let taken = steps_taken(alloc, steps, &mut from);
     assert_eq!(rt; steps.get(taken).map(|step| step.1), None);
 }
 
 /// Checks that the message is answered so in a slice, and from a reader that gives one byte a call.
-pub fn check_steps(
-    rt: &impl Abort,
-    alloc: Global,
-    levels: u8,
-    message: &[u8],
-    steps: (&[Step], &[Step]),
-) {
-    check_source(rt, alloc, levels, steps, SliceRead::new(message));
-    check_source(rt, alloc, levels, steps, source_of(message, 1, usize::MAX));
+pub fn check_steps(rt: &impl Abort, alloc: Global, message: &[u8], steps: &[Step]) {
+    check_source(rt, alloc, steps, SliceRead::new(message));
+    check_source(rt, alloc, steps, source_of(message, 1, usize::MAX));
 }

@@ -1,7 +1,8 @@
 //! Types that are read from readers that fault.
-use super::checks::{check_equal, read_by};
+use super::checks::check_equal;
 use bser_vectors::devices::{Plan, Then};
 use bser_vectors::structs::TemplateRow;
+use bser_vectors::ways::read_by_plan;
 use serde_bser::de::{DeserializeOwned, Ignored};
 use serde_bser::errors::{Error, ReadCause, Result};
 use serde_bser::value::Value;
@@ -39,9 +40,8 @@ fn check_faults_by<T: DeserializeOwned>(
 ) {
     for whole in 0..message.len() {
         let plan = Plan::pieces(most).up_to(whole, then);
-        let (answer, left) = read_by::<T>(alloc, message, plan);
-        let found = (fault(&answer), left);
-        check_equal(rt, &found, &(Some(kind), message.len() - whole));
+        let (answer, taken) = read_by_plan::<T>(alloc, message, plan);
+        check_equal(rt, &(fault(&answer), taken), &(Some(kind), whole));
     }
 }
 

@@ -1,10 +1,6 @@
-//! Printing, and the notation in which the tables say what is expected.
+//! Printing.
 use super::checks::{check_found, check_text, spelled};
-use bser_vectors::notation::{NotationError, parse_value, shown};
-use serde_bser::de::RealBits;
-use serde_bser::escaped::escaped_bytes;
-use std::alloc::Global;
-use std::process::Abort;
+use serde_bser::value::Value;
 
 /// Values in the notation, and how they are printed.
 static PRINTED: [(&str, &str); 25] = [
@@ -56,94 +52,26 @@ fn a_value_is_one_line_of_json(rt: HostRuntime) {
     }
 }
 
-/// Reals as numbers, and numbers as reals.
-#[test]
-fn a_real_is_a_number_unless_it_is_a_nan(rt: HostRuntime) {
-    assert!(rt; RealBits(0xbff8_0000_0000_0000).as_f64() == Some(-1.5));
-    assert!(rt; RealBits(0x7ff8_0000_0000_0000).as_f64().is_none());
-    assert!(rt; RealBits::from_f64(-1.5) == Some(RealBits(0xbff8_0000_0000_0000)));
-    assert!(rt; RealBits::from_f64(f64::NAN).is_none());
-}
-
-/// Bytes, and how they are escaped.
-static BYTES: [(&[u8], &str); 4] = [
-    (b"plain", "Ok(\"plain\")"),
-    (b"/\xff\xfe", "Ok(\"/\\\\xff\\\\xfe\")"),
-    (b"cut-\xc3", "Ok(\"cut-\\\\xc3\")"),
-    (b"caf\xc3\xa9", "Ok(\"caf\u{e9}\")"),
+/// Numbers, and what `Debug` prints of the integers that they are as a value.
+static NUMBERS: [(usize, &str); 2] = [
+    (
+        9223372036854775808,
+        "Err(\"value is too large to represent as i64\")",
+    ),
+    (9223372036854775807, "Ok(Integer(9223372036854775807))"),
 ];
 
 #[test]
-fn lent_bytes_are_escaped(rt: HostRuntime) {
-    for (bytes, text) in &BYTES {
-        check_found(&rt, rt.alloc(), escaped_bytes(rt.alloc(), bytes), text);
-    }
-}
-
-/// Texts that spell a value in the notation.
-static SPELLED: [&str; 15] = [
-    "n",
-    "t",
-    "f",
-    "i0",
-    "i-9223372036854775808",
-    "r0000000000000001",
-    "b",
-    "b00ff",
-    "s",
-    "sc3a9",
-    "[]",
-    "[n]",
-    "[[],{},i1]",
-    "{}",
-    "{:n,61:[t,f],6162:{61:s}}",
-];
-
-/// Texts that spell none.
-static MALFORMED: [&str; 19] = [
-    "",
-    "x",
-    "i",
-    "i05",
-    "i+5",
-    "i9223372036854775808",
-    "r1",
-    "bFF",
-    "b0",
-    "sff",
-    "[",
-    "]",
-    "[n",
-    "[n,]",
-    "n,n",
-    "{61}",
-    "{62:n,61:n}",
-    "{61:n,61:n}",
-    "E6 Eof",
-];
-
-/// The notation of the value that the text spells.
-fn shown_again(alloc: Global, text: &str) -> Result<String, NotationError> {
-    Ok(shown(alloc, &parse_value(alloc, text)?)?)
-}
-
-/// Checks that the text spells a value, whose notation it is, or none.
-fn check_spelled(rt: &impl Abort, alloc: Global, text: &str, is_value: bool) {
-    match &shown_again(alloc, text) {
-        Ok(shown) => assert!(rt; is_value && shown.as_str() == text, "{text}"),
-        Err(error) => assert!(rt;
-            !is_value && matches!(error, NotationError::Malformed),
-            "{text}"
-        ),
-    }
-}
-
-#[test]
-fn a_value_is_shown_as_it_was_spelled_and_another_text_is_malformed(rt: HostRuntime) {
-    for text in &SPELLED {
-        check_spelled(&rt, rt.alloc(), text, true);
-    }
-    for text in &MALFORMED {
-        check_spelled(&rt, rt.alloc(), text, false);
+fn debug_prints_a_value(rt: HostRuntime) {
+    let value = spelled(
+        &rt,
+        rt.alloc(),
+        "{6974656d73:[bff,i-5,r0000000000000001,t,n,s546f6d]}",
+    );
+    let printed =
+        "Object({\"items\": Array([ByteString(\"\\\\xff\"), Integer(-5), Real(1), Bool(true), Null, Utf8String(\"Tom\")])})";
+    check_found(&rt, rt.alloc(), value, printed);
+    for (number, value) in &NUMBERS {
+        check_found(&rt, rt.alloc(), Value::from_usize(*number), value);
     }
 }

@@ -13,15 +13,15 @@ use std::alloc::Global;
 
 /// Variants of each form.
 #[derive(Drop)]
-pub enum TestEnum {
+pub enum WrittenEnum {
     TestUnit,
     TestNewtype(ByteString),
     TestTuple(i8, u64),
     TestStruct { abc: (), def: char },
 }
 
-impl Serialize for TestEnum {
-    ghost use Rattle.test_values.specs.declared.tests.writing.types.TestEnum.TheVariants.{TestUnit, TestNewtype, TestTuple, TestStruct};
+impl Serialize for WrittenEnum {
+    ghost use Rattle.test_values.specs.declared.tests.writing.types.WrittenEnum.TheVariants.{TestUnit, TestNewtype, TestTuple, TestStruct};
     ghost use Rattle.std.specs.Prelude.{pos, encode_utf8};
     ghost use Rattle.bser_format.specs.Tree.{null, integer};
     ghost use Rattle.bser_format.specs.Written.{unsigned_tree};
@@ -35,17 +35,17 @@ impl Serialize for TestEnum {
 
     fn serialize<W: Sink>(&self, alloc: Global, out: &mut Serializer<W>) -> Result<()> {
         match self {
-            TestEnum::TestUnit => out.put_text("TestUnit"),
-            TestEnum::TestNewtype(payload) => {
+            WrittenEnum::TestUnit => out.put_text("TestUnit"),
+            WrittenEnum::TestNewtype(payload) => {
                 out.put_newtype_variant("TestNewtype")?;
                 payload.serialize(alloc, out)
             }
-            TestEnum::TestTuple(first, second) => {
+            WrittenEnum::TestTuple(first, second) => {
                 out.put_tuple_variant("TestTuple", 2)?;
                 first.serialize(alloc, out)?;
                 second.serialize(alloc, out)
             }
-            TestEnum::TestStruct { abc, def } => {
+            WrittenEnum::TestStruct { abc, def } => {
                 out.put_struct_variant("TestStruct", 2)?;
                 out.put_key(b"abc")?;
                 abc.serialize(alloc, out)?;
@@ -53,28 +53,6 @@ impl Serialize for TestEnum {
                 def.serialize(alloc, out)
             }
         }
-    }
-}
-
-/// A file, of which the name may be no text.
-#[derive(Drop)]
-pub struct FileInfo {
-    pub name: ByteString,
-    pub size: u32,
-}
-
-impl Serialize for FileInfo {
-    ghost use Rattle.std.specs.Prelude.{pos};
-    ghost use Rattle.bser_format.specs.Tree.{integer};
-
-    ghost meaning = { λ v. struct_tree ((codes "name", Ok (bytes v.name)) ∷ (codes "size", Ok (integer (pos v.size))) ∷ []) };
-
-    fn serialize<W: Sink>(&self, alloc: Global, out: &mut Serializer<W>) -> Result<()> {
-        out.put_map(Some(2))?;
-        out.put_key(b"name")?;
-        self.name.serialize(alloc, out)?;
-        out.put_key(b"size")?;
-        self.size.serialize(alloc, out)
     }
 }
 

@@ -7,7 +7,7 @@ use Rattle.bser_format.specs.Written.{part_tree, plain_bytes, tuple_tree, struct
 use Rattle.bser_ser.proofs.Structs.{payload_ends, payload_stops, tuple_variant_text, struct_variant_text, walk_start, walk_more, walk_all, walk_stop, field_ends, field_stops_at_key, field_stops}
 use Rattle.bser_ser.proofs.Texts.{item_text, entry_text}
 use Rattle.bser_ser.proofs.Writable.{tuple_writable, struct_writable, variant_writable}
-use Rattle.test_values.proofs.tests.writing.types.TestEnumSerialize.serialize.Goals as goal
+use Rattle.test_values.proofs.tests.writing.types.WrittenEnumSerialize.serialize.Goals as goal
 
 pub returns-in_err-serialize-in-TestTuple-clause-err : goal.returns-in_err-serialize-in-TestTuple-clause-err
 returns-in_err-serialize-in-TestTuple-clause-err g c =
