@@ -1,9 +1,8 @@
 //! Structs, as `<field=value>`.
+use crate::notation::text::Text;
 use crate::shown::Shown;
 use crate::shown::scalars::put_integer;
-use bser_vectors::files::ExactFile;
-use bser_vectors::notation::text::Text;
-use bser_vectors::structs::{FileInfo, Files, TemplateRow};
+use crate::structs::{FileInfo, Files, TemplateRow};
 
 impl<S: Shown> Shown for FileInfo<S> {
     fn put(&self, text: &mut Text) {
@@ -11,16 +10,6 @@ impl<S: Shown> Shown for FileInfo<S> {
         self.name.put(text);
         text.put(",size=");
         put_integer(text, i128::from(self.size));
-        text.put(">");
-    }
-}
-
-impl<S: Shown, N: Shown> Shown for ExactFile<S, N> {
-    fn put(&self, text: &mut Text) {
-        text.put("<name=");
-        self.name.put(text);
-        text.put(",size=");
-        self.size.put(text);
         text.put(">");
     }
 }

@@ -1,7 +1,7 @@
 //! Enums, as the name of a variant, and its payload after a colon.
+use crate::enums::{EnumRow, TestEnum};
+use crate::notation::text::Text;
 use crate::shown::Shown;
-use bser_vectors::enums::{EnumRow, TestEnum};
-use bser_vectors::notation::text::Text;
 
 impl<S: Shown> Shown for TestEnum<S> {
     fn put(&self, text: &mut Text) {

@@ -1,7 +1,7 @@
 //! Strings and characters, by their bytes.
+use crate::notation::text::Text;
 use crate::shown::Shown;
 use bser_format::bytestring::ByteString;
-use bser_vectors::notation::text::Text;
 use std::borrow::CowStr;
 
 impl Shown for char {

@@ -4,17 +4,17 @@
 //! ignored, `x` and hexadecimal digits the bytes of a string or of a character in UTF-8; `-` is no
 //! value and `+` comes before one; `[..]` is a list, `(..)` a tuple, `{key=value}` a map in its
 //! order, `<field=value>` a struct, and `Variant` or `Variant:payload` an enum. A `Value` has the
-//! notation of `bser_vectors`.
+//! notation of [`crate::notation`].
 mod enums;
 mod holders;
 mod lists;
-mod scalars;
+pub mod scalars;
 mod strings;
 mod structs;
 
+use crate::notation::put_value;
+use crate::notation::text::Text;
 use bser_value::value::Value;
-use bser_vectors::notation::put_value;
-use bser_vectors::notation::text::Text;
 
 /// A type whose values have a notation.
 pub trait Shown {

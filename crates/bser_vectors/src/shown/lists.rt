@@ -1,6 +1,6 @@
 //! Lists, arrays of a fixed length, queues and sets.
+use crate::notation::text::Text;
 use crate::shown::Shown;
-use bser_vectors::notation::text::Text;
 use std::collections::{BTreeSet, VecDeque};
 
 impl<T: Shown> Shown for Vec<T> {

@@ -1,7 +1,8 @@
 //! Values that may be missing, boxes, tuples and maps.
+use crate::notation::text::Text;
 use crate::shown::Shown;
-use bser_vectors::notation::text::Text;
-use std::collections::BTreeMap;
+use std::collections::{BTreeMap, HashMap};
+use std::hash::Hash;
 
 impl<A: Shown> Shown for (A,) {
     fn put(&self, text: &mut Text) {
@@ -66,6 +67,19 @@ impl<T: Shown> Shown for Box<T> {
 }
 
 impl<K: Shown + Ord, V: Shown> Shown for BTreeMap<K, V> {
+    fn put(&self, text: &mut Text) {
+        text.put("{");
+        for (key, value) in self.iter() {
+            key.put(text);
+            text.put("=");
+            value.put(text);
+            text.put(",");
+        }
+        text.close("}");
+    }
+}
+
+impl<K: Shown + Eq + Hash, V: Shown> Shown for HashMap<K, V> {
     fn put(&self, text: &mut Text) {
         text.put("{");
         for (key, value) in self.iter() {

@@ -1,7 +1,7 @@
 //! Truth values, integers, `()`, and what is ignored.
+use crate::notation::text::Text;
 use crate::shown::Shown;
 use bser_types::impls::Ignored;
-use bser_vectors::notation::text::Text;
 
 impl Shown for bool {
     fn put(&self, text: &mut Text) {
