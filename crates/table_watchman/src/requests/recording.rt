@@ -9,17 +9,17 @@ use std::io;
 
 /// The requests that were sent, and how many of those made agree.
 #[derive(Drop)]
-pub struct Recording<'a> {
+pub struct RecordedRequests<'a> {
     rt: &'a HostRuntime,
     sent: SliceMessages<'a>,
     same: u64,
     different: u64,
 }
 
-impl<'a> Recording<'a> {
+impl<'a> RecordedRequests<'a> {
     /// The requests in these bytes.
     pub fn new(rt: &'a HostRuntime, bytes: &'a [u8]) -> Self {
-        Recording {
+        RecordedRequests {
             rt,
             sent: SliceMessages::new(rt.alloc(), bytes),
             same: 0,

@@ -1,6 +1,6 @@
 //! Requests that are no queries.
-use crate::queries::{ROOT, compare_all};
-use crate::recording::Recording;
+use crate::requests::queries::{ROOT, all_files, compare};
+use crate::requests::recording::RecordedRequests;
 use serde_bser::bytestring::ByteString;
 use serde_bser::errors::Result;
 use serde_bser::value::Value;
@@ -12,7 +12,7 @@ use watchman_types::requests::{
 };
 
 /// The requests with which the session begins.
-pub fn compare_first(recording: &mut Recording<'_>) {
+pub fn compare_first(recording: &mut RecordedRequests<'_>) {
     let capabilities = Capabilities {
         optional: &[
             "relative_root",
@@ -37,7 +37,7 @@ pub fn compare_first(recording: &mut Recording<'_>) {
 }
 
 /// A state that is entered and left.
-pub fn compare_states(rt: &HostRuntime, recording: &mut Recording<'_>) {
+pub fn compare_states(rt: &HostRuntime, recording: &mut RecordedRequests<'_>) {
     let entered = StateEnterRequest {
         root: ROOT,
         name: "build",
@@ -80,7 +80,7 @@ fn is_built(alloc: Global) -> Result<BTreeMap<String, bool>> {
 }
 
 /// Requests that are about the log.
-pub fn compare_log(recording: &mut Recording<'_>) {
+pub fn compare_log(recording: &mut RecordedRequests<'_>) {
     let level = LogLevel::Error;
     recording.compare("log-level", &LogLevelRequest { level });
     let line = "a line with \"quotes\" and café";
@@ -90,7 +90,7 @@ pub fn compare_log(recording: &mut Recording<'_>) {
 }
 
 /// A command that the server does not know, and a capability that it lacks.
-pub fn compare_errors(recording: &mut Recording<'_>) {
+pub fn compare_errors(recording: &mut RecordedRequests<'_>) {
     recording.compare("error-command", &("no-such-command", ROOT));
     let capabilities = Some(Capabilities {
         optional: &[],
@@ -100,14 +100,15 @@ pub fn compare_errors(recording: &mut Recording<'_>) {
 }
 
 /// The subscription's end, and what comes before it.
-pub fn compare_subscriptions(recording: &mut Recording<'_>) {
+pub fn compare_subscriptions(recording: &mut RecordedRequests<'_>) {
     let flushed = FlushSubscriptionsRequest {
         root: ROOT,
         sync_timeout: 5000,
         subscriptions: None,
     };
     recording.compare("flush-subscriptions", &flushed);
-    compare_all(recording);
+    compare(recording, "query-after-touch", all_files());
+    compare(recording, "query-unread", all_files());
     let ended = UnsubscribeRequest {
         root: ROOT,
         name: "changes",
@@ -115,13 +116,8 @@ pub fn compare_subscriptions(recording: &mut Recording<'_>) {
     recording.compare("unsubscribe", &ended);
 }
 
-/// What the second connection begins with.
-pub fn compare_second(recording: &mut Recording<'_>) {
-    recording.compare("watch-project again", &WatchProjectRequest { path: ROOT });
-}
-
 /// The request for the version alone, and one that is meant to differ from it.
-pub fn compare_versions(recording: &mut Recording<'_>) {
+pub fn compare_versions(recording: &mut RecordedRequests<'_>) {
     recording.compare("version alone", &VersionRequest { capabilities: None });
     let capabilities = Some(Capabilities {
         optional: &[],

@@ -1,9 +1,10 @@
 //! The table of all files, folded from the messages of a session.
-use crate::table::{Row, forget_unnamed, line, put};
-use crate::{Recorded, messages_of};
+use crate::session::messages_of;
+use crate::session::table::{FileRow, forget_unnamed, line, put};
 use anyhow::{Context, Result};
-use bser_source::device::Watched;
+use bser_vectors::session::SentMessage;
 use serde_bser::bytestring::ByteString;
+use serde_bser::device::Watched;
 use std::alloc::Global;
 use std::collections::BTreeMap;
 use std::fs;
@@ -12,60 +13,28 @@ use watchman_client::client::Client;
 use watchman_types::file::File;
 use watchman_types::query::QueryResult;
 
-/// Folds what a message tells, and writes the table's lines behind the text.
-fn fold(
-    alloc: Global,
-    table: &mut BTreeMap<ByteString, Row>,
-    number: u32,
-    told: QueryResult<ByteString, File<ByteString>>,
-    text: &mut String,
-) -> Result<()> {
-    for file in &told.files {
-        let name = file.name.as_ref().context("no name")?.try_clone(alloc)?;
-        put(table, number, name, file)?;
-    }
-    if told.is_fresh_instance {
-        forget_unnamed(table, number);
-    }
-    for (name, row) in &*table {
-        text.push_str(line(alloc, number, name, row)?.as_str())?;
-    }
-    Ok(())
-}
-
 /// Folds the connections of a session one after the other, and compares the tables.
-pub fn fold_session(rt: &HostRuntime, stream: &[u8], list: &str) -> Result<()> {
+pub fn fold_session(rt: &HostRuntime, stream: &[u8], messages: &[SentMessage]) -> Result<()> {
     let mut table = BTreeMap::new(rt.alloc());
     let mut lines = String::new(rt.alloc());
-    fold_connection(rt.alloc(), stream, list, 1, &mut table, &mut lines)?;
-    fold_connection(rt.alloc(), stream, list, 2, &mut table, &mut lines)?;
+    for connection in 1..3 {
+        let messages = messages_of(rt.alloc(), messages, connection)?;
+        follow(rt.alloc(), stream, &messages, &mut table, &mut lines)?;
+    }
     compare(rt, "tables.tsv", lines.as_str())?;
     compare(rt, "wrong-tables.tsv", lines.as_str())
 }
 
-/// Follows a connection, and folds those of its messages that tell files.
-fn fold_connection(
-    alloc: Global,
-    stream: &[u8],
-    list: &str,
-    connection: usize,
-    table: &mut BTreeMap<ByteString, Row>,
-    text: &mut String,
-) -> Result<()> {
-    let messages = messages_of(alloc, list, connection)?;
-    let start = messages.as_slice().first().context("no message")?.start;
-    let bytes = stream.get(start..).context("outside")?;
-    follow(alloc, bytes, messages.as_slice(), table, text)
-}
-
-/// Takes each of the messages from a client, and folds those that tell files.
+/// Takes each of the messages of a connection from a client, and folds those that tell files.
 fn follow(
     alloc: Global,
-    bytes: &[u8],
-    messages: &[Recorded],
-    table: &mut BTreeMap<ByteString, Row>,
+    stream: &[u8],
+    messages: &[SentMessage],
+    table: &mut BTreeMap<ByteString, FileRow>,
     text: &mut String,
 ) -> Result<()> {
+    let start = messages.first().context("no message")?.start;
+    let bytes = stream.get(start..).context("outside")?;
     let bounds = Bounds {
         message_bytes: 1_000,
         kept_messages: 0,
@@ -74,7 +43,7 @@ fn follow(
     let writer = Watched::new(Vec::new(alloc));
     let mut client = Client::new(alloc, bounds, Watched::new(bytes), writer);
     for message in messages {
-        if message.unsolicited {
+        if message.is_unsolicited {
             client.next_unsolicited()?;
         } else {
             client.send(&"request")?;
@@ -83,6 +52,26 @@ fn follow(
         if message.tells_files {
             fold(alloc, table, message.number, client.read()?, text)?;
         }
+    }
+    Ok(())
+}
+
+/// Folds what a message tells, and writes the table's lines behind the text.
+fn fold(
+    alloc: Global,
+    table: &mut BTreeMap<ByteString, FileRow>,
+    number: u32,
+    told: QueryResult<ByteString, File<ByteString>>,
+    text: &mut String,
+) -> Result<()> {
+    for file in &told.files {
+        put(alloc, table, number, file)?;
+    }
+    if told.is_fresh_instance {
+        forget_unnamed(table, number);
+    }
+    for (name, row) in &*table {
+        text.push_str(line(alloc, number, name, row)?.as_str())?;
     }
     Ok(())
 }
