@@ -1,6 +1,4 @@
-//! Reads the message of a file, and writes that of the same file when it is empty.
-#![tactic(auto)]
-
+//! A struct by a derive, from standard input to standard output.
 use anyhow::Result;
 use bser_serde::{ByteBuf, from_reader, to_writer};
 use serde::{Deserialize, Serialize};
@@ -8,13 +6,14 @@ use serde_bser::device::Watched;
 
 /// A file. Its name need not be UTF-8.
 #[derive(Drop, Serialize, Deserialize)]
-pub struct File {
+pub struct StoredFile {
     pub name: ByteBuf,
     pub size: u64,
 }
 
-fn main(rt: HostRuntime) -> Result<()> {
-    let mut file: File = from_reader(rt.alloc(), &mut Watched::new(rt.stdin()))?;
+/// Reads the message of a file, and writes that of the same file when it is empty.
+pub fn empty_file(rt: &HostRuntime) -> Result<()> {
+    let mut file: StoredFile = from_reader(rt.alloc(), &mut Watched::new(rt.stdin()))?;
     file.size = 0;
     to_writer(rt.alloc(), &mut Watched::new(rt.stdout()), &file)?;
     Ok(())
