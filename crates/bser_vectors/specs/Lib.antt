@@ -1,3 +1,2 @@
 pub mod Structs
 pub mod Enums
-pub mod Files

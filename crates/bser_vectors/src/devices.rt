@@ -136,6 +136,11 @@ impl PlannedWriter {
     pub fn taken(&self) -> &[u8] {
         self.taken.as_slice()
     }
+
+    /// The bytes that were taken, for their owner.
+    pub fn into_taken(self) -> Vec<u8> {
+        self.taken
+    }
 }
 
 impl Write for PlannedWriter {

@@ -1,9 +1,11 @@
 //! A client's work with Watchman's messages, a file for each part of docs/USE.md, over the messages
-//! on standard input and over values that it writes and reads back.
+//! on standard input and over values that it writes and reads back. The second message is read and
+//! written by a derive.
 #![tactic(auto)]
 
 mod any;
 mod change;
+mod derive;
 mod document;
 mod events;
 mod file;
@@ -17,39 +19,30 @@ mod values;
 
 use crate::change::Change;
 use crate::file::File;
+use anyhow::Result;
 use serde_bser::bytestring::ByteString;
 use serde_bser::device::Watched;
-use serde_bser::errors::Result;
 use serde_bser::from_slice;
 use serde_bser::ser::to_vec;
 use serde_bser::value::Value;
-use std::alloc::Global;
 use std::collections::BTreeMap;
 use std::io::Read;
 use std::process::ExitCode;
 
-fn main(rt: HostRuntime) -> ExitCode {
+fn main(rt: HostRuntime) -> Result<ExitCode> {
     let first = any::print_message(&rt);
-    if let Err(error) = print_others(&rt) {
-        let _ = eprintln!(rt; "example_use: {error}");
-        return ExitCode::FAILURE;
-    }
-    first
-}
-
-/// What follows the first message, and the values that are written here.
-fn print_others(rt: &HostRuntime) -> Result<()> {
+    derive::empty_file(&rt)?;
     let mut bytes = Vec::new(rt.alloc());
     rt.reader().read_to_end(&mut bytes)?;
-    println!(rt; "-- replies")?;
-    replies::print_replies(rt, &bytes)?;
+    println!(rt; "\n-- replies")?;
+    replies::print_replies(&rt, &bytes)?;
     println!(rt; "-- frames")?;
-    frames::print_frames(rt, Watched::new(bytes.as_slice()))?;
+    frames::print_frames(&rt, Watched::new(bytes.as_slice()))?;
     println!(rt; "-- events")?;
-    events::print_events(rt, Watched::new(bytes.as_slice()))?;
-    println!(rt; "-- values")?;
-    print_values(rt, &bytes)?;
-    print_written(rt)
+    events::print_events(&rt, Watched::new(bytes.as_slice()))?;
+    print_values(&rt, &bytes)?;
+    print_written(&rt)?;
+    Ok(first)
 }
 
 /// What the first message of the bytes says, as any value.
@@ -58,34 +51,31 @@ fn print_values(rt: &HostRuntime, bytes: &[u8]) -> Result<()> {
     let answer: Value = from_slice(alloc, bytes)?;
     let version = answer.get("version").and_then(Value::as_str);
     let version = version.unwrap_or("none");
-    println!(rt;
-        "version {version}, bytes in files: {}",
-        values::total_size(&answer)
-    )?;
+    let sum = values::total_size(&answer);
     let (total, largest) = document::sizes(alloc, bytes)?;
-    println!(rt; "bytes in files: {total}, in the largest {largest}")?;
     let small = document::small_value(alloc, bytes)?.is_some();
-    println!(rt; "a small value: {small}")?;
     let short = events::is_short(alloc, bytes);
-    println!(rt; "at most 100 bytes: {short}")?;
+    println!(rt; "-- values\nversion {version}, bytes in files: {sum}")?;
+    println!(rt;
+        "bytes in files: {total}, in the largest {largest}\na small value: {small}\n\
+         at most 100 bytes: {short}"
+    )?;
     Ok(())
 }
 
 /// What is written here is read back.
 fn print_written(rt: &HostRuntime) -> Result<()> {
     let alloc = rt.alloc();
-    println!(rt; "-- written")?;
     let query = request::query_message(alloc, "/data/my/project", Some("c:0:0"))?;
-    println!(rt; "{}", from_slice::<Value>(alloc, &query)?)?;
+    println!(rt; "-- written\n{}", from_slice::<Value>(alloc, &query)?)?;
     let mut lists = BTreeMap::new(alloc);
     lists.insert(
         String::from_str(alloc, "sizes")?,
         vec![in alloc; 1, 2, 300]?,
     )?;
     let longest = lists::longest_list(alloc, &to_vec(alloc, &lists)?)?;
-    println!(rt; "numbers in the longest list: {longest}")?;
-    let names = to_vec(alloc, &("a.c", "b.c"))?;
-    println!(rt; "bare names: {}", lists::bare_names(alloc, &names)?)?;
+    let names = lists::bare_names(alloc, &to_vec(alloc, &("a.c", "b.c"))?)?;
+    println!(rt; "numbers in the longest list: {longest}\nbare names: {names}")?;
     print_files(rt)?;
     let real = reals::real_message(alloc, 2.5)?;
     println!(rt; "{}", from_slice::<Value>(alloc, &real)?)?;
@@ -106,8 +96,7 @@ fn print_files(rt: &HostRuntime) -> Result<()> {
         None => println!(rt; "no size")?,
     }
     let File { name, size: _ } = file;
-    let renamed = Change::Renamed(name);
-    print_change(rt, &renamed)?;
+    print_change(rt, &Change::Renamed(name))?;
     print_change(rt, &Change::Gone)?;
     let size = 7;
     print_change(rt, &Change::Written { size, mode: None })

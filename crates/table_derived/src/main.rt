@@ -7,8 +7,6 @@
 //! that may be told, and the path.
 #![tactic(auto)]
 
-mod case;
-mod columns;
 mod errors;
 mod objects;
 mod shown;

@@ -1,69 +1,50 @@
 //! Messages that are read as structs and enums.
-use crate::columns::columns;
-use crate::shown::Shown;
-use crate::types::{EnumRow, Files, TemplateRow, TestEnum};
+use crate::types::{DerivedEnum, DerivedEnumRow, DerivedFiles, DerivedRow};
 use crate::ways::{Answered, by_reader, by_slice, is_returned, refused_by_ignored};
 use anyhow::{Result, bail};
+use bser_vectors::columns::columns;
+use bser_vectors::shown::Shown;
 use serde::{Deserialize, DeserializeOwned, Serialize};
 use std::alloc::Global;
 use std::fs;
 
-/// What became of the lines.
-#[derive(Default, Drop)]
-struct Counts {
-    lines: u64,
-    values: u64,
-    misfits: u64,
-    malformed: u64,
-    others: u64,
-}
-
 /// What a line says.
 #[derive(Clone, Copy)]
-struct Line<'a> {
+struct ExpectedAnswer<'a> {
     is_accepted: bool,
     answer: &'a str,
-}
-
-/// One more, below the greatest.
-fn count(counter: &mut u64) {
-    *counter = counter.saturating_add(1);
 }
 
 /// Reads each message of a list as its type, prints how many agree, and those that do not.
 pub fn compare_all(rt: &HostRuntime, file: &str) -> Result<()> {
     let text = fs::read_to_string(rt, file)?;
-    let mut counts = Counts::default();
+    let (mut lines, mut values, mut misfits, mut malformed, mut others) = (
+        0u64, 0u64, 0u64, 0u64, 0u64,
+    );
     for line in text.as_str().lines() {
-        count(&mut counts.lines);
-        let [kind, message, verdict, answer, ..] = columns(line, "\t");
+        lines = lines.saturating_add(1);
+        let [kind, message, verdict, answer, _taken] = columns::<5>(line, "\t");
         let message = hex::decode(rt.alloc(), message)?;
-        let line = Line {
+        let expected = ExpectedAnswer {
             is_accepted: verdict == "ok",
             answer,
         };
-        let compared = compare_as(rt.alloc(), kind, &message, line)?;
-        match &compared {
-            Compared::Same(Answered::Value(_)) => count(&mut counts.values),
-            Compared::Same(Answered::Misfit(_)) => count(&mut counts.misfits),
-            Compared::Same(Answered::Malformed(_)) => count(&mut counts.malformed),
+        match compare_as(rt.alloc(), kind, &message, expected)? {
+            Compared::Same(Answered::Value(_)) => values = values.saturating_add(1),
+            Compared::Same(Answered::Misfit(_)) => misfits = misfits.saturating_add(1),
+            Compared::Same(Answered::Malformed(_)) => malformed = malformed.saturating_add(1),
             Compared::Other(told) => {
-                count(&mut counts.others);
-                println!(rt; "line {}, {kind}: {told}, and not {answer}", counts.lines)?;
+                others = others.saturating_add(1);
+                println!(rt; "line {lines}, {kind}: {told}, and not {answer}")?;
             }
         }
     }
-    println!(rt; "{} lines of {file}", counts.lines)?;
     println!(rt;
-        "{} messages read as the same value, and read back",
-        counts.values
+        "{lines} lines of {file}\n{values} messages read as the same value, and read back\n\
+         {misfits} well-formed messages refused by both\n\
+         {malformed} malformed messages refused as when they are passed over\n\
+         {others} messages answered otherwise"
     )?;
-    println!(rt; "{} well-formed messages refused by both", counts.misfits)?;
-    println!(rt;
-        "{} malformed messages refused as when they are passed over",
-        counts.malformed
-    )?;
-    println!(rt; "{} messages answered otherwise", counts.others)?;
     Ok(())
 }
 
@@ -75,16 +56,21 @@ enum Compared {
 }
 
 /// Compares the message as the type of this name.
-fn compare_as(alloc: Global, kind: &str, message: &[u8], line: Line<'_>) -> Result<Compared> {
+fn compare_as(
+    alloc: Global,
+    kind: &str,
+    message: &[u8],
+    expected: ExpectedAnswer<'_>,
+) -> Result<Compared> {
     match kind {
-        "TestEnum" => compare::<TestEnum>(alloc, message, line),
-        "opt_TestEnum" => compare::<Option<TestEnum>>(alloc, message, line),
-        "vec_TestEnum" => compare::<Vec<TestEnum>>(alloc, message, line),
-        "vec_EnumRow" => compare::<Vec<EnumRow>>(alloc, message, line),
-        "TemplateRow" => compare::<TemplateRow>(alloc, message, line),
-        "vec_TemplateRow" => compare::<Vec<TemplateRow>>(alloc, message, line),
-        "vec_opt_TemplateRow" => compare::<Vec<Option<TemplateRow>>>(alloc, message, line),
-        "Files" => compare::<Files>(alloc, message, line),
+        "TestEnum" => compare::<DerivedEnum>(alloc, message, expected),
+        "opt_TestEnum" => compare::<Option<DerivedEnum>>(alloc, message, expected),
+        "vec_TestEnum" => compare::<Vec<DerivedEnum>>(alloc, message, expected),
+        "vec_EnumRow" => compare::<Vec<DerivedEnumRow>>(alloc, message, expected),
+        "TemplateRow" => compare::<DerivedRow>(alloc, message, expected),
+        "vec_TemplateRow" => compare::<Vec<DerivedRow>>(alloc, message, expected),
+        "vec_opt_TemplateRow" => compare::<Vec<Option<DerivedRow>>>(alloc, message, expected),
+        "Files" => compare::<DerivedFiles>(alloc, message, expected),
         _ => bail!("no such type"),
     }
 }
@@ -93,7 +79,7 @@ fn compare_as(alloc: Global, kind: &str, message: &[u8], line: Line<'_>) -> Resu
 fn compare<'de, T: Deserialize<'de> + DeserializeOwned + Serialize + Shown>(
     alloc: Global,
     message: &'de [u8],
-    line: Line<'_>,
+    expected: ExpectedAnswer<'_>,
 ) -> Result<Compared> {
     let answered = by_slice::<T>(alloc, message)?;
     if by_reader::<T>(alloc, message)? != answered {
@@ -104,9 +90,9 @@ fn compare<'de, T: Deserialize<'de> + DeserializeOwned + Serialize + Shown>(
     }
     let ignored = refused_by_ignored(alloc, message)?;
     let is_same = match &answered {
-        Answered::Value(text) => line.is_accepted && text.as_str() == line.answer,
-        Answered::Misfit(_) => !line.is_accepted && ignored.is_none(),
-        Answered::Malformed(told) => !line.is_accepted && ignored.as_ref() == Some(told),
+        Answered::Value(text) => expected.is_accepted && text.as_str() == expected.answer,
+        Answered::Misfit(_) => !expected.is_accepted && ignored.is_none(),
+        Answered::Malformed(told) => !expected.is_accepted && ignored.as_ref() == Some(told),
     };
     if is_same {
         return Ok(Compared::Same(answered));

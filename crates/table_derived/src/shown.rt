@@ -1,118 +1,69 @@
-//! The notation of the types that are read.
-//!
-//! `i` and decimal digits is an integer, `x` and hexadecimal digits the bytes of a text; `-` is no
-//! value and `+` comes before one; `[..]` is a list, `(..)` a tuple, `<field=value>` a struct, and
-//! `Variant` or `Variant:payload` an enum.
-use crate::types::{EnumRow, FileInfo, Files, TemplateRow, TestEnum};
+//! The notation of the structs and enums that are read: that of `bser_vectors`.
+use crate::types::{DerivedEnum, DerivedEnumRow, DerivedFiles, DerivedInfo, DerivedRow};
 use bser_vectors::notation::text::Text;
+use bser_vectors::shown::Shown;
+use bser_vectors::shown::scalars::put_integer;
 
-/// A type whose values have a notation.
-pub trait Shown {
-    /// Puts the notation of the value behind the text.
-    fn put(&self, text: &mut Text);
-}
-
-/// Puts the name of a field and its value behind the text.
-fn put_field<T: Shown>(text: &mut Text, name: &str, value: &T) {
-    text.put(name);
-    text.put("=");
-    value.put(text);
-    text.put(",");
-}
-
-impl Shown for i64 {
+impl Shown for DerivedRow {
     fn put(&self, text: &mut Text) {
-        text.put("i");
-        text.put_number(i128::from(*self));
+        text.put("<abc=");
+        put_integer(text, i128::from(self.abc));
+        text.put(",def=");
+        self.def.put(text);
+        text.put(",ghi=");
+        self.ghi.put(text);
+        text.put(">");
     }
 }
 
-impl Shown for String {
-    fn put(&self, text: &mut Text) {
-        text.put("x");
-        text.put_bytes(self.as_bytes());
-    }
-}
-
-impl<T: Shown> Shown for Option<T> {
+impl Shown for DerivedEnum {
     fn put(&self, text: &mut Text) {
         match self {
-            None => text.put("-"),
-            Some(value) => {
-                text.put("+");
-                value.put(text);
-            }
-        }
-    }
-}
-
-impl<T: Shown> Shown for Vec<T> {
-    fn put(&self, text: &mut Text) {
-        text.put("[");
-        for item in self {
-            item.put(text);
-            text.put(",");
-        }
-        text.close("]");
-    }
-}
-
-impl Shown for TemplateRow {
-    fn put(&self, text: &mut Text) {
-        text.put("<");
-        put_field(text, "abc", &i64::from(self.abc));
-        put_field(text, "def", &self.def);
-        put_field(text, "ghi", &self.ghi);
-        text.close(">");
-    }
-}
-
-impl Shown for TestEnum {
-    fn put(&self, text: &mut Text) {
-        match self {
-            TestEnum::TestUnit => text.put("TestUnit"),
-            TestEnum::TestNewtype(value) => {
+            DerivedEnum::TestUnit => text.put("TestUnit"),
+            DerivedEnum::TestNewtype(value) => {
                 text.put("TestNewtype:");
                 value.put(text);
             }
-            TestEnum::TestTuple(first, second) => {
+            DerivedEnum::TestTuple(first, second) => {
                 text.put("TestTuple:(");
                 first.put(text);
                 text.put(",");
                 second.put(text);
                 text.put(")");
             }
-            TestEnum::TestStruct { abc, def } => {
-                text.put("TestStruct:<");
-                put_field(text, "abc", abc);
-                put_field(text, "def", def);
-                text.close(">");
+            DerivedEnum::TestStruct { abc, def } => {
+                text.put("TestStruct:<abc=");
+                abc.put(text);
+                text.put(",def=");
+                def.put(text);
+                text.put(">");
             }
         }
     }
 }
 
-impl Shown for EnumRow {
+impl Shown for DerivedEnumRow {
     fn put(&self, text: &mut Text) {
-        text.put("<");
-        put_field(text, "abc", &self.abc);
-        text.close(">");
+        text.put("<abc=");
+        self.abc.put(text);
+        text.put(">");
     }
 }
 
-impl Shown for FileInfo {
+impl Shown for DerivedInfo {
     fn put(&self, text: &mut Text) {
-        text.put("<");
-        put_field(text, "name", &self.name);
-        put_field(text, "size", &i64::from(self.size));
-        text.close(">");
+        text.put("<name=");
+        self.name.put(text);
+        text.put(",size=");
+        put_integer(text, i128::from(self.size));
+        text.put(">");
     }
 }
 
-impl Shown for Files {
+impl Shown for DerivedFiles {
     fn put(&self, text: &mut Text) {
-        text.put("<");
-        put_field(text, "files", &self.files);
-        text.close(">");
+        text.put("<files=");
+        self.files.put(text);
+        text.put(">");
     }
 }

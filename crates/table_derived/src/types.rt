@@ -2,16 +2,16 @@
 use serde::{Deserialize, Serialize};
 
 /// A row of a template.
-#[derive(Debug, Drop, Serialize, Deserialize)]
-pub struct TemplateRow {
+#[derive(Drop, Serialize, Deserialize)]
+pub struct DerivedRow {
     pub abc: i32,
     pub def: Option<String>,
     pub ghi: Option<i64>,
 }
 
 /// An enum with a variant of each form.
-#[derive(Debug, Drop, Serialize, Deserialize)]
-pub enum TestEnum {
+#[derive(Drop, Serialize, Deserialize)]
+pub enum DerivedEnum {
     TestUnit,
     TestNewtype(String),
     TestTuple(String, String),
@@ -19,27 +19,27 @@ pub enum TestEnum {
 }
 
 /// A struct whose field is an enum.
-#[derive(Debug, Drop, Serialize, Deserialize)]
-pub struct EnumRow {
-    pub abc: TestEnum,
+#[derive(Drop, Serialize, Deserialize)]
+pub struct DerivedEnumRow {
+    pub abc: DerivedEnum,
 }
 
 /// A file.
-#[derive(Debug, Drop, Serialize, Deserialize)]
-pub struct FileInfo {
+#[derive(Drop, Serialize, Deserialize)]
+pub struct DerivedInfo {
     pub name: String,
     pub size: u32,
 }
 
 /// Files.
-#[derive(Debug, Drop, Serialize, Deserialize)]
-pub struct Files {
-    pub files: Vec<FileInfo>,
+#[derive(Drop, Serialize, Deserialize)]
+pub struct DerivedFiles {
+    pub files: Vec<DerivedInfo>,
 }
 
 /// A file, as a server tells of it.
-#[derive(Debug, Drop, Deserialize)]
-pub struct File {
+#[derive(Drop, Deserialize)]
+pub struct DerivedFile {
     pub name: String,
     pub size: u64,
     pub mtime_ms: i64,
@@ -48,8 +48,8 @@ pub struct File {
 }
 
 /// An answer of a server.
-#[derive(Debug, Drop, Deserialize)]
-pub struct Answer {
+#[derive(Drop, Deserialize)]
+pub struct DerivedAnswer {
     pub clock: String,
-    pub files: Vec<File>,
+    pub files: Vec<DerivedFile>,
 }

@@ -1,9 +1,9 @@
 //! The ways of reading one message as a type.
-use crate::shown::Shown;
 use anyhow::Result;
 use bser_serde::{Refusal, from_reader, from_slice, to_vec};
 use bser_vectors::devices::{Plan, PlannedReader};
 use bser_vectors::notation::text::Text;
+use bser_vectors::shown::Shown;
 use serde::{Deserialize, DeserializeOwned, Serialize};
 use serde_bser::de::Ignored;
 use serde_bser::describe;
@@ -11,7 +11,7 @@ use serde_bser::device::Watched;
 use std::alloc::Global;
 
 /// How a message was answered.
-#[derive(Debug, PartialEq, Drop)]
+#[derive(PartialEq, Drop)]
 pub enum Answered {
     /// It was read as the value of this notation.
     Value(String),

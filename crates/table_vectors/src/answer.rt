@@ -8,8 +8,8 @@ use serde_bser::prelude::*;
 use std::alloc::Global;
 
 /// What an answer tells of a file.
-#[derive(Debug, Drop)]
-pub struct File {
+#[derive(Drop)]
+pub struct ToldFile {
     pub name: String,
     pub size: u64,
     pub mtime_ms: Option<i64>,
@@ -17,7 +17,7 @@ pub struct File {
     pub mode: Option<i32>,
 }
 
-impl Fields for File {
+impl Fields for ToldFile {
     ghost fields = { required (codes "name") (λ v. v.name) ⟦<String as ReadOnly>⟧.coding
         ∷ required (codes "size") (λ v. v.size) ⟦<u64 as ReadOnly>⟧.coding
         ∷ optional (codes "mtime_ms") (λ v. v.mtime_ms) ⟦<i64 as ReadOnly>⟧.coding
@@ -26,19 +26,19 @@ impl Fields for File {
         ∷ [] };
 }
 
-impl Meant for File {
-    ghost meaning = { struct_meaning ⟦<File as Fields>⟧.fields };
+impl Meant for ToldFile {
+    ghost meaning = { struct_meaning ⟦<ToldFile as Fields>⟧.fields };
 }
 
-impl<L: LendsText> Deserialize<L> for File {
+impl<L: LendsText> Deserialize<L> for ToldFile {
     fn deserialize<R: DeRead<Lent = L>>(
         alloc: Global,
         from: &mut Deserializer<R>,
-    ) -> de::Answer<File> {
+    ) -> de::Answer<ToldFile> {
         read_struct!(
             alloc,
             from,
-            File {
+            ToldFile {
                 name: Required("name"),
                 size: Required("size"),
                 mtime_ms: Optional("mtime_ms"),
@@ -49,36 +49,36 @@ impl<L: LendsText> Deserialize<L> for File {
     }
 }
 
-impl OwnedShape for File {
+impl OwnedShape for ToldFile {
     ghost owned = { refl };
 }
 
 /// An answer, with its clock and its files.
-#[derive(Debug, Drop)]
-pub struct Answer {
+#[derive(Drop)]
+pub struct ToldAnswer {
     pub clock: String,
-    pub files: Vec<File>,
+    pub files: Vec<ToldFile>,
 }
 
-impl Fields for Answer {
+impl Fields for ToldAnswer {
     ghost fields = { required (codes "clock") (λ v. v.clock) ⟦<String as ReadOnly>⟧.coding
-        ∷ required (codes "files") (λ v. v.files) ⟦<Vec<File> as ReadOnly>⟧.coding
+        ∷ required (codes "files") (λ v. v.files) ⟦<Vec<ToldFile> as ReadOnly>⟧.coding
         ∷ [] };
 }
 
-impl Meant for Answer {
-    ghost meaning = { struct_meaning ⟦<Answer as Fields>⟧.fields };
+impl Meant for ToldAnswer {
+    ghost meaning = { struct_meaning ⟦<ToldAnswer as Fields>⟧.fields };
 }
 
-impl<L: LendsText> Deserialize<L> for Answer {
+impl<L: LendsText> Deserialize<L> for ToldAnswer {
     fn deserialize<R: DeRead<Lent = L>>(
         alloc: Global,
         from: &mut Deserializer<R>,
-    ) -> de::Answer<Answer> {
+    ) -> de::Answer<ToldAnswer> {
         read_struct!(
             alloc,
             from,
-            Answer {
+            ToldAnswer {
                 clock: Required("clock"),
                 files: Required("files"),
             }
@@ -86,6 +86,6 @@ impl<L: LendsText> Deserialize<L> for Answer {
     }
 }
 
-impl OwnedShape for Answer {
+impl OwnedShape for ToldAnswer {
     ghost owned = { refl };
 }

@@ -4,18 +4,13 @@ use bser_format::bytestring::ByteString;
 use bser_types::impls::Ignored;
 use bser_value::value::Value;
 use bser_vectors::enums::{EnumRow, TestEnum};
-use bser_vectors::files::ExactFile;
-use bser_vectors::structs::{FileInfo, Files, TemplateRow};
+use bser_vectors::structs::{Files, TemplateRow};
 use std::alloc::Global;
 use std::borrow::CowStr;
-use std::collections::{BTreeMap, BTreeSet, VecDeque};
+use std::collections::{BTreeMap, BTreeSet, HashMap, VecDeque};
 
 /// Reads the message as the type of this name, and compares the answers.
 pub fn compare(alloc: Global, kind: &str, sample: &Sample<'_>) -> Compared {
-    scalars(alloc, kind, sample)
-}
-
-fn scalars(alloc: Global, kind: &str, sample: &Sample<'_>) -> Compared {
     match kind {
         "bool" => sample.owned::<bool>(alloc),
         "i8" => sample.owned::<i8>(alloc),
@@ -34,23 +29,13 @@ fn scalars(alloc: Global, kind: &str, sample: &Sample<'_>) -> Compared {
         "cow" => sample.owned::<CowStr<'_>>(alloc),
         "str" => sample.lent::<&str>(alloc),
         "bytes" => sample.lent::<&[u8]>(alloc),
-        _ => options(alloc, kind, sample),
-    }
-}
-
-/// Options and boxes.
-fn options(alloc: Global, kind: &str, sample: &Sample<'_>) -> Compared {
-    match kind {
         "opt_i64" => sample.owned::<Option<i64>>(alloc),
-        "opt_opt_i64" => sample.owned::<Option<Option<i64>>>(alloc),
-        "opt_unit" => sample.owned::<Option<()>>(alloc),
-        "opt_str" => sample.lent::<Option<&str>>(alloc),
         "box_i64" => sample.owned::<Box<i64>>(alloc),
-        "box_str" => sample.lent::<Box<&str>>(alloc),
         _ => lists(alloc, kind, sample),
     }
 }
 
+/// Lists, queues, sets, tuples and arrays.
 fn lists(alloc: Global, kind: &str, sample: &Sample<'_>) -> Compared {
     match kind {
         "vec_i64" => sample.owned::<Vec<i64>>(alloc),
@@ -59,35 +44,20 @@ fn lists(alloc: Global, kind: &str, sample: &Sample<'_>) -> Compared {
         "vec_ByteString" => sample.owned::<Vec<ByteString>>(alloc),
         "vec_tup2" => sample.owned::<Vec<(i64, i64)>>(alloc),
         "vec_str" => sample.lent::<Vec<&str>>(alloc),
-        "vec_vec_u8" => sample.owned::<Vec<Vec<u8>>>(alloc),
-        "vec_Value" => sample.owned::<Vec<Value>>(alloc),
         "vec_opt_i64" => sample.owned::<Vec<Option<i64>>>(alloc),
         "vec_opt_vec_i64" => sample.owned::<Vec<Option<Vec<i64>>>>(alloc),
         "deque_i64" => sample.owned::<VecDeque<i64>>(alloc),
         "set_String" => sample.owned::<BTreeSet<String>>(alloc),
-        _ => tuples(alloc, kind, sample),
-    }
-}
-
-/// Tuples and arrays.
-fn tuples(alloc: Global, kind: &str, sample: &Sample<'_>) -> Compared {
-    match kind {
         "tup2" => sample.owned::<(i64, i64)>(alloc),
         "tup3" => sample.owned::<(i64, i64, i64)>(alloc),
         "tup4" => sample.owned::<(i64, i64, i64, i64)>(alloc),
-        "tup_bool_bool" => sample.owned::<(bool, bool)>(alloc),
-        "tup_bool_bool_bool" => sample.owned::<(bool, bool, bool)>(alloc),
-        "tup_i64_bool" => sample.owned::<(i64, bool)>(alloc),
-        "tup_i64_bool_bool" => sample.owned::<(i64, bool, bool)>(alloc),
-        "tup_i64_bool_bool_unit" => sample.owned::<(i64, bool, bool, ())>(alloc),
-        "tup_String_String" => sample.owned::<(String, String)>(alloc),
-        "tup_str_str" => sample.lent::<(&str, &str)>(alloc),
         "arr2_map_String_i64" => sample.owned::<[BTreeMap<String, i64>; 2]>(alloc),
         "tup_map_String_i64" => sample.owned::<(BTreeMap<String, i64>,)>(alloc),
         _ => maps(alloc, kind, sample),
     }
 }
 
+/// Maps and lists of them.
 fn maps(alloc: Global, kind: &str, sample: &Sample<'_>) -> Compared {
     match kind {
         "map_String_i64" => sample.owned::<BTreeMap<String, i64>>(alloc),
@@ -95,53 +65,25 @@ fn maps(alloc: Global, kind: &str, sample: &Sample<'_>) -> Compared {
         "map_String_vec_String" => sample.owned::<BTreeMap<String, Vec<String>>>(alloc),
         "map_String_Ignored" => sample.owned::<BTreeMap<String, Ignored>>(alloc),
         "map_bytes_unit" => sample.owned::<BTreeMap<ByteString, ()>>(alloc),
-        "map_bytes_opt_i64" => sample.owned::<BTreeMap<ByteString, Option<i64>>>(alloc),
-        "map_String_String" => sample.owned::<BTreeMap<String, String>>(alloc),
-        "map_raw_raw" => sample.lent::<BTreeMap<&[u8], &[u8]>>(alloc),
         "map_str_i64" => sample.lent::<BTreeMap<&str, i64>>(alloc),
         "map_raw_opt_i64" => sample.lent::<BTreeMap<&[u8], Option<i64>>>(alloc),
-        _ => rows(alloc, kind, sample),
-    }
-}
-
-/// Lists of maps.
-fn rows(alloc: Global, kind: &str, sample: &Sample<'_>) -> Compared {
-    match kind {
+        "hash_String_i64" => sample.owned::<HashMap<String, i64>>(alloc),
         "vec_map_bytes_opt_i64" => sample.owned::<Vec<BTreeMap<ByteString, Option<i64>>>>(alloc),
         "vec_map_str_opt_i64" => sample.lent::<Vec<BTreeMap<&str, Option<i64>>>>(alloc),
-        "vec_map_String_i64" => sample.owned::<Vec<BTreeMap<String, i64>>>(alloc),
-        "vec_map_String_Ignored" => sample.owned::<Vec<BTreeMap<String, Ignored>>>(alloc),
-        "vec_map_str_Ignored" => sample.lent::<Vec<BTreeMap<&str, Ignored>>>(alloc),
-        "vec_map_String_vec_map_String_vec_i64" => sample.owned::<
-            Vec<BTreeMap<String, Vec<BTreeMap<String, Vec<i64>>>>>,
-        >(alloc),
         "vec_map_String_unit" => sample.owned::<Vec<BTreeMap<String, ()>>>(alloc),
         "vec_map_raw_unit" => sample.lent::<Vec<BTreeMap<&[u8], ()>>>(alloc),
         _ => structs(alloc, kind, sample),
     }
 }
 
+/// Structs and enums.
 fn structs(alloc: Global, kind: &str, sample: &Sample<'_>) -> Compared {
     match kind {
         "TemplateRow" => sample.owned::<TemplateRow<String>>(alloc),
         "vec_TemplateRow" => sample.owned::<Vec<TemplateRow<String>>>(alloc),
         "vec_opt_TemplateRow" => sample.owned::<Vec<Option<TemplateRow<String>>>>(alloc),
-        "vec_TemplateRow_str" => sample.lent::<Vec<TemplateRow<&str>>>(alloc),
-        "vec_TemplateRow_raw" => sample.lent::<Vec<TemplateRow<&[u8]>>>(alloc),
-        "FileInfo" => sample.owned::<FileInfo<String>>(alloc),
-        "vec_FileInfo" => sample.owned::<Vec<FileInfo<String>>>(alloc),
         "Files" => sample.owned::<Files<String>>(alloc),
-        "ExactFile" => sample.lent::<ExactFile<String, u64>>(alloc),
-        "Files_raw" => sample.lent::<Files<&[u8]>>(alloc),
-        _ => enums(alloc, kind, sample),
-    }
-}
-
-fn enums(alloc: Global, kind: &str, sample: &Sample<'_>) -> Compared {
-    match kind {
         "TestEnum" => sample.owned::<TestEnum<String>>(alloc),
-        "TestEnum_str" => sample.lent::<TestEnum<&str>>(alloc),
-        "TestEnum_raw" => sample.lent::<TestEnum<&[u8]>>(alloc),
         "opt_TestEnum" => sample.owned::<Option<TestEnum<String>>>(alloc),
         "vec_TestEnum" => sample.owned::<Vec<TestEnum<String>>>(alloc),
         "vec_EnumRow" => sample.owned::<Vec<EnumRow<String>>>(alloc),

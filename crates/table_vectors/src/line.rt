@@ -1,20 +1,18 @@
 //! One line of a list of messages.
-use crate::columns::columns;
 use crate::kinds::compare;
 use crate::ways::Sample;
 use crate::written::compare_written;
 use anyhow::Result;
+use bser_vectors::columns::columns;
 use std::alloc::Global;
 
 /// A message, and what the list says of it.
 #[derive(Drop)]
-pub struct Line<'a> {
+pub struct ListedMessage<'a> {
     /// The name of the type that it is read as, or what the message is in a list of values.
     pub name: &'a str,
     /// Whether it is accepted.
     pub accepted: bool,
-    kind: &'a str,
-    is_written: bool,
     message: Vec<u8>,
     answer: &'a str,
     taken: usize,
@@ -22,9 +20,9 @@ pub struct Line<'a> {
     compact: &'a str,
 }
 
-impl<'a> Line<'a> {
+impl<'a> ListedMessage<'a> {
     /// Takes a line apart at its tabs.
-    pub fn parse(alloc: Global, of_values: bool, line: &'a str) -> Result<Self> {
+    pub fn parse(alloc: Global, line: &'a str) -> Result<Self> {
         let [
             name,
             message,
@@ -35,15 +33,12 @@ impl<'a> Line<'a> {
             _depth,
             canonical,
             compact,
-        ] = columns(line, "\t");
-        let accepted = verdict == "ok";
-        Ok(Line {
+        ] = columns::<9>(line, "\t");
+        Ok(ListedMessage {
             name,
-            accepted,
-            kind: if of_values { "Value" } else { name },
-            is_written: of_values && accepted,
+            accepted: verdict == "ok",
             answer,
-            taken: taken.parse::<usize>()?,
+            taken: taken.parse()?,
             canonical,
             compact,
             message: hex::decode(alloc, message)?,
@@ -51,15 +46,15 @@ impl<'a> Line<'a> {
     }
 
     /// Whether reading, and in a list of values writing, is as the list says.
-    pub fn compare(&self, alloc: Global) -> Result<()> {
+    pub fn compare(&self, alloc: Global, of_values: bool) -> Result<()> {
         let sample = Sample {
             message: &self.message,
             levels: 128,
             answer: self.answer,
             taken: self.taken,
         };
-        compare(alloc, self.kind, &sample)?;
-        if self.is_written {
+        compare(alloc, if of_values { "Value" } else { self.name }, &sample)?;
+        if of_values && self.accepted {
             compare_written(alloc, self.answer, self.canonical, self.compact)?;
         }
         Ok(())

@@ -8,20 +8,20 @@
 #![tactic(auto)]
 
 mod answer;
-mod case;
-mod columns;
 mod kinds;
 mod line;
 mod recorded;
 mod refusals;
 mod row;
-mod shown;
 mod tables;
 mod watchman;
 mod ways;
 mod written;
 
+use crate::recorded::compare_recordings;
+use crate::refusals::{compare_refusals, read_number};
 use crate::tables::{compare_lines, compare_rows};
+use crate::watchman::compare_files;
 use anyhow::Result;
 
 fn main(rt: HostRuntime) -> Result<()> {
@@ -36,7 +36,10 @@ fn main(rt: HostRuntime) -> Result<()> {
     compare_lines(&rt, true, "sample.tsv")?;
     compare_lines(&rt, true, "lines.tsv")?;
     compare_lines(&rt, true, "wrong-lines.tsv")?;
-    refusals::compare_all(&rt)?;
-    watchman::compare_all(&rt)?;
-    recorded::compare_all(&rt)
+    compare_refusals(&rt, "errors.tsv")?;
+    compare_refusals(&rt, "wrong-errors.tsv")?;
+    read_number(&rt)?;
+    compare_files(&rt)?;
+    compare_recordings(&rt, "recorded.tsv")?;
+    compare_recordings(&rt, "wrong-recorded.tsv")
 }

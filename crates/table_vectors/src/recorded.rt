@@ -2,10 +2,11 @@
 //!
 //! The folder `watchman` has the messages. The file `recorded.tsv` has a line for each, with the sums of
 //! its text and of what is written for it, and `wrong-recorded.tsv` has wrong lines.
-use crate::columns::columns;
-use crate::written::{compact_message, is_shown};
+use crate::written::compact_message;
 use anyhow::Result;
+use bser_vectors::columns::columns;
 use bser_vectors::devices::Plan;
+use bser_vectors::sums::is_message;
 use bser_vectors::ways::read_by_plan;
 use bser_vectors::witness::Witness;
 use serde_bser::ser::to_vec;
@@ -14,20 +15,14 @@ use serde_bser::{from_slice, tell};
 use std::alloc::Global;
 use std::fs;
 
-/// Prints and writes the value of each recorded message of the lists.
-pub fn compare_all(rt: &HostRuntime) -> Result<()> {
-    compare_recordings(rt, "recorded.tsv")?;
-    compare_recordings(rt, "wrong-recorded.tsv")
-}
-
 /// Prints and writes the value of each recorded message of the list.
-fn compare_recordings(rt: &HostRuntime, file: &str) -> Result<()> {
+pub fn compare_recordings(rt: &HostRuntime, file: &str) -> Result<()> {
     let text = fs::read_to_string(rt, file)?;
     let mut recordings = 0u64;
     let mut wrong = 0u64;
     for line in text.as_str().lines() {
         recordings = recordings.saturating_add(1);
-        let recording = Recording::parse(line);
+        let recording = RecordedMessage::parse(line);
         let message = fs::read(rt, recording.file)?;
         if let Some(what) = recording.first_mismatch(rt.alloc(), &message)? {
             wrong = wrong.saturating_add(1);
@@ -41,7 +36,7 @@ fn compare_recordings(rt: &HostRuntime, file: &str) -> Result<()> {
 /// A recorded message, and what the list says of it: `#LENGTH:SHA256` of its text on one line, and of
 /// the messages that are written for its value.
 #[derive(Clone, Copy)]
-struct Recording<'a> {
+struct RecordedMessage<'a> {
     /// The message's file.
     file: &'a str,
     text: &'a str,
@@ -49,11 +44,11 @@ struct Recording<'a> {
     compact: &'a str,
 }
 
-impl<'a> Recording<'a> {
+impl<'a> RecordedMessage<'a> {
     /// Takes a line apart at its tabs.
     fn parse(line: &'a str) -> Self {
-        let [file, text, canonical, compact, ..] = columns(line, "\t");
-        Recording {
+        let [file, text, canonical, compact] = columns::<4>(line, "\t");
+        RecordedMessage {
             file,
             text,
             canonical,
@@ -74,10 +69,10 @@ impl<'a> Recording<'a> {
             return Ok(Some("another value from a reader"));
         }
         let text = value.to_string(alloc)?;
-        if !is_shown(alloc, text.as_str().as_bytes(), self.text)? {
+        if !is_message(alloc, text.as_str().as_bytes(), self.text)? {
             return Ok(Some("another text"));
         }
-        if !is_shown(alloc, &to_vec(alloc, &value)?, self.canonical)? {
+        if !is_message(alloc, &to_vec(alloc, &value)?, self.canonical)? {
             return Ok(Some("another canonical message"));
         }
         self.compact_mismatch(alloc, message.len(), &value)
@@ -92,7 +87,7 @@ impl<'a> Recording<'a> {
         value: &Value,
     ) -> Result<Option<&'static str>> {
         let compact = compact_message(alloc, value)?;
-        if !is_shown(alloc, &compact, self.compact)? {
+        if !is_message(alloc, &compact, self.compact)? {
             return Ok(Some("another compact message"));
         }
         if compact.len() > recorded {
@@ -119,15 +114,10 @@ fn is_told_in_place(alloc: Global, message: &[u8]) -> bool {
 /// nothing left.
 fn is_read_by_readers(alloc: Global, message: &[u8], value: &Value) -> Result<bool> {
     for most in [1, 2, 3, 7, 4096, usize::MAX] {
-        if !is_read_by(alloc, message, value, Plan::pieces(most))? {
+        let (answer, count) = read_by_plan::<Value>(alloc, message, Plan::pieces(most));
+        if answer? != *value || count != message.len() {
             return Ok(false);
         }
     }
     Ok(true)
-}
-
-/// Whether a reader of this plan gives the value, and has nothing left.
-fn is_read_by(alloc: Global, message: &[u8], value: &Value, plan: Plan) -> Result<bool> {
-    let (answer, count) = read_by_plan::<Value>(alloc, message, plan);
-    Ok(answer? == *value && count == message.len())
 }

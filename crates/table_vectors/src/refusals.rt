@@ -4,10 +4,10 @@
 //! message in hexadecimal digits, the words that have to be told, the field that has to be named, or
 //! `-`, the first and the last place that may be told, and the path. The first line is the columns'
 //! names. The file `wrong-errors.tsv` has such lines of which each is wrong.
-use crate::answer::Answer;
-use crate::case::Case;
+use crate::answer::ToldAnswer;
 use anyhow::{Context, Result};
 use bser_vectors::devices::{Plan, PlannedReader};
+use bser_vectors::refused::RefusedMessage;
 use serde_bser::de::{Deserialize, DeserializeOwned};
 use serde_bser::describe;
 use serde_bser::describe::Description;
@@ -19,15 +19,8 @@ use std::fs;
 /// How many bytes a reader gives at a call; 0 is a slice.
 const PIECES: [usize; 4] = [0, 1, 7, 4096];
 
-/// Compares the messages of each list, and then reads a number by each call.
-pub fn compare_all(rt: &HostRuntime) -> Result<()> {
-    compare(rt, "errors.tsv")?;
-    compare(rt, "wrong-errors.tsv")?;
-    read_number(rt)
-}
-
 /// Reads a message whose number is 300 by each call, and as a type that does not hold it.
-fn read_number(rt: &HostRuntime) -> Result<()> {
+pub fn read_number(rt: &HostRuntime) -> Result<()> {
     let message = b"\x00\x02\x00\x00\x00\x00\x03\x03\x04\x2c\x01".as_slice();
     let alloc = rt.alloc();
     let mut reader = Watched::new(PlannedReader::new(message, Plan::pieces(1)));
@@ -48,7 +41,7 @@ fn read_number(rt: &HostRuntime) -> Result<()> {
 }
 
 /// Reads each message of the list, and prints how it is refused.
-fn compare(rt: &HostRuntime, file: &str) -> Result<()> {
+pub fn compare_refusals(rt: &HostRuntime, file: &str) -> Result<()> {
     let text = fs::read_to_string(rt, file)?;
     let mut cases = 0u64;
     let mut wrong = 0u64;
@@ -63,7 +56,7 @@ fn compare(rt: &HostRuntime, file: &str) -> Result<()> {
 /// Prints how the message of a line is refused, and counts in how many ways of reading it is
 /// described otherwise, or not as it has to be.
 fn compare_case(rt: &HostRuntime, line: &str) -> Result<u64> {
-    let case = Case::parse(rt.alloc(), line)?;
+    let case = RefusedMessage::parse(rt.alloc(), line)?;
     let refused = refusal(rt.alloc(), &case, 0)?;
     let told = refused.to_string(rt.alloc())?;
     let path = refused.path(rt.alloc(), &case.message)?;
@@ -79,13 +72,21 @@ fn compare_case(rt: &HostRuntime, line: &str) -> Result<u64> {
 
 /// Whether the refusal is described by this text, which says what it has to. Else prints by what it is
 /// described.
-fn is_right(rt: &HostRuntime, case: &Case<'_>, pieces: usize, told: &str) -> Result<bool> {
+fn is_right(
+    rt: &HostRuntime,
+    case: &RefusedMessage<'_>,
+    pieces: usize,
+    told: &str,
+) -> Result<bool> {
     let refusal = refusal(rt.alloc(), case, pieces)?;
     let text = refusal.to_string(rt.alloc())?;
     let path = refusal
         .path(rt.alloc(), &case.message)?
         .to_string(rt.alloc())?;
-    let is_right = text.as_str() == told && case.is_told(told, path.as_str(), &refusal);
+    let is_right = text.as_str() == told
+        && case.is_told(told, refusal.place())
+        && refusal.field().unwrap_or("-") == case.field
+        && path.as_str() == case.path;
     if !is_right {
         println!(rt; "  wrong in pieces of {pieces}: {text}, in {path}")?;
     }
@@ -93,10 +94,10 @@ fn is_right(rt: &HostRuntime, case: &Case<'_>, pieces: usize, told: &str) -> Res
 }
 
 /// How the case's message is refused as its type.
-fn refusal(alloc: Global, case: &Case<'_>, pieces: usize) -> Result<Description> {
+fn refusal(alloc: Global, case: &RefusedMessage<'_>, pieces: usize) -> Result<Description> {
     match case.kind {
         "Value" => refusal_of::<Value>(alloc, &case.message, pieces),
-        "Answer" => refusal_of::<Answer>(alloc, &case.message, pieces),
+        "Answer" => refusal_of::<ToldAnswer>(alloc, &case.message, pieces),
         _ => None,
     }
     .context("a message that is accepted, or no such type")

@@ -1,13 +1,13 @@
 //! One row of a list of cases.
-use crate::columns::columns;
 use crate::kinds::compare;
 use crate::ways::{Compared, Sample};
 use anyhow::{Result, ensure};
+use bser_vectors::columns::columns;
 use std::alloc::Global;
 
 /// A case by its name, and what the list says of it.
 #[derive(Drop)]
-pub struct Row<'a> {
+pub struct CaseRow<'a> {
     /// What the case shows.
     pub name: &'a str,
     /// The names of the types that the message is read as.
@@ -22,10 +22,10 @@ pub struct Row<'a> {
     of_fronts: bool,
 }
 
-impl<'a> Row<'a> {
+impl<'a> CaseRow<'a> {
     /// Takes a row apart.
     pub fn parse(alloc: Global, row: &'a str) -> Result<Self> {
-        let [name, kinds, levels, message, answer, ..] = columns(row, " | ");
+        let [name, kinds, levels, message, answer] = columns::<5>(row, " | ");
         ensure!(!answer.is_empty(), "too few columns");
         let levels = levels.parse::<usize>()?;
         let of_fronts = answer.strip_prefix("each front ");
@@ -34,7 +34,7 @@ impl<'a> Row<'a> {
         let mut digits = repeated(alloc, message)?;
         let taken = digits.len() / 2;
         digits.push_str(repeated(alloc, after)?.as_str())?;
-        Ok(Row {
+        Ok(CaseRow {
             name,
             kinds,
             levels,

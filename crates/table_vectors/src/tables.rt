@@ -11,66 +11,48 @@
 //! lines, and those that begin with `#`, are no rows.
 //!
 //! A type has a name: `vec_T` is a `Vec` of T, `deque_T` a `VecDeque`, `set_T` a `BTreeSet`, `arr2_T` an
-//! array of two, `opt_T` an `Option`, `box_T` a `Box`, `map_K_V` a `BTreeMap`, `tup_A_B` a tuple,
-//! `tup2`, `tup3` and `tup4` one of so many `i64`, and `unit` is `()`; `str` is `&str`, `cow` a `CowStr`,
-//! and `bytes` is `&[u8]`, but `ByteString` as the key of a map, where `raw` is `&[u8]`. A struct or
-//! enum has texts of its own, but with `_str` or `_raw` behind its name.
-use crate::line::Line;
-use crate::row::Row;
+//! array of two, `opt_T` an `Option`, `box_T` a `Box`, `map_K_V` a `BTreeMap`, `hash_K_V` a `HashMap`, which
+//! is shown in no certain order, `tup_T` a tuple of one, `tup2`, `tup3` and `tup4` one of so many `i64`, and
+//! `unit` is `()`; `str` is `&str`, `cow` a `CowStr`, and `bytes` is `&[u8]`, but `ByteString` as the key of
+//! a map, where `raw` is `&[u8]`. A struct or enum has texts of its own.
+use crate::line::ListedMessage;
+use crate::row::CaseRow;
 use crate::ways::Mismatch;
 use anyhow::Result;
 use std::fs;
 
-/// How many lines were treated in which way.
-#[derive(Default, Drop)]
-struct Counts {
-    lines: u64,
-    accepted: u64,
-    refused: u64,
-    mismatches: u64,
-}
-
-/// One more, below the greatest.
-fn count(counter: &mut u64) {
-    *counter = counter.saturating_add(1);
-}
-
-impl Counts {
-    /// Compares a line.
-    fn add(&mut self, rt: &HostRuntime, of_values: bool, line: &str) -> Result<()> {
-        count(&mut self.lines);
-        let line = Line::parse(rt.alloc(), of_values, line)?;
-        match line.compare(rt.alloc()) {
-            Ok(()) if line.accepted => count(&mut self.accepted),
-            Ok(()) => count(&mut self.refused),
-            Err(error) => {
-                count(&mut self.mismatches);
-                println!(rt; "line {}, {}: {error}", self.lines, line.name)?;
-            }
-        }
-        Ok(())
-    }
-}
-
 /// Reads each message of a list of lines as its type, and prints how many agree.
 pub fn compare_lines(rt: &HostRuntime, of_values: bool, file: &str) -> Result<()> {
     let text = fs::read_to_string(rt, file)?;
-    let mut counts = Counts::default();
+    let mut lines = 0u64;
+    let mut accepted = 0u64;
+    let mut refused = 0u64;
+    let mut mismatches = 0u64;
     for line in text.as_str().lines() {
-        counts.add(rt, of_values, line)?;
+        lines = lines.saturating_add(1);
+        let line = ListedMessage::parse(rt.alloc(), line)?;
+        match line.compare(rt.alloc(), of_values) {
+            Ok(()) if line.accepted => accepted = accepted.saturating_add(1),
+            Ok(()) => refused = refused.saturating_add(1),
+            Err(error) => {
+                mismatches = mismatches.saturating_add(1);
+                println!(rt; "line {lines}, {}: {error}", line.name)?;
+            }
+        }
     }
-    println!(rt; "{} lines", counts.lines)?;
-    println!(rt; "{} messages accepted as the file says", counts.accepted)?;
-    println!(rt; "{} messages refused as the file says", counts.refused)?;
+    println!(rt;
+        "{lines} lines\n{accepted} messages accepted as the file says\n\
+         {refused} messages refused as the file says"
+    )?;
     if of_values {
-        println!(rt; "{} values written", counts.accepted)?;
+        println!(rt; "{accepted} values written")?;
     }
-    println!(rt; "{} mismatches", counts.mismatches)?;
+    println!(rt; "{mismatches} mismatches")?;
     Ok(())
 }
 
 /// How many cases were read as how many types.
-#[derive(Default, Drop)]
+#[derive(Drop)]
 struct Cases {
     rows: u64,
     readings: u64,
@@ -80,22 +62,19 @@ struct Cases {
 impl Cases {
     /// Reads the message of a case as its types.
     fn add(&mut self, rt: &HostRuntime, line: &str) -> Result<()> {
-        count(&mut self.rows);
-        match Row::parse(rt.alloc(), line) {
-            Ok(row) => self.add_row(rt, &row),
+        self.rows = self.rows.saturating_add(1);
+        let row = match CaseRow::parse(rt.alloc(), line) {
+            Ok(row) => row,
             Err(error) => {
-                count(&mut self.wrong);
+                self.wrong = self.wrong.saturating_add(1);
                 println!(rt; "{line}: {error}")?;
-                Ok(())
+                return Ok(());
             }
-        }
-    }
-
-    fn add_row(&mut self, rt: &HostRuntime, row: &Row<'_>) -> Result<()> {
+        };
         for kind in row.kinds.split_whitespace() {
-            count(&mut self.readings);
-            if !is_answered(rt, row, kind)? {
-                count(&mut self.wrong);
+            self.readings = self.readings.saturating_add(1);
+            if !is_answered(rt, &row, kind)? {
+                self.wrong = self.wrong.saturating_add(1);
             }
         }
         Ok(())
@@ -103,7 +82,7 @@ impl Cases {
 }
 
 /// Whether the type of this name is answered as the case says; where it is not, it is printed how.
-fn is_answered(rt: &HostRuntime, row: &Row<'_>, kind: &str) -> Result<bool> {
+fn is_answered(rt: &HostRuntime, row: &CaseRow<'_>, kind: &str) -> Result<bool> {
     match row.compare(rt.alloc(), kind) {
         Ok(()) => return Ok(true),
         Err(Mismatch::Answer(way, answer)) => println!(rt;
@@ -118,17 +97,19 @@ fn is_answered(rt: &HostRuntime, row: &Row<'_>, kind: &str) -> Result<bool> {
 /// Reads the message of each case of a list as its types, and prints how many agree.
 pub fn compare_rows(rt: &HostRuntime, file: &str) -> Result<()> {
     let text = fs::read_to_string(rt, file)?;
-    let mut cases = Cases::default();
+    let mut cases = Cases {
+        rows: 0,
+        readings: 0,
+        wrong: 0,
+    };
     for line in text.as_str().lines() {
         if !line.is_empty() && !line.starts_with('#') {
             cases.add(rt, line)?;
         }
     }
-    let Cases {
-        rows,
-        readings,
-        wrong,
-    } = cases;
-    println!(rt; "{rows} cases, read as {readings} types, {wrong} of them wrong")?;
+    println!(rt;
+        "{} cases, read as {} types, {} of them wrong",
+        cases.rows, cases.readings, cases.wrong
+    )?;
     Ok(())
 }

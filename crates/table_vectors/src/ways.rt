@@ -1,5 +1,4 @@
 //! The ways of reading one message as a type.
-use crate::shown::Shown;
 use bser_format::errors::Error;
 use bser_messages::message::from_slice_within;
 use bser_types::deserialize::{Deserialize, DeserializeOwned};
@@ -7,6 +6,7 @@ use bser_value::value::Value;
 use bser_vectors::devices::Plan;
 use bser_vectors::notation::code;
 use bser_vectors::notation::text::Text;
+use bser_vectors::shown::Shown;
 use bser_vectors::ways::read_by_plan_within;
 use serde_bser::document::Document;
 use std::alloc::{AllocError, Global};
@@ -17,20 +17,20 @@ const PIECES: [usize; 6] = [1, usize::MAX, 2, 3, 7, 4096];
 
 /// A way of reading a message.
 #[derive(Debug, Clone, Copy)]
-pub enum Way {
+pub enum ReadingWay {
     /// From the slice.
     Slice,
     /// From a reader that gives at most so many bytes a call.
     Reader(usize),
 }
 
-impl fmt::Display for Way {
+impl fmt::Display for ReadingWay {
     fn fmt<W: fmt::Write>(&self, f: &mut fmt::Formatter<W>) -> fmt::Result {
         match self {
-            Way::Slice => f.write_str("from a slice"),
-            Way::Reader(1) => f.write_str("from a reader of one byte a call"),
-            Way::Reader(usize::MAX) => f.write_str("from a reader of all bytes at once"),
-            Way::Reader(most) => write!(f, "from a reader of {most} bytes a call"),
+            ReadingWay::Slice => f.write_str("from a slice"),
+            ReadingWay::Reader(1) => f.write_str("from a reader of one byte a call"),
+            ReadingWay::Reader(usize::MAX) => f.write_str("from a reader of all bytes at once"),
+            ReadingWay::Reader(most) => write!(f, "from a reader of {most} bytes a call"),
         }
     }
 }
@@ -41,7 +41,7 @@ pub enum Mismatch {
     /// It was answered otherwise on this way: the answer in the notation, with the bytes taken from a
     /// reader.
     #[error("another answer, {0}")]
-    Answer(Way, String),
+    Answer(ReadingWay, String),
     /// There is no type of this name.
     #[error("no such type")]
     NoSuchType,
@@ -76,7 +76,7 @@ impl<'a> Sample<'a> {
     /// Reads from the slice.
     pub fn lent<T: Shown + Deserialize<&'a [u8]>>(&self, alloc: Global) -> Compared {
         let answer = from_slice_within::<T>(alloc, self.levels.min(1024), self.message);
-        self.check(alloc, Way::Slice, &answer, self.taken)
+        self.check(alloc, ReadingWay::Slice, &answer, self.taken)
     }
 
     /// Reads from the slice, and from readers of 1, 2, 3, 7 and 4096 bytes a call and of all bytes at
@@ -87,22 +87,17 @@ impl<'a> Sample<'a> {
     ) -> Compared {
         self.lent::<T>(alloc)?;
         for most in PIECES {
-            self.by_reader::<T>(alloc, most)?;
+            let plan = Plan::pieces(most);
+            let (answer, count) = read_by_plan_within::<T>(alloc, self.levels, self.message, plan);
+            self.check(alloc, ReadingWay::Reader(most), &answer, count)?;
         }
         Ok(())
-    }
-
-    /// Reads from a reader that gives at most so many bytes a call.
-    fn by_reader<T: Shown + DeserializeOwned>(&self, alloc: Global, most: usize) -> Compared {
-        let plan = Plan::pieces(most);
-        let (answer, count) = read_by_plan_within::<T>(alloc, self.levels, self.message, plan);
-        self.check(alloc, Way::Reader(most), &answer, count)
     }
 
     /// Reads a `Document` in the same ways. What is compared is the value that it holds.
     pub fn document(&self, alloc: Global) -> Compared {
         let answer = from_slice_within::<Document>(alloc, self.levels.min(1024), self.message);
-        self.check(alloc, Way::Slice, &held(alloc, answer), self.taken)?;
+        self.check(alloc, ReadingWay::Slice, &held(alloc, answer), self.taken)?;
         for most in PIECES {
             let plan = Plan::pieces(most);
             let (answer, count) = read_by_plan_within::<Document>(
@@ -111,7 +106,7 @@ impl<'a> Sample<'a> {
                 self.message,
                 plan,
             );
-            self.check(alloc, Way::Reader(most), &held(alloc, answer), count)?;
+            self.check(alloc, ReadingWay::Reader(most), &held(alloc, answer), count)?;
         }
         Ok(())
     }
@@ -120,7 +115,7 @@ impl<'a> Sample<'a> {
     fn check<T: Shown>(
         &self,
         alloc: Global,
-        way: Way,
+        way: ReadingWay,
         answer: &Result<T, Error>,
         count: usize,
     ) -> Compared {
@@ -128,7 +123,7 @@ impl<'a> Sample<'a> {
         if text.as_str() == self.answer && (answer.is_err() || count == self.taken) {
             return Ok(());
         }
-        if let Way::Reader(_) = way {
+        if let ReadingWay::Reader(_) = way {
             write!(text, " of {count} bytes")?;
         }
         Err(Mismatch::Answer(way, text))

@@ -1,5 +1,5 @@
 //! Messages whose texts are borrowed.
-use crate::shown::is_text;
+use crate::shown::is_shown;
 use anyhow::Result;
 use serde_bser::de::{Deserialize, Ignored, ObjectOr};
 use std::alloc::Global;
@@ -42,5 +42,5 @@ fn is_read<'a, T: Deserialize<&'a [u8]> + Debug>(
     expected: &str,
 ) -> Result<bool> {
     let read = read_message::<&'a str, AnyFile<'a>, T>(alloc, message);
-    Ok(is_text(alloc, &read, expected)?)
+    Ok(is_shown(alloc, &read, expected)?)
 }

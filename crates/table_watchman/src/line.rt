@@ -1,12 +1,12 @@
 //! A line of a list of messages.
-use crate::columns::columns;
 use crate::{borrowed, owned};
 use anyhow::Result;
+use bser_vectors::columns::columns;
 use std::alloc::Global;
 
 /// A message, and how it is printed.
 #[derive(Clone, Copy)]
-pub struct Line<'a> {
+pub struct PrintedMessage<'a> {
     /// The message's name.
     pub name: &'a str,
     /// The message, in hexadecimal digits.
@@ -17,11 +17,11 @@ pub struct Line<'a> {
     borrowed: &'a str,
 }
 
-impl<'a> Line<'a> {
+impl<'a> PrintedMessage<'a> {
     /// Takes a line apart.
     pub fn parse(line: &'a str) -> Self {
-        let [name, message, answer, owned, borrowed] = columns(line);
-        Line {
+        let [name, message, answer, owned, borrowed] = columns::<5>(line, "\t");
+        PrintedMessage {
             name,
             message,
             answer,

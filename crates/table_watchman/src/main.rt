@@ -1,5 +1,6 @@
 //! Compares recorded messages of a Watchman server, read as the types of `watchman_types`, with
-//! what was written down of them. It prints how many agree.
+//! what was written down of them. It prints how many agree. Then the requests on standard input are
+//! made again, and a client is given a recorded session.
 //!
 //! The file `messages.tsv` has a line for each message, in columns between tabs: its name, the
 //! message in hexadecimal digits, the type of the answer, and how `Debug` prints what it is read
@@ -7,26 +8,45 @@
 //! `#LENGTH:SHA256`. Names begin with `session` or `recorded` where the message was recorded of
 //! Watchman 4.9.0, and with `made` where it was put together for this list. What is in
 //! `wrong-messages.tsv` is wrong, and each line of it is named.
+//!
+//! The file `session.tsv` has a line for each message of the server in `stream-server.bser`: its number
+//! in the session, its connection, where it begins, its length, `answer` or `unsolicited`, and `files`
+//! where it tells some.
 #![tactic(auto)]
 
 mod borrowed;
-mod columns;
+mod following;
 mod line;
 mod needed;
 mod owned;
+mod requests;
+mod session;
 mod shown;
 mod told;
 
-use crate::line::Line;
+use crate::following::print_following;
+use crate::line::PrintedMessage;
 use crate::needed::print_needed;
+use crate::requests::compare_requests;
+use crate::session::compare_session;
 use crate::told::print_message;
-use anyhow::Result;
+use anyhow::{Context, Result};
+use bser_vectors::session::sent_messages;
 use std::fs;
+
+/// How many messages of the session a client follows.
+const FOLLOWED: usize = 13;
 
 fn main(rt: HostRuntime) -> Result<()> {
     compare_lines(&rt, "messages.tsv")?;
     compare_lines(&rt, "wrong-messages.tsv")?;
-    print_session(&rt, "messages.tsv")
+    print_session(&rt, "messages.tsv")?;
+    compare_requests(&rt)?;
+    let stream = fs::read(&rt, "stream-server.bser")?;
+    let list = fs::read_to_string(&rt, "session.tsv")?;
+    let messages = sent_messages(rt.alloc(), list.as_str())?;
+    compare_session(&rt, &stream, &messages)?;
+    print_following(&rt, &stream, messages.get(..FOLLOWED).context("too few")?)
 }
 
 /// Reads each message of the list, and prints how many are not read as the list says.
@@ -36,7 +56,7 @@ fn compare_lines(rt: &HostRuntime, file: &str) -> Result<()> {
     let mut wrong = 0u64;
     for line in text.as_str().lines() {
         lines = lines.saturating_add(1);
-        let line = Line::parse(line);
+        let line = PrintedMessage::parse(line);
         if let Some(what) = line.first_mismatch(rt.alloc())? {
             wrong = wrong.saturating_add(1);
             println!(rt; "{}: {what}", line.name)?;
@@ -51,7 +71,7 @@ fn compare_lines(rt: &HostRuntime, file: &str) -> Result<()> {
 fn print_session(rt: &HostRuntime, file: &str) -> Result<()> {
     let text = fs::read_to_string(rt, file)?;
     for line in text.as_str().lines() {
-        let line = Line::parse(line);
+        let line = PrintedMessage::parse(line);
         if line.name.starts_with("session/") && matches!(line.answer, "clock" | "-") {
             let message = hex::decode(rt.alloc(), line.message)?;
             print_message(rt, &message)?;

@@ -1,5 +1,5 @@
 //! Messages whose texts are owned.
-use crate::shown::is_text;
+use crate::shown::is_shown;
 use anyhow::{Result, ensure};
 use serde_bser::bytestring::ByteString;
 use serde_bser::de::{Deserialize, DeserializeOwned, Ignored, ObjectOr};
@@ -49,9 +49,9 @@ fn is_read<'a, T: Deserialize<&'a [u8]> + DeserializeOwned + Debug>(
         let text = format!(in alloc; "Ok({answer:?})")?;
         let again = from_reader::<_, T>(alloc, &mut Watched::new(message));
         ensure!(
-            is_text(alloc, &again, &text)?,
+            is_shown(alloc, &again, &text)?,
             "another value from a reader"
         );
     }
-    Ok(is_text(alloc, &read, expected)?)
+    Ok(is_shown(alloc, &read, expected)?)
 }

@@ -24,7 +24,7 @@ mod files;
 mod rows;
 mod table;
 
-use crate::rows::{Bytes, Files};
+use crate::rows::{Bytes, MeasuredFiles};
 use anyhow::{Context, Result, bail};
 use bser_canonical::engine::canon;
 use serde_bser::bytestring::ByteString;
@@ -248,7 +248,7 @@ fn value_told(alloc: Global, value: Result<Value>) -> Result<String> {
 
 fn files_told<B: Bytes + Drop, S: Bytes + Drop>(
     alloc: Global,
-    files: Result<Files<B, S>>,
+    files: Result<MeasuredFiles<B, S>>,
 ) -> Result<String> {
     let files = files?;
     let line = format!(in alloc; "{} files, sum {}", files.files.len(), files.sum())?;

@@ -9,7 +9,7 @@ use std::alloc::Global;
 
 /// What an answer tells of a file. The name's bytes and the type's text are lent or owned.
 #[derive(Drop)]
-pub struct File<B, S> {
+pub struct MeasuredFile<B, S> {
     pub name: B,
     pub size: u64,
     pub mtime_ms: Option<u64>,
@@ -18,7 +18,7 @@ pub struct File<B, S> {
     pub kind: Option<S>,
 }
 
-impl<B: Shape, S: Shape> Fields for File<B, S> {
+impl<B: Shape, S: Shape> Fields for MeasuredFile<B, S> {
     ghost fields = { required (codes "name") (λ v. v.name) ⟦<B as ReadOnly>⟧.coding
         ∷ required (codes "size") (λ v. v.size) ⟦<u64 as ReadOnly>⟧.coding
         ∷ optional (codes "mtime_ms") (λ v. v.mtime_ms) ⟦<u64 as ReadOnly>⟧.coding
@@ -28,19 +28,19 @@ impl<B: Shape, S: Shape> Fields for File<B, S> {
         ∷ [] };
 }
 
-impl<B: Shape, S: Shape> Meant for File<B, S> {
-    ghost meaning = { struct_meaning ⟦<File<B, S> as Fields>⟧.fields };
+impl<B: Shape, S: Shape> Meant for MeasuredFile<B, S> {
+    ghost meaning = { struct_meaning ⟦<MeasuredFile<B, S> as Fields>⟧.fields };
 }
 
-impl<L: LendsText, B: Deserialize<L>, S: Deserialize<L>> Deserialize<L> for File<B, S> {
+impl<L: LendsText, B: Deserialize<L>, S: Deserialize<L>> Deserialize<L> for MeasuredFile<B, S> {
     fn deserialize<R: DeRead<Lent = L>>(
         alloc: Global,
         from: &mut Deserializer<R>,
-    ) -> Answer<File<B, S>> {
+    ) -> Answer<MeasuredFile<B, S>> {
         read_struct!(
             alloc,
             from,
-            File {
+            MeasuredFile {
                 name: Required("name"),
                 size: Required("size"),
                 mtime_ms: Optional("mtime_ms"),
@@ -52,11 +52,11 @@ impl<L: LendsText, B: Deserialize<L>, S: Deserialize<L>> Deserialize<L> for File
     }
 }
 
-impl<B: OwnedShape, S: OwnedShape> OwnedShape for File<B, S> {
+impl<B: OwnedShape, S: OwnedShape> OwnedShape for MeasuredFile<B, S> {
     ghost owned = { none_lent B.owned (none_lent S.owned refl) };
 }
 
-impl<B: Bytes, S: Bytes> File<B, S> {
+impl<B: Bytes, S: Bytes> MeasuredFile<B, S> {
     // What was read, added up: lengths and numbers, and 1 for true.
     fn sum(&self) -> u64 {
         let mut sum = self.size.wrapping_add(self.name.count());
@@ -73,39 +73,39 @@ impl<B: Bytes, S: Bytes> File<B, S> {
 
 /// An answer, of which the files alone are kept.
 #[derive(Drop)]
-pub struct Files<B, S> {
-    pub files: Vec<File<B, S>>,
+pub struct MeasuredFiles<B, S> {
+    pub files: Vec<MeasuredFile<B, S>>,
 }
 
-impl<B: Shape, S: Shape> Fields for Files<B, S> {
-    ghost fields = { required (codes "files") (λ v. v.files) ⟦<Vec<File<B, S>> as ReadOnly>⟧.coding
+impl<B: Shape, S: Shape> Fields for MeasuredFiles<B, S> {
+    ghost fields = { required (codes "files") (λ v. v.files) ⟦<Vec<MeasuredFile<B, S>> as ReadOnly>⟧.coding
         ∷ [] };
 }
 
-impl<B: Shape, S: Shape> Meant for Files<B, S> {
-    ghost meaning = { struct_meaning ⟦<Files<B, S> as Fields>⟧.fields };
+impl<B: Shape, S: Shape> Meant for MeasuredFiles<B, S> {
+    ghost meaning = { struct_meaning ⟦<MeasuredFiles<B, S> as Fields>⟧.fields };
 }
 
-impl<L: LendsText, B: Deserialize<L>, S: Deserialize<L>> Deserialize<L> for Files<B, S> {
+impl<L: LendsText, B: Deserialize<L>, S: Deserialize<L>> Deserialize<L> for MeasuredFiles<B, S> {
     fn deserialize<R: DeRead<Lent = L>>(
         alloc: Global,
         from: &mut Deserializer<R>,
-    ) -> Answer<Files<B, S>> {
+    ) -> Answer<MeasuredFiles<B, S>> {
         read_struct!(
             alloc,
             from,
-            Files {
+            MeasuredFiles {
                 files: Required("files"),
             }
         )
     }
 }
 
-impl<B: OwnedShape, S: OwnedShape> OwnedShape for Files<B, S> {
+impl<B: OwnedShape, S: OwnedShape> OwnedShape for MeasuredFiles<B, S> {
     ghost owned = { none_lent (none_lent B.owned (none_lent S.owned refl)) refl };
 }
 
-impl<B: Bytes, S: Bytes> Files<B, S> {
+impl<B: Bytes, S: Bytes> MeasuredFiles<B, S> {
     /// What was read of all files, added up: lengths and numbers, and 1 for true.
     pub fn sum(&self) -> u64 {
         let mut sum: u64 = 0;

@@ -1,0 +1,48 @@
+//! Lists, arrays of a fixed length, queues and sets.
+use crate::notation::text::Text;
+use crate::shown::Shown;
+use std::collections::{BTreeSet, VecDeque};
+
+impl<T: Shown> Shown for Vec<T> {
+    fn put(&self, text: &mut Text) {
+        put_items(text, self.as_slice());
+    }
+}
+
+impl<T: Shown, const N: usize> Shown for [T; N] {
+    fn put(&self, text: &mut Text) {
+        put_items(text, self.as_slice());
+    }
+}
+
+/// `[`, the items with commas between them, and `]`.
+fn put_items<T: Shown>(text: &mut Text, items: &[T]) {
+    text.put("[");
+    for item in items.iter() {
+        item.put(text);
+        text.put(",");
+    }
+    text.close("]");
+}
+
+impl<T: Shown> Shown for VecDeque<T> {
+    fn put(&self, text: &mut Text) {
+        text.put("[");
+        for item in self.iter() {
+            item.put(text);
+            text.put(",");
+        }
+        text.close("]");
+    }
+}
+
+impl<T: Shown + Ord> Shown for BTreeSet<T> {
+    fn put(&self, text: &mut Text) {
+        text.put("[");
+        for item in self.iter() {
+            item.put(text);
+            text.put(",");
+        }
+        text.close("]");
+    }
+}

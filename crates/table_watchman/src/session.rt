@@ -1,0 +1,108 @@
+//! What a client gives of a recorded session, whole and cut, and the tables of files folded from it.
+//!
+//! Each connection is a client of its own. Requests are sent as soon as the answer before came, so
+//! unsolicited messages come before answers, and are kept. Then the session is followed message by
+//! message, and what is told of files is compared with tables that were folded elsewhere. One row of
+//! `wrong-tables.tsv` is wrong, and is named.
+mod fold;
+mod table;
+
+use crate::session::fold::fold_session;
+use anyhow::{Context, Result, bail, ensure};
+use bser_vectors::session::SentMessage;
+use serde_bser::device::Watched;
+use std::alloc::Global;
+use watchman_client::bounds::Bounds;
+use watchman_client::client::Client;
+use watchman_client::errors::ClientError;
+
+/// Compares both connections of the session, and what is told of files.
+pub fn compare_session(rt: &HostRuntime, stream: &[u8], messages: &[SentMessage]) -> Result<()> {
+    for connection in 1..3 {
+        let messages = messages_of(rt.alloc(), messages, connection)?;
+        let cuts = check_connection(rt.alloc(), stream, &messages)?;
+        println!(rt;
+            "connection {connection}: {} messages, {cuts} cuts",
+            messages.len()
+        )?;
+    }
+    fold_session(rt, stream, messages)
+}
+
+/// The messages of a connection.
+pub fn messages_of(
+    alloc: Global,
+    messages: &[SentMessage],
+    connection: usize,
+) -> Result<Vec<SentMessage>> {
+    let mut chosen = Vec::new(alloc);
+    for message in messages {
+        if message.connection == connection {
+            chosen.push(*message)?;
+        }
+    }
+    Ok(chosen)
+}
+
+/// Compares the whole stream of a connection, and each of its beginnings, and tells how many these are.
+fn check_connection(alloc: Global, stream: &[u8], messages: &[SentMessage]) -> Result<usize> {
+    let start = messages.first().context("no message")?.start;
+    let end = messages.last().context("no message")?.end;
+    for cut in start..end.saturating_add(1) {
+        check_cut(alloc, stream, start, cut, messages)?;
+    }
+    Ok(end.saturating_sub(start))
+}
+
+/// Compares what a client gives of these bytes with the messages that are whole among them.
+fn check_cut(
+    alloc: Global,
+    stream: &[u8],
+    start: usize,
+    cut: usize,
+    messages: &[SentMessage],
+) -> Result<()> {
+    let bytes = stream.get(start..cut).context("outside")?;
+    let bounds = Bounds {
+        message_bytes: 1_000,
+        kept_messages: 100,
+        kept_bytes: 100_000,
+    };
+    let writer = Watched::new(Vec::new(alloc));
+    let mut client = Client::new(alloc, bounds, Watched::new(bytes), writer);
+    let clean = cut == start || messages.iter().any(|m| m.end == cut);
+    for message in messages {
+        if message.end <= cut && !message.is_unsolicited {
+            client.send(&"request")?;
+            client.answer()?;
+            check_message(stream, message, client.message())?;
+        }
+    }
+    client.send(&"request")?;
+    match client.answer() {
+        Err(ClientError::Ended) if clean => {}
+        Err(ClientError::Frame(_)) if !clean => {}
+        _other => bail!("another end at {cut}"),
+    }
+    for message in messages {
+        if message.end <= cut && message.is_unsolicited {
+            ensure!(client.next_unsolicited()?, "none at {cut}");
+            check_message(stream, message, client.message())?;
+        }
+    }
+    match client.next_unsolicited() {
+        Ok(false) if clean => Ok(()),
+        Err(ClientError::Failed) if !clean => Ok(()),
+        _other => bail!("another message at {cut}"),
+    }
+}
+
+/// Compares a message that was given with the one recorded.
+fn check_message(stream: &[u8], message: &SentMessage, given: &[u8]) -> Result<()> {
+    ensure!(
+        given == message.bytes(stream),
+        "another message than that at {}",
+        message.start
+    );
+    Ok(())
+}
