@@ -16,7 +16,7 @@ impl<V: Serialize> Serialize for BTreeMap<String, V> {
     fn serialize<W: Sink>(&self, alloc: Global, out: &mut Serializer<W>) -> Result<()> {
         out.put_map(Some(self.len()))?;
         for (key, value) in self {
-            out.put_text_key(key.as_str())?;
+            out.put_text(key.as_str())?;
             value.serialize(alloc, out)?;
         }
         Ok(())

@@ -111,13 +111,6 @@ impl<W: Sink> Serializer<W> {
         }
     }
 
-    /// Puts an object's key that is a text.
-    pub(crate) fn put_text_key(&mut self, key: &str) -> Result<()>
-        ensures { Puts W.Sink self.old self.new (key_piece key.now) result }
-    {
-        self.put_text(key)
-    }
-
     /// Puts an array's tag and count; the items follow.
     ///
     /// A missing count is `SerNeedSize`, and one above `i64::MAX` is `SerCustom` `CountTooGreat`.
