@@ -3,6 +3,7 @@ mod announced;
 mod checks;
 mod described;
 mod faults;
+mod lent;
 mod lists;
 mod maps;
 mod printed;

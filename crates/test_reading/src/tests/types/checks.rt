@@ -3,20 +3,23 @@ use bser_vectors::devices::Plan;
 use bser_vectors::notation::code;
 use bser_vectors::ways::read_by_plan;
 use serde_bser::de::{Deserialize, DeserializeOwned};
-use serde_bser::errors::Result;
+use serde_bser::errors::{Error, Result};
 use serde_bser::from_slice;
 use std::alloc::Global;
 use std::fmt::Debug;
 use std::process::Abort;
 
+/// Checks that the error has this code.
+pub fn check_error(rt: &impl Abort, alloc: Global, error: &Error, expected: &str) {
+    let code = code(alloc, error).expect(rt, "memory is left");
+    check_equal(rt, &code.as_str(), &expected);
+}
+
 /// Checks that the answer is a refusal of this code.
 fn check_code<T>(rt: &impl Abort, alloc: Global, answer: &Result<T>, expected: &str) {
     match answer {
         Ok(_) => assert!(rt; false, "{expected} is read"),
-        Err(error) => {
-            let code = code(alloc, error).expect(rt, "memory is left");
-            check_equal(rt, &code.as_str(), &expected);
-        }
+        Err(error) => check_error(rt, alloc, error, expected),
     }
 }
 
