@@ -1,9 +1,10 @@
 //! Short messages that stand for long values.
-use crate::run::{Run, output_of, run_command_to};
+use crate::run::{output_of, run_command_to};
+use crate::session::closed_behind;
 use anyhow::Result;
 use std::alloc::Global;
 
-/// How long the key of the template is, and how many rows it has.
+/// How long the key of the template is, and how many rows it has: 0x7530 in the message.
 const COUNT: usize = 30_000;
 
 /// How many bytes are taken of an output.
@@ -18,48 +19,42 @@ pub fn print_amplifying(rt: &HostRuntime) -> Result<()> {
     print!(rt; "{}", str::from_utf8(&counts)?)?;
     let row = output_of(rt, &["get", "/29999"], &message)?;
     println!(rt; "its last row as JSON: {} bytes", row.len())?;
-    for words in [&["show"], &["json"], &["canon"]] {
-        print_run(rt, words[0], &run_command_to(rt, words, &message, TAKEN)?)?;
-    }
     let cut = message.len().saturating_sub(1);
+    for words in [&["show"], &["json"], &["canon"]] {
+        print_run(rt, words, &message)?;
+    }
     for words in [&["summary"], &["json"], &["canon"]] {
-        print_run(
-            rt,
-            words[0],
-            &run_command_to(rt, words, &message[..cut], TAKEN)?,
-        )?;
+        print_run(rt, words, &message[..cut])?;
     }
     Ok(())
 }
 
-/// Prints what a run left.
-fn print_run(rt: &HostRuntime, name: &str, run: &Run) -> Result<()> {
+/// Runs a command on a message, of whose output a front is taken, and prints what it left.
+fn print_run(rt: &HostRuntime, words: &[&str; 1], message: &[u8]) -> Result<()> {
+    let run = run_command_to(rt, words, message, closed_behind(TAKEN))?;
     let output = String::from_utf8_lossy(rt.alloc(), &run.output)?;
     let errors = str::from_utf8(&run.errors)?;
-    println!(rt; "{name}: status {}, {output:?}, {errors:?}", run.status)?;
+    println!(rt;
+        "{}: status {}, {output:?}, {errors:?}",
+        words[0], run.status
+    )?;
     Ok(())
 }
 
 /// The message: its body has a tag, the keys, their number and their tag, and the rows.
 fn template(alloc: Global) -> Result<Vec<u8>> {
-    let mut body = Vec::from_slice(alloc, b"\x0b\x00\x03\x01\x02")?;
-    put_count(&mut body, COUNT)?;
-    for _ in 0..COUNT {
-        body.push(b'k')?;
-    }
-    put_count(&mut body, COUNT)?;
-    for _ in 0..COUNT {
-        body.push(b'\x0c')?;
-    }
-    let mut message = Vec::from_slice(alloc, b"\x00\x02\x00\x00\x00\x00")?;
-    put_count(&mut message, body.len())?;
-    message.extend_from_slice(&body)?;
+    let mut message = Vec::from_slice(alloc, b"\x00\x02\x00\x00\x00\x00\x05\x6f\xea\x00\x00")?;
+    message.extend_from_slice(b"\x0b\x00\x03\x01\x02\x05\x30\x75\x00\x00")?;
+    put_often(&mut message, b'k')?;
+    message.extend_from_slice(b"\x05\x30\x75\x00\x00")?;
+    put_often(&mut message, b'\x0c')?;
     Ok(message)
 }
 
-/// Puts a count as an integer of four bytes.
-fn put_count(out: &mut Vec<u8>, count: usize) -> Result<()> {
-    out.push(b'\x05')?;
-    out.extend_from_slice(&u32::try_from(count)?.to_le_bytes())?;
+/// Puts the byte as often as the key is long.
+fn put_often(out: &mut Vec<u8>, byte: u8) -> Result<()> {
+    for _ in 0..COUNT {
+        out.push(byte)?;
+    }
     Ok(())
 }

@@ -1,5 +1,5 @@
-//! Compares what the commands of `bser` print with tables that were made elsewhere, and prints how
-//! many agree.
+//! Runs the commands of `bser` in memory: a session on standard input, whose output is printed, and
+//! then on messages whose answers were made elsewhere, of which is printed how many agree.
 //!
 //! `messages.tsv` has recorded messages with their JSON, and `wrong-messages.tsv` such lines of which
 //! each is wrong, and is named; `scripts/command_table` makes the first. `refused.tsv` has messages that
@@ -9,19 +9,20 @@
 #![tactic(auto)]
 
 mod amplifying;
-mod columns;
 mod commands;
 mod message;
-mod output;
 mod refusal;
 mod run;
+mod session;
 
 use crate::amplifying::print_amplifying;
 use crate::message::compare_messages;
 use crate::refusal::{compare_cuts, compare_refusals};
+use crate::session::print_session;
 use anyhow::Result;
 
 fn main(rt: HostRuntime) -> Result<()> {
+    print_session(&rt)?;
     compare_messages(&rt, "messages.tsv")?;
     compare_messages(&rt, "wrong-messages.tsv")?;
     compare_refusals(&rt, "refused.tsv")?;

@@ -3,11 +3,11 @@
 //! A line of a list has the file that a message is in, how many bytes lie before it there, how many it
 //! has, its JSON, the message that is made of that JSON, its canonical message, and its compact
 //! message, or `-` where that is not known. A text is itself, or as every message `#LENGTH:SHA256`.
-use crate::columns::columns;
 use crate::run::output_of;
 use anyhow::{Context, Result};
-use sha2::{Digest, Sha256};
-use std::alloc::{AllocError, Global};
+use bser_vectors::columns::columns;
+use bser_vectors::sums::{is_message, is_text};
+use std::alloc::Global;
 use std::fs;
 
 /// Compares what is made of each message of the list, and prints the lines that are not so.
@@ -17,7 +17,7 @@ pub fn compare_messages(rt: &HostRuntime, list: &str) -> Result<()> {
     let mut wrong = 0u64;
     for line in text.as_str().lines() {
         lines = lines.saturating_add(1);
-        let line = Line::parse(line)?;
+        let line = KnownMessage::parse(line)?;
         let message = line.message(rt)?;
         if let Some(what) = line.first_mismatch(rt, &message)? {
             wrong = wrong.saturating_add(1);
@@ -30,7 +30,7 @@ pub fn compare_messages(rt: &HostRuntime, list: &str) -> Result<()> {
 
 /// A message, and what is made of it.
 #[derive(Clone, Copy)]
-struct Line<'a> {
+struct KnownMessage<'a> {
     file: &'a str,
     start: usize,
     len: usize,
@@ -40,11 +40,11 @@ struct Line<'a> {
     compact: &'a str,
 }
 
-impl<'a> Line<'a> {
+impl<'a> KnownMessage<'a> {
     /// Takes a line apart.
     fn parse(line: &'a str) -> Result<Self> {
-        let [file, start, len, json, made, canonical, compact] = columns(line);
-        Ok(Line {
+        let [file, start, len, json, made, canonical, compact] = columns::<7>(line, "\t");
+        Ok(KnownMessage {
             file,
             start: start.parse()?,
             len: len.parse()?,
@@ -72,7 +72,7 @@ impl<'a> Line<'a> {
         if output_of(rt, &["get", ""], message)? != json {
             return Ok(Some("another JSON by a pointer"));
         }
-        if !is_shown(
+        if !is_message(
             rt.alloc(),
             &output_of(rt, &["canon"], message)?,
             self.canonical,
@@ -80,7 +80,7 @@ impl<'a> Line<'a> {
             return Ok(Some("another canonical message"));
         }
         let compact = output_of(rt, &["canon", "--compact"], message)?;
-        if self.compact != "-" && !is_shown(rt.alloc(), &compact, self.compact)? {
+        if self.compact != "-" && !is_message(rt.alloc(), &compact, self.compact)? {
             return Ok(Some("another compact message"));
         }
         self.first_mismatch_back(rt, &json, message)
@@ -94,7 +94,7 @@ impl<'a> Line<'a> {
         message: &[u8],
     ) -> Result<Option<&'static str>> {
         let made = output_of(rt, &["from-json"], json)?;
-        if !is_shown(rt.alloc(), &made, self.made)? {
+        if !is_message(rt.alloc(), &made, self.made)? {
             return Ok(Some("another message of the JSON"));
         }
         if output_of(rt, &["canon"], &made)? != made {
@@ -114,14 +114,7 @@ impl<'a> Line<'a> {
 /// Whether the bytes are a line, and the column shows it without its end.
 fn is_line(alloc: Global, bytes: &[u8], column: &str) -> Result<bool> {
     match bytes.strip_suffix(b"\n") {
-        Some(line) => Ok(str::from_utf8(line)? == column || is_shown(alloc, line, column)?),
+        Some(line) => Ok(is_text(alloc, str::from_utf8(line)?, column)?),
         None => Ok(false),
     }
-}
-
-/// Whether the column shows these bytes by `#`, their number and their digest.
-fn is_shown(alloc: Global, bytes: &[u8], column: &str) -> Result<bool, AllocError> {
-    let digest = hex::encode(alloc, Sha256::digest(bytes))?;
-    let shown = format!(in alloc; "#{}:{digest}", bytes.len())?;
-    Ok(shown.as_str() == column)
 }

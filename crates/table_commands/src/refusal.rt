@@ -2,10 +2,11 @@
 //!
 //! A line of a list has what is wrong, the message in hexadecimal digits, the words that have to be
 //! reported, and the first and the last place that may be. Behind an `or` stand other words that may be.
-use crate::columns::columns;
 use crate::commands::COMMANDS;
-use crate::run::{Run, output_of, run_command};
+use crate::run::{CommandRun, output_of, run_command};
 use anyhow::{Context, Result};
+use bser_vectors::columns::columns;
+use bser_vectors::refused::has_words;
 use std::fs;
 
 /// A message that is in order.
@@ -18,7 +19,7 @@ pub fn compare_refusals(rt: &HostRuntime, list: &str) -> Result<()> {
     let mut runs = 0u64;
     let mut wrong = 0u64;
     for line in text.as_str().lines() {
-        let line = Line::parse(line)?;
+        let line = MalformedMessage::parse(line)?;
         let message = hex::decode(rt.alloc(), line.message)?;
         for words in COMMANDS {
             runs = runs.saturating_add(1);
@@ -39,7 +40,7 @@ pub fn compare_cuts(rt: &HostRuntime, file: &str) -> Result<()> {
     let mut runs = 0u64;
     let mut wrong = 0u64;
     for cut in 1..message.len() {
-        let line = Line {
+        let line = MalformedMessage {
             name: file,
             message: "",
             words: "end of input",
@@ -61,7 +62,7 @@ pub fn compare_cuts(rt: &HostRuntime, file: &str) -> Result<()> {
 
 /// A malformed message, and what has to be reported.
 #[derive(Clone, Copy)]
-struct Line<'a> {
+struct MalformedMessage<'a> {
     name: &'a str,
     message: &'a str,
     words: &'a str,
@@ -69,11 +70,11 @@ struct Line<'a> {
     last: usize,
 }
 
-impl<'a> Line<'a> {
+impl<'a> MalformedMessage<'a> {
     /// Takes a line apart.
     fn parse(line: &'a str) -> Result<Self> {
-        let [name, message, words, first, last, ..] = columns(line);
-        Ok(Line {
+        let [name, message, words, first, last] = columns::<5>(line, "\t");
+        Ok(MalformedMessage {
             name,
             message,
             words,
@@ -101,7 +102,12 @@ impl<'a> Line<'a> {
 
     /// The first thing of a run that is not as the line says, where the message begins at byte `start`,
     /// and this is the output before it.
-    fn first_wrong(&self, run: &Run, before: &[u8], start: usize) -> Result<Option<&'static str>> {
+    fn first_wrong(
+        &self,
+        run: &CommandRun,
+        before: &[u8],
+        start: usize,
+    ) -> Result<Option<&'static str>> {
         if run.status != 1 {
             return Ok(Some("another status than 1"));
         }
@@ -117,11 +123,7 @@ impl<'a> Line<'a> {
         if place < self.first.saturating_add(start) || self.last.saturating_add(start) < place {
             return Ok(Some("another place"));
         }
-        let is_told = match self.words.split_once(", or ") {
-            Some((first, second)) => text.contains(first) || text.contains(second),
-            None => text.contains(self.words),
-        };
-        if !is_told || text.lines().count() != 1 {
+        if !has_words(text, self.words) || text.lines().count() != 1 {
             return Ok(Some("other words"));
         }
         Ok(None)

@@ -1,12 +1,12 @@
 //! The program `bser`, run in memory.
-use crate::output::Output;
 use anyhow::{Result, ensure};
 use bser_cli::program::run_bser;
+use bser_vectors::devices::{Plan, PlannedWriter};
 use bser_views::screen::Terminals;
 
-/// What a run left.
+/// What a run of a command left.
 #[derive(Drop)]
-pub struct Run {
+pub struct CommandRun {
     /// The status.
     pub status: u8,
     /// What was written to standard output.
@@ -15,17 +15,20 @@ pub struct Run {
     pub errors: Vec<u8>,
 }
 
-/// Runs `bser` with these words behind its name, on this input. The output is closed behind so many
-/// bytes.
-pub fn run_command_to(rt: &HostRuntime, words: &[&str], input: &[u8], most: usize) -> Result<Run> {
+/// Runs `bser` with these words behind its name, on this input. The output is taken by the plan.
+pub fn run_command_to(
+    rt: &HostRuntime,
+    words: &[&str],
+    input: &[u8],
+    plan: Plan,
+) -> Result<CommandRun> {
     let alloc = rt.alloc();
-    let mut all = Vec::new(alloc);
-    all.push(String::from_str(alloc, "bser")?)?;
+    let mut all = vec![in alloc; String::from_str(alloc, "bser")?]?;
     for word in words {
         all.push(String::from_str(alloc, *word)?)?;
     }
     let mut left = input;
-    let mut output = Output::new(alloc, most);
+    let mut output = PlannedWriter::new(alloc, plan);
     let mut errors = Vec::new(alloc);
     let status = run_bser(
         alloc,
@@ -36,23 +39,22 @@ pub fn run_command_to(rt: &HostRuntime, words: &[&str], input: &[u8], most: usiz
         &mut output,
         &mut errors,
     );
-    let output = output.into_bytes();
-    Ok(Run {
+    Ok(CommandRun {
         status,
-        output,
+        output: output.into_taken(),
         errors,
     })
 }
 
 /// Runs `bser` with these words behind its name, on this input.
-pub fn run_command(rt: &HostRuntime, words: &[&str], input: &[u8]) -> Result<Run> {
-    run_command_to(rt, words, input, usize::MAX)
+pub fn run_command(rt: &HostRuntime, words: &[&str], input: &[u8]) -> Result<CommandRun> {
+    run_command_to(rt, words, input, Plan::whole())
 }
 
 /// The output of `bser` with these words behind its name, on this input. Fails where the status is
 /// not 0, or something was reported.
 pub fn output_of(rt: &HostRuntime, words: &[&str], input: &[u8]) -> Result<Vec<u8>> {
-    let Run {
+    let CommandRun {
         status,
         output,
         errors,
