@@ -5,7 +5,7 @@ use Rattle.std.proofs.lemmas.Slice.Eq.{bytes_eq-Decides}
 use Rattle.std.specs.Int.{w32, to_le_bytes, from_le_bytes}
 use Rattle.bser_format.specs.Tree.{Tree}
 use Rattle.bser_format.specs.Expand.{expand}
-use Rattle.bser_format.specs.Grammar.{Format, Bytes, SpellsCount, Spells, int32, ◌then◌}
+use Rattle.bser_format.specs.Grammar.{Format, Bytes, SpellsCount, Spells, int32}
 use Rattle.bser_format.specs.Message.{Head, IsMessage}
 use Rattle.bser_format.specs.Content.{Content, Meaning}
 use Rattle.bser_format.specs.Expected.{node_due}

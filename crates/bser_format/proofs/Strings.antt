@@ -4,7 +4,7 @@ use Rattle.std.proofs.lemmas.Str.{is_utf8-from_IsUtf8}
 use Rattle.std.specs.Str.{is_utf8}
 use Rattle.bser_format.specs.Tree.{Tree, null, boolean, integer, real, bytes, text, array, object, template}
 use Rattle.bser_format.specs.Expand.{expand, key_tree}
-use Rattle.bser_format.specs.Grammar.{Spells, SpellsString, ◌then◌}
+use Rattle.bser_format.specs.Grammar.{Spells, SpellsString}
 use Rattle.bser_format.specs.Content.{Content, byte_list, Meaning}
 use Rattle.bser_format.specs.ReadsScalars.{string_bytes_of, utf8_of, reads_slice, reads_string, reads_char, one_char}
 use Rattle.bser_format.proofs.Fronts.{string_reads, utf8_reads, kept}

@@ -11,7 +11,7 @@ use Rattle.bser_events.specs.Events.{events}
 use Rattle.bser_events.specs.Places.{Placed, reading_at}
 use Rattle.bser_events.proofs.Leads.{Leads, leads_begins}
 use Rattle.bser_events.proofs.Midways.{midway_begins, midway_done, midway_popped, midway_key, midway_token, midway_skip, midway_value, midway_pushed, midway_at, key_refused, token_refused, midway_refused}
-use Rattle.bser_events.proofs.Placings.{piece_placed, moved, reached, reads_on}
+use Rattle.bser_events.proofs.Placings.{piece_placed, moved, reached}
 use Rattle.bser_events.proofs.Measures.{pushed, deep_popped, popped_falls, deep_taken, part_taken, deep_pushed, pushed_falls}
 use Rattle.bser_events.proofs.Outcomes.{is_well, is_ill, same_window}
 use Rattle.bser_events.proofs.Runs.{run_begins, run_on, piece_within, run_refused, ran, ran_at, ran_due, ran_out, all_left, falls_first, falls_on, ran_falls, pieces_left, pieces_fall, Falls}
