@@ -9,6 +9,9 @@ const ROWS: &[u8] = b"\x00\x02\x00\x00\x00\x00\x03\x3e\x0b\x00\x03\x01\x02\x03\x
 \x07\x00\x00\x00\x00\x00\x00\xf0\x3f\x02\x03\x01\xff\x0d\x03\x01a\x00\x03\x01\x0a\
 \x01\x03\x01\x02\x03\x01a\x0a";
 
+/// Null, a body of one byte.
+const NULL: &[u8] = b"\x00\x02\x00\x00\x00\x00\x03\x01\x0a";
+
 /// An array of an array.
 const NESTED: &[u8] = b"\x00\x02\x00\x00\x00\x00\x03\x07\x00\x03\x01\x00\x03\x01\x0a";
 
@@ -67,11 +70,12 @@ fn cut_or_wrong(rt: HostRuntime) {
 }
 
 /// Messages, how many levels and bytes they may have, and whether they are found then.
-const LIMITED: [(&[u8], usize, usize, bool); 7] = [
+const LIMITED: [(&[u8], usize, usize, bool); 8] = [
+    (NULL, 0, 1, true),
+    (NULL, 0, 0, false),
     (NESTED, 2, 7, true),
     (NESTED, 1, 7, false),
     (NESTED, 2, 6, false),
-    (NESTED, 2, 0, false),
     (ROWS, 3, 62, true),
     (ROWS, 2, 62, true),
     (ROWS, 1, 62, false),
