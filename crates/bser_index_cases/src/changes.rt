@@ -3,6 +3,8 @@
 use crate::expected::shown_name;
 use crate::running::run_words;
 use anyhow::{Result, bail};
+use bser_vectors::columns::columns;
+use bser_vectors::devices::Plan;
 use std::alloc::Global;
 use std::fs;
 
@@ -14,18 +16,15 @@ pub fn check_changes(rt: &HostRuntime, file: &str, unknown: &[u32]) -> Result<()
     let mut compared = 0u32;
     let mut fresh = 0u32;
     for line in lines.as_str().lines().skip(1) {
-        let columns: Vec<&str> = line.split('\t').collect(rt.alloc())?;
-        let [message, clock, _told, _told_paths, _changed, paths] = columns.as_slice() else {
-            bail!("another number of columns");
-        };
-        let found = found_after(rt, *clock)?;
+        let [message, clock, _told, _told_paths, _changed, paths, ..] = columns(line, "\t");
+        let found = found_after(rt, clock)?;
         if unknown.contains(&message.parse()?) {
             if !found.is_fresh {
                 bail!("the clock of {message} is known");
             }
             fresh = fresh.saturating_add(1);
         } else {
-            let expected = names_of(rt.alloc(), *paths)?;
+            let expected = names_of(rt.alloc(), paths)?;
             if found.is_fresh || found.names.as_str() != expected.as_str() {
                 println!(rt;
                     "expected after {clock}:\n{expected}found:\n{}",
@@ -51,14 +50,12 @@ struct Found {
 /// What the index says to have changed after this clock.
 fn found_after(rt: &HostRuntime, clock: &str) -> Result<Found> {
     let words = format!(in rt.alloc(); "changes --since {clock} session.db")?;
-    let ran = run_words(rt, words.as_str(), &[], false)?;
+    let ran = run_words(rt, words.as_str(), &[], Plan::whole())?;
     let output = str::from_utf8(&ran.output)?;
     let mut names = String::new(rt.alloc());
     for line in output.lines().filter(|line| is_file(*line)) {
         if let Some((_columns, name)) = line.split_once('"') {
-            names.push_str("\"")?;
-            names.push_str(name)?;
-            names.push_str("\n")?;
+            write!(names, "\"{name}\n")?;
         }
     }
     Ok(Found {
@@ -77,8 +74,8 @@ fn names_of(alloc: Global, paths: &str) -> Result<String> {
     let mut names = String::new(alloc);
     if paths != "-" {
         for path in paths.split(' ') {
-            names.push_str(shown_name(alloc, path)?.as_str())?;
-            names.push_str("\n")?;
+            let name = shown_name(alloc, path)?;
+            write!(names, "{name}\n")?;
         }
     }
     Ok(names)

@@ -1,6 +1,7 @@
 //! The lines that an index is expected to print.
 
-use anyhow::{Context, Result, bail};
+use anyhow::{Context, Result};
+use bser_vectors::columns::columns;
 use serde_bser::bytestring::ByteString;
 use std::alloc::Global;
 
@@ -27,14 +28,11 @@ pub fn shown_name(alloc: Global, path: &str) -> Result<String> {
 /// The line of the table's row, whose columns are path, existence, size, mode, type, last message,
 /// time, message that changed it, and why.
 pub fn line_of(alloc: Global, numbers: &Numbers<'_>, row: &str) -> Result<String> {
-    let columns: Vec<&str> = row.split('\t').collect(alloc)?;
-    let [path, exists, size, mode, kind, _last, time, changed, _by] = columns.as_slice() else {
-        bail!("another number of columns");
-    };
-    let sign = if *exists == "1" { '+' } else { '-' };
+    let [path, exists, size, mode, kind, _last, time, changed, _by] = columns(row, "\t");
+    let sign = if exists == "1" { '+' } else { '-' };
     let number = numbers.of(changed.parse()?)?;
     let mode: u32 = mode.parse()?;
-    let name = shown_name(alloc, *path)?;
+    let name = shown_name(alloc, path)?;
     Ok(format!(in alloc; "{sign} {number} {kind} {mode:o} {size} {time} {name}\n")?)
 }
 

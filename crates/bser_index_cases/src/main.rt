@@ -9,7 +9,6 @@
 
 mod changes;
 mod expected;
-mod output;
 mod running;
 mod session;
 

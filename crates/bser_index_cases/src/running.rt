@@ -1,8 +1,9 @@
 //! The program, run in memory.
 
-use crate::output::Output;
 use anyhow::Result;
+use bser_vectors::devices::{Plan, PlannedWriter, Then};
 use std::fs;
+use std::io::ErrorKind;
 use watchman_sqlite::program::run_index;
 
 /// What a run left.
@@ -18,30 +19,33 @@ pub struct Ran {
 
 /// Runs the program as a line says.
 pub fn run_line(rt: &HostRuntime, text: &str) -> Result<Ran> {
-    let (rest, is_full) = match text.strip_suffix(" > /dev/full") {
-        Some(rest) => (rest, true),
-        None => (text, false),
+    let (rest, plan) = match text.strip_suffix(" > /dev/full") {
+        Some(rest) => {
+            let full = Then::Faults(ErrorKind::StorageFull);
+            (rest, Plan::whole().up_to(0, full))
+        }
+        None => (text, Plan::whole()),
     };
     match rest.split_once(" < ") {
-        Some((words, file)) => run_words(rt, words, &fs::read(rt, file)?, is_full),
-        None => run_words(rt, rest, &[], is_full),
+        Some((words, file)) => run_words(rt, words, &fs::read(rt, file)?, plan),
+        None => run_words(rt, rest, &[], plan),
     }
 }
 
-/// Runs the program with these words over an input.
-pub fn run_words(rt: &HostRuntime, words: &str, input: &[u8], is_full: bool) -> Result<Ran> {
+/// Runs the program with these words over an input. The output is taken by the plan.
+pub fn run_words(rt: &HostRuntime, words: &str, input: &[u8], plan: Plan) -> Result<Ran> {
     let mut all = Vec::new(rt.alloc());
     all.push(String::from_str(rt.alloc(), "bser_index")?)?;
     for word in words.split(' ') {
         all.push(String::from_str(rt.alloc(), word)?)?;
     }
     let mut left = input;
-    let mut output = Output::new(rt.alloc(), is_full);
+    let mut output = PlannedWriter::new(rt.alloc(), plan);
     let mut errors = Vec::new(rt.alloc());
     let status = run_index(rt, &all, &mut left, &mut output, &mut errors);
     Ok(Ran {
         status,
-        output: output.into_bytes(),
+        output: output.into_taken(),
         errors,
     })
 }

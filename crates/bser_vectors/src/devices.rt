@@ -6,7 +6,7 @@ use std::io;
 use std::io::{ErrorKind, Read, Write};
 
 /// What a device does once it has moved its number of bytes.
-#[derive(Debug, Clone, Copy, PartialEq, Eq)]
+#[derive(Clone, Copy, PartialEq)]
 pub enum Then {
     /// It goes on.
     GoesOn,
@@ -19,7 +19,7 @@ pub enum Then {
 }
 
 /// How a device moves bytes.
-#[derive(Debug, Clone, Copy)]
+#[derive(Clone, Copy)]
 pub struct Plan {
     most: usize,
     before: usize,

@@ -104,7 +104,7 @@ impl<L: LendsText, S: Deserialize<L>> Deserialize<L> for Parts<S> {
 }
 
 /// A row with one field, an enum.
-#[derive(Debug, PartialEq, Eq, Drop)]
+#[derive(Drop)]
 pub struct EnumRow<S> {
     pub abc: TestEnum<S>,
 }

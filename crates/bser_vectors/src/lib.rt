@@ -1,6 +1,6 @@
-//! What tests of BSER need: a notation for answers, readers and writers that follow a plan, structs and
-//! an enum that are read, the ways of reading a message, a builder that looks at places, and what the
-//! tables' lines say.
+//! What tests of BSER need: a notation for answers, readers and writers that follow a plan, structs
+//! and an enum that are read, the ways of reading a message, a builder that looks at places, and
+//! what the lines of tables say.
 #![tactic(auto)]
 
 pub mod columns;

@@ -24,7 +24,7 @@ pub struct RefusedMessage<'a> {
 impl<'a> RefusedMessage<'a> {
     /// Takes a line apart at its tabs. A place that is no number is 0.
     pub fn parse(alloc: Global, line: &'a str) -> Result<Self, FromHexError> {
-        let [name, kind, message, words, field, first, last, path] = columns::<8>(line, "\t");
+        let [name, kind, message, words, field, first, last, path, ..] = columns(line, "\t");
         Ok(RefusedMessage {
             name,
             kind,

@@ -22,7 +22,7 @@ pub struct SentMessage {
 impl SentMessage {
     /// Takes a line apart at its tabs. What is no number is 0.
     fn parse(line: &str) -> Self {
-        let [number, connection, start, len, kind, tells] = columns::<6>(line, "\t");
+        let [number, connection, start, len, kind, tells, ..] = columns(line, "\t");
         let start: usize = start.parse().unwrap_or(0);
         SentMessage {
             number: number.parse().unwrap_or(0),

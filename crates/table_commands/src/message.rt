@@ -43,7 +43,7 @@ struct KnownMessage<'a> {
 impl<'a> KnownMessage<'a> {
     /// Takes a line apart.
     fn parse(line: &'a str) -> Result<Self> {
-        let [file, start, len, json, made, canonical, compact] = columns::<7>(line, "\t");
+        let [file, start, len, json, made, canonical, compact, ..] = columns(line, "\t");
         Ok(KnownMessage {
             file,
             start: start.parse()?,

@@ -73,7 +73,7 @@ struct MalformedMessage<'a> {
 impl<'a> MalformedMessage<'a> {
     /// Takes a line apart.
     fn parse(line: &'a str) -> Result<Self> {
-        let [name, message, words, first, last] = columns::<5>(line, "\t");
+        let [name, message, words, first, last, ..] = columns(line, "\t");
         Ok(MalformedMessage {
             name,
             message,

@@ -33,7 +33,7 @@ impl<'a> ListedMessage<'a> {
             _depth,
             canonical,
             compact,
-        ] = columns::<9>(line, "\t");
+        ] = columns(line, "\t");
         Ok(ListedMessage {
             name,
             accepted: verdict == "ok",

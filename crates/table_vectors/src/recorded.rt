@@ -47,7 +47,7 @@ struct RecordedMessage<'a> {
 impl<'a> RecordedMessage<'a> {
     /// Takes a line apart at its tabs.
     fn parse(line: &'a str) -> Self {
-        let [file, text, canonical, compact] = columns::<4>(line, "\t");
+        let [file, text, canonical, compact, ..] = columns(line, "\t");
         RecordedMessage {
             file,
             text,

@@ -25,7 +25,7 @@ pub struct CaseRow<'a> {
 impl<'a> CaseRow<'a> {
     /// Takes a row apart.
     pub fn parse(alloc: Global, row: &'a str) -> Result<Self> {
-        let [name, kinds, levels, message, answer] = columns::<5>(row, " | ");
+        let [name, kinds, levels, message, answer, ..] = columns(row, " | ");
         ensure!(!answer.is_empty(), "too few columns");
         let levels = levels.parse::<usize>()?;
         let of_fronts = answer.strip_prefix("each front ");

@@ -10,11 +10,12 @@
 //! message, and one that begins with `parts` is what follows, without blanks, where `[..3` is `[[[`. Empty
 //! lines, and those that begin with `#`, are no rows.
 //!
-//! A type has a name: `vec_T` is a `Vec` of T, `deque_T` a `VecDeque`, `set_T` a `BTreeSet`, `arr2_T` an
-//! array of two, `opt_T` an `Option`, `box_T` a `Box`, `map_K_V` a `BTreeMap`, `hash_K_V` a `HashMap`, which
-//! is shown in no certain order, `tup_T` a tuple of one, `tup2`, `tup3` and `tup4` one of so many `i64`, and
-//! `unit` is `()`; `str` is `&str`, `cow` a `CowStr`, and `bytes` is `&[u8]`, but `ByteString` as the key of
-//! a map, where `raw` is `&[u8]`. A struct or enum has texts of its own.
+//! A type has a name: `vec_T` is a `Vec` of T, `deque_T` a `VecDeque`, `set_T` a `BTreeSet`,
+//! `arr2_T` an array of two, `opt_T` an `Option`, `box_T` a `Box`, `map_K_V` a `BTreeMap`,
+//! `hash_K_V` a `HashMap`, which is shown in no certain order, `tup_T` a tuple of one, `tup2`,
+//! `tup3` and `tup4` one of so many `i64`, and `unit` is `()`; `str` is `&str`, `cow` a `CowStr`,
+//! and `bytes` is `&[u8]`, but `ByteString` as the key of a map, where `raw` is `&[u8]`. A struct
+//! or enum has texts of its own.
 use crate::line::ListedMessage;
 use crate::row::CaseRow;
 use crate::ways::Mismatch;

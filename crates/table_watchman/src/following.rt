@@ -1,5 +1,5 @@
-//! A client that follows changes, over the first messages of a recorded session, whole and cut at the
-//! beginning and in the middle of each: what it asks, what it tells and how it ends.
+//! A client that follows changes, over the first messages of a recorded session, whole and cut at
+//! the beginning and in the middle of each: what it asks, what it tells and how it ends.
 use anyhow::{Context, Result, bail};
 use bser_vectors::session::SentMessage;
 use client_following::{Followed, follow_changes};

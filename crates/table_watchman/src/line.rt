@@ -20,7 +20,7 @@ pub struct PrintedMessage<'a> {
 impl<'a> PrintedMessage<'a> {
     /// Takes a line apart.
     pub fn parse(line: &'a str) -> Self {
-        let [name, message, answer, owned, borrowed] = columns::<5>(line, "\t");
+        let [name, message, answer, owned, borrowed, ..] = columns(line, "\t");
         PrintedMessage {
             name,
             message,

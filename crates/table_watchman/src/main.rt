@@ -9,9 +9,9 @@
 //! Watchman 4.9.0, and with `made` where it was put together for this list. What is in
 //! `wrong-messages.tsv` is wrong, and each line of it is named.
 //!
-//! The file `session.tsv` has a line for each message of the server in `stream-server.bser`: its number
-//! in the session, its connection, where it begins, its length, `answer` or `unsolicited`, and `files`
-//! where it tells some.
+//! The file `session.tsv` has a line for each message of the server in `stream-server.bser`: its
+//! number in the session, its connection, where it begins, its length, `answer` or `unsolicited`,
+//! and `files` where it tells some.
 #![tactic(auto)]
 
 mod borrowed;

@@ -1,10 +1,10 @@
 //! The requests that a client sent in a recorded session with a Watchman server, made again and
 //! compared with what was sent.
 //!
-//! The client, pywatchman of Watchman 4.9.0, wrote all strings as byte strings. What is compared is how
-//! the values are printed, which is the same for a byte string and for a text. Only the last request is
-//! meant to differ. The query and the subscription before the last two requests were not in the session:
-//! pywatchman 1.4.0 wrote them for a server of Watchman 4.9.0, which answered both without an error.
+//! The client wrote all strings as byte strings. What is compared is how the values are printed,
+//! which is the same for a byte string and for a text. Only the last request is meant to differ.
+//! The query and the subscription before the last two requests were not in the session: pywatchman
+//! 1.4.0 wrote them to a server of Watchman 4.9.0, which answered both without an error.
 mod commands;
 mod queries;
 mod recording;

@@ -1,9 +1,10 @@
-//! What a client gives of a recorded session, whole and cut, and the tables of files folded from it.
+//! What a client gives of a recorded session, whole and cut, and the tables of files folded from
+//! it.
 //!
 //! Each connection is a client of its own. Requests are sent as soon as the answer before came, so
 //! unsolicited messages come before answers, and are kept. Then the session is followed message by
-//! message, and what is told of files is compared with tables that were folded elsewhere. One row of
-//! `wrong-tables.tsv` is wrong, and is named.
+//! message, and what is told of files is compared with tables that were folded elsewhere. One row
+//! of `wrong-tables.tsv` is wrong, and is named.
 mod fold;
 mod table;
 
@@ -15,6 +16,13 @@ use std::alloc::Global;
 use watchman_client::bounds::Bounds;
 use watchman_client::client::Client;
 use watchman_client::errors::ClientError;
+
+/// What a client keeps of the session.
+const BOUNDS: Bounds = Bounds {
+    message_bytes: 1_000,
+    kept_messages: 100,
+    kept_bytes: 100_000,
+};
 
 /// Compares both connections of the session, and what is told of files.
 pub fn compare_session(rt: &HostRuntime, stream: &[u8], messages: &[SentMessage]) -> Result<()> {
@@ -44,7 +52,8 @@ pub fn messages_of(
     Ok(chosen)
 }
 
-/// Compares the whole stream of a connection, and each of its beginnings, and tells how many these are.
+/// Compares the whole stream of a connection, and each of its beginnings, and tells how many these
+/// are.
 fn check_connection(alloc: Global, stream: &[u8], messages: &[SentMessage]) -> Result<usize> {
     let start = messages.first().context("no message")?.start;
     let end = messages.last().context("no message")?.end;
@@ -63,13 +72,8 @@ fn check_cut(
     messages: &[SentMessage],
 ) -> Result<()> {
     let bytes = stream.get(start..cut).context("outside")?;
-    let bounds = Bounds {
-        message_bytes: 1_000,
-        kept_messages: 100,
-        kept_bytes: 100_000,
-    };
     let writer = Watched::new(Vec::new(alloc));
-    let mut client = Client::new(alloc, bounds, Watched::new(bytes), writer);
+    let mut client = Client::new(alloc, BOUNDS, Watched::new(bytes), writer);
     let clean = cut == start || messages.iter().any(|m| m.end == cut);
     for message in messages {
         if message.end <= cut && !message.is_unsolicited {

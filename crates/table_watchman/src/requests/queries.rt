@@ -117,8 +117,9 @@ pub fn compare_last(recording: &mut RecordedRequests<'_>) {
     compare_changes(recording, "query-new-clock", "c:1795768235:31677:1:4");
 }
 
-/// The query and the subscription that pywatchman wrote behind the session: the files that neither end
-/// in `.c` nor are named `Makefile`, and changes that are deferred in one state and dropped in two.
+/// The query and the subscription that pywatchman wrote behind the session: the files that neither
+/// end in `.c` nor are named `Makefile`, and changes that are deferred in one state and dropped in
+/// two.
 pub fn compare_written(recording: &mut RecordedRequests<'_>) {
     let makefile = Name {
         names: Names::One(Bytes(b"Makefile")),
