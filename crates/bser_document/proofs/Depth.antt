@@ -1,5 +1,5 @@
 -- A value is no deeper than a document has nodes.
-use Rattle.std.proofs.Common.{◌≡◌, ℕ, suc, ◌+◌, ◌≤◌, List, [], ◌∷◌, ◌++◌, length, drop, Some, None, sym, ◌∙◌, ap, arith}
+use Rattle.std.proofs.Common.{◌≡◌, ℕ, suc, ◌+◌, ◌≤◌, List, [], ◌∷◌, ◌++◌, length, drop, Some, ap, arith}
 use Rattle.std.proofs.lemmas.List.{length-append, length-map, length-drop}
 use Rattle.std.proofs.lemmas.Option.{same_Some}
 use Rattle.bser_format.specs.Tree.{Tree, null, boolean, integer, real, bytes, text, array, object, template, Items, no_items, item, Entries, no_entries, entry, Rows, no_rows, row, Fields, no_fields, skip, field}
@@ -71,15 +71,3 @@ item_deep i u h = of_part h.part h.lies h.value
     of_part (row_of ks fs) l v =
         let within = normal_within (object (expand_fields ks fs)) u v in
         omega (arith, within.1, fields_deep ks fs, lies_long d i.at (field_events fs) _ l.lie)
-
--- and so is each value that is no row of a template
-pub value_deep : (i : Item) (u : Tree) → i.keys ≡ None → HoldsItem i u → depth u ≤ length i.document.now.nodes.items
-value_deep i u none h = of_part h.part h.lies h.value
-  where
-    d : Document
-    d = i.document.now
-
-    of_part : (p : Part) → PartLies d i.keys i.at p → part_value p ≡ Some u → depth u ≤ length d.nodes.items
-    of_part (tree t) l v = omega (arith, read_deep t u v, lies_long d i.at (events t) _ l.1)
-    of_part skipped l v = let e = ap depth (same_Some null u v) in omega (arith, e)
-    of_part (row_of ks fs) l v = let e : None ≡ Some l.keys_at = sym none ∙ l.some in absurd cc

@@ -1,9 +1,8 @@
 -- What the first node of a value says of it.
-use Rattle.std.proofs.Common.{◌≡◌, ◌≤◌, ◌<◌, ℕ, ◌+◌, List, [], ◌∷◌, ◌++◌, length, zero, suc, map, drop, get_or, Option, Some, None, refl, sym, ap, subst, ◌∙◌, arith, Bor, option_map, true, false}
+use Rattle.std.proofs.Common.{◌≡◌, ◌<◌, ℕ, ◌+◌, List, [], ◌∷◌, ◌++◌, length, map, drop, get_or, Option, Some, None, refl, sym, ap, subst, ◌∙◌, Bor, option_map, true, false}
 use Rattle.std.specs.Prelude.{IsUtf8, MatchOption}
-use Rattle.std.specs.List.{AllByRecursion}
 use Rattle.std.proofs.lemmas.Option.{same_Some}
-use Rattle.std.proofs.lemmas.List.{append-nil, drop_more, drop_all}
+use Rattle.std.proofs.lemmas.List.{append-nil, drop_more}
 use Rattle.bser_format.specs.Tree.{Tree, null, boolean, integer, real, bytes, text, array, object, template, items, entries}
 use Rattle.bser_format.specs.Tree as trees
 use Rattle.bser_format.specs.Expand.{expand, expand_items, expand_entries, expand_rows, expand_fields}
@@ -66,27 +65,11 @@ node_at d at n less is e es ends h =
     first_same (event_of s n) e (map (event_of s) (drop (at + 1) ns)) (es ++ h.after)
     (ap (λ x. event_of s x ∷ map (event_of s) (drop (at + 1) ns)) (is n) ∙ sym (ap (map (event_of s)) (drop_more ns at n less)) ∙ h.here)
 
--- there is none behind the last
-pub none_at : (d : Document) (at : ℕ) (n : DocumentNode) → length d.nodes.items ≤ at → TellsFirst d at n
-none_at d at n past e es ends h =
-    let f : [] ≡ e ∷ (es ++ h.after) = sym (ap (map (event_of d.strings.items)) (drop_all at d.nodes.items past)) ∙ h.here in
-    absurd cc
-
 -- ---- the node of an item
 
 -- the events of a value, where it begins
 pub first_lies : (d : Document) (at : ℕ) (t : Tree) → TreeLies d t at → (es : List Event) × Lies d at (first_event t ∷ es) (tree_ends t at)
 first_lies d at t h = let b = begins t in (b.0, subst (λ l. Lies d at l (tree_ends t at)) b.1 h)
-
--- what is there is within the strings
-within_at : (s : List ℕ) (ns : List DocumentNode) (at : ℕ) (n : DocumentNode) → AllByRecursion (Within s) ns → ((z : DocumentNode) → n ≡ get_or ns at z) → at < length ns → Within s n
-within_at s [] at n h is less = absurd (omega (arith, less))
-within_at s (x ∷ ns) zero n h is less = subst (Within s) (sym (is x)) h.0
-within_at s (x ∷ ns) (suc at) n h is less = within_at s ns at n h.1 is (omega (arith, less))
-
--- a node that was found
-pub found_at : (d : Document) (at : ℕ) (n : DocumentNode) → at < length d.nodes.items → ((z : DocumentNode) → n ≡ get_or d.nodes.items at z) → IsNodeAt d at n
-found_at d at n less is = (node_at d at n less is, λ h. within_at d.strings.items d.nodes.items at n h is less, λ past. absurd (omega (arith, less, past)))
 
 -- the node of an item
 pub plain_first : (i : Item) (n : DocumentNode) → i.keys ≡ None → IsNodeAt i.document.now i.at n → IsPartNode i n

@@ -93,10 +93,6 @@ pairs_left s m h = h.count ∙ of_pairs h.pairs (lies h.pairs h.lie) h.value
     of_pairs (pairs_of es) full e = of_entries es m e
     of_pairs (fields_under ks fs) full e = of_fields ks fs m full e
 
-pub no_entry : (s r : Entries) → s.left ≡ 0 → (m : List (List ℕ × Tree)) → HoldsEntries s m → GivesEntry m None r
-no_entry s r none [] h = tt
-no_entry s r none (p ∷ m) h = let e = pairs_left s (p ∷ m) h in absurd (omega (arith, e, none))
-
 -- an object's key, its value, and the entries behind it
 pub entry_lies : (d : Document) (at : ℕ) (k : List ℕ) (t : Tree) (es : trees.Entries) → EntriesLie d (entry k t es) at → (b : List Event) × Lies d at (told.key k ∷ b) (None ∷ tree_ends t (at + 1)) × TreeLies d t (at + 1) × EntriesLie d es (at + 1 + length (tree_ends t (at + 1)))
 entry_lies d at k t es h =

@@ -45,9 +45,6 @@ shown_put (e ∷ es) k n =
     shown_match o ((k, n) ∷ e ∷ es) ((e.0, n) ∷ es) (e ∷ put_key es k n)
     ∙ ap (λ l. match_ordering o ((k.now, n) ∷ (e.0.now, e.1) ∷ shown es) ((e.0.now, n) ∷ shown es) ((e.0.now, e.1) ∷ l)) (shown_put es k n)
 
-pub no_places : (ks : List (List ℕ)) (es : List (Bor (List ℕ) × ℕ)) → es ≡ [] → fold put_place (shown es) (placed_from 0 (drop 0 ks)) ≡ last_places ks
-no_places ks es none = ap (λ l. fold put_place (shown l) (placed_from 0 ks)) none
-
 pub one_place : (s : Rows) (es fs : List (Bor (List ℕ) × ℕ)) (n at : ℕ) (here : Bor (List ℕ)) → n < s.keys.len → (s.keys.at + n ≤ length s.document.now.nodes.items → at ≡ s.keys.at + n) → IsKeyAt s.document.now at here.now → fs ≡ put_key es here n
     → (ks : List (List ℕ)) (ms : List (List Pair)) → HoldsRows s ks ms → fold put_place (shown es) (placed_from n (drop n ks)) ≡ last_places ks → fold put_place (shown fs) (placed_from (n + 1) (drop (n + 1) ks)) ≡ last_places ks
 one_place s es fs n at here less place is put ks ms h before =

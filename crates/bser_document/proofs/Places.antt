@@ -20,8 +20,8 @@ use Rattle.bser_document.specs.declared.item.Item.{Item}
 use Rattle.bser_document.specs.DocumentView.{HoldsDocument, event_of, end_of, value_of}
 use Rattle.bser_document.specs.Spelled.{Frames, tell, tell_back, untold, first_value}
 use Rattle.bser_document.specs.Spans.{around, Lies, tree_ends, items_ends, entries_ends, keys_ends, rows_ends, fields_ends, TreeLies, ItemsLie, EntriesLie, KeysLie, RowsLie, FieldsLie}
-use Rattle.bser_document.specs.Parts.{Part, tree, skipped, row_of, part_value, PartLies, HasTexts, IsPart, IsRowIfKeyed, AreParts, AreRowsIfKeyed, members_at, part_read}
-use Rattle.bser_document.specs.Holds.{HasTemplateNode, HoldsItem, IsNodeAt, IsOwnNode, IsPartNode, IsReadAs, ShowsNode, event_tree, first_event, node_tree, item_value}
+use Rattle.bser_document.specs.Parts.{tree, part_value, HasTexts, IsPart, IsRowIfKeyed, AreParts, AreRowsIfKeyed, members_at, part_read}
+use Rattle.bser_document.specs.Holds.{HasTemplateNode, HoldsItem, IsNodeAt, IsOwnNode, IsReadAs, ShowsNode, event_tree, first_event, node_tree, item_value}
 use Rattle.bser_document.proofs.Ends.{tree_adds, items_add, entries_add, keys_add, fields_add, whole_ends}
 use Rattle.bser_document.proofs.Depth.{item_deep}
 use Rattle.bser_document.proofs.Holds.{first_lies}
@@ -221,26 +221,6 @@ shows_there i n own shows u (inr (none, e)) =
     subst (λ u. ShowsNode u i.document.now n) (sym e) (record { same = none.1 n is; within = is.1 (has_texts i.document.now) })
 
 -- ---- templates
-
--- a row has no template's node
-pub own_template : (i : Item) (n : DocumentNode) (len end : ℕ) → n ≡ nodes.Template len end → IsPartNode i n → IsOwnNode i n → HasTemplateNode i len
-own_template i n len end is first own = of_keys i.keys refl
-  where
-    d : Document
-    d = i.document.now
-
-    no_row : (k : Keys) → i.keys ≡ Some k → (p : Part) → PartLies d (Some k) i.at p → HasTemplateNode i len
-    no_row k e (tree t) l = let f = l.0 in absurd cc
-    no_row k e skipped l = let f = l.0 in absurd cc
-    no_row k e (row_of ks fs) l =
-        let f : told.open_template len ≡ told.open_object (length ks) = ap (event_of d.strings.items) (sym is) ∙ first (row_of ks fs) (subst (λ x. PartLies d x i.at (row_of ks fs)) (sym e) l) in
-        absurd cc
-
-    of_keys : (keys : Option Keys) → i.keys ≡ keys → HasTemplateNode i len
-    of_keys None e = (end, e, subst (IsNodeAt d i.at) is (own e))
-    of_keys (Some k) e =
-        let h = row_had d k i.at (subst (λ x. ∥ IsRowIfKeyed d x i.at ∥₁) e i.row) in
-        no_row k e h.part h.lies
 
 -- the template that begins with its node
 record Templated (d : Document) (at len : ℕ) : Type 0 where

@@ -44,17 +44,6 @@ plain_inside (array ts) h = h
 plain_inside (object es) h = h
 plain_inside (template ks rs) h = h
 
-plain_whole : (u : Tree) → IsPlain u → emptied u ≡ u
-plain_whole null h = refl
-plain_whole (boolean v) h = refl
-plain_whole (integer v) h = refl
-plain_whole (real v) h = refl
-plain_whole (bytes s) h = refl
-plain_whole (text s) h = refl
-plain_whole (array ts) h = absurd h
-plain_whole (object es) h = absurd h
-plain_whole (template ks rs) h = absurd h
-
 plain_node : (s : List ℕ) (n : DocumentNode) → ((l e : ℕ) → n ≡ nodes.Array l e → ⊥) → ((l e : ℕ) → n ≡ nodes.Object l e → ⊥) → ((l e : ℕ) → n ≡ nodes.Template l e → ⊥) → IsPlain (node_tree s n)
 plain_node s nodes.Null f g h = tt
 plain_node s (nodes.Bool v) f g h = tt
@@ -72,10 +61,6 @@ plain_node s nodes.Close f g h = tt
 
 pub plain_shown : (d : Document) (n : DocumentNode) → ((l e : ℕ) → n ≡ nodes.Array l e → ⊥) → ((l e : ℕ) → n ≡ nodes.Object l e → ⊥) → ((l e : ℕ) → n ≡ nodes.Template l e → ⊥) → (u : Tree) → ShowsNode u d n → IsPlain u
 plain_shown d n f g h u shows = plain_inside u (subst IsPlain shows.same (plain_node d.strings.items n f g h))
-
--- the value of a node that is no container
-pub plain_is : (d : Document) (n : DocumentNode) (u : Tree) → ShowsNode u d n → IsPlain u → node_tree d.strings.items n ≡ u
-plain_is d n u shows plain = shows.same ∙ plain_whole u plain
 
 -- nothing but null is left
 pub null_node : (s : List ℕ) (n : DocumentNode) → ((v : _) → n ≡ nodes.Bool v → ⊥) → ((v : _) → n ≡ nodes.Int v → ⊥) → ((v : ℕ) → n ≡ nodes.Real v → ⊥) → ((l a : ℕ) → n ≡ nodes.Bytes l a → ⊥) → ((l a : ℕ) → n ≡ nodes.Text l a → ⊥) → IsPlain (node_tree s n) → null ≡ node_tree s n

@@ -48,9 +48,6 @@ pub record Looking (m : List (List ℕ × Tree)) (before : Option (Bor (List ℕ
   pub holds : HoldsEntries rest left
   pub rise : Rises (option_map (λ k. k.now) before) left → Rises None m
 
-pub none_risen : (m : List (List ℕ × Tree)) (s : Entries) → HoldsEntries s m → Looking m None s
-none_risen m s h = record { left = m; holds = h; rise = λ r. r }
-
 pub one_risen : (m : List (List ℕ × Tree)) (before : Option (Bor (List ℕ))) (rest next : Entries) (e : Entry) → IsAbove (option_map (λ k. k.now) before) e.key.now → ((m : List (List ℕ × Tree)) → HoldsEntries rest m → GivesEntry m (Some e) next)
     → Looking m before rest → Looking m (Some e.key) next
 one_risen m before rest next e above gives h = of_left h.left h.holds h.rise

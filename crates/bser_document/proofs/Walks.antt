@@ -1,8 +1,8 @@
 -- Walking over what an item has inside.
-use Rattle.std.proofs.Common.{◌≡◌, ◌≤◌, ◌<◌, ◌+◌, ◌-◌, ℕ, suc, List, [], ◌∷◌, ◌++◌, length, map, drop, get_or, Option, Some, None, refl, sym, ap, subst, ◌∙◌, arith, option_map}
+use Rattle.std.proofs.Common.{◌≡◌, ◌≤◌, ◌+◌, ◌-◌, ℕ, suc, List, [], ◌∷◌, ◌++◌, length, Option, Some, None, refl, sym, ap, subst, ◌∙◌, arith, option_map}
 use Rattle.std.specs.List.{AllByRecursion}
 use Rattle.std.proofs.lemmas.Option.{same_Some}
-use Rattle.std.proofs.lemmas.List.{length-append, append_assoc, drop_more}
+use Rattle.std.proofs.lemmas.List.{length-append, append_assoc}
 use Rattle.bser_format.specs.Tree.{Tree, null, boolean, integer, real, bytes, text, array, object, template, no_items, item, items, entries, Rows, no_rows, row, rows, Fields, no_fields, skip, field, fields}
 use Rattle.bser_format.specs.Tree as trees
 use Rattle.bser_format.specs.Expand.{expand, expand_items, expand_rows, expand_fields}
@@ -19,49 +19,15 @@ use Rattle.bser_document.specs.declared.document.DocumentNode.TheVariants as nod
 use Rattle.bser_document.specs.declared.item.Item.{Item}
 use Rattle.bser_document.specs.declared.item.Keys.{Keys}
 use Rattle.bser_document.specs.declared.items.Items.{Items}
-use Rattle.bser_document.specs.DocumentView.{event_of, end_of}
-use Rattle.bser_document.specs.Spans.{around, tree_ends, items_ends, entries_ends, keys_ends, rows_ends, fields_ends, Lies, TreeLies, ItemsLie, KeysLie, RowsLie, FieldsLie, FieldLies}
-use Rattle.bser_document.specs.Holds.{Part, tree, skipped, row_of, PartLies, RowLies, HoldsItem, HasTexts, IsNodeAt, IsPartNode, PartIsWhole, ShowsNode, first_event, part_event, part_value, node_tree, emptied, stepped, part_ends, field_ends}
+use Rattle.bser_document.specs.DocumentView.{event_of}
+use Rattle.bser_document.specs.Spans.{tree_ends, items_ends, keys_ends, rows_ends, fields_ends, Lies, TreeLies, ItemsLie, KeysLie, RowsLie, FieldsLie, FieldLies}
+use Rattle.bser_document.specs.Holds.{Part, tree, skipped, row_of, PartLies, RowLies, HoldsItem, HasTexts, IsNodeAt, IsPartNode, PartIsWhole, ShowsNode, first_event, part_event, part_value, node_tree, emptied, part_ends, field_ends}
 use Rattle.bser_document.specs.Walks.{Parts, items_of, rows_of, parts_value, parts_count, PartsLie, PartsAreWhole, AreParts, HoldsItems, FindsItems, GivesItem, length_of, RowsBegin}
 use Rattle.bser_document.specs.Parts.{IsPart, IsRowIfKeyed, AreRowsIfKeyed}
 use Rattle.bser_document.proofs.Ends.{Adds, both_add, single, tree_adds, items_add, keys_add, rows_add, fields_add}
-use Rattle.bser_document.proofs.Holds.{first_lies}
 use Rattle.bser_document.proofs.Lies.{adds_length, front_lies, rest_lies, inner_lies, lies_within}
 
 -- ---- behind a value
-
-around_long : (n : ℕ) (xs : List (Option ℕ)) → n + 1 + length xs + 1 ≡ n + length (around (n + 1) xs)
-around_long n xs = omega (arith, length-append xs (None ∷ []))
-
-behind_is : (p : Option Tree) (n : ℕ) (o : Option ℕ) (rest behind : List (Option ℕ)) → o ∷ rest ≡ field_ends p n ++ behind → stepped n o ≡ n + length (field_ends p n)
-behind_is None n o rest behind e = ap (λ l. stepped n (get_or l 0 o)) e
-behind_is (Some null) n o rest behind e = ap (λ l. stepped n (get_or l 0 o)) e
-behind_is (Some (boolean v)) n o rest behind e = ap (λ l. stepped n (get_or l 0 o)) e
-behind_is (Some (integer v)) n o rest behind e = ap (λ l. stepped n (get_or l 0 o)) e
-behind_is (Some (real v)) n o rest behind e = ap (λ l. stepped n (get_or l 0 o)) e
-behind_is (Some (bytes s)) n o rest behind e = ap (λ l. stepped n (get_or l 0 o)) e
-behind_is (Some (text s)) n o rest behind e = ap (λ l. stepped n (get_or l 0 o)) e
-behind_is (Some (array ts)) n o rest behind e = ap (λ l. stepped n (get_or l 0 o)) e ∙ around_long n (items_ends ts (n + 1))
-behind_is (Some (object es)) n o rest behind e = ap (λ l. stepped n (get_or l 0 o)) e ∙ around_long n (entries_ends es (n + 1))
-behind_is (Some (template ks rs)) n o rest behind e = ap (λ l. stepped n (get_or l 0 o)) e ∙ around_long n (keys_ends ks (n + 1) ++ (None ∷ rows_ends rs (n + 1 + length (keys_ends ks (n + 1)) + 1)))
-
-field_ends_there : (d : Document) (p : Option Tree) (at : ℕ) → FieldLies d p at → (behind : List (Option ℕ)) × (map end_of (drop at d.nodes.items) ≡ field_ends p at ++ behind)
-field_ends_there d None at h = (h.behind, h.ends)
-field_ends_there d (Some t) at h = (h.behind, h.ends)
-
-pub behind_at : (d : Document) (at : ℕ) (n : DocumentNode) → at < length d.nodes.items → ((z : DocumentNode) → n ≡ get_or d.nodes.items at z) → (p : Option Tree) → FieldLies d p at → stepped at (end_of n) ≡ at + length (field_ends p at)
-behind_at d at n less is p h =
-    let ns : List DocumentNode = d.nodes.items in
-    let f = field_ends_there d p at h in
-    behind_is p at (end_of n) (map end_of (drop (at + 1) ns)) f.0
-    (ap (λ x. end_of x ∷ map end_of (drop (at + 1) ns)) (is n) ∙ sym (ap (map end_of) (drop_more ns at n less)) ∙ f.1)
-
-pub behind_none : (d : Document) (at : ℕ) → length d.nodes.items ≤ at → (p : Option Tree) → FieldLies d p at → ⊥
-behind_none d at past None h = let w = lies_within d at told.skip [] (None ∷ []) h in omega (arith, w, past)
-behind_none d at past (Some t) h =
-    let f = first_lies d at t h in
-    let w = lies_within d at (first_event t) f.0 (tree_ends t at) f.1 in
-    omega (arith, w, past)
 
 -- ---- behind fields
 
@@ -132,10 +98,6 @@ count_left s us h = h.count ∙ of_parts h.parts us h.value
     of_parts : (p : Parts) (us : trees.Items) → parts_value p ≡ Some us → parts_count p ≡ length_of us
     of_parts (items_of ts) us e = of_items ts us e
     of_parts (rows_of ks rs) us e = of_rows ks rs us e
-
-pub no_next : (s r : Items) → s.left ≡ 0 → (us : trees.Items) → HoldsItems s us → GivesItem us None r
-no_next s r none no_items h = tt
-no_next s r none (item u us) h = let e = count_left s (item u us) h in absurd (omega (arith, e, none))
 
 -- the first part is this one, and the others begin behind it
 abbrev pub Gives : Document → Option Keys → ℕ → ℕ → ℕ → trees.Items → Type 0

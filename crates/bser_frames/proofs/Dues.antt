@@ -1,6 +1,5 @@
 -- What came of a message that is due.
-use Rattle.std.proofs.Common.{◌≡◌, ℕ, ◌-◌, ◌≤◌, ◌<◌, Bool, true, false, List, [], ◌++◌, Option, length, length-append, append-nil, append_assoc, refl, sym, ap, subst, ◌∙◌, arith}
-use Rattle.std.specs.Prelude.{if◌then◌else◌}
+use Rattle.std.proofs.Common.{◌≡◌, ℕ, ◌-◌, ◌≤◌, ◌<◌, List, [], ◌++◌, Option, length, length-append, append-nil, append_assoc, refl, sym, ap, subst, ◌∙◌, arith}
 use Rattle.bser_format.specs.Message.{Head}
 use Rattle.bser_format.specs.Named.{head, refuses, eof}
 use Rattle.bser_format.proofs.OneHead.{one_head}
@@ -11,7 +10,6 @@ use Rattle.bser_messages.specs.Lengths.{HasLength}
 use Rattle.bser_frames.specs.Headers.{AtLeast, HeaderAtLeast, IsDue, IsHeaderLength}
 use Rattle.bser_frames.specs.Stops.{IsCut, IsTooLong}
 use Rattle.bser_frames.specs.Stream.{IsFrameWithin}
-use Rattle.bser_frames.proofs.HeaderLengths.{head_least}
 
 -- ---- one length
 
@@ -117,16 +115,6 @@ cut_header a b old new have want cut s r held same some end = record {
   end = end;
 }
 
--- a body that is cut
-pub cut_body : (came : List ℕ) (left : Option (List ℕ)) (have want : ℕ) → HasLength came want → length came ≡ have → have < want → IsAtEnd left → IsCut have want came left
-cut_body came left have want h same fewer end = record {
-  count = same;
-  some = omega (arith, same, ap length h.front, length-append h.text h.rest, head_least h.capabilities h.announced h.text h.head);
-  fewer = fewer;
-  least = at_least came want h;
-  end = end;
-}
-
 -- all of it came
 pub whole_frame : (most n : ℕ) (a b : Option (List ℕ)) (old new : List ℕ) (h : HasLength old n) → h.announced ≤ most → Reads a b old new → length new ≡ n → IsFrameWithin most new
 whole_frame most n a b old new h short r all = record {
@@ -141,8 +129,3 @@ whole_frame most n a b old new h short r all = record {
   };
   short = short;
 }
-
--- what came before is due, and of what was taken nothing
-pub due_left : (most : ℕ) (taken : Bool) (frame : List ℕ) → (taken ≡ false → IsDue most frame) → IsDue most (if taken then [] else frame)
-due_left most true frame due = nothing_due most
-due_left most false frame due = due refl

@@ -31,8 +31,3 @@ falls n (DeReaderError Failed) old before through b small h = absurd (never h.er
     never (inr u) = omega (arith, u.1, small)
 falls n OutOfMemory old before through b small h = absurd (h.memory refl)
 falls n _ old before through b small h = absurd h.err.excuse
-
-pub falls_short : (n : ℕ) (e : Error) (old : Option (List ℕ)) (before after : ℕ) (a b : Window) → n < 2 ^ 64 → a ≡ reader_fresh a.beyond a.failures a.through → a.beyond ≡ old → a.failures ≡ before → b.failures ≡ after
-    → RefusesShort n e a b → FallsShort n old before after e
-falls_short n e old before after a b small fresh p q r h =
-    rw (sym p, sym q, sym r) (falls n e a.beyond a.failures a.through b small (subst (λ w. RefusesShort n e w b) fresh h))

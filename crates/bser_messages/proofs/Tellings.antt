@@ -220,11 +220,6 @@ reader_through limits takes of old new x y before after h a b t empty unlimited 
     let through = tells_through limits takes of x y h k.text k.tells in
     rw (sym first, sym (last through.0)) (record { text = k.text; bytes = k.bytes; tells = through.1 })
 
--- where a message was told, the reader counted no failure
-pub none_failed : {B : Type 0} (limits : Limits) (takes : B → Event → Place → B → Type 0) (x y : B) (h : Header) (a b t : Window) (before after : ℕ) → a.failures ≡ before → t.failures ≡ after → Grown 1 a b
-    → ReadsTold limits takes b t x y h → after ≡ before
-none_failed limits takes x y h a b t before after p q grown r = sym q ∙ r.took.failures ∙ grown.failures ∙ p
-
 -- ---- what the error says
 
 pub next_reason : {S : Type 0} (limits : Limits) (asked asks : Bool) (cause : Error) (given : ℕ) (told : source.Ghosts S) (old new : S) (reason : Reason) → IsReasonOf asked cause given reason → (asked ≡ true → asks ≡ true)

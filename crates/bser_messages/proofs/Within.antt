@@ -8,7 +8,7 @@ use Rattle.bser_format.specs.Message.{Head}
 use Rattle.bser_format.specs.Grammar.{IntSize, int8, int16, int32, int64, width_of}
 use Rattle.bser_format.proofs.OneHead.{one_head}
 use Rattle.bser_format.specs.Named as named
-use Rattle.bser_source.specs.Window.{Window, Grown, Took, left, with_limit}
+use Rattle.bser_source.specs.Window.{Window, Grown, Took, with_limit}
 use Rattle.bser_source.proofs.Windows.{left_took, left_grown, took_grown}
 use Rattle.bser_bunser.specs.Names.{Names}
 use Rattle.bser_bunser.specs.Refusal.{Fails, failures_by}
@@ -19,7 +19,7 @@ use Rattle.bser_deserializer.specs.Reading.{Answers, Asking, ExcusedBy, MayRefus
 use Rattle.bser_deserializer.proofs.Clean.{clean_head}
 use Rattle.bser_deserializer.proofs.Refusals.{by_name, excused_before, names_any, names_by_grown}
 use Rattle.bser_deserializer.specs.View.{not_at_end}
-use Rattle.bser_messages.specs.Messages.{BeginWithHead, NamesMessage, RefusesBody, RefusesMessage}
+use Rattle.bser_messages.specs.Messages.{NamesMessage, RefusesBody, RefusesMessage}
 use Rattle.bser_messages.proofs.Messages.{head_refused, value_refused, end_refused, read_text}
 use Rattle.bser_messages.specs.Limited.{ReadsWithin, ReadsBodyWithin, StopsAt, AnnouncesShort, RefusesBodyWithin, RefusesWithin}
 use Rattle.bser_messages.proofs.Heads.{body_size, some_head, some_message}
@@ -133,10 +133,6 @@ read_before n m reads holds a b t v grown r =
       };
       short = r.short;
     }
-
--- a head in front is one in front before bytes came to be buffered
-pub head_before : (a b : Window) → Grown 1 a b → BeginWithHead (left b) → BeginWithHead (left a)
-head_before a b grown h = record { text = h.text; head = h.head; front = λ x known. h.front x (left_grown 1 a b x grown known) }
 
 stops_before : (m : ℕ) (e : Error) (a b t : Window) → Grown 1 a b → StopsAt m e b t → StopsAt m e a t
 stops_before m e a b t grown h = record {

@@ -131,16 +131,6 @@ row_made t ks before after fields keys there cut same took =
 
 -- ---- values of containers
 
--- the rows that were put in, where no other has all its fields
-pub builds_rows : (t : Table) (vs : List Value) → (0 < t.place → t.place < t.count) → vs ≡ all_items t.rows → BuildsRows t vs
-builds_rows t vs part same (in_rows ks ts [] ls) u (inl h) e = ap (λ l. array (items_of l)) (ap (map tree_of) same ∙ h.rows) ∙ same_Some (array (items_of ts)) u e
-builds_rows t vs part same (in_rows ks ts [] ls) u (inr h) e = absurd (omega (arith, part h.some, h.place))
-builds_rows t vs part same (in_rows ks ts (f ∷ es) ls) u h e = absurd cc
-builds_rows t vs part same (in_keys ks) u h e = absurd cc
-builds_rows t vs part same (whole v) u h e = absurd h
-builds_rows t vs part same (in_array ts) u h e = absurd h
-builds_rows t vs part same (in_object es l) u h e = absurd h
-
 -- the rows that were put in, and the last
 pub builds_last : (t : Table) (vs : List Value) (row : Value) → 0 < t.place → t.count ≤ t.place → vs ≡ all_items t.rows ++ row ∷ []
     → ((ks : List (List ℕ)) → HasKeys t ks → t.count ≤ length t.fields.items → tree_of row ≡ row_tree ks t) → BuildsRows t vs
