@@ -97,10 +97,11 @@ impl<'i, 't> Builder for Tape<'i, 't> {
 
     #[inline(always)]
     fn take(&mut self, event: Event<'_>, place: Place) -> Result<(), Stop> {
+        let first = head(event, place.is_text);
         let Some(second) = second(self.input, event, place) else {
             return Err(Stop::Asked);
         };
-        self.put(head(event, place.is_text), second);
+        self.put(first, second);
         Ok(())
     }
 
