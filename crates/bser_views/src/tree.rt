@@ -219,14 +219,13 @@ impl<W: Write> Builder for Tree<'_, W> {
 /// Prints the kind and the value of a part.
 fn put_full<W: Write>(out: &mut W, event: Event<'_>, place: Place) -> io::Result<()> {
     match event {
-        Event::Int(_) => write!(out, "int{} ", int_bits(place))?,
-        Event::Real(_) => write!(out, "real ")?,
-        Event::Bytes(_) | Event::Text(_) | Event::Key(_) => {
-            write!(out, "{} ", string_name(place))?;
-        }
-        _ => {}
+        Event::Int(number) => writeln!(out, "int{} {number}", int_bits(place)),
+        Event::Real(bits) => writeln!(out, "real {}", Real(bits)),
+        Event::Bytes(bytes) => writeln!(out, "bytes {}", Quoted(bytes)),
+        Event::Text(text) => writeln!(out, "text {text:?}"),
+        Event::Key(key) => writeln!(out, "{} {key:?}", string_name(place)),
+        other => put_kind(out, other, place),
     }
-    put_value(out, event, place)
 }
 
 /// Prints the kind of a part, and of a container how much is in it.
