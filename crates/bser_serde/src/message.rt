@@ -4,6 +4,7 @@ ghost use Rattle.bser_serde.specs.HasMessage.{HasMessage};
 
 use crate::heads::{Counted, count};
 use crate::values::value;
+use bser_format::header::HEADER_START;
 
 /// Where the body of a message stands.
 #[derive(Clone, Copy, Drop)]
@@ -22,13 +23,16 @@ pub struct Body {
 pub fn body_of(bytes: &[u8], levels: usize, most: usize) -> Option<Body>
     ensures { IfSome result (λ b. HasMessage levels most bytes.now (b.start + b.len)) }
 {
-    if bytes.len() < 6 || bytes[0] != 0x00 || bytes[1] != 0x02 {
+    if bytes.len() < HEADER_START.len()
+        || bytes[0] != HEADER_START[0]
+        || bytes[1] != HEADER_START[1]
+    {
         return None;
     }
     let Counted {
         count: len,
         rest: body,
-    } = count(&bytes[6..])?;
+    } = count(&bytes[HEADER_START.len()..])?;
     let start = bytes.len().checked_sub(body.len())?;
     let rest = value(body, levels)?;
     if len > most || rest.len().checked_add(len)? != body.len() {
