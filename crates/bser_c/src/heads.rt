@@ -12,7 +12,7 @@ use bser_format::header::{
 
 /// A tag, and a count above it.
 #[inline(always)]
-fn word(tag: u8, count: usize) -> u64
+pub(crate) fn word(tag: u8, count: usize) -> u64
     ensures { result ≡ first_word tag count }
 {
     (count as u64).min(MOST_COUNT) * 256 + u64::from(tag)

@@ -2,11 +2,16 @@
 ghost use Rattle.std.specs.Prelude.{◌≡◌, ◌≤◌, ◌+◌, true, false, [], ◌∷◌, ◌++◌, length, IfSome};
 ghost use Rattle.bser_events.specs.Told.{told};
 ghost use Rattle.bser_c.specs.Builders.{Grew, words_in};
-ghost use Rattle.bser_c.specs.Tape.{IsSecond, StandsAt};
+ghost use Rattle.bser_c.specs.Tape.{IsSecond, StandsAt, first_word, head_of};
 
-use crate::heads::{head, stands_at};
+use crate::heads::{stands_at, word};
+use crate::tags::{BYTES_KEY, CLOSE, KEY, ROWS};
 use bser_events::builder::{Builder, Stop};
 use bser_events::event::{Event, Place};
+use bser_format::header::{
+    BSER_ARRAY, BSER_BYTESTRING, BSER_FALSE, BSER_INT64, BSER_NULL, BSER_OBJECT, BSER_REAL,
+    BSER_SKIP, BSER_TEMPLATE, BSER_TRUE, BSER_UTF8STRING,
+};
 
 /// The words of the events that were told, and a count of them where they have no room.
 #[derive(Drop)]
@@ -49,27 +54,52 @@ impl<'i, 't> Tape<'i, 't> {
     }
 }
 
-/// The second word of an event, or none where the place is not in the input or another string stands
-/// there.
+/// The two words of an event, or none where the place is not in the input or another string stands
+/// there. One match makes both: by [`head`](crate::heads::head) and a second match a tape takes 6 %
+/// more instructions.
 #[inline(always)]
-fn second(input: &[u8], event: Event<'_>, place: Place) -> Option<u64>
-    ensures { IfSome result (IsSecond input.now (told event.entry)) }
+fn words(input: &[u8], event: Event<'_>, place: Place) -> Option<(u64, u64)>
+    ensures first { IfSome result (λ w. w.0 ≡ head_of place.is_text (told event.entry)) }
+    ensures second { IfSome result (λ w. IsSecond input.now (told event.entry) w.1) }
 {
     match event {
-        Event::Int(number) => Some(number.cast_unsigned()),
-        Event::Real(bits) => Some(bits),
-        Event::Bytes(string) => string_at(input, string, place),
-        Event::Text(text) => string_at(input, text.as_bytes(), place),
-        Event::Key(key) => string_at(input, key.as_bytes(), place),
-        _ if place.start > input.len() => None,
-        _ => Some(place.start as u64),
+        Event::Int(number) => Some((word(BSER_INT64, 0), number.cast_unsigned())),
+        Event::Real(bits) => Some((word(BSER_REAL, 0), bits)),
+        Event::Bytes(string) => string_words(input, BSER_BYTESTRING, string, place),
+        Event::Text(text) => string_words(input, BSER_UTF8STRING, text.as_bytes(), place),
+        Event::Key(key) => {
+            let tag = if place.is_text { KEY } else { BYTES_KEY };
+            string_words(input, tag, key.as_bytes(), place)
+        }
+        Event::Null => part_words(input, BSER_NULL, 0, place),
+        Event::Bool(true) => part_words(input, BSER_TRUE, 0, place),
+        Event::Bool(false) => part_words(input, BSER_FALSE, 0, place),
+        Event::Array { len } => part_words(input, BSER_ARRAY, len, place),
+        Event::Object { len } => part_words(input, BSER_OBJECT, len, place),
+        Event::Template { len } => part_words(input, BSER_TEMPLATE, len, place),
+        Event::Rows { len } => part_words(input, ROWS, len, place),
+        Event::Skip => part_words(input, BSER_SKIP, 0, place),
+        Event::Close => part_words(input, CLOSE, 0, place),
     }
 }
 
-/// Where a string stands that ends where its place does.
+/// The words of a part that is no number and no string.
 #[inline(always)]
-fn string_at(input: &[u8], string: &[u8], place: Place) -> Option<u64>
-    ensures { IfSome result (λ at. StandsAt input.now at string.now) }
+fn part_words(input: &[u8], tag: u8, count: usize, place: Place) -> Option<(u64, u64)>
+    ensures first { IfSome result (λ w. w.0 ≡ first_word tag count) }
+    ensures second { IfSome result (λ w. w.1 ≤ length input.now) }
+{
+    if place.start > input.len() {
+        return None;
+    }
+    Some((word(tag, count), place.start as u64))
+}
+
+/// The words of a string that ends where its place does.
+#[inline(always)]
+fn string_words(input: &[u8], tag: u8, string: &[u8], place: Place) -> Option<(u64, u64)>
+    ensures first { IfSome result (λ w. w.0 ≡ first_word tag (length string.now)) }
+    ensures second { IfSome result (λ w. StandsAt input.now w.1 string.now) }
 {
     if string.len() > place.end {
         return None;
@@ -78,7 +108,7 @@ fn string_at(input: &[u8], string: &[u8], place: Place) -> Option<u64>
     if !stands_at(input, at, string) {
         return None;
     }
-    Some(at as u64)
+    Some((word(tag, string.len()), at as u64))
 }
 
 impl<'i, 't> Builder for Tape<'i, 't> {
@@ -97,10 +127,10 @@ impl<'i, 't> Builder for Tape<'i, 't> {
 
     #[inline(always)]
     fn take(&mut self, event: Event<'_>, place: Place) -> Result<(), Stop> {
-        let Some(second) = second(self.input, event, place) else {
+        let Some((first, second)) = words(self.input, event, place) else {
             return Err(Stop::Asked);
         };
-        self.put(head(event, place.is_text), second);
+        self.put(first, second);
         Ok(())
     }
 
