@@ -126,23 +126,21 @@ pub fn compare_written(recording: &mut RecordedRequests<'_>) {
         scope: Some(Scope::Wholename),
     };
     let either = [Expression::Suffix("c"), Expression::Name(makefile)];
+    let any = Expression::AnyOf(&either);
     let others = Query {
-        expression: Some(Expression::Not(&Expression::AnyOf(&either))),
+        expression: Some(Expression::Not(&any)),
         fields: Some(&["name"]),
         ..Query::new()
     };
     compare(recording, "query-neither", others);
+    let names = Query {
+        fields: Some(&["name"]),
+        ..all_files()
+    };
     let quiet = SubscribeRequest {
         defer: Some(&["build"]),
         drop: Some(&["hg.update", "deploy"]),
-        ..SubscribeRequest::new(
-            ROOT,
-            "quiet",
-            Query {
-                fields: Some(&["name"]),
-                ..all_files()
-            },
-        )
+        ..SubscribeRequest::new(ROOT, "quiet", names)
     };
     recording.compare("subscribe-quietly", &quiet);
 }
