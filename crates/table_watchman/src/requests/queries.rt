@@ -5,6 +5,9 @@ use watchman_types::requests::{
     WatchProjectRequest,
 };
 
+/// The field of a name alone.
+const NAME_ALONE: &[&str] = &["name"];
+
 /// The root of the session.
 pub const ROOT: Bytes<'static> = Bytes(b"/data/my/project");
 
@@ -127,14 +130,9 @@ pub fn compare_written(recording: &mut RecordedRequests<'_>) {
     };
     let either = [Expression::Suffix("c"), Expression::Name(makefile)];
     let any = Expression::AnyOf(&either);
-    let others = Query {
-        expression: Some(Expression::Not(&any)),
-        fields: Some(&["name"]),
-        ..Query::new()
-    };
-    compare(recording, "query-neither", others);
+    compare(recording, "query-neither", names_of(Expression::Not(&any)));
     let names = Query {
-        fields: Some(&["name"]),
+        fields: Some(NAME_ALONE),
         ..all_files()
     };
     let quiet = SubscribeRequest {
@@ -143,4 +141,13 @@ pub fn compare_written(recording: &mut RecordedRequests<'_>) {
         ..SubscribeRequest::new(ROOT, "quiet", names)
     };
     recording.compare("subscribe-quietly", &quiet);
+}
+
+/// A query for the names of these files.
+fn names_of<'a>(expression: Expression<'a>) -> Query<'a> {
+    Query {
+        expression: Some(expression),
+        fields: Some(NAME_ALONE),
+        ..Query::new()
+    }
 }
