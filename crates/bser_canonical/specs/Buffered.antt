@@ -1,5 +1,5 @@
 -- A message that is made in memory, and then written.
-use Rattle.std.specs.Prelude.{◌<◌, ◌^◌, ℕ, List, length, Result, IfOk}
+use Rattle.std.specs.Prelude.{◌<◌, ◌^◌, length, Result, IfOk}
 use Rattle.bser_format.specs.Canonical.{canonical_body}
 use Rattle.bser_format.specs.Tree.{Tree}
 use Rattle.bser_format.specs.declared.errors.Error.{Error}

@@ -1,9 +1,9 @@
 -- A text on several lines, of which some first bytes are written.
-use Rattle.std.proofs.Common.{◌≡◌, ℕ, List, [], ◌∷◌, ◌++◌, Option, refl, sym, ap, subst, ◌∙◌, append_assoc, append-nil}
+use Rattle.std.proofs.Common.{◌≡◌, ℕ, List, [], ◌∷◌, ◌++◌, Option, sym, ap, subst, ◌∙◌, append_assoc, append-nil}
 use Rattle.std.specs.Io.KnownBytes.{Appends}
 use Rattle.json.specs.Token as tokens
 use Rattle.json.specs.Print.{separator, token_text, begins, print, print_from}
-use Rattle.json.specs.Layout.{Last, nothing, is_value, gap, depth_at, after, piece, step, pretty, pretty_from, state_after}
+use Rattle.json.specs.Layout.{Last, nothing, is_value, gap, depth_at, after, piece, step, pretty, pretty_from}
 use Rattle.json.proofs.Printed.Tokens.{pretty_from_push, step_push}
 use Rattle.bser_source.specs.Sinks.{Appends-none, Appends-both}
 use Rattle.bser_cli.specs.Indented.{IsIndented, PrintsLines, last_of}

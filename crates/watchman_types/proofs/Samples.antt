@@ -1,12 +1,11 @@
 -- What the definitions say of single messages and capabilities.
-use Rattle.std.proofs.Common.{◌≡◌, ℕ, List, [], ◌∷◌, Bool, true, false, refl}
-use Rattle.std.specs.Prelude.{Option, Some, None, codes}
-use Rattle.std.specs.BTreeMap.{BTreeMap}
+use Rattle.std.proofs.Common.{◌≡◌, ℕ, List, [], ◌∷◌, true, false, refl}
+use Rattle.std.specs.Prelude.{Some, None, codes}
 use Rattle.std.specs.Borrow.{Bor}
 use Rattle.watchman_types.specs.Capabilities.{one_is_true, says_true, first_missing}
 use Rattle.watchman_types.specs.Kinds.{kind_of}
 use Rattle.watchman_types.specs.declared.header.Header.{Header}
-use Rattle.watchman_types.specs.declared.kind.Kind.TheVariants.{Answer, Error, Event}
+use Rattle.watchman_types.specs.declared.kind.Kind.TheVariants.{Answer, Event}
 use Rattle.watchman_types.specs.declared.kind.EventKind.TheVariants.{Canceled}
 
 -- a header of none of the parts
