@@ -4,7 +4,7 @@
 /* A message of few bytes is written into memory that is there, and copied. */
 enum { MOST_LEVELS = 128, LONGEST_HEAD = 15, MOST_COPIED = 1024 };
 
-/* A str that was put as a key, and where its bytes stand. */
+/* A str that was put as a key, which the tape owns, and where its bytes stand. */
 typedef struct {
     PyObject *key;
     size_t at, len;
@@ -76,9 +76,9 @@ static int add_string(tape *t, unsigned tag, const char *bytes, size_t len) {
     return add_place(t, tag, t->len - len, len);
 }
 
-/* A str without what UTF-8 cannot say: surrogates. */
+/* A str without what UTF-8 cannot say: surrogates. No exception is made on the way, since the collector
+ * may run where one is allocated. */
 static int put_lossy(tape *t, unsigned tag, PyObject *x) {
-    PyErr_Clear();
     PyObject *bytes = PyUnicode_AsEncodedString(x, "utf-8", "ignore");
     if (bytes == NULL) return -1;
     int added = add_string(t, tag, PyBytes_AS_STRING(bytes), (size_t)PyBytes_GET_SIZE(bytes));
@@ -92,11 +92,10 @@ static int put_string(tape *t, unsigned tag, PyObject *x) {
         PyErr_Format(PyExc_TypeError, "a key has to be str or bytes, not %.100s", Py_TYPE(x)->tp_name);
         return -1;
     }
+    if (!PyUnicode_IS_ASCII(x)) return put_lossy(t, tag, x);
     Py_ssize_t len;
     const char *utf8 = PyUnicode_AsUTF8AndSize(x, &len);
-    if (utf8 != NULL) return add_string(t, tag, utf8, (size_t)len);
-    if (!PyErr_ExceptionMatches(PyExc_UnicodeEncodeError)) return -1;
-    return put_lossy(t, tag, x);
+    return utf8 == NULL ? -1 : add_string(t, tag, utf8, (size_t)len);
 }
 
 /* Objects share their keys, whose bytes are copied once then. */
@@ -105,7 +104,10 @@ static int put_key(tape *t, PyObject *x) {
     if (seen->key == x) return add_place(t, BSER_BYTES_KEY, seen->at, seen->len);
     size_t at = t->len;
     if (put_string(t, BSER_BYTES_KEY, x) < 0) return -1;
+    PyObject *was = seen->key;
+    Py_INCREF(x);
     *seen = (seen_key){x, at, t->len - at};
+    Py_XDECREF(was);
     return 0;
 }
 
@@ -127,20 +129,39 @@ static int put_real(tape *t, PyObject *x) {
     return add(t, BSER_REAL, 0, bits);
 }
 
+/* Python code that ran meanwhile changed what is written. */
+static int changed(void) {
+    PyErr_SetString(PyExc_RuntimeError, "a list or dict changed while it was written");
+    return -1;
+}
+
 static int put_items(tape *t, PyObject *x, int levels) {
     Py_ssize_t count = PySequence_Fast_GET_SIZE(x);
     if (add(t, BSER_ARRAY, (size_t)count, 0) < 0) return -1;
-    for (Py_ssize_t i = 0; i < count; i++)
-        if (put(t, PySequence_Fast_GET_ITEM(x, i), levels) < 0) return -1;
+    for (Py_ssize_t i = 0; i < count; i++) {
+        if (PySequence_Fast_GET_SIZE(x) != count) return changed();
+        PyObject *item = PySequence_Fast_GET_ITEM(x, i);
+        Py_INCREF(item);
+        int added = put(t, item, levels);
+        Py_DECREF(item);
+        if (added < 0) return -1;
+    }
     return add_close(t);
 }
 
 static int put_entries(tape *t, PyObject *x, int levels) {
-    Py_ssize_t place = 0, count = PyDict_GET_SIZE(x);
+    Py_ssize_t place = 0, count = PyDict_GET_SIZE(x), left = count;
     PyObject *key, *one;
     if (add(t, BSER_OBJECT, (size_t)count, 0) < 0) return -1;
-    while (count != 0 && PyDict_Next(x, &place, &key, &one))
-        if (put_key(t, key) < 0 || put(t, one, levels) < 0) return -1;
+    for (; left != 0; left--) {
+        if (PyDict_GET_SIZE(x) != count || !PyDict_Next(x, &place, &key, &one)) return changed();
+        Py_INCREF(key);
+        Py_INCREF(one);
+        int added = put_key(t, key) < 0 ? -1 : put(t, one, levels);
+        Py_DECREF(key);
+        Py_DECREF(one);
+        if (added < 0) return -1;
+    }
     return add_close(t);
 }
 
@@ -241,6 +262,7 @@ static void begin(tape *t) {
 }
 
 static void end(const tape *t) {
+    for (size_t i = 0; i < MOST_SEEN; i++) Py_XDECREF(t->seen[i].key);
     if (kept_words != NULL || 8 * t->words_room + t->strings_room > MOST_KEPT) {
         PyMem_Free(t->words);
         PyMem_Free(t->strings);

@@ -39,7 +39,8 @@ static PyObject *compact(PyObject *module, PyObject *bytes) {
 
 static PyMethodDef methods[] = {
     {"loads", (PyCFunction)(void (*)(void))loads, METH_FASTCALL | METH_KEYWORDS, "The value of a message."},
-    {"dumps", (PyCFunction)(void (*)(void))dumps, METH_FASTCALL | METH_KEYWORDS, "The message of a value."},
+    {"dumps", (PyCFunction)(void (*)(void))dumps, METH_FASTCALL | METH_KEYWORDS,
+     "The message of a value. RuntimeError where a list or dict changes meanwhile."},
     {"pdu_info", pdu_info, METH_O, "The version, the capabilities and the length of a message."},
     {"pdu_len", pdu_len, METH_O, "The length of a message."},
     {"canonical", canonical, METH_O, "The canonical message of the value, of version 2."},

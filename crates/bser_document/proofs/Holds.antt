@@ -1,5 +1,5 @@
 -- What the first node of a value says of it.
-use Rattle.std.proofs.Common.{◌≡◌, ◌<◌, ℕ, ◌+◌, List, [], ◌∷◌, ◌++◌, length, map, drop, get_or, Option, Some, None, refl, sym, ap, subst, ◌∙◌, Bor, option_map, true, false}
+use Rattle.std.proofs.Common.{◌≡◌, ◌≢◌, ◌<◌, ℤ, Bool, ℕ, ◌+◌, List, [], ◌∷◌, ◌++◌, length, map, drop, get_or, Option, Some, None, refl, sym, ap, subst, ◌∙◌, Bor, option_map, true, false}
 use Rattle.std.specs.Prelude.{IsUtf8, MatchOption}
 use Rattle.std.proofs.lemmas.Option.{same_Some}
 use Rattle.std.proofs.lemmas.List.{append-nil, drop_more}
@@ -16,6 +16,7 @@ use Rattle.bser_document.specs.declared.document.DocumentNode.{DocumentNode}
 use Rattle.bser_document.specs.declared.document.DocumentNode.TheVariants as nodes
 use Rattle.bser_document.specs.declared.item.Item.{Item}
 use Rattle.bser_document.specs.declared.item.Keys.{Keys}
+use Rattle.bser_document.specs.declared.item.ItemKind.{ItemKind}
 use Rattle.bser_document.specs.declared.item.ItemKind.TheVariants as kinds
 use Rattle.bser_document.specs.DocumentView.{IsInside, Within, piece, event_of, HoldsDocument}
 use Rattle.bser_document.proofs.Ends.{whole_ends}
@@ -102,6 +103,39 @@ shown i n first within u h = record {
 pub answered : {Z : Type 0} (f : Tree → Z) (d : Document) (n : DocumentNode) (r : Z) → ((t : Tree) → f (emptied t) ≡ f t) → ((s : List ℕ) → r ≡ f (node_tree s n)) → (u : Tree) → ShowsNode u d n → r ≡ f u
 answered f d n r same is u h = is d.strings.items ∙ ap f h.same ∙ same u
 
+-- a node that is none of the others shows null
+pub null_shown : (s : List ℕ) (n : DocumentNode) → ((v : Bool) → n ≢ nodes.Bool v) → ((v : ℤ) → n ≢ nodes.Int v) → ((r : ℕ) → n ≢ nodes.Real r) → ((l a : ℕ) → n ≢ nodes.Bytes l a) → ((l a : ℕ) → n ≢ nodes.Text l a)
+    → ((l e : ℕ) → n ≢ nodes.Array l e) → ((l e : ℕ) → n ≢ nodes.Object l e) → ((l e : ℕ) → n ≢ nodes.Template l e) → kinds.Null ≡ kind_of (node_tree s n)
+null_shown s nodes.Null b i r y t a o m = refl
+null_shown s (nodes.Bool v) b i r y t a o m = absurd (b v refl)
+null_shown s (nodes.Int v) b i r y t a o m = absurd (i v refl)
+null_shown s (nodes.Real v) b i r y t a o m = absurd (r v refl)
+null_shown s (nodes.Bytes l p) b i r y t a o m = absurd (y l p refl)
+null_shown s (nodes.Text l p) b i r y t a o m = absurd (t l p refl)
+null_shown s (nodes.Key l p) b i r y t a o m = refl
+null_shown s (nodes.Array l e) b i r y t a o m = absurd (a l e refl)
+null_shown s (nodes.Object l e) b i r y t a o m = absurd (o l e refl)
+null_shown s (nodes.Template l e) b i r y t a o m = absurd (m l e refl)
+null_shown s (nodes.Rows l) b i r y t a o m = refl
+null_shown s nodes.Skip b i r y t a o m = refl
+null_shown s nodes.Close b i r y t a o m = refl
+
+-- a node that is no number has no float
+pub no_float : (s : List ℕ) (n : DocumentNode) → ((v : ℤ) → n ≢ nodes.Int v) → ((r : ℕ) → n ≢ nodes.Real r) → None ≡ as_f64 (node_tree s n)
+no_float s nodes.Null i r = refl
+no_float s (nodes.Bool v) i r = refl
+no_float s (nodes.Int v) i r = absurd (i v refl)
+no_float s (nodes.Real v) i r = absurd (r v refl)
+no_float s (nodes.Bytes l p) i r = refl
+no_float s (nodes.Text l p) i r = refl
+no_float s (nodes.Key l p) i r = refl
+no_float s (nodes.Array l e) i r = refl
+no_float s (nodes.Object l e) i r = refl
+no_float s (nodes.Template l e) i r = refl
+no_float s (nodes.Rows l) i r = refl
+no_float s nodes.Skip i r = refl
+no_float s nodes.Close i r = refl
+
 pub kind_of_emptied : (t : Tree) → kind_of (emptied t) ≡ kind_of t
 kind_of_emptied null = refl
 kind_of_emptied (boolean v) = refl
@@ -112,6 +146,10 @@ kind_of_emptied (text s) = refl
 kind_of_emptied (array ts) = refl
 kind_of_emptied (object es) = refl
 kind_of_emptied (template ks rs) = refl
+
+-- a node that shows a value of a kind is of it
+pub kind_shown : (d : Document) (n : DocumentNode) (k : ItemKind) → ((s : List ℕ) → k ≡ kind_of (node_tree s n)) → (u : Tree) → ShowsNode u d n → k ≡ kind_of u
+kind_shown d n k is u h = answered kind_of d n k kind_of_emptied is u h
 
 -- null is the only value of its kind
 pub null_kind : (u : Tree) → kind_of u ≡ kinds.Null → true ≡ is_null u

@@ -1,10 +1,10 @@
 //! What a value is, without a look at what it has inside.
-ghost use Rattle.std.specs.Prelude.{◌≡◌, List, ℕ, Option, option_map, OnSome};
+ghost use Rattle.std.specs.Prelude.{◌≡◌, Option, option_map, OnSome};
 ghost use Rattle.bser_format.specs.Content.{value};
 ghost use Rattle.bser_format.specs.Tree.{Tree};
 ghost use Rattle.bser_value.specs.Contents.{as_bool, as_i64, as_f64, as_bytes, as_str};
 ghost use Rattle.bser_document.specs.DocumentView.{HoldsDocument, IsInside, piece, value_of};
-ghost use Rattle.bser_document.specs.Holds.{HoldsItem, IsNodeAt, IsOwnNode, IsPartNode, ShowsNode, item_value, kind_of, is_null, as_real_bits, node_tree};
+ghost use Rattle.bser_document.specs.Holds.{HoldsItem, IsNodeAt, IsOwnNode, IsPartNode, ShowsNode, item_value, kind_of, is_null, as_real_bits};
 
 use crate::document::{Document, DocumentNode};
 use crate::item::{Item, ItemKind};
@@ -75,7 +75,17 @@ impl<'d> Item<'d> {
     pub fn kind(self) -> ItemKind
         ensures { (u : Tree) → HoldsItem self.entry u → result ≡ kind_of u }
     {
-        kind_at(self.node())
+        match self.node() {
+            DocumentNode::Bool(_) => ItemKind::Bool,
+            DocumentNode::Int(_) => ItemKind::Integer,
+            DocumentNode::Real(_) => ItemKind::Real,
+            DocumentNode::Bytes { len: _, at: _ } => ItemKind::Bytes,
+            DocumentNode::Text { len: _, at: _ } => ItemKind::Text,
+            DocumentNode::Array { len: _, end: _ } => ItemKind::Array,
+            DocumentNode::Template { len: _, end: _ } => ItemKind::Array,
+            DocumentNode::Object { len: _, end: _ } => ItemKind::Object,
+            _ => ItemKind::Null,
+        }
     }
 
     /// Whether the value is null.
@@ -89,21 +99,30 @@ impl<'d> Item<'d> {
     pub fn as_bool(self) -> Option<bool>
         ensures { (u : Tree) → HoldsItem self.entry u → result ≡ as_bool u }
     {
-        bool_at(self.node())
+        match self.node() {
+            DocumentNode::Bool(truth) => Some(truth),
+            _ => None,
+        }
     }
 
     /// The integer, and `None` for all else, reals included.
     pub fn as_i64(self) -> Option<i64>
         ensures { (u : Tree) → HoldsItem self.entry u → result ≡ as_i64 u }
     {
-        i64_at(self.node())
+        match self.node() {
+            DocumentNode::Int(number) => Some(number),
+            _ => None,
+        }
     }
 
     /// The bits of the real, and `None` for all else.
     pub fn as_real_bits(self) -> Option<u64>
         ensures { (u : Tree) → HoldsItem self.entry u → result ≡ as_real_bits u }
     {
-        real_bits_at(self.node())
+        match self.node() {
+            DocumentNode::Real(bits) => Some(bits),
+            _ => None,
+        }
     }
 
     /// The real, or the `f64` nearest to the integer. `None` for a NaN, of which `f64::from_bits`
@@ -111,7 +130,11 @@ impl<'d> Item<'d> {
     pub fn as_f64(self) -> Option<f64>
         ensures { (u : Tree) → HoldsItem self.entry u → result ≡ as_f64 u }
     {
-        f64_at(self.node())
+        match self.node() {
+            DocumentNode::Real(bits) => float_of(bits),
+            DocumentNode::Int(number) => Some(nearest_i64_to_f64(number)),
+            _ => None,
+        }
     }
 
     /// The bytes of a byte string or of a text, and `None` for all else.
@@ -135,68 +158,5 @@ impl<'d> Item<'d> {
             DocumentNode::Text { len, at } => as_text(self.document.string(len, at)),
             _ => None,
         }
-    }
-}
-
-/// What kind a node is of.
-#[inline(always)]
-fn kind_at(node: DocumentNode) -> ItemKind
-    ensures { (s : List ℕ) → result ≡ kind_of (node_tree s node) }
-{
-    match node {
-        DocumentNode::Bool(_) => ItemKind::Bool,
-        DocumentNode::Int(_) => ItemKind::Integer,
-        DocumentNode::Real(_) => ItemKind::Real,
-        DocumentNode::Bytes { len: _, at: _ } => ItemKind::Bytes,
-        DocumentNode::Text { len: _, at: _ } => ItemKind::Text,
-        DocumentNode::Array { len: _, end: _ } | DocumentNode::Template { len: _, end: _ } =>
-            ItemKind::Array,
-        DocumentNode::Object { len: _, end: _ } => ItemKind::Object,
-        _ => ItemKind::Null,
-    }
-}
-
-/// The truth value of a node.
-#[inline(always)]
-fn bool_at(node: DocumentNode) -> Option<bool>
-    ensures { (s : List ℕ) → result ≡ as_bool (node_tree s node) }
-{
-    match node {
-        DocumentNode::Bool(truth) => Some(truth),
-        _ => None,
-    }
-}
-
-/// The integer of a node.
-#[inline(always)]
-fn i64_at(node: DocumentNode) -> Option<i64>
-    ensures { (s : List ℕ) → result ≡ as_i64 (node_tree s node) }
-{
-    match node {
-        DocumentNode::Int(number) => Some(number),
-        _ => None,
-    }
-}
-
-/// The bits of a node's real.
-#[inline(always)]
-fn real_bits_at(node: DocumentNode) -> Option<u64>
-    ensures { (s : List ℕ) → result ≡ as_real_bits (node_tree s node) }
-{
-    match node {
-        DocumentNode::Real(bits) => Some(bits),
-        _ => None,
-    }
-}
-
-/// The number of a node as a float.
-#[inline(always)]
-fn f64_at(node: DocumentNode) -> Option<f64>
-    ensures { (s : List ℕ) → result ≡ as_f64 (node_tree s node) }
-{
-    match node {
-        DocumentNode::Real(bits) => float_of(bits),
-        DocumentNode::Int(number) => Some(nearest_i64_to_f64(number)),
-        _ => None,
     }
 }

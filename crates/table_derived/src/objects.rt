@@ -29,7 +29,8 @@ pub fn compare_all(rt: &HostRuntime, file: &str) -> Result<()> {
             is_accepted: verdict == "ok",
             answer,
         };
-        match compare_as(rt.alloc(), kind, &message, expected)? {
+        let compared = compare_as(rt.alloc(), kind, &message, expected)?;
+        match &compared {
             Compared::Same(Answered::Value(_)) => values = values.saturating_add(1),
             Compared::Same(Answered::Misfit(_)) => misfits = misfits.saturating_add(1),
             Compared::Same(Answered::Malformed(_)) => malformed = malformed.saturating_add(1),

@@ -5,6 +5,9 @@ use watchman_types::requests::{
     WatchProjectRequest,
 };
 
+/// The field of a name alone.
+const NAME_ALONE: &[&str] = &["name"];
+
 /// The root of the session.
 pub const ROOT: Bytes<'static> = Bytes(b"/data/my/project");
 
@@ -126,23 +129,25 @@ pub fn compare_written(recording: &mut RecordedRequests<'_>) {
         scope: Some(Scope::Wholename),
     };
     let either = [Expression::Suffix("c"), Expression::Name(makefile)];
-    let others = Query {
-        expression: Some(Expression::Not(&Expression::AnyOf(&either))),
-        fields: Some(&["name"]),
-        ..Query::new()
+    let any = Expression::AnyOf(&either);
+    compare(recording, "query-neither", names_of(Expression::Not(&any)));
+    let names = Query {
+        fields: Some(NAME_ALONE),
+        ..all_files()
     };
-    compare(recording, "query-neither", others);
     let quiet = SubscribeRequest {
         defer: Some(&["build"]),
         drop: Some(&["hg.update", "deploy"]),
-        ..SubscribeRequest::new(
-            ROOT,
-            "quiet",
-            Query {
-                fields: Some(&["name"]),
-                ..all_files()
-            },
-        )
+        ..SubscribeRequest::new(ROOT, "quiet", names)
     };
     recording.compare("subscribe-quietly", &quiet);
+}
+
+/// A query for the names of these files.
+fn names_of<'a>(expression: Expression<'a>) -> Query<'a> {
+    Query {
+        expression: Some(expression),
+        fields: Some(NAME_ALONE),
+        ..Query::new()
+    }
 }
