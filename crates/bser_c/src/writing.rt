@@ -97,6 +97,7 @@ impl<'i, 't> Builder for Tape<'i, 't> {
 
     #[inline(always)]
     fn take(&mut self, event: Event<'_>, place: Place) -> Result<(), Stop> {
+        // the head first: made behind the second word it takes 11 % more instructions
         let first = head(event, place.is_text);
         let Some(second) = second(self.input, event, place) else {
             return Err(Stop::Asked);
