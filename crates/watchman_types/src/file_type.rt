@@ -31,7 +31,7 @@ pub enum FileType {
     Socket,
     /// `D`, of Solaris
     Door,
-    /// `?`, none that the server knows. In a request it is the server's error.
+    /// `?`, none that the server knows.
     Unknown,
 }
 
