@@ -69,12 +69,25 @@ fn check_wanted(rt: &impl Abort, outcome: BserOutcome, length: usize) {
     );
 }
 
+/// Checks that a call tells how much room is wanted where it has none, half, and one less.
+fn check_rooms<T>(
+    rt: &impl Abort,
+    out: &mut [T],
+    wanted: usize,
+    call: impl Fn(&mut [T]) -> BserOutcome,
+) {
+    for room in [0, wanted / 2, wanted.saturating_sub(1)] {
+        assert!(rt; room <= out.len());
+        check_wanted(rt, call(&mut out[..room]), wanted);
+    }
+}
+
 #[test]
 fn words_without_room(rt: HostRuntime) {
     let alloc = rt.alloc();
-    let mut words = [7u64; 13];
-    check_wanted(&rt, bser_tape(alloc, TEMPLATE, &mut words), 14);
-    check_wanted(&rt, bser_tape(alloc, TEMPLATE, &mut []), 14);
+    check_rooms(&rt, &mut [7u64; 14], 14, |words| {
+        bser_tape(alloc, TEMPLATE, words)
+    });
 }
 
 #[test]
@@ -103,12 +116,9 @@ fn canonical(rt: HostRuntime) {
     let mut out = [7u8; 40];
     let whole = bser_canonical(alloc, ROWS, &mut out);
     check_written(&rt, whole, &out, CANONICAL);
-    let mut small = [7u8; 27];
-    check_wanted(
-        &rt,
-        bser_canonical(alloc, ROWS, &mut small),
-        CANONICAL.len(),
-    );
+    check_rooms(&rt, &mut out, CANONICAL.len(), |small| {
+        bser_canonical(alloc, ROWS, small)
+    });
     let mut none = [7u8; 40];
     let cut = bser_canonical(alloc, &ROWS[..20], &mut none);
     assert_eq!(rt; (cut.code, cut.place), (48, 20));
@@ -120,8 +130,9 @@ fn compact(rt: HostRuntime) {
     let mut out = [7u8; 40];
     let whole = bser_compact(alloc, CANONICAL, &mut out);
     check_written(&rt, whole, &out, ROWS);
-    let mut small = [7u8; 20];
-    check_wanted(&rt, bser_compact(alloc, CANONICAL, &mut small), ROWS.len());
+    check_rooms(&rt, &mut out, ROWS.len(), |small| {
+        bser_compact(alloc, CANONICAL, small)
+    });
     let mut none = [7u8; 40];
     let wrong = bser_compact(alloc, b"\x00\x01\x03\x01\x0a", &mut none);
     assert_eq!(rt; wrong.code, 54);
@@ -155,8 +166,9 @@ fn descriptions(rt: HostRuntime) {
     let mut out = [7u8; 80];
     let whole = bser_describe(alloc, wrong, &mut out);
     check_written(&rt, whole, &out, line);
-    let mut small = [7u8; 60];
-    check_wanted(&rt, bser_describe(alloc, wrong, &mut small), line.len());
+    check_rooms(&rt, &mut out, line.len(), |small| {
+        bser_describe(alloc, wrong, small)
+    });
     let mut none = [7u8; 80];
     let nothing = bser_describe(alloc, ROWS, &mut none);
     check_written(&rt, nothing, &none, b"");
