@@ -32,8 +32,9 @@ __all__ = [
     "pdu_len",
 ]
 
-# The shortest head, the shortest message of version 1, and the longest head.
-_SHORTEST, _LONGEST = 5, 15
+# The shortest head, the shortest message of version 1, and the longest head; and how much is read at once,
+# since a head may announce what no memory holds.
+_SHORTEST, _LONGEST, _PIECE = 5, 15, 1 << 24
 _NOT_WHOLE = 1
 
 
@@ -49,7 +50,7 @@ def _read(fp, size):
     """Reads so many bytes, or as many as are left."""
     pieces = []
     while size > 0:
-        piece = _read_some(fp, size)
+        piece = _read_some(fp, min(size, _PIECE))
         if not piece:
             break
         pieces.append(piece)

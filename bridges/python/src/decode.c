@@ -1,6 +1,8 @@
 /* The value of a message, made of its tape. */
 #include "internal.h"
 
+typedef PyObject *decoder(const char *bytes, Py_ssize_t len, const char *errors);
+
 typedef struct {
     const uint8_t *bytes;
     uint64_t *words;
@@ -8,6 +10,7 @@ typedef struct {
     size_t give_at; /* the word at which memory is given back next */
     int mutable;
     const char *encoding, *errors;
+    decoder *decode; /* NULL where a codec of the registry decodes */
 } walk;
 
 /* The last integer of a column, and the object that it was made. */
@@ -211,6 +214,21 @@ static PyObject *closed(walk *w, PyObject *made) {
     return made;
 }
 
+/* A byte string by a codec of the registry, which gets bytes of its own: it may keep what it gets. */
+static PyObject *by_codec(const walk *w, const char *bytes, Py_ssize_t len) {
+    PyObject *given = PyBytes_FromStringAndSize(bytes, len);
+    PyObject *made = given == NULL ? NULL : PyCodec_Decode(given, w->encoding, w->errors);
+    Py_XDECREF(given);
+    if (made == NULL || PyUnicode_Check(made)) return made;
+    PyErr_Format(PyExc_TypeError, "the encoding %s gave a %.100s and no str", w->encoding, Py_TYPE(made)->tp_name);
+    Py_DECREF(made);
+    return NULL;
+}
+
+static PyObject *decoded(const walk *w, const char *bytes, Py_ssize_t len) {
+    return w->decode == NULL ? by_codec(w, bytes, len) : w->decode(bytes, len, w->errors);
+}
+
 /* A real, a text, or a container. */
 static PyObject *other_value(walk *w) {
     size_t at = w->at;
@@ -219,7 +237,7 @@ static PyObject *other_value(walk *w) {
     switch (bser_tag_of(w->words[at])) {
     case BSER_REAL: memcpy(&real, &w->words[at + 1], sizeof real); return PyFloat_FromDouble(real);
     case BSER_TEXT: return text_of(string_at(w, at), count_at(w, at));
-    case BSER_BYTES: return PyUnicode_Decode(string_at(w, at), count_at(w, at), w->encoding, w->errors);
+    case BSER_BYTES: return decoded(w, string_at(w, at), count_at(w, at));
     case BSER_ARRAY: return closed(w, array_of(w, count_at(w, at)));
     case BSER_OBJECT: return closed(w, object_of(w, count_at(w, at)));
     case BSER_TEMPLATE: return closed(w, rows_of(w, count_at(w, at)));
@@ -265,24 +283,36 @@ static PyObject *value_of(const message *m, walk *w) {
 static int take_text(const char **text, PyObject *given) {
     *text = NULL;
     if (given == NULL || given == Py_None) return 0;
-    if (PyUnicode_Check(given)) {
-        *text = PyUnicode_AsUTF8(given);
-        return *text == NULL ? -1 : 0;
+    if (!PyUnicode_Check(given)) {
+        PyErr_Format(PyExc_TypeError, "an encoding has to be str or None, not %.100s", Py_TYPE(given)->tp_name);
+        return -1;
     }
-    PyErr_Format(PyExc_TypeError, "an encoding has to be str or None, not %.100s", Py_TYPE(given)->tp_name);
+    Py_ssize_t len;
+    *text = PyUnicode_AsUTF8AndSize(given, &len);
+    if (*text == NULL) return -1;
+    if (strlen(*text) == (size_t)len) return 0;
+    PyErr_SetString(PyExc_ValueError, "a null character in the name of an encoding");
     return -1;
+}
+
+/* The function of Python's own that decodes without a codec of the registry, or NULL. */
+static decoder *decoder_of(const char *encoding) {
+    if (strcmp(encoding, "utf-8") == 0 || strcmp(encoding, "utf8") == 0) return PyUnicode_DecodeUTF8;
+    if (strcmp(encoding, "latin-1") == 0) return PyUnicode_DecodeLatin1;
+    return strcmp(encoding, "ascii") == 0 ? PyUnicode_DecodeASCII : NULL;
 }
 
 PyObject *loads(PyObject *module, PyObject *const *args, Py_ssize_t count, PyObject *names) {
     static const char *const parameters[] = {"buf", "mutable", "value_encoding", "value_errors", NULL};
     PyObject *taken[4] = {NULL, NULL, NULL, NULL};
-    walk w = {NULL, NULL, 0, 0, 1, NULL, NULL};
+    walk w = {NULL, NULL, 0, 0, 1, NULL, NULL, NULL};
     message m;
     (void)module;
     if (take_arguments("loads", parameters, taken, args, count, names) < 0) return NULL;
     if (taken[1] != NULL && (w.mutable = PyObject_IsTrue(taken[1])) < 0) return NULL;
     if (take_text(&w.encoding, taken[2]) < 0 || take_text(&w.errors, taken[3]) < 0) return NULL;
     if (w.errors == NULL) w.errors = "strict";
+    if (w.encoding != NULL) w.decode = decoder_of(w.encoding);
     if (open_message(&m, taken[0]) < 0) return NULL;
     PyObject *made = value_of(&m, &w);
     close_message(&m);

@@ -69,8 +69,9 @@ static int add_place(tape *t, unsigned tag, size_t at, size_t len) {
     return add_part(t, tag, len, at, len + (len < 0x80 ? 3 : 10));
 }
 
+/* Adds a string. There is memory for an empty one too, since memcpy takes no null pointer. */
 static int add_string(tape *t, unsigned tag, const char *bytes, size_t len) {
-    if (len > t->strings_room - t->len && grow_strings(t, len) < 0) return -1;
+    if (len >= t->strings_room - t->len && grow_strings(t, len) < 0) return -1;
     memcpy(t->strings + t->len, bytes, len);
     t->len += len;
     return add_place(t, tag, t->len - len, len);
@@ -291,6 +292,8 @@ PyObject *dumps(PyObject *module, PyObject *const *args, Py_ssize_t count, PyObj
     if (take_number(&version, taken[1]) < 0 || take_number(&capabilities, taken[2]) < 0) return NULL;
     if (version != 1 && version != 2)
         return raise_error(encode_error, "the version has to be 1 or 2", BSER_OK, 0, 0);
+    if (capabilities < INT32_MIN || capabilities > UINT32_MAX)
+        return raise_error(encode_error, "the capabilities have to fit into 32 bits", BSER_OK, 0, 0);
     tape t;
     begin(&t);
     if (put(&t, taken[0], MOST_LEVELS) == 0) made = message_of(&t, (int)version, (uint32_t)capabilities);

@@ -35,11 +35,23 @@ static PyObject *object_item(PyObject *self, Py_ssize_t at) {
     return Py_NewRef(PyTuple_GET_ITEM(values, at));
 }
 
+static PyObject *no_key(PyObject *key) {
+    PyErr_Format(PyExc_AttributeError, "the object has no key '%U'", key);
+    return NULL;
+}
+
+/* A str that is not UTF-8 is no key. */
+static PyObject *no_utf8(PyObject *key) {
+    if (!PyErr_ExceptionMatches(PyExc_UnicodeEncodeError)) return NULL;
+    PyErr_Clear();
+    return no_key(key);
+}
+
 /* The value under the key, which is a str. A key may be asked for as stat names it, as st_size. */
 static PyObject *value_of(object *o, PyObject *key) {
     Py_ssize_t len, count = PyTuple_GET_SIZE(o->keys);
     const char *name = PyUnicode_AsUTF8AndSize(key, &len);
-    if (name == NULL) return NULL;
+    if (name == NULL) return no_utf8(key);
     if (len > 3 && memcmp(name, "st_", 3) == 0) {
         name += 3;
         len -= 3;
@@ -51,8 +63,7 @@ static PyObject *value_of(object *o, PyObject *key) {
         if (other_len == len && memcmp(name, other, (size_t)len) == 0)
             return Py_NewRef(PyTuple_GET_ITEM(o->values, i));
     }
-    PyErr_Format(PyExc_AttributeError, "the object has no key '%U'", key);
-    return NULL;
+    return no_key(key);
 }
 
 static PyObject *object_attribute(PyObject *self, PyObject *name) {

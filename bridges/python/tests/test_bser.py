@@ -238,47 +238,6 @@ class Values(unittest.TestCase):
             bser.load(file)
         self.assertEqual(bser.load(file), None)
 
-    def test_changed(self):
-        """Python code that the collector runs may change what is written: a message or an error comes."""
-        names = [f"a\udcff{i}" for i in range(2000)]
-        value = None
-
-        def clear(phase, _info):
-            if phase == "start":
-                value.clear()
-
-        def written():
-            try:
-                return bser.loads(bser.dumps(value)) is not None
-            except RuntimeError:
-                return True
-
-        for made in (lambda: names + [b"y" * 50] * 2000, lambda: dict.fromkeys(map(str, range(2000)), names[0])):
-            value, threshold = made(), gc.get_threshold()
-            gc.callbacks.append(clear)
-            gc.set_threshold(1, 1, 1)
-            try:
-                self.assertTrue(written())
-            finally:
-                gc.set_threshold(*threshold)
-                gc.callbacks.remove(clear)
-
-        class Cycle:
-            def __init__(self):
-                self.me = self
-
-            def __del__(self):
-                value.clear()
-
-        for count in range(640, 721):
-            value = list(names)
-            gc.disable()
-            gc.collect()
-            Cycle()
-            kept = [[] for _ in range(count)]
-            gc.enable()
-            self.assertTrue(written(), len(kept))
-
     def test_memory(self):
         """Many calls, with errors too, keep no memory."""
         wrong, right = b"\0\1\3\4\0\3\1\x14", bser.dumps([{"a": [1.5, "b", b"c"]}] * 9)
