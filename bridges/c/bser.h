@@ -5,9 +5,9 @@
  * call fail otherwise than by its code: that is proved of the library's side.
  *
  * The caller owes, and nothing checks:
- *   - A slice is a pointer and a length in bytes or words. The memory is there for that length, it
- *     is initialised, and the pointer is not null, also where the length is 0.
- *   - What a call writes overlaps nothing that it reads.
+ *   - A slice is a pointer and a length in bytes or words. The memory is there for that length, and it
+ *     is initialised. Where the length is 0 the pointer may be null. Words are aligned as uint64_t is.
+ *   - What a call writes overlaps nothing that it reads, and no other thread writes either meanwhile.
  *   - malloc, realloc and free are those of one allocator.
  * A call takes at most 48 bytes of memory for each byte that it reads, and bser_compact 128.
  * bser_canonical, bser_compact and bser_describe call themselves at most 128 levels deep.

@@ -1,15 +1,18 @@
 /* Calls all exports on messages and on mutations of them, in buffers of just their size, and checks
- * that the answers fit together. Built with the sanitizers of addresses and of undefined behaviour.
+ * that the answers fit together; on slices of no bytes that are null pointers; and on the messages in
+ * several threads at once. Built with the sanitizers of addresses and of undefined behaviour.
  *
  * The arguments are how many mutations to make in all, and files: a message each (.bser), or lines
  * whose second column is a message in hexadecimal (.tsv). */
 #include "bser.h"
 
+#include <pthread.h>
 #include <stdio.h>
 #include <stdlib.h>
 #include <string.h>
 
 #define MOST_MESSAGES 20000
+#define THREADS 8
 
 typedef struct {
     uint8_t *bytes;
@@ -18,7 +21,7 @@ typedef struct {
 
 static message messages[MOST_MESSAGES];
 static size_t message_count;
-static unsigned long calls, told, refused;
+static __thread unsigned long calls, told, refused;
 
 static void fail(const char *what, const uint8_t *bytes, size_t len) {
     fprintf(stderr, "%s:", what);
@@ -38,6 +41,42 @@ static void *fresh(size_t size) {
 }
 
 typedef bser_outcome rewrite(const uint8_t *, size_t, uint8_t *, size_t);
+
+static void check_outcome(const char *what, bser_outcome outcome, uint32_t code, size_t place, size_t length) {
+    calls++;
+    if (outcome.code == code && outcome.place == place && outcome.length == length) return;
+    fprintf(stderr, "%s: code %u, place %zu, length %zu\n", what, (unsigned)outcome.code, outcome.place, outcome.length);
+    exit(1);
+}
+
+#define NULLS(call, ...) check_outcome(#call, call, __VA_ARGS__)
+
+/* A slice of no bytes or words may be a null pointer, in each call and in each place. */
+static void check_nulls(void) {
+    static const char early[] = "end of input, at byte 0, in .";
+    const uint8_t message[] = {0, 2, 0, 0, 0, 0, 3, 1, 8};
+    const uint64_t tape[] = {BSER_TRUE, 0};
+    size_t len = sizeof message, line = sizeof early - 1;
+    uint64_t words[2];
+    uint8_t out[32];
+    NULLS(bser_message_length(NULL, 0), BSER_NOT_WHOLE, 0, 0);
+    NULLS(bser_tape(NULL, 0, NULL, 0), BSER_EARLY_END, 0, 0);
+    NULLS(bser_tape(NULL, 0, words, 2), BSER_EARLY_END, 0, 0);
+    NULLS(bser_tape(message, len, NULL, 0), BSER_TOO_SMALL, 0, 2);
+    NULLS(bser_of_tape(NULL, 0, NULL, 0, NULL, 0), BSER_TOO_SMALL, 0, len - 1);
+    NULLS(bser_of_tape(NULL, 0, NULL, 0, out, len), BSER_TAPE_INVALID, 0, 0);
+    NULLS(bser_of_tape(tape, 2, NULL, 0, NULL, 0), BSER_TOO_SMALL, 0, len);
+    NULLS(bser_of_tape(tape, 2, NULL, 0, out, len), BSER_OK, 0, len);
+    rewrite *const calls_of[] = {bser_canonical, bser_compact};
+    for (size_t i = 0; i < 2; i++) {
+        NULLS(calls_of[i](NULL, 0, NULL, 0), BSER_EARLY_END, 0, 0);
+        NULLS(calls_of[i](NULL, 0, out, len), BSER_EARLY_END, 0, 0);
+        NULLS(calls_of[i](message, len, NULL, 0), BSER_TOO_SMALL, 0, len);
+    }
+    NULLS(bser_describe(NULL, 0, NULL, 0), BSER_TOO_SMALL, 0, line);
+    NULLS(bser_describe(NULL, 0, out, sizeof out), BSER_OK, 0, line);
+    NULLS(bser_describe(message, len, NULL, 0), BSER_OK, 0, 0);
+}
 
 /* Writes into no room, and then into just what is wanted. The memory is the caller's. */
 static uint8_t *rewritten(rewrite *call, const uint8_t *bytes, size_t len, bser_outcome *done) {
@@ -194,6 +233,23 @@ static void check_mutation(void) {
     free(bytes);
 }
 
+/* Checks each message, from the one that is given on. */
+static void *check_from(void *first) {
+    size_t at = (size_t)((message *)first - messages);
+    for (size_t i = 0; i < message_count; i++) {
+        const message *of = &messages[(at + i) % message_count];
+        check(of->bytes, of->len, i);
+    }
+    return NULL;
+}
+
+static void check_threads(void) {
+    pthread_t threads[THREADS];
+    for (size_t i = 0; i < THREADS; i++)
+        if (pthread_create(&threads[i], NULL, check_from, &messages[i * message_count / THREADS]) != 0) exit(2);
+    for (size_t i = 0; i < THREADS; i++) pthread_join(threads[i], NULL);
+}
+
 static void add(uint8_t *bytes, size_t len) {
     if (message_count == MOST_MESSAGES) return;
     messages[message_count].bytes = bytes;
@@ -232,6 +288,8 @@ static void read_file(const char *name) {
 int main(int argc, char **argv) {
     if (argc < 3 || bser_abi_version() != BSER_ABI_VERSION) return 2;
     for (int i = 2; i < argc; i++) read_file(argv[i]);
+    check_nulls();
+    check_threads();
     for (size_t i = 0; i < message_count; i++) check(messages[i].bytes, messages[i].len, next());
     unsigned long mutations = strtoul(argv[1], NULL, 10);
     for (unsigned long i = 0; i < mutations; i++) check_mutation();

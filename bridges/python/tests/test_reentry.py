@@ -262,6 +262,11 @@ class Threads(unittest.TestCase):
 
 
 class Limits(unittest.TestCase):
+    def test_empty(self):
+        """An empty string where the last call left no memory for strings, since it took too much."""
+        self.assertEqual(len(bser.dumps(b"y" * 9_000_000)), 9_000_013)
+        self.assertEqual(bser.loads(bser.dumps(["", b""])), [b"", b""])
+
     def test_capabilities(self):
         self.assertEqual(bser.pdu_info(bser.dumps(1, 2, 0xFFFFFFFF))[1], 0xFFFFFFFF)
         self.assertEqual(bser.pdu_info(bser.dumps(1, 2, -1))[1], 0xFFFFFFFF)
