@@ -8,6 +8,7 @@ typedef struct {
     uint64_t *words;
     size_t at;
     size_t give_at; /* the word at which memory is given back next */
+    size_t lists;   /* how many lists were made where nothing else may change */
     int mutable;
     const char *encoding, *errors;
     decoder *decode; /* NULL where a codec of the registry decodes */
@@ -125,6 +126,7 @@ static PyObject *object_of(walk *w, Py_ssize_t count) {
         return made;
     }
     PyObject *keys = PyTuple_New(count), *values = PyTuple_New(count);
+    size_t lists = w->lists;
     Py_ssize_t i = 0;
     for (; keys != NULL && values != NULL && i < count; i++) {
         PyObject *key = next_key(w), *one = key == NULL ? NULL : value(w);
@@ -132,7 +134,7 @@ static PyObject *object_of(walk *w, Py_ssize_t count) {
         if (one == NULL) break;
         PyTuple_SET_ITEM(values, i, one);
     }
-    if (keys != NULL && values != NULL && i == count) made = new_object(keys, values);
+    if (keys != NULL && values != NULL && i == count) made = new_object(keys, values, w->lists != lists);
     Py_XDECREF(keys);
     Py_XDECREF(values);
     return made;
@@ -164,8 +166,9 @@ static PyObject *dict_row(walk *w, const shape *of) {
 }
 
 static PyObject *object_row(walk *w, const shape *of) {
+    size_t lists = w->lists;
     PyObject *values = tuple_of(w, PyTuple_GET_SIZE(of->keys), value);
-    PyObject *made = values == NULL ? NULL : new_object(of->keys, values);
+    PyObject *made = values == NULL ? NULL : new_object(of->keys, values, w->lists != lists);
     Py_XDECREF(values);
     return made;
 }
@@ -200,6 +203,7 @@ static PyObject *rows_of(walk *w, Py_ssize_t count) {
     Py_ssize_t rows = count_at(w, w->at);
     w->at += 2;
     PyObject *made = NULL;
+    w->lists++;
     if (!w->mutable)
         made = list_of(w, rows, object_row, &of);
     else if (rows <= FEW_ROWS || begin_rows(&of) == 0)
@@ -305,7 +309,7 @@ static decoder *decoder_of(const char *encoding) {
 PyObject *loads(PyObject *module, PyObject *const *args, Py_ssize_t count, PyObject *names) {
     static const char *const parameters[] = {"buf", "mutable", "value_encoding", "value_errors", NULL};
     PyObject *taken[4] = {NULL, NULL, NULL, NULL};
-    walk w = {NULL, NULL, 0, 0, 1, NULL, NULL, NULL};
+    walk w = {NULL, NULL, 0, 0, 0, 1, NULL, NULL, NULL};
     message m;
     (void)module;
     if (take_arguments("loads", parameters, taken, args, count, names) < 0) return NULL;

@@ -41,7 +41,7 @@ PyObject *pdu_len(PyObject *module, PyObject *buffer);
 
 /* object.c */
 extern PyTypeObject object_type;
-PyObject *new_object(PyObject *keys, PyObject *values);
+PyObject *new_object(PyObject *keys, PyObject *values, int has_list);
 
 /* arguments.c */
 int take_all_arguments(const char *call, const char *const *names, PyObject **taken, PyObject *const *args,

@@ -5,23 +5,38 @@ typedef struct {
     PyObject_HEAD
     PyObject *keys;
     PyObject *values;
+    int has_list;
 } object;
 
-PyObject *new_object(PyObject *keys, PyObject *values) {
-    object *made = PyObject_New(object, &object_type);
+/* A list below the object, of rows, may come to hold the object itself. The collector looks at such an
+ * object alone, since its part of the others would take time, and breaks the cycle at the list. */
+PyObject *new_object(PyObject *keys, PyObject *values, int has_list) {
+    object *made = has_list ? PyObject_GC_New(object, &object_type) : PyObject_New(object, &object_type);
     if (made == NULL) return NULL;
-    Py_INCREF(keys);
-    Py_INCREF(values);
-    made->keys = keys;
-    made->values = values;
+    made->keys = Py_NewRef(keys);
+    made->values = Py_NewRef(values);
+    made->has_list = has_list;
+    if (has_list) PyObject_GC_Track(made);
     return (PyObject *)made;
+}
+
+static int has_list(PyObject *self) { return ((object *)self)->has_list; }
+
+static int traverse_object(PyObject *self, visitproc visit, void *arg) {
+    Py_VISIT(((object *)self)->keys);
+    Py_VISIT(((object *)self)->values);
+    return 0;
 }
 
 static void free_object(PyObject *self) {
     object *o = (object *)self;
-    Py_XDECREF(o->keys);
-    Py_XDECREF(o->values);
-    PyObject_Free(self);
+    if (o->has_list) PyObject_GC_UnTrack(self);
+    Py_DECREF(o->keys);
+    Py_DECREF(o->values);
+    if (o->has_list)
+        PyObject_GC_Del(self);
+    else
+        PyObject_Free(self);
 }
 
 static Py_ssize_t object_len(PyObject *self) { return PyTuple_GET_SIZE(((object *)self)->values); }
@@ -100,9 +115,11 @@ PyTypeObject object_type = {
     .tp_doc = "An object that cannot change: its values by key, by attribute and by place.",
     .tp_basicsize = sizeof(object),
     .tp_dealloc = free_object,
+    .tp_traverse = traverse_object,
+    .tp_is_gc = has_list,
     .tp_repr = object_repr,
     .tp_as_sequence = &as_sequence,
     .tp_as_mapping = &as_mapping,
     .tp_getattro = object_attribute,
-    .tp_flags = Py_TPFLAGS_DEFAULT,
+    .tp_flags = Py_TPFLAGS_DEFAULT | Py_TPFLAGS_HAVE_GC,
 };

@@ -274,6 +274,23 @@ class Limits(unittest.TestCase):
             with self.assertRaises(bser.BserEncodeError):
                 bser.dumps(1, 2, wrong)
 
+    def test_cycles(self):
+        """An object that its own list of rows holds, which the collector frees, and one that it need not see."""
+        rows = bytes.fromhex("0b000301" "0d030161" "0302" "0301" "0302")
+        message = b"\0\1\3\x18" + bytes.fromhex("010301" "0d030162" "000301") + rows
+
+        def calls(times):
+            for _ in range(times):
+                value = bser.loads(message, False)
+                value.b[0].append(value)
+            gc.collect()
+            return sys.getallocatedblocks()
+
+        self.assertLess(-calls(50) + calls(500), 50)
+        value = bser.loads(message, False)
+        self.assertEqual(repr(value), "BserObject(('b',), (([BserObject(('a',), (1,)), BserObject(('a',), (2,))],),))")
+        self.assertEqual([gc.is_tracked(value), gc.is_tracked(value.b[0][0])], [True, False])
+
     def test_attributes(self):
         """A name that is not UTF-8 is that of no key."""
         row = bser.loads(bser.dumps({"a": 1}), False)
