@@ -274,6 +274,34 @@ class Limits(unittest.TestCase):
             with self.assertRaises(bser.BserEncodeError):
                 bser.dumps(1, 2, wrong)
 
+    def test_subclasses(self):
+        """What subclasses say of themselves is not asked, so they cannot say it wrong."""
+
+        def wrong(*_):
+            raise AssertionError("this is not called")
+
+        names = ("__len__", "__iter__", "__getitem__", "__eq__", "__index__", "__int__", "__float__", "__str__",
+                 "__bool__", "__contains__", "keys", "items", "encode", "__bytes__")
+        of = {base: type(base.__name__, (base,), {**dict.fromkeys(names, wrong), "__hash__": lambda _: 0})
+              for base in (list, tuple, dict, str, bytes, int, float)}
+        value = of[list]([of[str]("a\xe9"), of[bytes](b"b"), of[int](5), of[float](0.5), of[tuple]((1, of[str]("c")))])
+        self.assertEqual(bser.dumps(value), bser.dumps(["a\xe9", b"b", 5, 0.5, [1, "c"]]))
+        value = of[dict]({"a": of[int](1), of[bytes](b"b"): of[list]()})
+        self.assertEqual(bser.dumps(value), bser.dumps({"a": 1, "b": []}))
+
+    def test_levels(self):
+        """128 levels, and many more, in each call."""
+        for levels in (127, 128, 129, 100_000):
+            body = b"\0\3\1" * levels + b"\x08"
+            message = b"\0\2\0\0\0\0\5" + len(body).to_bytes(4, "little") + body
+            for call in (bser.loads, lambda m: bser.loads(m, False), bser.canonical, bser.compact):
+                if levels <= 128:
+                    call(message)
+                else:
+                    with self.assertRaises(bser.BserDecodeError) as caught:
+                        call(message)
+                    self.assertEqual(caught.exception.code, 52)
+
     def test_cycles(self):
         """An object that its own list of rows holds, which the collector frees, and one that it need not see."""
         rows = bytes.fromhex("0b000301" "0d030161" "0302" "0301" "0302")
