@@ -69,25 +69,13 @@ fn check_wanted(rt: &impl Abort, outcome: BserOutcome, length: usize) {
     );
 }
 
-/// Checks that a call tells how much room is wanted where it has none, half, and one less.
-fn check_rooms<T>(
-    rt: &impl Abort,
-    out: &mut [T],
-    wanted: usize,
-    call: impl Fn(&mut [T]) -> BserOutcome,
-) {
-    for room in [0, wanted / 2, wanted.saturating_sub(1)] {
-        assert!(rt; room <= out.len());
-        check_wanted(rt, call(&mut out[..room]), wanted);
-    }
-}
-
 #[test]
 fn words_without_room(rt: HostRuntime) {
     let alloc = rt.alloc();
-    check_rooms(&rt, &mut [7u64; 14], 14, |words| {
-        bser_tape(alloc, TEMPLATE, words)
-    });
+    let mut words = [7u64; 13];
+    check_wanted(&rt, bser_tape(alloc, TEMPLATE, &mut words), 14);
+    check_wanted(&rt, bser_tape(alloc, TEMPLATE, &mut words[..7]), 14);
+    check_wanted(&rt, bser_tape(alloc, TEMPLATE, &mut []), 14);
 }
 
 #[test]
@@ -116,9 +104,11 @@ fn canonical(rt: HostRuntime) {
     let mut out = [7u8; 40];
     let whole = bser_canonical(alloc, ROWS, &mut out);
     check_written(&rt, whole, &out, CANONICAL);
-    check_rooms(&rt, &mut out, CANONICAL.len(), |small| {
-        bser_canonical(alloc, ROWS, small)
-    });
+    let wanted = CANONICAL.len();
+    let mut small = [7u8; 27];
+    check_wanted(&rt, bser_canonical(alloc, ROWS, &mut small), wanted);
+    check_wanted(&rt, bser_canonical(alloc, ROWS, &mut small[..14]), wanted);
+    check_wanted(&rt, bser_canonical(alloc, ROWS, &mut []), wanted);
     let mut none = [7u8; 40];
     let cut = bser_canonical(alloc, &ROWS[..20], &mut none);
     assert_eq!(rt; (cut.code, cut.place), (48, 20));
@@ -130,9 +120,15 @@ fn compact(rt: HostRuntime) {
     let mut out = [7u8; 40];
     let whole = bser_compact(alloc, CANONICAL, &mut out);
     check_written(&rt, whole, &out, ROWS);
-    check_rooms(&rt, &mut out, ROWS.len(), |small| {
-        bser_compact(alloc, CANONICAL, small)
-    });
+    let wanted = ROWS.len();
+    let mut small = [7u8; 20];
+    check_wanted(&rt, bser_compact(alloc, CANONICAL, &mut small), wanted);
+    check_wanted(
+        &rt,
+        bser_compact(alloc, CANONICAL, &mut small[..10]),
+        wanted,
+    );
+    check_wanted(&rt, bser_compact(alloc, CANONICAL, &mut []), wanted);
     let mut none = [7u8; 40];
     let wrong = bser_compact(alloc, b"\x00\x01\x03\x01\x0a", &mut none);
     assert_eq!(rt; wrong.code, 54);
@@ -166,9 +162,14 @@ fn descriptions(rt: HostRuntime) {
     let mut out = [7u8; 80];
     let whole = bser_describe(alloc, wrong, &mut out);
     check_written(&rt, whole, &out, line);
-    check_rooms(&rt, &mut out, line.len(), |small| {
-        bser_describe(alloc, wrong, small)
-    });
+    let mut small = [7u8; 60];
+    check_wanted(&rt, bser_describe(alloc, wrong, &mut small), line.len());
+    check_wanted(
+        &rt,
+        bser_describe(alloc, wrong, &mut small[..30]),
+        line.len(),
+    );
+    check_wanted(&rt, bser_describe(alloc, wrong, &mut []), line.len());
     let mut none = [7u8; 80];
     let nothing = bser_describe(alloc, ROWS, &mut none);
     check_written(&rt, nothing, &none, b"");

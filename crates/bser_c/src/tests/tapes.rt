@@ -1,5 +1,5 @@
 //! Tapes, and their messages.
-use super::{TAPE, TEMPLATE, check_rooms, check_written};
+use super::{TAPE, TEMPLATE, check_wanted, check_written};
 use crate::bser_of_tape;
 use std::alloc::Global;
 use std::process::Abort;
@@ -22,9 +22,14 @@ fn a_template(rt: HostRuntime) {
     let mut out = [7u8; 40];
     let whole = bser_of_tape(alloc, &TAPE, TEMPLATE, &mut out);
     check_written(&rt, whole, &out, expected);
-    check_rooms(&rt, &mut out, 25, |small| {
-        bser_of_tape(alloc, &TAPE, TEMPLATE, small)
-    });
+    let mut small = [7u8; 24];
+    check_wanted(&rt, bser_of_tape(alloc, &TAPE, TEMPLATE, &mut small), 25);
+    check_wanted(
+        &rt,
+        bser_of_tape(alloc, &TAPE, TEMPLATE, &mut small[..12]),
+        25,
+    );
+    check_wanted(&rt, bser_of_tape(alloc, &TAPE, TEMPLATE, &mut []), 25);
 }
 
 #[test]
