@@ -52,12 +52,17 @@ where
         if self.left == 0 {
             return None;
         }
-        let event = next_event(self.client);
-        self.left = match &event {
-            Err(error) if ends(error) => 0,
-            _ => self.left - 1,
-        };
-        event.transpose()
+        match next_event(self.client) {
+            Ok(Some(event)) => {
+                self.left -= 1;
+                Some(Ok(event))
+            }
+            Ok(None) => None,
+            Err(error) => {
+                self.left = if ends(&error) { 0 } else { self.left - 1 };
+                Some(Err(error))
+            }
+        }
     }
 }
 

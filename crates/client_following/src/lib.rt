@@ -1,5 +1,5 @@
 //! A client of Watchman that tells what changed below a folder since a clock, and then each change,
-//! until the server ends the stream behind a whole message.
+//! until the subscription ends, or the stream behind a whole message.
 #![tactic(auto)]
 
 pub mod events;

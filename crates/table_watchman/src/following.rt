@@ -66,8 +66,9 @@ pub fn print_below(rt: &HostRuntime, stream: &[u8]) -> Result<()> {
 fn print_many(rt: &HostRuntime, stream: &[u8], event: &SentMessage) -> Result<()> {
     let mut server = Vec::from_slice(rt.alloc(), stream)?;
     let mut unread = BTreeMap::new(rt.alloc());
-    unread.insert("unilateral", true)?;
-    unread.insert("files", true)?;
+    for key in ["unilateral", "files"] {
+        unread.insert(String::from_str(rt.alloc(), key)?, true)?;
+    }
     server.extend_from_slice(&to_vec(rt.alloc(), &unread)?)?;
     print_run(rt, "an unread event", &run_over(rt.alloc(), ROOT, &server))?;
     for _ in 0..MANY {

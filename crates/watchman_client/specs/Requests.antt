@@ -83,8 +83,8 @@ module _ {S W : Type 0} (remaining : S → Option (List ℕ)) where
 
   -- ---- events one after the other
 
-  -- the next item, of at most so many, is an event, or why there is none, and at most as many but one
-  -- come behind it, or none where no message does; and none comes where as many came, or none is left
+  -- the next item, of at most so many, is an event, or why there is none. Behind it one fewer may come,
+  -- and none where the error ends all. No item comes where as many came, or where no message is left
   abbrev pub GivesItem : {A : Type 0} → shape.Ghosts A → ℕ → ℕ → Connection S W → Connection S W → Option (Result A ClientError) → Type 0
   GivesItem type most left old new (Some (Ok v)) = GivesEvent type old new (Some v) × (left ≡ most - 1)
   GivesItem type most left old new (Some (Err e)) =

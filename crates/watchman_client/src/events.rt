@@ -48,11 +48,16 @@ impl<'c, S: Source, W: Sink, T: DeserializeOwned> Iterator for Events<'c, S, W, 
         if self.left == 0 {
             return None;
         }
-        let event = self.client.next_event();
-        self.left = match &event {
-            Err(error) if ends(error) => 0,
-            _ => self.left - 1,
-        };
-        event.transpose()
+        match self.client.next_event() {
+            Ok(Some(event)) => {
+                self.left -= 1;
+                Some(Ok(event))
+            }
+            Ok(None) => None,
+            Err(error) => {
+                self.left = if ends(&error) { 0 } else { self.left - 1 };
+                Some(Err(error))
+            }
+        }
     }
 }

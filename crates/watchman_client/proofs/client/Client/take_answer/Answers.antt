@@ -30,4 +30,10 @@ pub returns-in_err-keep_next-clause-within : goal.returns-in_err-keep_next-claus
 returns-in_err-keep_next-clause-within g c = record { bounds = c.keep_next.ensures.within.bounds ∙ c.loop.invariant.within.bounds; limits = c.keep_next.ensures.within.limits ∙ c.loop.invariant.within.limits; within = c.keep_next.ensures.within.within }
 
 pub returns-clause-within : goal.returns-clause-within
-returns-clause-within g c = record { bounds = search rules; limits = search rules; within = search rules }
+returns-clause-within g c =
+    let v : c.self-2.inside.incoming ≡ c.keep_next.new.self.incoming = search rules in
+    record {
+      bounds = search rules;
+      limits = c.release.ensures.limits ∙ ap (λ i. i.stream.limits) v ∙ c.keep_next.ensures.within.limits ∙ c.loop.invariant.within.limits;
+      within = search rules;
+    }
