@@ -1,7 +1,10 @@
 //! A client of Watchman that tells what changed below a folder since a clock, and then each change,
-//! until the server ends the stream behind a whole message.
+//! until the subscription ends, or the stream behind a whole message.
 #![tactic(auto)]
 
+pub mod events;
+
+use crate::events::events_of;
 use anyhow::{Context, Result, bail};
 use serde_bser::bytestring::ByteString;
 use serde_bser::device::{Sink, Source};
@@ -11,12 +14,13 @@ use watchman_client::bounds::Bounds;
 use watchman_client::client::Client;
 use watchman_client::errors::ClientError;
 use watchman_types::file::File;
+use watchman_types::message::Event;
 use watchman_types::query::QueryResult;
 use watchman_types::requests::{
     Bytes, Capabilities, ClockRequest, Moment, Query, QueryRequest, SubscribeRequest,
     VersionRequest, WatchProjectRequest,
 };
-use watchman_types::subscription::{FilesChanged, Subscribed};
+use watchman_types::subscription::Subscribed;
 use watchman_types::version::Version;
 use watchman_types::watch::{Clock, WatchProject};
 
@@ -39,7 +43,7 @@ pub struct Followed<'a> {
 }
 
 /// Follows the changes, and tells them on the log. The answer is a program's exit status: 0, or 1
-/// after an error, which is told too.
+/// after an error, which is told too, as the end of the subscription is.
 pub fn follow_changes<S: Source + Drop, W: Sink + Drop, L: Write>(
     alloc: Global,
     followed: Followed<'_>,
@@ -74,53 +78,96 @@ fn follow<S: Source, W: Sink, L: Write>(
     }
     let path = Bytes(followed.folder.as_bytes());
     let project: WatchProject<ByteString> = client.request(&WatchProjectRequest { path })?;
-    let root = Bytes(project.watch.as_bytes());
     if let Some(clock) = followed.since {
-        return follow_since(client, root, clock, log);
+        return follow_since(client, &project, clock, log);
     }
+    let root = Bytes(project.watch.as_bytes());
     let sync_timeout = None;
     let now: Clock<String> = client.request(&ClockRequest { root, sync_timeout })?;
-    follow_since(client, root, now.clock.as_str(), log)
+    follow_since(client, &project, now.clock.as_str(), log)
 }
 
 /// Tells what changed since the clock, and then each change.
 fn follow_since<S: Source, W: Sink, L: Write>(
     client: &mut Client<S, W>,
-    root: Bytes<'_>,
+    project: &WatchProject<ByteString>,
     clock: &str,
     log: &mut L,
 ) -> Result<()> {
-    let query = query_since(clock);
-    let found: QueryResult<String, File<ByteString>> = client.request(&QueryRequest {
+    let root = Bytes(project.watch.as_bytes());
+    let query = query_since(project, clock);
+    let found: QueryResult<ByteString, File<ByteString>> = client.request(&QueryRequest {
         root,
         query,
     })?;
-    let clock = found.clock.as_str();
-    tell_changes(log, clock, found.files.as_slice())?;
-    let request = SubscribeRequest::new(root, "changes", query_since(clock));
-    let _subscribed: Subscribed<String> = client.request(&request)?;
-    for changed in client.events::<FilesChanged<String, File<ByteString>>>() {
-        match changed {
-            Ok(changed) => tell_changes(log, changed.clock.as_str(), changed.files.as_slice())?,
-            Err(ClientError::Answer(error)) => writeln!(log, "another event: {error}")?,
+    let clock = str::from_utf8(found.clock.as_bytes())?;
+    tell_changes(log, clock, found.is_fresh_instance, found.files.as_slice())?;
+    let request = SubscribeRequest::new(root, "changes", query_since(project, clock));
+    let _subscribed: Subscribed<ByteString> = client.request(&request)?;
+    for event in events_of::<ByteString, File<ByteString>, _, _>(client) {
+        match event {
+            Ok(event) => tell_event(log, &event)?,
+            Err(ClientError::Answer(error)) => writeln!(log, "an event is not read: {error}")?,
             Err(error) => return Err(error.into()),
         }
     }
     Ok(())
 }
 
-/// Names and sizes of the files that changed since the clock.
-fn query_since(clock: &str) -> Query<'_> {
+/// Names and sizes of the files that changed since the clock, below the folder that is followed:
+/// where the server watches one above it, it tells how the way goes on from there.
+fn query_since<'a>(project: &'a WatchProject<ByteString>, clock: &'a str) -> Query<'a> {
     Query {
         since: Some(Moment::Clock(clock)),
         fields: Some(&["name", "exists", "size"]),
+        relative_root: project
+            .relative_path
+            .as_ref()
+            .map(|path| Bytes(path.as_bytes())),
         ..Query::new()
     }
 }
 
-/// Tells a clock, and each of the files that changed up to it.
-fn tell_changes<L: Write>(log: &mut L, clock: &str, files: &[File<ByteString>]) -> Result<()> {
-    writeln!(log, "at {clock}")?;
+/// Tells an event. The end of the subscription is an error, since nothing comes behind it.
+fn tell_event<L: Write>(log: &mut L, event: &Event<ByteString, File<ByteString>>) -> Result<()> {
+    match event {
+        Event::Files(changed) => {
+            let clock = str::from_utf8(changed.clock.as_bytes())?;
+            return tell_changes(
+                log,
+                clock,
+                changed.is_fresh_instance,
+                changed.files.as_slice(),
+            );
+        }
+        Event::StateEntered(state) => writeln!(log, "state {} begins", state.state)?,
+        Event::StateLeft(state) => writeln!(log, "state {} ends", state.state)?,
+        Event::Log(message) => writeln!(log, "log {}", message.line)?,
+        Event::Canceled(canceled) => {
+            bail!(
+                "{} is canceled: its root is no longer watched",
+                canceled.subscription
+            )
+        }
+        Event::Other => writeln!(log, "another event")?,
+    }
+    Ok(())
+}
+
+/// Tells a clock, and each of the files that changed up to it. A fresh answer tells all that there
+/// are, as where the server was started anew.
+fn tell_changes<L: Write>(
+    log: &mut L,
+    clock: &str,
+    is_fresh: bool,
+    files: &[File<ByteString>],
+) -> Result<()> {
+    let others = if is_fresh {
+        ", all others are gone"
+    } else {
+        ""
+    };
+    writeln!(log, "at {clock}{others}")?;
     for file in files {
         let name = file.name.as_ref().context("no name")?;
         if file.exists == Some(false) {

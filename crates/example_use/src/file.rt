@@ -2,11 +2,12 @@
 ghost use Rattle.std.specs.Prelude.{codes, [], ◌∷◌, refl};
 ghost use Rattle.serde_bser.specs.StructFields.{required, struct_meaning, fields_tree};
 
+use anyhow::bail;
 use serde_bser::bytestring::ByteString;
 use serde_bser::de::{Answer, Deserializer};
+use serde_bser::describe;
 use serde_bser::device::Sink;
 use serde_bser::errors::Result;
-use serde_bser::from_slice;
 use serde_bser::prelude::*;
 use serde_bser::ser::{Serialize, Serializer, to_vec};
 use std::alloc::Global;
@@ -47,8 +48,14 @@ impl Serialize for File {
 }
 
 /// Reads a file's message, and writes that of the same file when it is empty.
-pub fn truncated(alloc: Global, message: &[u8]) -> Result<Vec<u8>> {
-    let mut file: File = from_slice(alloc, message)?;
+pub fn truncated(alloc: Global, message: &[u8]) -> anyhow::Result<Vec<u8>> {
+    let mut file: File = match describe::from_slice(alloc, message) {
+        Ok(file) => file,
+        Err(error) => {
+            let path = error.path(alloc, message)?;
+            bail!("{error}, in {path}")
+        }
+    };
     file.size = 0;
-    to_vec(alloc, &file)
+    Ok(to_vec(alloc, &file)?)
 }

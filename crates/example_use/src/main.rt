@@ -19,8 +19,9 @@ mod values;
 
 use crate::change::Change;
 use crate::file::File;
-use anyhow::Result;
+use anyhow::{Result, bail};
 use serde_bser::bytestring::ByteString;
+use serde_bser::describe::Description;
 use serde_bser::device::Watched;
 use serde_bser::from_slice;
 use serde_bser::ser::to_vec;
@@ -73,13 +74,21 @@ fn print_written(rt: &HostRuntime) -> Result<()> {
         String::from_str(alloc, "sizes")?,
         vec![in alloc; 1, 2, 300]?,
     )?;
-    let longest = lists::longest_list(alloc, &to_vec(alloc, &lists)?)?;
-    let names = lists::bare_names(alloc, &to_vec(alloc, &("a.c", "b.c"))?)?;
+    let longest = described(lists::longest_list(alloc, &to_vec(alloc, &lists)?))?;
+    let names = described(lists::bare_names(alloc, &to_vec(alloc, &("a.c", "b.c"))?))?;
     println!(rt; "numbers in the longest list: {longest}\nbare names: {names}")?;
     print_files(rt)?;
     let real = reals::real_message(alloc, 2.5)?;
     println!(rt; "{}", from_slice::<Value>(alloc, &real)?)?;
     Ok(())
+}
+
+/// The value, or the error that this describes.
+fn described<T>(answer: std::result::Result<T, Description>) -> Result<T> {
+    match answer {
+        Ok(value) => Ok(value),
+        Err(error) => bail!("{error}"),
+    }
 }
 
 /// A file and what became of it, written and read back.

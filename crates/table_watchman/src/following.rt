@@ -1,16 +1,32 @@
-//! A client that follows changes, over the first messages of a recorded session, whole and cut at
-//! the beginning and in the middle of each: what it asks, what it tells and how it ends.
+//! A client that follows changes, over recorded messages: what it asks, what it tells and how it ends.
+//!
+//! It is run over the first messages of the session, whole and cut at the beginning and in the middle
+//! of each, and with events that cannot be read and many events behind them. Then it follows a folder
+//! below a project's root. `stream-relative.bser` is what a server of Watchman 4.9.0 sent on one
+//! connection while files in that folder and in another one changed, a state was entered and left, and
+//! the root was let go.
 use anyhow::{Context, Result, bail};
 use bser_vectors::session::SentMessage;
 use client_following::{Followed, follow_changes};
 use serde_bser::device::Watched;
 use serde_bser::from_slice;
+use serde_bser::ser::to_vec;
 use serde_bser::stream::Frames;
 use serde_bser::value::Value;
 use std::alloc::Global;
+use std::collections::BTreeMap;
+
+/// A client that follows the root of the session.
+const ROOT: Followed<'static> = Followed {
+    folder: "/data/my/project",
+    since: None,
+};
 
 /// The clock that the server told.
 const CLOCK: &str = "c:1795768208:28022:1:2";
+
+/// How many events are told behind each other.
+const MANY: u64 = 2_000;
 
 /// What came of a run.
 #[derive(Drop)]
@@ -24,21 +40,45 @@ struct FollowingRun {
 pub fn print_following(rt: &HostRuntime, stream: &[u8], messages: &[SentMessage]) -> Result<()> {
     let end = messages.last().context("no message")?.end;
     let stream = stream.get(..end).context("outside")?;
-    let whole = run_over(rt.alloc(), None, stream);
-    print_requests(rt, &whole.requests)?;
-    for line in str::from_utf8(&whole.log)?.lines() {
-        println!(rt; "told {line}")?;
-    }
-    println!(rt; "status {}", whole.status)?;
+    print_whole(rt, &run_over(rt.alloc(), ROOT, stream))?;
     print_since(rt, stream, messages.get(2).context("too few messages")?)?;
     for message in messages {
         for cut in [message.start, message.start.midpoint(message.end)] {
-            let run = run_over(rt.alloc(), None, stream.get(..cut).context("outside")?);
+            let run = run_over(rt.alloc(), ROOT, stream.get(..cut).context("outside")?);
             let name = format!(in rt.alloc(); "cut at {cut}")?;
             print_run(rt, name.as_str(), &run)?;
         }
     }
-    Ok(())
+    print_many(rt, stream, messages.last().context("no message")?)
+}
+
+/// Prints what a client asks and tells that follows a folder below a project's root.
+pub fn print_below(rt: &HostRuntime, stream: &[u8]) -> Result<()> {
+    let followed = Followed {
+        folder: "/data/my/project/sub",
+        since: None,
+    };
+    print_whole(rt, &run_over(rt.alloc(), followed, stream))
+}
+
+/// Prints what a client tells of an event that cannot be read, and how many lines it tells where one
+/// event comes many times behind it.
+fn print_many(rt: &HostRuntime, stream: &[u8], event: &SentMessage) -> Result<()> {
+    let mut server = Vec::from_slice(rt.alloc(), stream)?;
+    let mut unread = BTreeMap::new(rt.alloc());
+    for key in ["unilateral", "files"] {
+        unread.insert(String::from_str(rt.alloc(), key)?, true)?;
+    }
+    server.extend_from_slice(&to_vec(rt.alloc(), &unread)?)?;
+    print_run(rt, "an unread event", &run_over(rt.alloc(), ROOT, &server))?;
+    for _ in 0..MANY {
+        server.extend_from_slice(event.bytes(stream))?;
+    }
+    print_run(
+        rt,
+        "many events behind it",
+        &run_over(rt.alloc(), ROOT, &server),
+    )
 }
 
 /// Prints how a client ends that is given the clock, which it need not ask for, so that the server
@@ -46,16 +86,16 @@ pub fn print_following(rt: &HostRuntime, stream: &[u8], messages: &[SentMessage]
 fn print_since(rt: &HostRuntime, bytes: &[u8], clock: &SentMessage) -> Result<()> {
     let mut server = Vec::from_slice(rt.alloc(), bytes.get(..clock.start).context("outside")?)?;
     server.extend_from_slice(bytes.get(clock.end..).context("outside")?)?;
-    let run = run_over(rt.alloc(), Some(CLOCK), &server);
+    let followed = Followed {
+        since: Some(CLOCK),
+        ..ROOT
+    };
+    let run = run_over(rt.alloc(), followed, &server);
     print_run(rt, "with a clock", &run)
 }
 
 /// Runs a client over what the server sent.
-fn run_over(alloc: Global, since: Option<&str>, server: &[u8]) -> FollowingRun {
-    let followed = Followed {
-        folder: "/data/my/project",
-        since,
-    };
+fn run_over(alloc: Global, followed: Followed<'_>, server: &[u8]) -> FollowingRun {
     let mut sent = Watched::new(Vec::new(alloc));
     let mut log = Vec::new(alloc);
     let status = follow_changes(alloc, followed, Watched::new(server), &mut sent, &mut log);
@@ -64,6 +104,16 @@ fn run_over(alloc: Global, since: Option<&str>, server: &[u8]) -> FollowingRun {
         requests: sent.into_inner(),
         log,
     }
+}
+
+/// Prints each request and each line that was told, and the status.
+fn print_whole(rt: &HostRuntime, run: &FollowingRun) -> Result<()> {
+    print_requests(rt, &run.requests)?;
+    for line in str::from_utf8(&run.log)?.lines() {
+        println!(rt; "told {line}")?;
+    }
+    println!(rt; "status {}", run.status)?;
+    Ok(())
 }
 
 /// Prints each request.

@@ -24,7 +24,7 @@ mod session;
 mod shown;
 mod told;
 
-use crate::following::print_following;
+use crate::following::{print_below, print_following};
 use crate::line::PrintedMessage;
 use crate::needed::print_needed;
 use crate::requests::compare_requests;
@@ -46,7 +46,8 @@ fn main(rt: HostRuntime) -> Result<()> {
     let list = fs::read_to_string(&rt, "session.tsv")?;
     let messages = sent_messages(rt.alloc(), list.as_str())?;
     compare_session(&rt, &stream, &messages)?;
-    print_following(&rt, &stream, messages.get(..FOLLOWED).context("too few")?)
+    print_following(&rt, &stream, messages.get(..FOLLOWED).context("too few")?)?;
+    print_below(&rt, &fs::read(&rt, "stream-relative.bser")?)
 }
 
 /// Reads each message of the list, and prints how many are not read as the list says.

@@ -3,11 +3,12 @@
 //!
 //! The client wrote all strings as byte strings. What is compared is how the values are printed,
 //! which is the same for a byte string and for a text. Only the last request is meant to differ.
-//! The query and the subscription before the last two requests were not in the session: pywatchman
-//! 1.4.0 wrote them to a server of Watchman 4.9.0, which answered both without an error.
+//! The requests between those of the session and the last two were not in it: pywatchman 1.4.0 wrote
+//! them to a server of Watchman 4.9.0, which took all but four (`requests/words.rt` says which).
 mod commands;
 mod queries;
 mod recording;
+mod words;
 
 use crate::requests::recording::RecordedRequests;
 use anyhow::Result;
@@ -28,6 +29,9 @@ pub fn compare_requests(rt: &HostRuntime) -> Result<()> {
     commands::compare_subscriptions(&mut recording);
     queries::compare_last(&mut recording);
     queries::compare_written(&mut recording);
+    words::compare_queries(&mut recording);
+    words::compare_commands(&mut recording);
+    words::compare_last(&mut recording);
     commands::compare_versions(&mut recording);
     recording.print_counts()?;
     Ok(())

@@ -24,6 +24,9 @@ const BOUNDS: Bounds = Bounds {
     kept_bytes: 100_000,
 };
 
+/// The bytes before the body of a message of 128 to 32,767 bytes.
+const HEADER: usize = 9;
+
 /// Compares both connections of the session, and what is told of files.
 pub fn compare_session(rt: &HostRuntime, stream: &[u8], messages: &[SentMessage]) -> Result<()> {
     for connection in 1..3 {
@@ -34,7 +37,28 @@ pub fn compare_session(rt: &HostRuntime, stream: &[u8], messages: &[SentMessage]
             messages.len()
         )?;
     }
+    print_bounds(rt, stream, messages.first().context("no message")?)?;
     fold_session(rt, stream, messages)
+}
+
+/// Prints how a client ends that takes bodies of as many bytes as the message has, and of one less.
+fn print_bounds(rt: &HostRuntime, stream: &[u8], message: &SentMessage) -> Result<()> {
+    let bytes = message.bytes(stream);
+    let body = bytes.len().saturating_sub(HEADER);
+    for message_bytes in [body, body.saturating_sub(1)] {
+        let writer = Watched::new(Vec::new(rt.alloc()));
+        let bounds = Bounds {
+            message_bytes,
+            ..BOUNDS
+        };
+        let mut client = Client::new(rt.alloc(), bounds, Watched::new(bytes), writer);
+        client.send(&"request")?;
+        match client.answer() {
+            Ok(()) => println!(rt; "at most {message_bytes} bytes: an answer")?,
+            Err(error) => println!(rt; "at most {message_bytes} bytes: {error}")?,
+        }
+    }
+    Ok(())
 }
 
 /// The messages of a connection.

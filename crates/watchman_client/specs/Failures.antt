@@ -12,6 +12,7 @@ use Rattle.bser_format.specs.Tree.{Tree}
 use Rattle.bser_format.specs.declared.errors.Error.{Error}
 use Rattle.bser_format.specs.declared.errors.Error.TheVariants.{OutOfMemory, Io}
 use Rattle.bser_deserializer.specs.declared.deserializer.TheConstants.{LEVELS}
+use Rattle.bser_messages.specs.Descriptions.{cause_of}
 use Rattle.bser_messages.specs.Messages.{SliceRefused}
 use Rattle.bser_types.specs.declared.deserialize.Shape as shape
 use Rattle.bser_ser.specs.Message.{Missed}
@@ -28,6 +29,11 @@ abbrev pub fails : ClientError → Bool
 fails (Frame e) = ends_stream e
 fails Unwanted = true
 fails _ = false
+
+-- no message comes behind the error: the client fails for good, or has failed
+abbrev pub ends : ClientError → Bool
+ends Failed = true
+ends e = fails e
 
 -- a beginning of a message may have been sent before this error
 abbrev pub may_be_sent : Error → Bool
@@ -78,5 +84,5 @@ IsToldError _ message = ⊥
 
 -- the message tells of an error, or is refused as one of the type
 abbrev pub Unread : {A : Type 0} → shape.Ghosts A → List ℕ → ClientError → Type 0
-Unread type message (Answer e) = SliceRefused LEVELS type message e
+Unread type message (Answer e) = SliceRefused LEVELS type message (cause_of e.description)
 Unread type message e = IsToldError e message

@@ -1,15 +1,16 @@
 -- What a request and an event are in all, of what each call of a client does.
-use Rattle.std.specs.Prelude.{◌≡◌, ◌⊎◌, ◌||◌, ℕ, [], List, Option, Some, None, Result, Ok, Err}
+use Rattle.std.specs.Prelude.{◌≡◌, ◌⊎◌, ◌||◌, ◌-◌, if◌then◌else◌, ℕ, [], List, Option, Some, None, Result, Ok, Err}
 use Rattle.std.specs.Io.KnownBytes.{IsAtEnd}
 use Rattle.bser_deserializer.specs.declared.deserializer.TheConstants.{LEVELS}
 use Rattle.bser_format.specs.Tree.{Tree}
 use Rattle.bser_format.specs.declared.errors.Error.{Error}
 use Rattle.bser_frames.specs.Messages.{FrameRefused}
+use Rattle.bser_messages.specs.Descriptions.{cause_of}
 use Rattle.bser_messages.specs.Messages.{BeginsWith}
 use Rattle.bser_ser.specs.Message.{Wrote}
 use Rattle.bser_ser.specs.Stopped.{Tells}
 use Rattle.bser_types.specs.declared.deserialize.Shape as shape
-use Rattle.watchman_client.specs.Failures.{fails, Hinders, IsToldError, TellsNoError, Unsent}
+use Rattle.watchman_client.specs.Failures.{ends, fails, Hinders, IsToldError, TellsNoError, Unsent}
 use Rattle.watchman_client.specs.Steps.{Asks, GivesAnswer, GivesNothing, GivesUnsolicited}
 use Rattle.watchman_client.specs.Views.{Connection, view_of}
 use Rattle.watchman_client.specs.declared.errors.ClientError.{ClientError}
@@ -24,7 +25,7 @@ pub record ReadsOwned {A : Type 0} (type : shape.Ghosts A) (message : List ℕ) 
 
 -- the message tells of an error, or is refused as one of the type, or memory ran out
 abbrev pub UnreadOwned : {A : Type 0} → shape.Ghosts A → List ℕ → ClientError → Type 0
-UnreadOwned type message (Answer e) = FrameRefused LEVELS type message e
+UnreadOwned type message (Answer e) = FrameRefused LEVELS type message (cause_of e.description)
 UnreadOwned type message e = IsToldError e message
 
 module _ {S W : Type 0} (remaining : S → Option (List ℕ)) where
@@ -82,9 +83,10 @@ module _ {S W : Type 0} (remaining : S → Option (List ℕ)) where
 
   -- ---- events one after the other
 
-  -- the next item, of at most so many, is an event, or why there is none; and none comes where as
-  -- many came, or where none is left
-  abbrev pub GivesItem : {A : Type 0} → shape.Ghosts A → ℕ → Connection S W → Connection S W → Option (Result A ClientError) → Type 0
-  GivesItem type most old new (Some (Ok v)) = GivesEvent type old new (Some v)
-  GivesItem type most old new (Some (Err e)) = NoEvent type old new e
-  GivesItem type most old new None = ((most ≡ 0) × (new ≡ old)) ⊎ GivesEvent type old new None
+  -- the next item, of at most so many, is an event, or why there is none. Behind it one fewer may come,
+  -- and none where the error ends all. No item comes where as many came, or where no message is left
+  abbrev pub GivesItem : {A : Type 0} → shape.Ghosts A → ℕ → ℕ → Connection S W → Connection S W → Option (Result A ClientError) → Type 0
+  GivesItem type most left old new (Some (Ok v)) = GivesEvent type old new (Some v) × (left ≡ most - 1)
+  GivesItem type most left old new (Some (Err e)) =
+      NoEvent type old new e × (left ≡ (if ends e then 0 else most - 1))
+  GivesItem type most left old new None = ((most ≡ 0) × (new ≡ old)) ⊎ GivesEvent type old new None

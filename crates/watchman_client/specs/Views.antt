@@ -68,9 +68,10 @@ view_of remaining c = record {
   message = c.message;
 }
 
--- the bounds are as they were, and what is kept is within them
+-- the bounds are as they were, how long a message may be too, and what is kept is within them
 pub record StaysWithin {S W : Type 0} (old new : Connection S W) : Type 0 where
   pub bounds : new.bounds ≡ old.bounds
+  pub limits : new.incoming.stream.limits ≡ old.incoming.stream.limits
   pub within : IsWithin new.bounds new.kept
 
 -- how many messages more may be kept

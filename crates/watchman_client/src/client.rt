@@ -69,6 +69,7 @@ impl<S: Source, W: Sink> Client<S, W> {
         ensures failed { result.failed ≡ false }
         ensures writer { result.writer ≡ writer }
         ensures bounds { result.bounds ≡ bounds }
+        ensures limits { result.incoming.stream.limits.bytes ≡ bounds.message_bytes }
     {
         Client {
             alloc,

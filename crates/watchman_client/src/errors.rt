@@ -1,7 +1,8 @@
 //! Why a call of a client answers no value.
 ghost use Rattle.std.specs.Prelude.{◌≡◌};
-ghost use Rattle.watchman_client.specs.Failures.{fails, may_be_sent};
+ghost use Rattle.watchman_client.specs.Failures.{ends, fails, may_be_sent};
 
+use crate::unreadable::Unreadable;
 use bser_format::bytestring::ByteString;
 use bser_format::errors::Error as BserError;
 use bser_frames::error::FrameError;
@@ -48,7 +49,7 @@ pub enum ClientError {
     Server(ByteString),
     /// The answer was taken, and cannot be read as the type, for this reason.
     #[error("the answer was not read: {0}")]
-    Answer(BserError),
+    Answer(Unreadable),
 }
 
 /// Whether the error makes a client fail for good.
@@ -59,6 +60,16 @@ pub fn fails(error: &ClientError) -> bool
         ClientError::Frame(FrameError::Reader(_) | FrameError::OutOfMemory) => false,
         ClientError::Frame(_) | ClientError::Unwanted => true,
         _ => false,
+    }
+}
+
+/// Whether no message comes behind the error: the client fails for good, or has failed.
+pub fn ends(error: &ClientError) -> bool
+    ensures { result ≡ ends error.now }
+{
+    match error {
+        ClientError::Failed => true,
+        _ => fails(error),
     }
 }
 

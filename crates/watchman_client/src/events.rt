@@ -1,8 +1,9 @@
 //! The events of a client, one after the other.
+ghost use Rattle.std.specs.Prelude.{◌≡◌, ◌^◌, ◌-◌};
 ghost use Rattle.std.specs.Iterator.{at_most};
 
 use crate::client::Client;
-use crate::errors::{ClientError, fails};
+use crate::errors::{ClientError, ends};
 use bser_source::device::{Sink, Source};
 use bser_types::deserialize::DeserializeOwned;
 use std::marker::PhantomData;
@@ -21,7 +22,10 @@ pub struct Events<'c, S, W, T> {
 impl<S: Source, W: Sink> Client<S, W> {
     /// The unsolicited messages that are kept, and then those of the stream, as
     /// [`next_event`](Self::next_event) gives them.
-    pub fn events<T: DeserializeOwned>(&mut self) -> Events<'_, S, W, T> {
+    pub fn events<T: DeserializeOwned>(&mut self) -> Events<'_, S, W, T>
+        ensures client { result.client.now ≡ self.old }
+        ensures most { result.left ≡ 2 ^ 64 - 1 }
+    {
         Events {
             client: self,
             left: u64::MAX,
@@ -35,7 +39,8 @@ impl<'c, S: Source, W: Sink, T: DeserializeOwned> Iterator for Events<'c, S, W, 
 
     type Item = Result<T, ClientError>;
 
-    ghost next_gives = { λ s r t. GivesItem S.remaining T.Shape s.left s.client.now t.client.now r };
+    ghost next_gives = { λ s r t. GivesItem S.remaining T.Shape
+        s.left t.left s.client.now t.client.now r };
 
     ghost remaining = { λ s. at_most s.left };
 
@@ -43,12 +48,16 @@ impl<'c, S: Source, W: Sink, T: DeserializeOwned> Iterator for Events<'c, S, W, 
         if self.left == 0 {
             return None;
         }
-        let event = self.client.next_event();
-        self.left = match &event {
-            Err(ClientError::Failed) => 0,
-            Err(error) if fails(error) => 0,
-            _ => self.left - 1,
-        };
-        event.transpose()
+        match self.client.next_event() {
+            Ok(Some(event)) => {
+                self.left -= 1;
+                Some(Ok(event))
+            }
+            Ok(None) => None,
+            Err(error) => {
+                self.left = if ends(&error) { 0 } else { self.left - 1 };
+                Some(Err(error))
+            }
+        }
     }
 }

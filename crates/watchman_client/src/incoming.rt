@@ -33,6 +33,7 @@ impl<S: Source> Incoming<S> {
     pub(crate) fn new(alloc: Global, most: usize, reader: S) -> Self
         ensures left { left_of S.remaining result ≡ S.remaining reader }
         ensures held { result.held ≡ false }
+        ensures limits { result.stream.limits.bytes ≡ most }
     {
         let limits = Limits {
             bytes: most,
@@ -52,6 +53,7 @@ impl<S: Source> Incoming<S> {
         ensures end { IfOk result (λ there. there ≡ false
             → IsAtEnd (left_of S.remaining self.new)) }
         ensures refused { IfErr result (StopsHere S.remaining self.new) }
+        ensures limits { self.new.stream.limits ≡ self.old.stream.limits }
     {
         if self.held {
             return Ok(true);
@@ -79,6 +81,7 @@ impl<S: Source> Incoming<S> {
             self.old.stream.frame }
         ensures held { self.new.held ≡ false }
         ensures stream { self.new.stream ≡ self.old.stream }
+        ensures limits { self.new.stream.limits ≡ self.old.stream.limits }
     {
         self.held = false;
     }

@@ -13,3 +13,4 @@ pub mod laws;
 mod next;
 pub mod reading;
 pub mod requests;
+pub mod unreadable;

@@ -1,5 +1,5 @@
 //! What the next message is.
-ghost use Rattle.std.specs.Prelude.{IfOk, IfErr};
+ghost use Rattle.std.specs.Prelude.{◌≡◌, IfOk, IfErr};
 ghost use Rattle.std.specs.Io.KnownBytes.{Keeps};
 ghost use Rattle.watchman_client.specs.Failures.{IsHindered};
 ghost use Rattle.watchman_client.specs.Views.{left_of, IsNext};
@@ -29,6 +29,7 @@ pub(crate) fn next_kind<S: Source>(
     ensures kept { Keeps (left_of S.remaining incoming.old) (left_of S.remaining incoming.new) }
     ensures next { IfOk result (IsNext S.remaining incoming.new) }
     ensures err { IfErr result (λ e. IsHindered S.remaining e incoming.new) }
+    ensures limits { incoming.new.stream.limits ≡ incoming.old.stream.limits }
 {
     match incoming.reach() {
         Ok(true) => match is_unsolicited(alloc, incoming.frame()) {

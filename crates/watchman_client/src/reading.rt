@@ -7,9 +7,10 @@ ghost use Rattle.watchman_client.specs.Requests.{ReadsOwned, UnreadOwned};
 
 use crate::errors::ClientError;
 use crate::kinds::error_of;
+use crate::unreadable::Unreadable;
 use bser_deserializer::deserializer::LEVELS;
 use bser_frames::owned::read_owned;
-use bser_messages::message::from_slice;
+use bser_messages::described::from_slice;
 use bser_types::deserialize::{Deserialize, DeserializeOwned};
 use std::alloc::Global;
 
@@ -41,7 +42,10 @@ pub fn read_answer<'m, T: Deserialize<&'m [u8]>>(
     refuse_error(alloc, message)?;
     match from_slice(alloc, message) {
         Ok(value) => Ok(value),
-        Err(error) => Err(ClientError::Answer(error)),
+        Err(description) => {
+            let error = Unreadable::find(alloc, description, message);
+            Err(ClientError::Answer(error))
+        }
     }
 }
 
@@ -58,6 +62,9 @@ pub fn read_owned_answer<T: DeserializeOwned>(
     refuse_error(alloc, message)?;
     match read_owned(alloc, LEVELS, message) {
         Ok(value) => Ok(value),
-        Err(description) => Err(ClientError::Answer(description.into_cause())),
+        Err(description) => {
+            let error = Unreadable::find(alloc, description, message);
+            Err(ClientError::Answer(error))
+        }
     }
 }

@@ -80,8 +80,8 @@ impl Header {
         }
     }
 
-    /// Which event it is.
-    fn event_kind(&self) -> EventKind
+    /// Which event it is, where it is one.
+    pub fn event_kind(&self) -> EventKind
         ensures { result ≡ event_kind_of self.now }
     {
         if self.log.is_some() {

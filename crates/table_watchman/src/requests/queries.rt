@@ -144,7 +144,7 @@ pub fn compare_written(recording: &mut RecordedRequests<'_>) {
 }
 
 /// A query for the names of these files.
-fn names_of<'a>(expression: Expression<'a>) -> Query<'a> {
+pub fn names_of<'a>(expression: Expression<'a>) -> Query<'a> {
     Query {
         expression: Some(expression),
         fields: Some(NAME_ALONE),

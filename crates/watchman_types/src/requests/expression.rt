@@ -19,9 +19,9 @@ pub const MOST_NESTED: usize = 124;
 /// Which files a query is about: a tree of terms, written as nested arrays.
 #[derive(Clone, Copy)]
 pub enum Expression<'a> {
-    /// Each of these holds.
+    /// Each of these holds. The server refuses it without one.
     AllOf(&'a [Expression<'a>]),
-    /// One of these holds, or more.
+    /// One of these holds, or more. The server refuses it without one.
     AnyOf(&'a [Expression<'a>]),
     /// This does not hold.
     Not(&'a Expression<'a>),
@@ -31,12 +31,14 @@ pub enum Expression<'a> {
     False,
     /// The file is there.
     Exists,
-    /// The file is there, and is a regular file or directory without content.
+    /// The file is there, is a regular file or a directory, and its size is 0.
     Empty,
+    /// The file is of this type. The server refuses `FileType::Unknown`.
     Type(FileType),
     /// The file's name ends in this behind a point. Small and capital letters are the same.
     Suffix(&'a str),
-    /// It ends in one of these.
+    /// It ends in one of these. The server has to have the capability `suffix-set`, which 4.9.0 has
+    /// not: it refuses this term, and takes `AnyOf` of several `Suffix`.
     Suffixes(&'a [&'a str]),
     Name(Name<'a>),
     Match(Match<'a>),

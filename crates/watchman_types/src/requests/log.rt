@@ -47,7 +47,7 @@ impl Serialize for LogLevelRequest {
     }
 }
 
-/// `log`: the server writes this line into its log. The level `Off` is the server's error.
+/// `log`: the server writes this line into its log, of the level `Off` too.
 #[derive(Clone, Copy)]
 pub struct LogRequest<'a> {
     pub level: Level,

@@ -66,7 +66,7 @@ pub struct Query<'a> {
     pub dedup_results: Option<bool>,
     /// Whether no file is told where the server does not know `since` any more.
     pub empty_on_fresh_instance: Option<bool>,
-    /// Whether no changed files are told, but only the clock.
+    /// Whether no changed files are told, but only the clock. Watchman 4.9.0 tells them all the same.
     pub omit_changed_files: Option<bool>,
     /// Whether directories are told where one of their files changed.
     pub always_include_directories: Option<bool>,

@@ -13,7 +13,7 @@ loop-preserved g c = record {
   nothing = nothing_then _ (view_of g.S.Source.remaining c.loop.self) _ c.loop.invariant.nothing c.keep_next.ensures.nothing;
   failed = search rules;
   writer = search rules;
-  within = record { bounds = c.keep_next.ensures.within.bounds ∙ c.loop.invariant.within.bounds; within = c.keep_next.ensures.within.within };
+  within = record { bounds = c.keep_next.ensures.within.bounds ∙ c.loop.invariant.within.bounds; limits = c.keep_next.ensures.within.limits ∙ c.loop.invariant.within.limits; within = c.keep_next.ensures.within.within };
 }
 
 pub returns-clause-given : goal.returns-clause-given
@@ -27,7 +27,13 @@ returns-clause-given g c =
     (answer_at mid.incoming.stream.frame c.release.new.self.stream.frame _ _ e (moves_then [] [] (mid.incoming.stream.frame ∷ []) [] _ (view_of g.S.Source.remaining mid) _ (moves_of _ _ n) (moves_answer mid.incoming.stream.frame _ _ taken h.frame h.kind (search rules))), search rules, search rules, search rules, search rules)
 
 pub returns-in_err-keep_next-clause-within : goal.returns-in_err-keep_next-clause-within
-returns-in_err-keep_next-clause-within g c = record { bounds = c.keep_next.ensures.within.bounds ∙ c.loop.invariant.within.bounds; within = c.keep_next.ensures.within.within }
+returns-in_err-keep_next-clause-within g c = record { bounds = c.keep_next.ensures.within.bounds ∙ c.loop.invariant.within.bounds; limits = c.keep_next.ensures.within.limits ∙ c.loop.invariant.within.limits; within = c.keep_next.ensures.within.within }
 
 pub returns-clause-within : goal.returns-clause-within
-returns-clause-within g c = record { bounds = search rules; within = search rules }
+returns-clause-within g c =
+    let v : c.self-2.inside.incoming ≡ c.keep_next.new.self.incoming = search rules in
+    record {
+      bounds = search rules;
+      limits = c.release.ensures.limits ∙ ap (λ i. i.stream.limits) v ∙ c.keep_next.ensures.within.limits ∙ c.loop.invariant.within.limits;
+      within = search rules;
+    }
