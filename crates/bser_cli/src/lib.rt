@@ -4,6 +4,7 @@
 mod canon;
 mod command;
 mod fault;
+mod incoming;
 mod indented;
 mod lines;
 mod order;
