@@ -9,6 +9,7 @@ mod indented;
 mod lines;
 mod order;
 mod pending;
+mod pieces;
 mod pointer;
 mod printing;
 pub mod program;
