@@ -2,3 +2,4 @@ pub mod Scalars
 pub mod Spilling
 pub mod Indenting
 pub mod Saying
+pub mod Parts

@@ -1,6 +1,7 @@
 //! What is wrong with a JSON text, and where.
 ghost use Rattle.std.specs.Prelude.{◌≤◌, length};
 
+use memchr::{memchr_iter, memrchr};
 use std::alloc::{AllocError, AllocFailed};
 use std::fmt;
 
@@ -48,31 +49,45 @@ pub struct Place {
 
 /// The place of the byte that so many stand before.
 pub fn place_of(text: &[u8], offset: usize) -> Place {
-    let front = &text[..offset.min(text.len())];
-    let mut place = Place { line: 1, column: 1 };
-    for byte in front {
-        place = place.behind(*byte);
-    }
-    place
+    Place::START.after(&text[..offset.min(text.len())])
 }
 
 impl Place {
-    /// The place behind a byte that stands here.
-    fn behind(self, byte: u8) -> Place {
-        if byte == b'\n' {
-            return Place {
-                line: self.line.saturating_add(1),
-                column: 1,
-            };
+    /// The first of a text.
+    pub(crate) const START: Place = Place { line: 1, column: 1 };
+
+    /// The place behind bytes that begin here.
+    pub(crate) fn after(self, bytes: &[u8]) -> Place {
+        match memrchr(b'\n', bytes) {
+            Some(last) => Place {
+                line: self.line.saturating_add(memchr_iter(b'\n', bytes).count()),
+                column: characters(&bytes[last + 1..]).saturating_add(1),
+            },
+            None => Place {
+                line: self.line,
+                column: self.column.saturating_add(characters(bytes)),
+            },
         }
-        if byte & 0xc0 == 0x80 {
-            return self;
+    }
+
+    /// The place of a text that begins here, where in that text it is `inner`.
+    pub(crate) fn around(self, inner: Place) -> Place {
+        if inner.line > 1 {
+            return Place {
+                line: self.line.saturating_add(inner.line - 1),
+                column: inner.column,
+            };
         }
         Place {
             line: self.line,
-            column: self.column.saturating_add(1),
+            column: self.column.saturating_add(inner.column.saturating_sub(1)),
         }
     }
+}
+
+/// How many characters the bytes have, or would have as UTF-8.
+fn characters(bytes: &[u8]) -> usize {
+    bytes.iter().filter(|byte| **byte & 0xc0 != 0x80).count()
 }
 
 impl fmt::Display for Place {

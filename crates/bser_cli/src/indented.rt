@@ -6,6 +6,7 @@ ghost use Rattle.json.specs.Print.{IsPrintable, begins, token_text};
 ghost use Rattle.json.specs.Reads.{token_of};
 ghost use Rattle.json.specs.Token as tokens;
 ghost use Rattle.bser_cli.specs.Indented.{IsIndented, PrintsLines, last_of};
+ghost use Rattle.bser_cli.specs.Strings.{BeginsInLines};
 
 use bser_views::trouble::Trouble;
 use json::{Token, Writer};
@@ -81,6 +82,23 @@ impl Indented {
         Ok(())
     }
 
+    /// Writes what is put, and what stands before the first byte of a string. What is put from then on
+    /// stands behind the string.
+    pub(crate) fn begin_string<W: Write>(&mut self, out: &mut W) -> Result<(), Trouble>
+        ensures { (start : Option (List ℕ)) (ts : List tokens.Token)
+            → PrintsLines start (W.contents out.old) ts self.old
+            → OnOk result (BeginsInLines start (W.contents out.new) ts self.new) }
+    {
+        let text = mem::replace(&mut self.text, Vec::new(self.alloc));
+        let spaced = with_gap(text, self.last, true, self.depth)?;
+        let mut begun = with_bytes(spaced, b"\"")?;
+        out.write_all(&begun)?;
+        begun.clear();
+        self.text = begun;
+        self.last = Last::Value;
+        Ok(())
+    }
+
     /// Keeps a token behind its comma and its gap.
     fn keep(&mut self, token: Token<'_>) -> Result<(), AllocError>
         requires { IsPrintable (token_of token) }
@@ -141,7 +159,8 @@ fn with_bytes(text: Vec<u8>, bytes: &[u8]) -> Result<Vec<u8>, AllocError>
 }
 
 /// The text with that of a token.
-fn with_token(text: Vec<u8>, token: Token<'_>) -> Result<Vec<u8>, AllocError>
+#[inline(always)]
+pub(crate) fn with_token(text: Vec<u8>, token: Token<'_>) -> Result<Vec<u8>, AllocError>
     requires { IsPrintable (token_of token) }
     ensures { IfOk result (λ new. new.items ≡ text.items ++ token_text (token_of token.entry)) }
 {

@@ -4,10 +4,12 @@
 mod canon;
 mod command;
 mod fault;
+mod incoming;
 mod indented;
 mod lines;
 mod order;
 mod pending;
+mod pieces;
 mod pointer;
 mod printing;
 pub mod program;

@@ -1,10 +1,11 @@
 //! The end of a JSON text on one line, whose front is written.
-ghost use Rattle.std.specs.Prelude.{◌≡◌, ℕ, List, [], ◌∷◌, ◌++◌, Option, IfOk, OnOk};
+ghost use Rattle.std.specs.Prelude.{◌≡◌, ℕ, List, [], ◌∷◌, ◌++◌, Option, cond, IfOk, OnOk};
 ghost use Rattle.std.specs.Io.KnownBytes.{Appends};
 ghost use Rattle.json.specs.Print.{IsPrintable, ends, print, print_from};
 ghost use Rattle.json.specs.Reads.{token_of};
 ghost use Rattle.json.specs.Token as tokens;
 ghost use Rattle.bser_cli.specs.Pending.{IsPending, PrintsLine, lead_of};
+ghost use Rattle.bser_cli.specs.Strings.{BeginsInLine};
 
 use bser_views::trouble::Trouble;
 use json::{Token, Writer};
@@ -80,6 +81,21 @@ impl Pending {
         Ok(())
     }
 
+    /// Writes what is put, and what stands before the first byte of a string. What is put from then on
+    /// stands behind the string.
+    pub(crate) fn begin_string<W: Write>(&mut self, out: &mut W) -> Result<(), Trouble>
+        ensures { (start : Option (List ℕ)) (ts : List tokens.Token)
+            → PrintsLine start (W.contents out.old) ts self.old
+            → OnOk result (BeginsInLine start (W.contents out.new) ts self.new) }
+    {
+        self.write_to(out)?;
+        out.write_all(string_start(self.ends_value))?;
+        self.writer = led(Vec::new(self.alloc), true)?;
+        self.is_behind_value = true;
+        self.ends_value = true;
+        Ok(())
+    }
+
     /// Keeps a token.
     fn keep(&mut self, token: Token<'_>) -> Result<(), AllocError>
         requires { IsPrintable (token_of token) }
@@ -105,6 +121,13 @@ fn led(buffer: Vec<u8>, ends_value: bool) -> Result<Writer, AllocError>
         writer.token(Token::BeginArray)?;
     }
     Ok(writer)
+}
+
+/// What stands before the first byte of a string, behind the end of a value or not.
+fn string_start(ends_value: bool) -> &'static [u8]
+    ensures { result.now ≡ cond ends_value (44 ∷ 34 ∷ []) (34 ∷ []) }
+{
+    if ends_value { b",\"" } else { b"\"" }
 }
 
 /// The text behind its lead, which ends a value or not.

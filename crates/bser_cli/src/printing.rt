@@ -1,13 +1,14 @@
 //! A JSON text that is written token by token, on one line or on several.
-ghost use Rattle.std.specs.Prelude.{[], ◌∷◌, List, Option, ℕ, IfOk, OnOk};
+ghost use Rattle.std.specs.Prelude.{◌≡◌, [], ◌∷◌, ◌++◌, List, Option, ℕ, IfOk, OnOk};
 ghost use Rattle.std.specs.Io.KnownBytes.{Appends};
 ghost use Rattle.json.specs.Print.{IsPrintable};
 ghost use Rattle.json.specs.Reads.{token_of};
 ghost use Rattle.json.specs.Token as tokens;
 ghost use Rattle.bser_cli.specs.Printed.{Prints, Puts, laid_out};
+ghost use Rattle.bser_cli.specs.Strings.{AddsPart, BeginsString, EndsString};
 ghost use Rattle.bser_cli.specs.declared.printing.Layout as layouts;
 
-use crate::indented::Indented;
+use crate::indented::{Indented, with_token};
 use crate::pending::Pending;
 use bser_views::trouble::Trouble;
 use json::Token;
@@ -77,4 +78,38 @@ impl<W: Write> Printing<W> {
             Text::Pretty(indented) => indented.put(token, &mut self.out),
         }
     }
+    /// Writes what is put, and what stands before the first byte of a string.
+    pub(crate) fn begin_string(&mut self) -> Result<(), Trouble>
+        ensures { OnOk result (BeginsString W.contents self.old self.new) }
+    {
+        match &mut self.text {
+            Text::Line(pending) => pending.begin_string(&mut self.out),
+            Text::Pretty(indented) => indented.begin_string(&mut self.out),
+        }
+    }
+
+    /// Writes what stands for the next part of the string that was begun.
+    pub(crate) fn put_part(&mut self, alloc: Global, part: &str) -> Result<(), Trouble>
+        ensures { OnOk result (AddsPart W.contents part.now self.old self.new) }
+    {
+        let quoted = with_token(Vec::new(alloc), Token::String(part))?;
+        self.out.write_all(within_quotes(&quoted))?;
+        Ok(())
+    }
+
+    /// Ends the string that was begun.
+    pub(crate) fn end_string(&mut self) -> Result<(), Trouble>
+        ensures { OnOk result (EndsString W.contents self.old self.new) }
+    {
+        self.out.write_all(b"\"")?;
+        Ok(())
+    }
+}
+
+/// What stands between the quotes of a string.
+fn within_quotes(text: &[u8]) -> &[u8]
+    ensures { (s : List ℕ) → text.now ≡ 34 ∷ (s ++ 34 ∷ []) → result.now ≡ s }
+{
+    let end = text.len().saturating_sub(1);
+    &text[end.min(1)..end]
 }

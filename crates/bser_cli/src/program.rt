@@ -212,18 +212,12 @@ fn write_texts<R: Read, W: Write, E: Write>(
     out: &mut W,
     reports: &mut Reports<'_, E>,
 ) -> io::Result<bool> {
-    let mut bytes = Vec::new(alloc);
-    if let Err(fault) = Counted::new(input, reports).read_to_end(&mut bytes) {
-        return Ok(not_read(name, &fault, reports));
-    }
-    let mut sink = Watched::new(&mut *out);
-    match write_messages(alloc, writing, &bytes, &mut sink, reports) {
-        Ok(()) => Ok(true),
-        Err(TextError::Message(MessageError::Io(fault))) => Err(fault),
-        Err(error) => {
-            out.flush()?;
-            let _written = writeln!(reports, "bser: {name}: {error}");
-            Ok(false)
-        }
-    }
+    let error = match write_messages(alloc, writing, &mut Counted::new(input, reports), out) {
+        Ok(()) => return Ok(true),
+        Err(TextError::Message(MessageError::Io(fault))) => return Err(fault),
+        Err(error) => error,
+    };
+    out.flush()?;
+    let _written = writeln!(reports, "bser: {name}: {error}");
+    Ok(false)
 }

@@ -1,39 +1,11 @@
-//! The JSON texts that follow each other in one text.
-ghost use Rattle.std.specs.Prelude.{◌≤◌, length};
+//! The JSON texts that follow each other.
+ghost use Rattle.std.specs.Prelude.{◌≤◌, length, IfSome};
 
-use crate::fault::{blanks, is_blank};
-
-/// Where the text of the value ends that begins with the first byte: behind the bracket that closes
-/// its first, behind the quote that ends its string, or before a blank, an opening bracket or a
-/// quote. Where it does not end, that is the end of the bytes.
-pub(crate) fn value_end(bytes: &[u8]) -> usize
-    ensures { result ≤ length bytes.now }
-{
-    let mut scan = Scan {
-        depth: 0,
-        is_string: false,
-        is_escaped: false,
-    };
-    for at in 0..bytes.len() {
-        match scan.step(bytes[at], at == 0) {
-            Step::Inside => {}
-            Step::Before => return at,
-            Step::Behind => return at + 1,
-        }
-    }
-    bytes.len()
-}
-
-/// Where the first value of the bytes begins.
-pub(crate) fn value_start(bytes: &[u8]) -> usize
-    ensures { result ≤ length bytes.now }
-{
-    blanks(bytes)
-}
+use crate::fault::is_blank;
 
 /// How far a value is scanned.
-#[derive(Drop)]
-struct Scan {
+#[derive(Clone, Copy)]
+pub(crate) struct Scan {
     depth: u64,
     is_string: bool,
     is_escaped: bool,
@@ -48,6 +20,33 @@ enum Step {
 }
 
 impl Scan {
+    /// Nothing is scanned.
+    pub(crate) fn new() -> Self {
+        Scan {
+            depth: 0,
+            is_string: false,
+            is_escaped: false,
+        }
+    }
+
+    /// Scans the bytes of a value behind so many that are scanned, and answers where it ends: behind
+    /// the bracket that closes its first, behind the quote that ends its string, or before a blank,
+    /// an opening bracket or a quote. None where that is not among the bytes.
+    pub(crate) fn end(&mut self, bytes: &[u8], scanned: usize) -> Option<usize>
+        ensures { IfSome result (λ n. n ≤ length bytes.now) }
+    {
+        let mut scan = *self;
+        for at in scanned..bytes.len() {
+            match scan.step(bytes[at], at == 0) {
+                Step::Inside => {}
+                Step::Before => return Some(at),
+                Step::Behind => return Some(at + 1),
+            }
+        }
+        *self = scan;
+        None
+    }
+
     /// Scans the next byte.
     fn step(&mut self, byte: u8, is_first: bool) -> Step {
         if self.is_string {

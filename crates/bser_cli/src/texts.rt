@@ -1,17 +1,17 @@
 //! JSON texts written as messages.
 
 use crate::fault::{Fault, JsonError, Place, place_of};
+use crate::incoming::Incoming;
 use crate::reading::{Strings, value_of};
-use crate::split::{value_end, value_start};
 use bser_format::errors::Error;
 use bser_ser::message::serialize_to;
-use bser_source::device::Sink;
+use bser_source::device::{Sink, Watched};
 use bser_value::compact::serialize_compact;
 use bser_value::value::Value;
-use bser_views::reports::Reports;
+use bser_views::counted::Counted;
 use std::alloc::Global;
-use std::fmt;
-use std::io::Write;
+use std::io::{Read, Write};
+use std::{fmt, io};
 
 /// How messages are written.
 #[derive(Debug, Clone, Copy, PartialEq, Eq)]
@@ -29,6 +29,21 @@ pub enum TextError {
     Json(JsonError),
     /// A value cannot be written, or the output failed.
     Message(Error),
+    /// The input cannot be read.
+    Input(io::Error),
+}
+
+impl TextError {
+    /// The error of a text that begins at this place.
+    fn within(self, start: Place) -> TextError {
+        match self {
+            TextError::Json(JsonError::Text { fault, place }) => TextError::Json(JsonError::Text {
+                fault,
+                place: start.around(place),
+            }),
+            other => other,
+        }
+    }
 }
 
 impl fmt::Display for TextError {
@@ -36,37 +51,53 @@ impl fmt::Display for TextError {
         match self {
             TextError::Json(error) => write!(f, "{error}"),
             TextError::Message(error) => write!(f, "{error}"),
+            TextError::Input(fault) => write!(f, "{fault}"),
         }
     }
 }
 
-/// Writes a message for each JSON text in `bytes`; blanks may stand between them. Those before an
-/// error are written. The `reports` count them.
-pub fn write_messages<W: Sink, E: Write>(
+/// Writes a message for each JSON text of `input`; blanks may stand between them. Those before an
+/// error are written, and all that came before the input is read again. Its reports count them.
+pub fn write_messages<R: Read, W: Write, E: Write>(
+    alloc: Global,
+    writing: Writing,
+    input: &mut Counted<'_, '_, R, E>,
+    out: &mut W,
+) -> Result<(), TextError> {
+    let mut incoming = Incoming::new(alloc);
+    for _ in 0..u64::MAX {
+        if incoming.advance() {
+            if let Err(error) = write_text(alloc, writing, incoming.text(), out) {
+                return Err(error.within(incoming.place()));
+            }
+            input.reports().count_message();
+            input.reports().work(incoming.text().len());
+        } else if incoming.has_ended() {
+            return Ok(());
+        } else {
+            if let Err(fault) = out.flush() {
+                return Err(TextError::Message(Error::Io(fault)));
+            }
+            if let Err(fault) = incoming.read(input) {
+                return Err(TextError::Input(fault));
+            }
+        }
+    }
+    Ok(())
+}
+
+/// Writes the message of a JSON text.
+fn write_text<W: Write>(
     alloc: Global,
     writing: Writing,
     bytes: &[u8],
     out: &mut W,
-    reports: &mut Reports<'_, E>,
 ) -> Result<(), TextError> {
     let text = text_of(bytes)?;
-    let mut rest = bytes;
-    for _ in 0..=bytes.len() {
-        let front = &rest[value_start(rest)..];
-        if front.is_empty() {
-            return Ok(());
-        }
-        let start = bytes.len().saturating_sub(front.len());
-        let (part, behind) = front.split_at(value_end(front));
-        match value_of(alloc, writing.strings, text, text_of(part)?, start) {
-            Ok(value) => write_message(alloc, writing, &value, out)?,
-            Err(error) => return Err(TextError::Json(error)),
-        }
-        reports.count_message();
-        reports.work(part.len());
-        rest = behind;
+    match value_of(alloc, writing.strings, text, text, 0) {
+        Ok(value) => write_message(alloc, writing, &value, &mut Watched::new(out)),
+        Err(error) => Err(TextError::Json(error)),
     }
-    Ok(())
 }
 
 /// Writes the message of a value.

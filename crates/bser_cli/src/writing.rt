@@ -42,7 +42,7 @@ const MOST_AROUND: usize = 2 * MOST_LEVELS;
 /// own: bytes that are no UTF-8 are `{"$bytes":"61ff"}`, an infinity and a NaN are
 /// `{"$real":"7ff8000000000000"}` by their bits, and a key that begins with `$` gets one `$` more.
 ///
-/// The text is written as it is made. The errors are that there is no memory, and those of the writer,
+/// The text is written as it is made, that of a long string too. The errors are that there is no memory, and those of the writer,
 /// which then has taken some of the text.
 pub fn write_json<W: Write + Drop>(
     alloc: Global,
@@ -178,7 +178,7 @@ fn put_scalar<W: Write>(alloc: Global, item: Item<'_>, out: &mut Printing<W>) ->
         return put_real(alloc, bits, out);
     }
     if let Some(text) = item.as_str() {
-        return out.token(Token::String(text));
+        return out.string(alloc, text);
     }
     match item.as_bytes() {
         Some(bytes) => put_bytes(alloc, bytes, out),
@@ -199,7 +199,7 @@ fn put_bytes<W: Write>(alloc: Global, bytes: &[u8], out: &mut Printing<W>) -> Re
     ensures { OnOk result (PutsSaid W.contents (SaysBytes bytes.now) out.old out.new) }
 {
     match std::str::from_utf8(bytes) {
-        Ok(text) => out.token(Token::String(text)),
+        Ok(text) => out.string(alloc, text),
         Err(_) => put_marked(alloc, "$bytes", bytes, out),
     }
 }
@@ -240,9 +240,8 @@ fn put_marked<W: Write>(
 ) -> Result<(), Trouble>
     ensures { OnOk result (PutsSaid W.contents (SaysMarked key.now bytes.now) out.old out.new) }
 {
-    let text = hex::encode(alloc, bytes)?;
     out.token(Token::BeginObject)?;
     out.token(Token::Key(key))?;
-    out.token(Token::String(text.as_str()))?;
+    out.hexadecimal(alloc, bytes)?;
     out.token(Token::EndObject)
 }

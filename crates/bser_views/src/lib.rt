@@ -7,6 +7,8 @@
 pub mod beside;
 pub mod counted;
 mod counts;
+mod flushing;
+mod frame;
 pub mod messages;
 mod open;
 mod quoted;

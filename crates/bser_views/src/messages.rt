@@ -1,10 +1,11 @@
 //! The messages of a reader, shown one after the other.
 
 use crate::counted::Counted;
+use crate::frame::{End, Frame};
 use crate::reports::Reports;
 use crate::trouble::Trouble;
 use bser_format::errors::{Error, ReadCause};
-use bser_messages::told::{Reason, Untold};
+use bser_messages::told::{Header, Reason, Untold};
 use bser_source::device::Source;
 use std::alloc::{AllocError, Global};
 use std::io;
@@ -15,6 +16,13 @@ use std::io::Write;
 pub enum ViewError {
     /// The message, the memory or the reader failed.
     Untold(Untold),
+    /// A part of the message runs past the end that its header announces.
+    Overrun {
+        /// What the header tells.
+        header: Header,
+        /// Why the message was not told whole.
+        untold: Untold,
+    },
     /// The message was taken, and cannot be written again.
     Unwritten(Error),
     /// The message was taken, and has nothing where it was asked for something.
@@ -74,12 +82,23 @@ pub struct Input<'a> {
     pub keeps_going: bool,
 }
 
+impl Input<'_> {
+    /// Where the reader of a message ends.
+    fn end(&self) -> End {
+        if self.keeps_going {
+            End::ANNOUNCED
+        } else {
+            End::OfInput
+        }
+    }
+}
+
 /// Shows the messages of the reader, and tells whether each was shown whole.
 ///
 /// A message that fails has a line in the `reports`, behind all that was shown of it. It ends the
 /// showing, unless the input `keeps_going` and the end that the header announces can be reached:
-/// then the next message is shown. On a terminal the output has all of a message before the next is
-/// read. The error is that of the output.
+/// then the next message is shown, and no byte behind that end is read of this one. The output has
+/// all of a message before the next is read. The error is that of the output.
 pub fn show_messages<S: Source, V: View, W: Write, E: Write>(
     alloc: Global,
     input: Input<'_>,
@@ -91,19 +110,19 @@ pub fn show_messages<S: Source, V: View, W: Write, E: Write>(
     let mut counted = Counted::new(reader, reports);
     let mut whole = true;
     for _ in 0..u64::MAX {
+        out.flush()?;
         let start = counted.given();
-        match view.show_next(alloc, start, &mut counted, out) {
-            Ok(true) => {
-                counted.reports().count_message();
-                if counted.reports().has_watched_output() {
-                    out.flush()?;
-                }
-            }
+        let mut frame = Frame::new(alloc, &mut counted, input.end());
+        let shown = view.show_next(alloc, start, &mut frame, out);
+        let has_ended = frame.has_ended();
+        match shown {
+            Ok(true) => counted.reports().count_message(),
             Ok(false) => return Ok(whole),
             Err(ViewError::Output(fault)) => return Err(fault),
             Err(failure) => {
                 whole = false;
                 out.flush()?;
+                let failure = past_end(failure, has_ended);
                 report(input.name, start, &failure, counted.reports());
                 if !input.keeps_going || !goes_on(alloc, input.name, &failure, &mut counted) {
                     return Ok(false);
@@ -114,6 +133,19 @@ pub fn show_messages<S: Source, V: View, W: Write, E: Write>(
     Ok(whole)
 }
 
+/// The failure of a message whose reader ended where its header announces, or did not end.
+fn past_end(failure: ViewError, has_ended: bool) -> ViewError {
+    match failure {
+        ViewError::Untold(untold) => match untold.header {
+            Some(header) if has_ended && is_of_reader(&untold) => {
+                ViewError::Overrun { header, untold }
+            }
+            _ => ViewError::Untold(untold),
+        },
+        other => other,
+    }
+}
+
 /// Writes a line on a message that begins at byte `start`, and was not shown whole.
 fn report<E: Write>(name: &str, start: u64, failure: &ViewError, errors: &mut E) {
     let _written = match failure {
@@ -122,6 +154,14 @@ fn report<E: Write>(name: &str, start: u64, failure: &ViewError, errors: &mut E)
             writeln!(
                 errors,
                 "bser: {name}: byte {place}: {untold} of the message at {start}"
+            )
+        }
+        ViewError::Overrun { header, .. } => {
+            let (len, end) = (header.len, header.message_length());
+            writeln!(
+                errors,
+                "bser: {name}: the message at {start}: {len} bytes announced, and more wanted, \
+                 at byte {end}"
             )
         }
         ViewError::Unwritten(error) => {
@@ -161,6 +201,7 @@ fn goes_on<S: Source, E: Write>(
 ) -> bool {
     let untold = match failure {
         ViewError::Untold(untold) if !is_of_reader(untold) => untold,
+        ViewError::Overrun { untold, .. } => untold,
         ViewError::Absent | ViewError::Memory | ViewError::Unwritten(_) => return true,
         _ => return false,
     };

@@ -35,11 +35,6 @@ impl<'s, E: Write> Reports<'s, E> {
         }
     }
 
-    /// Whether somebody waits for the output of each message, since it goes to a terminal.
-    pub(crate) fn has_watched_output(&self) -> bool {
-        self.screen.has_output()
-    }
-
     /// Counts bytes that were read.
     pub(crate) fn count_bytes(&mut self, count: usize) {
         self.bytes = self.bytes.saturating_add(count as u64);

@@ -1,5 +1,6 @@
 //! A line for each part of a message.
 
+use crate::flushing::Flushing;
 use crate::messages::{View, ViewError};
 use crate::open::Open;
 use crate::quoted::{Quoted, Real};
@@ -11,6 +12,7 @@ use bser_messages::telling;
 use bser_messages::told::Header;
 use bser_source::device::Source;
 use std::alloc::{AllocError, Global};
+use std::cell::RefCell;
 use std::io;
 use std::io::Write;
 
@@ -40,8 +42,10 @@ impl View for Show {
         reader: &mut S,
         out: &mut W,
     ) -> Result<bool, ViewError> {
-        let mut tree = Tree::new(alloc, self.style, start, out);
-        let told = telling::next_message(alloc, Limits::new(), reader, &mut tree);
+        let out = RefCell::new(out);
+        let mut tree = Tree::new(alloc, self.style, start, &out);
+        let mut flushing = Flushing::new(reader, &out);
+        let told = telling::next_message(alloc, Limits::new(), &mut flushing, &mut tree);
         if let Some(fault) = tree.take_fault() {
             return Err(ViewError::Output(fault));
         }
@@ -58,9 +62,9 @@ impl View for Show {
 /// Prints the parts of a message as they are told. It keeps the containers that are open, the keys
 /// of templates among them alone.
 #[derive(Drop)]
-pub(crate) struct Tree<'o, W: Write> {
+pub(crate) struct Tree<'o, 'w, W: Write> {
     alloc: Global,
-    out: &'o mut W,
+    out: &'o RefCell<&'w mut W>,
     style: Style,
     // where the message begins in the input
     start: u64,
@@ -69,9 +73,9 @@ pub(crate) struct Tree<'o, W: Write> {
     fault: Option<io::Error>,
 }
 
-impl<'o, W: Write> Tree<'o, W> {
+impl<'o, 'w, W: Write> Tree<'o, 'w, W> {
     /// Nothing was told of a message that begins at byte `start`.
-    fn new(alloc: Global, style: Style, start: u64, out: &'o mut W) -> Self {
+    fn new(alloc: Global, style: Style, start: u64, out: &'o RefCell<&'w mut W>) -> Self {
         Tree {
             alloc,
             out,
@@ -95,63 +99,71 @@ impl<'o, W: Write> Tree<'o, W> {
         }
         let end = self.start.saturating_add(header.message_length() as u64);
         let (len, capabilities) = (header.len, header.capabilities);
+        let mut out = self.out.try_borrow_mut()?;
         writeln!(
-            self.out,
+            out,
             "{end:>8}            end of a body of {len} bytes, capabilities {capabilities:#x}"
         )
     }
 
     /// Prints what an event tells, and keeps what is needed of it.
     fn show(&mut self, event: Event<'_>, place: Place) -> Result<(), Trouble> {
-        if !self.has_begun {
-            self.has_begun = true;
-            self.put_header(place.start)?;
-        }
         if let Event::Close = event {
             let _closed = self.around.pop();
             return Ok(());
         }
-        self.put_columns(&event, place)?;
-        self.put_label(&event)?;
-        match self.style {
-            Style::Full => put_full(self.out, event, place)?,
-            Style::Offsets => put_kind(self.out, event, place)?,
-            Style::Values => put_value(self.out, event, place)?,
-        }
+        self.put_line(event, place)?;
         self.keep(event)?;
         Ok(())
     }
 
+    /// Prints the line of a part, and before the first the header's.
+    fn put_line(&mut self, event: Event<'_>, place: Place) -> io::Result<()> {
+        let mut out = self.out.try_borrow_mut()?;
+        let out = &mut **out;
+        if !self.has_begun {
+            self.has_begun = true;
+            self.put_header(out, place.start)?;
+        }
+        self.put_columns(out, &event, place)?;
+        self.put_label(out, &event)?;
+        match self.style {
+            Style::Full => put_full(out, event, place),
+            Style::Offsets => put_kind(out, event, place),
+            Style::Values => put_value(out, event, place),
+        }
+    }
+
     /// Prints the line of a header of `len` bytes.
-    fn put_header(&mut self, len: usize) -> io::Result<()> {
+    fn put_header(&self, out: &mut W, len: usize) -> io::Result<()> {
         match self.style {
             Style::Values => Ok(()),
-            _ => writeln!(self.out, "{:>8}    {len:>6}  message", self.start),
+            _ => writeln!(out, "{:>8}    {len:>6}  message", self.start),
         }
     }
 
     /// Prints where a part stands, and its indentation.
-    fn put_columns(&mut self, event: &Event<'_>, place: Place) -> io::Result<()> {
+    fn put_columns(&self, out: &mut W, event: &Event<'_>, place: Place) -> io::Result<()> {
         let indent = self.around.len().saturating_mul(2);
         if self.style == Style::Values {
-            return write!(self.out, "{:indent$}", "");
+            return write!(out, "{:indent$}", "");
         }
         let offset = self.start.saturating_add(place.start as u64);
         let width = place.size();
         match event.tag(place) {
-            Some(tag) => write!(self.out, "{offset:>8} {tag:02x} {width:>6}  {:indent$}", ""),
-            None => write!(self.out, "{offset:>8}    {width:>6}  {:indent$}", ""),
+            Some(tag) => write!(out, "{offset:>8} {tag:02x} {width:>6}  {:indent$}", ""),
+            None => write!(out, "{offset:>8}    {width:>6}  {:indent$}", ""),
         }
     }
 
     /// Prints what names a part in its container.
-    fn put_label(&mut self, event: &Event<'_>) -> io::Result<()> {
+    fn put_label(&mut self, out: &mut W, event: &Event<'_>) -> io::Result<()> {
         match event {
-            Event::Key(_) => write!(self.out, "key "),
+            Event::Key(_) => write!(out, "key "),
             Event::Rows { .. } => Ok(()),
             _ => match self.around.last_mut() {
                 Some(open) => {
-                    write!(self.out, "{open}")?;
+                    write!(out, "{open}")?;
                     open.step();
                     Ok(())
                 }
@@ -185,7 +197,7 @@ impl<'o, W: Write> Tree<'o, W> {
     }
 }
 
-impl<W: Write> Builder for Tree<'_, W> {
+impl<W: Write> Builder for Tree<'_, '_, W> {
     ghost use Rattle.std.specs.Prelude.{true};
 
     ghost takes = { λ _ _ _ _. Unit {0} };

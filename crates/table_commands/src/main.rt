@@ -4,21 +4,26 @@
 //! `messages.tsv` has recorded messages with their JSON, and `wrong-messages.tsv` such lines of which
 //! each is wrong, and is named; `scripts/command_table` makes the first. `refused.tsv` has messages that
 //! are malformed, with what has to be reported of them and where, and `wrong-refused.tsv` wrong lines. A
-//! message is cut behind each of its bytes. Then commands are run on a short message that stands for a
-//! long value.
+//! message is cut behind each of its bytes. Of files that come byte by byte is compared what is written
+//! before each read. Then commands are run on a short message that stands for a long value.
 #![tactic(auto)]
 
 mod amplifying;
 mod commands;
+mod frames;
 mod message;
 mod refusal;
 mod run;
 mod session;
+mod waiting;
 
 use crate::amplifying::print_amplifying;
+use crate::commands::COMMANDS;
+use crate::frames::compare_frames;
 use crate::message::compare_messages;
 use crate::refusal::{compare_cuts, compare_refusals};
 use crate::session::print_session;
+use crate::waiting::compare_waits;
 use anyhow::Result;
 
 fn main(rt: HostRuntime) -> Result<()> {
@@ -27,6 +32,14 @@ fn main(rt: HostRuntime) -> Result<()> {
     compare_messages(&rt, "wrong-messages.tsv")?;
     compare_refusals(&rt, "refused.tsv")?;
     compare_refusals(&rt, "wrong-refused.tsv")?;
+    compare_frames(&rt, "refused.tsv")?;
     compare_cuts(&rt, "watchman/070-s-query-one-row.bser")?;
+    compare_waits(&rt, &COMMANDS, "rows.bser")?;
+    compare_waits(
+        &rt,
+        &[&["show", "--keep-going"], &["json", "--keep-going"]],
+        "three.bser",
+    )?;
+    compare_waits(&rt, &[&["from-json"]], "texts.json")?;
     print_amplifying(&rt)
 }

@@ -3,6 +3,7 @@ use anyhow::{Result, ensure};
 use bser_cli::program::run_bser;
 use bser_vectors::devices::{Plan, PlannedWriter};
 use bser_views::screen::Terminals;
+use std::io::{Read, Write};
 
 /// What a run of a command left.
 #[derive(Drop)]
@@ -22,28 +23,31 @@ pub fn run_command_to(
     input: &[u8],
     plan: Plan,
 ) -> Result<CommandRun> {
-    let alloc = rt.alloc();
-    let mut all = vec![in alloc; String::from_str(alloc, "bser")?]?;
-    for word in words {
-        all.push(String::from_str(alloc, *word)?)?;
-    }
     let mut left = input;
-    let mut output = PlannedWriter::new(alloc, plan);
-    let mut errors = Vec::new(alloc);
-    let status = run_bser(
-        alloc,
-        rt,
-        &all,
-        Terminals::NONE,
-        &mut left,
-        &mut output,
-        &mut errors,
-    );
+    let mut output = PlannedWriter::new(rt.alloc(), plan);
+    let mut errors = Vec::new(rt.alloc());
+    let status = run_on(rt, words, &mut left, &mut output, &mut errors)?;
     Ok(CommandRun {
         status,
         output: output.into_taken(),
         errors,
     })
+}
+
+/// Runs `bser` with these words behind its name on these streams, and answers its status.
+pub fn run_on<R: Read, W: Write + Drop>(
+    rt: &HostRuntime,
+    words: &[&str],
+    input: &mut R,
+    output: W,
+    errors: &mut Vec<u8>,
+) -> Result<u8> {
+    let alloc = rt.alloc();
+    let mut all = vec![in alloc; String::from_str(alloc, "bser")?]?;
+    for word in words {
+        all.push(String::from_str(alloc, *word)?)?;
+    }
+    Ok(run_bser(alloc, rt, &all, Terminals::NONE, input, output, errors))
 }
 
 /// Runs `bser` with these words behind its name, on this input.
