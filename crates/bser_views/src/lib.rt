@@ -7,6 +7,7 @@
 pub mod beside;
 pub mod counted;
 mod counts;
+pub mod lack;
 pub mod messages;
 mod open;
 mod quoted;
@@ -16,3 +17,4 @@ pub mod summary;
 mod tally;
 pub mod tree;
 pub mod trouble;
+pub mod unread;
