@@ -1,7 +1,7 @@
 //! Looks into BSER messages, and makes them: `bser --help` lists its commands.
 //!
-//! The status is 0, 1 where a message is malformed or cannot be read, or 2 for unknown arguments;
-//! each but the first comes with lines on standard error.
+//! The status is 0, 1 where a message is malformed, or an input is empty or cannot be read, or 2 for
+//! unknown arguments; each but the first comes with lines on standard error.
 #![tactic(auto)]
 
 use bser_cli::standard::run_process;

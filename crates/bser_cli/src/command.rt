@@ -5,12 +5,23 @@ use std::alloc::{AllocError, Global};
 
 /// What stands behind the list of commands.
 const AFTER_HELP: &str = "Each command reads the files that are named, or else standard input.
-The status is 0, 1 where a message is malformed or cannot be read, or 2 for unknown arguments.";
+The status is 0; or 1 where a message is malformed, or an input is empty or cannot be read; or 2
+for unknown arguments.";
+
+/// What stands behind the arguments of `get`.
+const AFTER_GET: &str =
+    "Where nothing is at a pointer, a line on standard error says so, and the status is 1.
+With --each it counts the items without a value, and the other values are printed.
+With -z it is a failure too where a string has a NUL.";
+
+/// The version of the library.
+const VERSION: &str = "0.4.0";
 
 /// The program's commands, each with its options.
 pub(crate) fn command<'a>(alloc: Global) -> Result<Command<'a>, AllocError> {
     Command::new(alloc, "bser")
         .about("Looks into BSER messages of version 2, and makes them")
+        .version(VERSION)
         .after_help(AFTER_HELP)
         .subcommand_required(true)
         .subcommand(show(alloc)?)?
@@ -59,9 +70,26 @@ fn get<'a>(alloc: Global) -> Result<Command<'a>, AllocError> {
     let pointer = Arg::new(alloc, "POINTER")
         .required(true)
         .action(ArgAction::Set)
-        .help("A JSON pointer, as /files/0/name");
+        .help("A JSON pointer, as /files/0/name, or '' for the whole value");
+    let each = Arg::new(alloc, "each")
+        .long("each")
+        .value_name("CONTAINER")
+        .action(ArgAction::Set)
+        .help("For each item, row or member at this pointer, print the value at POINTER in it");
+    let ends = Arg::new(alloc, "z")
+        .short('z')
+        .action(ArgAction::SetTrue)
+        .help("As --raw, with a NUL behind each value in place of a newline");
     Command::new(alloc, "get")
-        .about("Print one value of each message as JSON")
+        .about("Print one value of each message as JSON, or one of each item")
+        .after_help(AFTER_GET)
+        .arg(each)?
+        .arg(flag(
+            alloc,
+            "raw",
+            "Print a string as its bytes, and any other value as JSON",
+        ))?
+        .arg(ends)?
         .arg(pretty(alloc))?
         .arg(keep_going(alloc))?
         .arg(pointer)?
@@ -120,5 +148,5 @@ fn files<'a>(alloc: Global) -> Arg<'a> {
     Arg::new(alloc, "FILE")
         .action(ArgAction::Append)
         .num_args(0..)
-        .help("Files of messages")
+        .help("Files to read, and - for standard input")
 }

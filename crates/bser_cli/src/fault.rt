@@ -18,6 +18,9 @@ pub enum Fault {
     RealTooGreat,
     EqualKeys,
     UnknownMark,
+    WrongBytes,
+    WrongReal,
+    MarkWithMembers,
     TooDeep,
 }
 
@@ -35,6 +38,10 @@ impl fmt::Display for Fault {
             Fault::EqualKeys => "a key that the object has already",
             Fault::UnknownMark =>
                 "a key with one $, and neither {\"$bytes\":..} nor {\"$real\":..}",
+            Fault::WrongBytes =>
+                "bytes that are not an even number of hexadecimal digits in a string",
+            Fault::WrongReal => "a real that is not sixteen hexadecimal digits in a string",
+            Fault::MarkWithMembers => "a member beside $bytes or $real, which stand alone",
             Fault::TooDeep => "more than 128 levels",
         })
     }

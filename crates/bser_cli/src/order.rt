@@ -1,12 +1,13 @@
 //! What the program is asked for.
 
 use crate::lines::Json;
-use crate::pointer::Get;
+use crate::pointer::{Form, Get, is_pointer};
 use crate::printing::Layout;
 use crate::reading::Strings;
 use crate::texts::Writing;
 use bser_views::tree::{Show, Style};
 use clap::ArgMatches;
+use std::fmt;
 
 /// What is done with each message, or with each JSON text.
 #[derive(Debug, Clone, Copy)]
@@ -17,7 +18,7 @@ pub enum Task<'a> {
     Json(Json),
     /// What it has is counted.
     Summary,
-    /// One value of it is printed as JSON.
+    /// Values of it are printed.
     Get(Get<'a>),
     /// It is written again, with templates where that `is_compact`.
     Canon { is_compact: bool },
@@ -34,8 +35,32 @@ pub struct Order<'a> {
     pub keeps_going: bool,
 }
 
-/// What the words of a command ask for. None for a name that is no command's.
-pub(crate) fn order_of<'a>(name: &str, matches: &ArgMatches<'a>) -> Option<Order<'a>> {
+/// Why words ask for nothing.
+#[derive(Debug, Clone, Copy)]
+pub(crate) enum Disorder<'a> {
+    /// The name is no command's.
+    Command,
+    /// The word is no JSON pointer.
+    Pointer(&'a str),
+}
+
+impl fmt::Display for Disorder<'_> {
+    fn fmt<W: fmt::Write>(&self, f: &mut fmt::Formatter<W>) -> fmt::Result {
+        match self {
+            Disorder::Command => f.write_str("no command"),
+            Disorder::Pointer(word) => write!(
+                f,
+                "{word:?} is no JSON pointer: one begins with /, as /files/0/name, or is empty"
+            ),
+        }
+    }
+}
+
+/// What the words of a command ask for.
+pub(crate) fn order_of<'a>(
+    name: &str,
+    matches: &ArgMatches<'a>,
+) -> Result<Order<'a>, Disorder<'a>> {
     let task = match name {
         "show" => Task::Show(Show {
             style: style_of(matches),
@@ -44,20 +69,46 @@ pub(crate) fn order_of<'a>(name: &str, matches: &ArgMatches<'a>) -> Option<Order
             layout: layout_of(matches),
         }),
         "summary" => Task::Summary,
-        "get" => Task::Get(Get {
-            pointer: matches.get_str("POINTER").unwrap_or(""),
-            layout: layout_of(matches),
-        }),
+        "get" => Task::Get(get_of(matches)?),
         "canon" => Task::Canon {
             is_compact: matches.get_flag("compact"),
         },
         "from-json" => Task::FromJson(writing_of(matches)),
-        _ => return None,
+        _ => return Err(Disorder::Command),
     };
-    Some(Order {
+    Ok(Order {
         task,
         keeps_going: matches.get_flag("keep-going"),
     })
+}
+
+fn get_of<'a>(matches: &ArgMatches<'a>) -> Result<Get<'a>, Disorder<'a>> {
+    let each = match matches.get_str("each") {
+        Some(word) => Some(pointer_of(word)?),
+        None => None,
+    };
+    let form = if matches.get_flag("z") {
+        Form::Ended
+    } else if matches.get_flag("raw") {
+        Form::Raw
+    } else {
+        Form::Json
+    };
+    Ok(Get {
+        each,
+        pointer: pointer_of(matches.get_str("POINTER").unwrap_or(""))?,
+        form,
+        layout: layout_of(matches),
+    })
+}
+
+/// The word, where it is a pointer.
+fn pointer_of<'a>(word: &'a str) -> Result<&'a str, Disorder<'a>> {
+    if is_pointer(word) {
+        Ok(word)
+    } else {
+        Err(Disorder::Pointer(word))
+    }
 }
 
 fn style_of(matches: &ArgMatches<'_>) -> Style {

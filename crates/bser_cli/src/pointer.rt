@@ -1,21 +1,42 @@
-//! One value of each message.
+//! Values of each message.
+ghost use Rattle.std.specs.Prelude.{◌≡◌, is_some};
+ghost use Rattle.bser_document.specs.Pointer.{tokens};
 
-use crate::lines::put_line;
 use crate::printing::Layout;
+use crate::writing::write_json;
 use bser_document::document::Document;
+use bser_document::item::Item;
 use bser_messages::limits::Limits;
 use bser_source::device::Source;
+use bser_views::lack::Lack;
 use bser_views::messages::{View, ViewError};
 use std::alloc::Global;
 use std::io::Write;
 
-/// Shows the value of a message that a JSON pointer (RFC 6901) leads to, as a JSON text and a
-/// line's end. It is a failure where no value is there.
+/// How a value is printed.
+#[derive(Debug, Clone, Copy, PartialEq, Eq)]
+pub enum Form {
+    /// As a JSON text, and a newline.
+    Json,
+    /// A string as its bytes, and any other value as a JSON text; then a newline.
+    Raw,
+    /// As `Raw`, with a NUL in place of the newline.
+    Ended,
+}
+
+/// Shows the value of a message that a JSON pointer (RFC 6901) leads to, or one of each value of a
+/// container.
+///
+/// It is a failure where no value is there. Of a container the other values are shown.
 #[derive(Debug, Clone, Copy)]
 pub struct Get<'a> {
-    /// The pointer.
+    /// The pointer to the container. Without one, the value of the message is gone into.
+    pub each: Option<&'a str>,
+    /// The pointer from there.
     pub pointer: &'a str,
-    /// How the text is laid out.
+    /// How a value is printed.
+    pub form: Form,
+    /// How a JSON text is laid out.
     pub layout: Layout,
 }
 
@@ -27,15 +48,114 @@ impl View for Get<'_> {
         reader: &mut S,
         out: &mut W,
     ) -> Result<bool, ViewError> {
-        match Document::next_message(alloc, Limits::new(), reader)? {
-            Some(document) => match document.root().pointer(self.pointer) {
-                Some(item) => {
-                    put_line(alloc, item, self.layout, out)?;
-                    Ok(true)
-                }
-                None => Err(ViewError::Absent),
-            },
-            None => Ok(false),
+        let Some(document) = Document::next_message(alloc, Limits::new(), reader)? else {
+            return Ok(false);
+        };
+        match self.each {
+            Some(container) => self.put_each(alloc, value_at(document.root(), container)?, out)?,
+            None => self.put(alloc, value_at(document.root(), self.pointer)?, out)?,
+        }
+        Ok(true)
+    }
+}
+
+impl Get<'_> {
+    /// Prints the value in each item of an array, row of a template or value of an object, of equal
+    /// keys in the last.
+    fn put_each<W: Write>(
+        &self,
+        alloc: Global,
+        container: Item<'_>,
+        out: &mut W,
+    ) -> Result<(), ViewError> {
+        let mut inside = Inside { lacking: 0, all: 0 };
+        if let Some(items) = container.items() {
+            for item in items {
+                self.put_inside(alloc, item, &mut inside, out)?;
+            }
+        } else if let Some(entries) = container.entries() {
+            let sorted = entries.sorted(alloc)?;
+            for (_key, item) in &sorted {
+                self.put_inside(alloc, *item, &mut inside, out)?;
+            }
+        } else {
+            return Err(ViewError::Lacking(Lack::Container));
+        }
+        inside.outcome()
+    }
+
+    /// Prints the value in one of them, and counts it.
+    fn put_inside<W: Write>(
+        &self,
+        alloc: Global,
+        item: Item<'_>,
+        inside: &mut Inside,
+        out: &mut W,
+    ) -> Result<(), ViewError> {
+        inside.all = inside.all.saturating_add(1);
+        match item.pointer(self.pointer) {
+            Some(value) => self.put(alloc, value, out),
+            None => {
+                inside.lacking = inside.lacking.saturating_add(1);
+                Ok(())
+            }
         }
     }
+
+    /// Prints a value.
+    fn put<W: Write>(&self, alloc: Global, item: Item<'_>, out: &mut W) -> Result<(), ViewError> {
+        let bytes = match self.form {
+            Form::Json => None,
+            Form::Raw | Form::Ended => item.as_bytes(),
+        };
+        match bytes {
+            Some(bytes) if self.form == Form::Ended && bytes.contains(&0) => {
+                return Err(ViewError::Lacking(Lack::End));
+            }
+            Some(bytes) => out.write_all(bytes)?,
+            None => {
+                let _out = write_json(alloc, item, self.layout, &mut *out)?;
+            }
+        }
+        out.write_all(self.end())?;
+        Ok(())
+    }
+
+    /// What stands behind a value.
+    fn end(&self) -> &'static [u8] {
+        match self.form {
+            Form::Json | Form::Raw => b"\n",
+            Form::Ended => b"\0",
+        }
+    }
+}
+
+/// How many values of a container were gone into.
+#[derive(Clone, Copy)]
+struct Inside {
+    lacking: u64,
+    all: u64,
+}
+
+impl Inside {
+    /// The failure where some lack what was asked for.
+    fn outcome(self) -> Result<(), ViewError> {
+        let Inside { lacking, all } = self;
+        if lacking == 0 {
+            return Ok(());
+        }
+        Err(ViewError::Lacking(Lack::Inside { lacking, all }))
+    }
+}
+
+/// The value that a pointer leads to.
+fn value_at<'d>(item: Item<'d>, pointer: &str) -> Result<Item<'d>, ViewError> {
+    item.pointer(pointer).ok_or(ViewError::Lacking(Lack::Value))
+}
+
+/// Whether a text is a JSON pointer: empty, or with a slash first.
+pub(crate) fn is_pointer(text: &str) -> bool
+    ensures { result ≡ is_some (tokens text.now) }
+{
+    text.is_empty() || text.starts_with('/')
 }

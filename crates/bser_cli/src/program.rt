@@ -8,10 +8,11 @@ use bser_format::errors::Error as MessageError;
 use bser_source::device::Watched;
 use bser_views::beside::Beside;
 use bser_views::counted::Counted;
-use bser_views::messages::{Input, View, show_messages};
+use bser_views::messages::{Input, View, report_unread, show_messages};
 use bser_views::reports::Reports;
 use bser_views::screen::{Screen, Terminals};
 use bser_views::summary::Summary;
+use bser_views::unread::Unread;
 use clap::Error;
 use std::alloc::Global;
 use std::fs::Files;
@@ -21,11 +22,15 @@ use std::{fs, io};
 /// The status where all was done.
 pub const DONE: u8 = 0;
 
-/// The status where a message is malformed, or could not be read or written.
+/// The status where a message is malformed, or an input is empty or cannot be read, or the output
+/// failed.
 pub const FAILED: u8 = 1;
 
 /// The status where the arguments are not known.
 pub const UNKNOWN_ARGUMENT: u8 = 2;
+
+/// The name of standard input among those of files.
+const DASH: &str = "-";
 
 /// The name of standard input in reports.
 const STANDARD_INPUT: &str = "standard input";
@@ -33,16 +38,16 @@ const STANDARD_INPUT: &str = "standard input";
 /// What is read, and what is done behind a message that fails.
 #[derive(Clone, Copy)]
 struct Inputs<'a> {
-    /// The names of files. Without them standard input is read.
+    /// The names of files, and `-` for standard input. Without them standard input is read.
     names: &'a [&'a str],
     /// Whether the messages behind one that fails are shown too.
     keeps_going: bool,
 }
 
 /// Runs the program with these words, the first of which is its name, and answers its status. Files
-/// are opened by `files`, and where none is named `input` is read. What is wrong has a line on
-/// `errors`, and where these go to one of the `terminals`, a line there says how far a long input is
-/// read.
+/// are opened by `files`, and `input` is read for the name `-`, and where none is named. What is wrong
+/// has a line on `errors`, and where these go to one of the `terminals`, a line there says how far a
+/// long input is read.
 ///
 /// A closed pipe of the output ends the program, and is no error.
 pub fn run_bser<F: Files, R: Read, W: Write + Drop, E: Write>(
@@ -94,8 +99,12 @@ fn obey<F: Files, R: Read, W: Write, E: Write>(
     let Some((name, inner)) = matches.subcommand() else {
         return Ok(UNKNOWN_ARGUMENT);
     };
-    let Some(order) = order_of(name, inner) else {
-        return Ok(UNKNOWN_ARGUMENT);
+    let order = match order_of(name, inner) {
+        Ok(order) => order,
+        Err(disorder) => {
+            let _written = writeln!(reports, "bser: {disorder}");
+            return Ok(UNKNOWN_ARGUMENT);
+        }
     };
     let inputs = Inputs {
         names: inner.get_raw("FILE").unwrap_or(&[]),
@@ -153,24 +162,50 @@ fn show_all<F: Files, R: Read, V: View, W: Write, E: Write>(
     reports: &mut Reports<'_, E>,
 ) -> io::Result<bool> {
     let keeps_going = inputs.keeps_going;
+    let standard = Input {
+        name: STANDARD_INPUT,
+        keeps_going,
+    };
     if inputs.names.is_empty() {
-        let name = STANDARD_INPUT;
-        let from = Input { name, keeps_going };
-        return show_messages(alloc, from, &mut Watched::new(input), view, out, reports);
+        return show_messages(
+            alloc,
+            standard,
+            &mut Watched::new(input),
+            view,
+            out,
+            reports,
+        );
     }
     let mut whole = true;
     for name in inputs.names {
-        let from = Input {
-            name: *name,
-            keeps_going,
-        };
-        let shown = match fs::open(files, *name) {
-            Ok(file) => show_messages(alloc, from, &mut Watched::new(file), view, out, reports)?,
-            Err(fault) => not_read(*name, &fault, reports),
+        let shown = if *name == DASH {
+            let mut reader = Watched::new(&mut *input);
+            show_messages(alloc, standard, &mut reader, view, out, reports)?
+        } else {
+            let from = Input {
+                name: *name,
+                keeps_going,
+            };
+            show_file(alloc, files, from, view, out, reports)?
         };
         whole = whole && shown;
     }
     Ok(whole)
+}
+
+/// Shows the messages of a file, and tells whether each was shown whole.
+fn show_file<F: Files, V: View, W: Write, E: Write>(
+    alloc: Global,
+    files: &F,
+    from: Input<'_>,
+    view: &mut V,
+    out: &mut W,
+    reports: &mut Reports<'_, E>,
+) -> io::Result<bool> {
+    match fs::open(files, from.name) {
+        Ok(file) => show_messages(alloc, from, &mut Watched::new(file), view, out, reports),
+        Err(fault) => Ok(not_read(from.name, Unread::Fault(&fault), reports)),
+    }
 }
 
 /// Writes the messages of the JSON texts in each input, and tells whether each was written.
@@ -188,18 +223,22 @@ fn write_all<F: Files, R: Read, W: Write, E: Write>(
     }
     let mut whole = true;
     for name in inputs.names {
-        let written = match fs::open(files, *name) {
-            Ok(mut file) => write_texts(alloc, writing, *name, &mut file, out, reports)?,
-            Err(fault) => not_read(*name, &fault, reports),
+        let written = if *name == DASH {
+            write_texts(alloc, writing, STANDARD_INPUT, &mut *input, out, reports)?
+        } else {
+            match fs::open(files, *name) {
+                Ok(mut file) => write_texts(alloc, writing, *name, &mut file, out, reports)?,
+                Err(fault) => not_read(*name, Unread::Fault(&fault), reports),
+            }
         };
         whole = whole && written;
     }
     Ok(whole)
 }
 
-/// Reports that an input cannot be read. It is not shown whole.
-fn not_read<E: Write>(name: &str, fault: &io::Error, reports: &mut Reports<'_, E>) -> bool {
-    let _written = writeln!(reports, "bser: {name}: {fault}");
+/// Reports that an input is not read. It is not shown whole.
+fn not_read<E: Write>(name: &str, unread: Unread<'_>, reports: &mut Reports<'_, E>) -> bool {
+    let _written = report_unread(name, unread, reports);
     false
 }
 
@@ -212,12 +251,19 @@ fn write_texts<R: Read, W: Write, E: Write>(
     out: &mut W,
     reports: &mut Reports<'_, E>,
 ) -> io::Result<bool> {
-    let error = match write_messages(alloc, writing, &mut Counted::new(input, reports), out) {
+    let mut counted = Counted::new(input, reports);
+    let written = write_messages(alloc, writing, &mut counted, out);
+    let is_empty = counted.given() == 0;
+    let unread = match written {
+        Ok(()) if is_empty => return Ok(not_read(name, Unread::Empty, reports)),
         Ok(()) => return Ok(true),
         Err(TextError::Message(MessageError::Io(fault))) => return Err(fault),
-        Err(error) => error,
+        Err(unread) => unread,
     };
     out.flush()?;
-    let _written = writeln!(reports, "bser: {name}: {error}");
+    if let TextError::Input(fault) = &unread {
+        return Ok(not_read(name, Unread::Fault(fault), reports));
+    }
+    let _written = writeln!(reports, "bser: {name}: {unread}");
     Ok(false)
 }

@@ -1,11 +1,14 @@
 //! The value of a JSON text.
-ghost use Rattle.std.specs.Prelude.{◌<◌, IfOk};
+ghost use Rattle.std.specs.Prelude.{◌≡◌, ◌↔◌, ◌<◌, length, IfOk, IfSome, IsSome, Ok};
+ghost use Rattle.std.specs.Int.{w64, to_be_bytes};
+ghost use Rattle.std.specs.List.{AllPass};
+ghost use Rattle.hex.specs.Hex.{decode_of, is_hex_digit};
 
 use crate::fault::{Fault, JsonError, blanks, fault_of, place_of};
 use bser_deserializer::deserializer::LEVELS;
 use bser_format::bytestring::ByteString;
 use bser_value::value::Value;
-use hex::FromHexError;
+use hex::{FromHex, FromHexError};
 use json::{Reader, Scratch, Token};
 use std::alloc::Global;
 use std::collections::BTreeMap;
@@ -103,12 +106,18 @@ impl<'a> Reading<'a> {
             Token::String(text) => self.string(text),
             Token::Number(text) => self.number(text),
             Token::BeginArray => {
-                let inside = self.inside(levels)?;
+                let inside = self.inside(levels, self.begun)?;
                 self.array(inside)
             }
             Token::BeginObject => {
-                let inside = self.inside(levels)?;
-                self.object(inside)
+                let begun = self.begun;
+                match self.token()? {
+                    Token::Key(key) if is_mark(key) => self.marked(key),
+                    token => {
+                        let inside = self.inside(levels, begun)?;
+                        self.object(token, inside)
+                    }
+                }
             }
             Token::Key(_) | Token::EndArray | Token::EndObject | Token::Bad => {
                 Err(self.fault(Fault::NotJson))
@@ -116,12 +125,13 @@ impl<'a> Reading<'a> {
         }
     }
 
-    /// The levels that are left inside of a container, where so many are around it.
-    fn inside(&self, levels: usize) -> Result<usize, JsonError>
+    /// The levels that are left inside of a container that begins at `begun`, where so many are left
+    /// around it. A value that is marked is no container.
+    fn inside(&self, levels: usize, begun: usize) -> Result<usize, JsonError>
         ensures { IfOk result (λ n. n < levels) }
     {
         if levels == 0 {
-            return Err(self.fault(Fault::TooDeep));
+            return Err(self.fault_at(begun, Fault::TooDeep));
         }
         Ok(levels - 1)
     }
@@ -166,23 +176,22 @@ impl<'a> Reading<'a> {
         Ok(Value::Array(items))
     }
 
-    /// The members of an object, whose bracket was taken, or the value that is marked.
+    /// The members of an object, whose bracket was taken, and then this token.
     #[cycle(value)]
-    fn object(&mut self, levels: usize) -> Result<Value, JsonError> {
+    fn object(&mut self, first: Token<'a>, levels: usize) -> Result<Value, JsonError> {
         let mut entries = BTreeMap::new(self.alloc);
+        let mut next = first;
         for _ in 0..=self.text.len() {
-            let key = match self.token()? {
+            let key = match next {
                 Token::EndObject => break,
                 Token::Key(key) => key,
                 _ => return Err(self.fault(Fault::NotJson)),
             };
-            if entries.is_empty() && is_mark(key) {
-                return self.marked(key);
-            }
             let name = self.name(key, &entries)?;
             let token = self.token()?;
             let value = self.value(token, levels)?;
             entries.insert(name, value)?;
+            next = self.token()?;
         }
         Ok(Value::Object(entries))
     }
@@ -191,6 +200,7 @@ impl<'a> Reading<'a> {
     fn name(&self, key: &str, entries: &BTreeMap<String, Value>) -> Result<String, JsonError> {
         let name = match key.strip_prefix("$") {
             Some(rest) if rest.starts_with("$") => rest,
+            Some(_) if is_mark(key) => return Err(self.fault(Fault::MarkWithMembers)),
             Some(_) => return Err(self.fault(Fault::UnknownMark)),
             None => key,
         };
@@ -202,29 +212,39 @@ impl<'a> Reading<'a> {
 
     /// The value of an object with the key `$bytes` or `$real` alone, whose key was taken.
     fn marked(&mut self, key: &str) -> Result<Value, JsonError> {
-        let Token::String(digits) = self.token()? else {
-            return Err(self.fault(Fault::UnknownMark));
-        };
+        let token = self.token()?;
         let value = if key == "$bytes" {
-            Value::ByteString(ByteString::from_vec(self.bytes(digits)?))
+            self.bytes(token)?
         } else {
-            match real_bits(digits) {
-                Some(bits) => Value::Real(bits),
-                None => return Err(self.fault(Fault::UnknownMark)),
-            }
+            self.real(token)?
         };
         match self.token()? {
             Token::EndObject => Ok(value),
-            _ => Err(self.fault(Fault::UnknownMark)),
+            _ => Err(self.fault(Fault::MarkWithMembers)),
         }
     }
 
-    /// The bytes of a text in hexadecimal.
-    fn bytes(&self, digits: &str) -> Result<Vec<u8>, JsonError> {
+    /// The byte string whose bytes a string has in hexadecimal.
+    fn bytes(&self, token: Token<'_>) -> Result<Value, JsonError> {
+        let Token::String(digits) = token else {
+            return Err(self.fault(Fault::WrongBytes));
+        };
         match hex::decode(self.alloc, digits.as_bytes()) {
-            Ok(bytes) => Ok(bytes),
+            Ok(bytes) => Ok(Value::ByteString(ByteString::from_vec(bytes))),
             Err(FromHexError::OutOfMemory) => Err(JsonError::OutOfMemory),
-            Err(_) => Err(self.fault(Fault::UnknownMark)),
+            Err(_) => Err(self.fault(Fault::WrongBytes)),
+        }
+    }
+
+    /// The real whose bits a string has in hexadecimal.
+    fn real(&self, token: Token<'_>) -> Result<Value, JsonError> {
+        let bits = match token {
+            Token::String(digits) => real_bits(digits),
+            _ => None,
+        };
+        match bits {
+            Some(bits) => Ok(Value::Real(bits)),
+            None => Err(self.fault(Fault::WrongReal)),
         }
     }
 }
@@ -244,9 +264,12 @@ fn is_mark(key: &str) -> bool {
 }
 
 /// The bits of a real, in 16 hexadecimal digits.
-fn real_bits(digits: &str) -> Option<u64> {
-    if digits.len() != 16 {
-        return None;
+fn real_bits(digits: &str) -> Option<u64>
+    ensures digits { IsSome result ↔ ((length digits.now ≡ 16) × AllPass is_hex_digit digits.now) }
+    ensures value { IfSome result (λ bits. decode_of digits.now ≡ Ok (to_be_bytes w64 bits)) }
+{
+    match <[u8; 8] as FromHex>::from_hex(digits) {
+        Ok(bytes) => Some(u64::from_be_bytes(bytes)),
+        Err(_) => None,
     }
-    u64::from_str_radix(digits, 16).ok()
 }

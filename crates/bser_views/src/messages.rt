@@ -2,8 +2,10 @@
 
 use crate::counted::Counted;
 use crate::frame::{End, Frame};
+use crate::lack::Lack;
 use crate::reports::Reports;
 use crate::trouble::Trouble;
+use crate::unread::{Unread, folder_fault, is_first_version};
 use bser_format::errors::{Error, ReadCause};
 use bser_messages::told::{Header, Reason, Untold};
 use bser_source::device::Source;
@@ -25,8 +27,8 @@ pub enum ViewError {
     },
     /// The message was taken, and cannot be written again.
     Unwritten(Error),
-    /// The message was taken, and has nothing where it was asked for something.
-    Absent,
+    /// The message was taken, and lacks what it was asked for.
+    Lacking(Lack),
     /// The message was taken, and there is no memory for what is to be shown of it.
     Memory,
     /// The output failed.
@@ -97,8 +99,9 @@ impl Input<'_> {
 ///
 /// A message that fails has a line in the `reports`, behind all that was shown of it. It ends the
 /// showing, unless the input `keeps_going` and the end that the header announces can be reached:
-/// then the next message is shown, and no byte behind that end is read of this one. The output has
-/// all of a message before the next is read. The error is that of the output.
+/// then the next message is shown, and no byte behind that end is read of this one. An input without
+/// any byte has a line too, and is not shown whole. The output has all of a message before the next
+/// is read. The error is that of the output.
 pub fn show_messages<S: Source, V: View, W: Write, E: Write>(
     alloc: Global,
     input: Input<'_>,
@@ -117,6 +120,10 @@ pub fn show_messages<S: Source, V: View, W: Write, E: Write>(
         let has_ended = frame.has_ended();
         match shown {
             Ok(true) => counted.reports().count_message(),
+            Ok(false) if start == 0 => {
+                let _written = report_unread(input.name, Unread::Empty, counted.reports());
+                return Ok(false);
+            }
             Ok(false) => return Ok(whole),
             Err(ViewError::Output(fault)) => return Err(fault),
             Err(failure) => {
@@ -149,13 +156,7 @@ fn past_end(failure: ViewError, has_ended: bool) -> ViewError {
 /// Writes a line on a message that begins at byte `start`, and was not shown whole.
 fn report<E: Write>(name: &str, start: u64, failure: &ViewError, errors: &mut E) {
     let _written = match failure {
-        ViewError::Untold(untold) => {
-            let place = start.saturating_add(place_of(untold) as u64);
-            writeln!(
-                errors,
-                "bser: {name}: byte {place}: {untold} of the message at {start}"
-            )
-        }
+        ViewError::Untold(untold) => report_untold(name, start, untold, errors),
         ViewError::Overrun { header, .. } => {
             let (len, end) = (header.len, header.message_length());
             writeln!(
@@ -167,11 +168,8 @@ fn report<E: Write>(name: &str, start: u64, failure: &ViewError, errors: &mut E)
         ViewError::Unwritten(error) => {
             writeln!(errors, "bser: {name}: the message at {start}: {error}")
         }
-        ViewError::Absent => {
-            writeln!(
-                errors,
-                "bser: {name}: the message at {start} has nothing there"
-            )
+        ViewError::Lacking(lack) => {
+            writeln!(errors, "bser: {name}: the message at {start} has {lack}")
         }
         ViewError::Memory => {
             writeln!(
@@ -183,12 +181,26 @@ fn report<E: Write>(name: &str, start: u64, failure: &ViewError, errors: &mut E)
     };
 }
 
-/// Where a message failed, by the bytes before it.
-fn place_of(untold: &Untold) -> usize {
-    match &untold.reason {
-        Reason::Stopped { place } => *place,
-        Reason::Failed(description) => description.place(),
+/// Writes a line on a message that was not told, or on an input that has none.
+fn report_untold<E: Write>(
+    name: &str,
+    start: u64,
+    untold: &Untold,
+    errors: &mut E,
+) -> io::Result<()> {
+    if let Some(fault) = folder_fault(untold) {
+        return report_unread(name, Unread::Fault(fault), errors);
     }
+    write!(errors, "bser: {name}: the message at {start}: {untold}")?;
+    if is_first_version(untold) {
+        write!(errors, "; watchman writes it by --output-encoding=bser-v2")?;
+    }
+    writeln!(errors)
+}
+
+/// Writes a line on an input that is not read.
+pub fn report_unread<E: Write>(name: &str, unread: Unread<'_>, errors: &mut E) -> io::Result<()> {
+    writeln!(errors, "bser: {name}: {unread}")
 }
 
 /// Goes to the next message, and tells whether the reader is there. Else a line says why not, but
@@ -202,7 +214,7 @@ fn goes_on<S: Source, E: Write>(
     let untold = match failure {
         ViewError::Untold(untold) if !is_of_reader(untold) => untold,
         ViewError::Overrun { untold, .. } => untold,
-        ViewError::Absent | ViewError::Memory | ViewError::Unwritten(_) => return true,
+        ViewError::Lacking(_) | ViewError::Memory | ViewError::Unwritten(_) => return true,
         _ => return false,
     };
     let why = match untold.skip_rest(alloc, counted) {

@@ -115,15 +115,23 @@ impl<'a> MalformedMessage<'a> {
             return Ok(Some("the message before is not shown"));
         }
         let errors = str::from_utf8(&run.errors)?;
-        let Some(report) = errors.strip_prefix("bser: standard input: byte ") else {
-            return Ok(Some("no place"));
+        let Some(report) = errors.strip_prefix("bser: standard input: the message at ") else {
+            return Ok(Some("no message"));
         };
-        let (place, text) = report.split_once(": ").context("no words")?;
+        let (message, report) = report.split_once(": ").context("no words")?;
+        if message.parse::<usize>()? != start {
+            return Ok(Some("another message"));
+        }
+        let (text, behind) = report.split_once(", at byte ").context("no place")?;
+        let place = match behind.split_once(';') {
+            Some((place, _advice)) => place,
+            None => behind.trim_end(),
+        };
         let place = place.parse::<usize>()?;
-        if place < self.first.saturating_add(start) || self.last.saturating_add(start) < place {
+        if place < self.first || self.last < place {
             return Ok(Some("another place"));
         }
-        if !has_words(text, self.words) || text.lines().count() != 1 {
+        if !has_words(text, self.words) || errors.lines().count() != 1 {
             return Ok(Some("other words"));
         }
         Ok(None)
