@@ -1,9 +1,9 @@
 //! Adds what messages tell to an index, each message in a transaction.
 
-use crate::connection::{has_tables, read_stored};
+use crate::connection::{has_tables, make_tables, read_stored};
 use crate::error::IndexError;
 use crate::messages::Taker;
-use crate::schema::{CLOCK, CREATE, FORGET, PUT, SOURCE};
+use crate::schema::{CLOCK, FORGET, PUT, SOURCE};
 use serde_bser::bytestring::ByteString;
 use sqlite::{Alter, Connection, Statement, Transaction, params};
 use std::alloc::Global;
@@ -51,7 +51,7 @@ impl<'c, S: Alter> Adder<'c, S> {
     /// Adds to the index of this connection, which is made where there are no tables.
     pub(crate) fn new(alloc: Global, conn: &'c mut Connection<S>) -> Result<Self, IndexError> {
         if !has_tables(conn)? {
-            conn.execute_batch(CREATE)?;
+            make_tables(alloc, conn, None)?;
         }
         let statements = Statements::new(conn)?;
         let found = read_stored(conn)?;

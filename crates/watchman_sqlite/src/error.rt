@@ -2,7 +2,7 @@
 
 use bser_frames::error::FrameError;
 use sqlite::Error as DatabaseError;
-use std::alloc::AllocError;
+use std::alloc::{AllocError, AllocFailed};
 use std::{fmt, io};
 use watchman_index::origin::Refusal;
 use watchman_index::told::Unread;
@@ -24,6 +24,8 @@ pub enum IndexError {
     Output(io::Error),
     /// No memory was left.
     OutOfMemory,
+    /// The file is an index with other tables than this program's.
+    OtherLayout,
 }
 
 impl fmt::Display for IndexError {
@@ -36,6 +38,9 @@ impl fmt::Display for IndexError {
             IndexError::Refused(error) => write!(f, "{error}"),
             IndexError::Output(error) => write!(f, "the output failed: {error}"),
             IndexError::OutOfMemory => f.write_str("out of memory"),
+            IndexError::OtherLayout => f.write_str(
+                "an index of another version of bser_index: make a new one and add to it an answer to a query for all files",
+            ),
         }
     }
 }
@@ -54,6 +59,12 @@ impl From<io::Error> for IndexError {
 
 impl From<AllocError> for IndexError {
     fn from(_: AllocError) -> Self {
+        IndexError::OutOfMemory
+    }
+}
+
+impl<T: Drop> From<AllocFailed<T>> for IndexError {
+    fn from(_: AllocFailed<T>) -> Self {
         IndexError::OutOfMemory
     }
 }

@@ -15,4 +15,5 @@ mod questions;
 mod record;
 mod schema;
 pub mod standard;
+mod subject;
 mod verifying;

@@ -1,23 +1,33 @@
 //! The tables of an index, and the statements that write them.
 //!
+//! `layout` has one row, the version of the layout. `subject` says which query the index is of.
 //! `source` has one row: how many messages were added, what they are of, and the last clock.
 //! `clock` has for each clock that was told the number of the last message up to it. `file` has a
 //! row for each file that was ever listed: `told` is the number of the last message that listed it,
 //! and `changed` that of the last one that changed it.
 
-/// The names of the tables, in their order.
-pub(crate) const TABLES: [&str; 3] = ["clock", "file", "source"];
+/// The version of the layout of the tables. The indices without a version have other tables.
+pub(crate) const LAYOUT: i64 = 2;
 
-/// Makes the tables.
-pub(crate) const CREATE: &str = "BEGIN;
+/// The names of the tables.
+pub(crate) const TABLES: [&str; 5] = ["clock", "file", "layout", "source", "subject"];
+
+/// The names of the tables of an index without a version.
+pub(crate) const OLD_TABLES: [&str; 3] = ["clock", "file", "source"];
+
+/// Makes the tables, but for the one of what the index is of.
+pub(crate) const CREATE: &str = "CREATE TABLE layout (id INTEGER PRIMARY KEY,
+version INTEGER NOT NULL);
 CREATE TABLE source (id INTEGER PRIMARY KEY, messages INTEGER NOT NULL, root BLOB,
 subscription BLOB, clock BLOB);
 CREATE TABLE clock (id INTEGER PRIMARY KEY, clock BLOB NOT NULL UNIQUE, message INTEGER NOT NULL);
 CREATE TABLE file (id INTEGER PRIMARY KEY, name BLOB NOT NULL UNIQUE, suffix BLOB,
 present INTEGER NOT NULL, size INTEGER, mode INTEGER, type TEXT, mtime_ms INTEGER,
 told INTEGER NOT NULL, changed INTEGER NOT NULL);
-INSERT INTO source (id, messages) VALUES (1, 0);
-COMMIT";
+INSERT INTO source (id, messages) VALUES (1, 0)";
+
+/// Keeps the version of the layout.
+pub(crate) const KEEP_LAYOUT: &str = "INSERT INTO layout (id, version) VALUES (1, ?1)";
 
 /// Puts a file that is listed: name, suffix, whether it is present, size, mode, type, time, and the
 /// number of the message.
