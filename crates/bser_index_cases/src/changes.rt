@@ -9,14 +9,15 @@ use std::alloc::Global;
 use std::fs;
 
 /// Compares what the index says to have changed after each clock with the lines of a file, whose
-/// columns are message, clock, and number and paths of the files that were told and that changed
-/// after it. The clocks of the messages `unknown` were not added.
+/// columns are message, clock, number and paths of what the server told since then, and number and
+/// paths of what the index has to say. Those are the server's, and what a message listed that was
+/// asked for since an earlier clock. The clocks of the messages `unknown` were not added.
 pub fn check_changes(rt: &HostRuntime, file: &str, unknown: &[u32]) -> Result<()> {
     let lines = fs::read_to_string(rt, file)?;
     let mut compared = 0u32;
     let mut fresh = 0u32;
     for line in lines.as_str().lines().skip(1) {
-        let [message, clock, _told, _told_paths, _changed, paths, ..] = columns(line, "\t");
+        let [message, clock, _server, _server_paths, _index, paths, ..] = columns(line, "\t");
         let found = found_after(rt, clock)?;
         if unknown.contains(&message.parse()?) {
             if !found.is_fresh {

@@ -1,14 +1,17 @@
 //! Adds what messages tell to an index, each message in a transaction.
 
+use crate::conditions::Conditions;
 use crate::connection::{has_tables, make_tables, read_stored};
 use crate::error::IndexError;
 use crate::messages::Taker;
 use crate::schema::{CLOCK, FORGET, PUT, SOURCE};
+use crate::subject::read_subject;
 use serde_bser::bytestring::ByteString;
 use sqlite::{Alter, Connection, Statement, Transaction, params};
 use std::alloc::Global;
 use std::collections::BTreeMap;
 use watchman_index::changes::Changes;
+use watchman_index::listing::Listing;
 use watchman_index::origin::Origin;
 use watchman_index::row::FileState;
 use watchman_index::suffix::suffix_of;
@@ -43,42 +46,80 @@ pub(crate) struct Adder<'c, S: Alter> {
     alloc: Global,
     conn: &'c mut Connection<S>,
     statements: Statements,
+    conditions: Conditions,
     messages: u64,
     origin: Origin,
+    // the clock of the last message that told files
+    last_clock: Option<ByteString>,
 }
 
 impl<'c, S: Alter> Adder<'c, S> {
-    /// Adds to the index of this connection, which is made where there are no tables.
-    pub(crate) fn new(alloc: Global, conn: &'c mut Connection<S>) -> Result<Self, IndexError> {
+    /// Adds to the index of this connection, which is made where there are no tables. A message that
+    /// says that there are no files is taken where `may_be_empty`.
+    pub(crate) fn new(
+        alloc: Global,
+        conn: &'c mut Connection<S>,
+        may_be_empty: bool,
+    ) -> Result<Self, IndexError> {
         if !has_tables(conn)? {
             make_tables(alloc, conn, None)?;
         }
         let statements = Statements::new(conn)?;
+        let conditions = Conditions::new(read_subject(alloc, conn)?, may_be_empty);
         let found = read_stored(conn)?;
         Ok(Adder {
             alloc,
             conn,
             statements,
+            conditions,
             messages: found.messages,
             origin: found.origin,
+            last_clock: found.clock,
         })
     }
 }
 
 impl<S: Alter> Taker for Adder<'_, S> {
+    fn begin(&mut self) {
+        self.conditions.begin();
+    }
+
     fn take_changes(&mut self, changes: Changes) -> Result<(), IndexError> {
         if let Err(refusal) = self.origin.check(&changes) {
             return Err(IndexError::Refused(refusal));
         }
-        let number = self.messages.saturating_add(1);
-        add_changes(self.alloc, self.conn, &self.statements, number, &changes)?;
+        self.conditions.check(&changes, self.last_clock.as_ref())?;
+        let number = next_number(self.messages)?;
+        let listing = Listing::of(
+            changes.is_fresh_instance,
+            self.last_clock.as_ref(),
+            &changes.clock,
+        );
+        add_changes(self.alloc, self.conn, &self.statements, number, listing, &changes)?;
         self.messages = number;
+        self.conditions.took(&changes);
+        self.last_clock = Some(changes.clock);
         self.origin.learn(changes.root, changes.subscription);
+        Ok(())
+    }
+
+    fn take_subscribed(&mut self, clock: ByteString) -> Result<(), IndexError> {
+        self.take_clock(clock)?;
+        self.conditions.took_subscribed();
         Ok(())
     }
 
     fn take_clock(&mut self, clock: ByteString) -> Result<(), IndexError> {
         add_clock(self.conn, &self.statements, self.messages, &clock)
+    }
+}
+
+/// The number of the message behind that of this number.
+fn next_number(number: u64) -> Result<u64, IndexError> {
+    if number < i64::MAX as u64 {
+        Ok(number + 1)
+    } else {
+        Err(IndexError::TooManyMessages)
     }
 }
 
@@ -93,14 +134,15 @@ fn add_changes<S: Alter>(
     conn: &mut Connection<S>,
     with: &Statements,
     number: u64,
+    listing: Listing,
     changes: &Changes,
 ) -> Result<(), IndexError> {
     if !conn.is_autocommit() {
         return Err(IndexError::NoIndex);
     }
     let mut transaction = conn.transaction();
-    put_files(alloc, &mut transaction, with, number, &changes.files)?;
-    if changes.is_fresh_instance {
+    put_files(alloc, &mut transaction, with, number, listing, &changes.files)?;
+    if listing.is_of_all() {
         transaction.execute_prepared(&with.forget, params![param(number)])?;
     }
     put_message(&mut transaction, with, number, changes)?;
@@ -114,10 +156,11 @@ fn put_files<S: Alter>(
     transaction: &mut Transaction<'_, S>,
     with: &Statements,
     number: u64,
+    listing: Listing,
     files: &BTreeMap<ByteString, FileState>,
 ) -> Result<(), IndexError> {
     for (name, state) in files {
-        put_file(alloc, transaction, with, number, name.as_bytes(), *state)?;
+        put_file(alloc, transaction, with, number, listing, name.as_bytes(), *state)?;
     }
     Ok(())
 }
@@ -128,6 +171,7 @@ fn put_file<S: Alter>(
     transaction: &mut Transaction<'_, S>,
     with: &Statements,
     number: u64,
+    listing: Listing,
     name: &[u8],
     state: FileState,
 ) -> Result<(), IndexError> {
@@ -143,14 +187,15 @@ fn put_file<S: Alter>(
             state.mode,
             kind,
             state.mtime_ms,
-            param(number)
+            param(number),
+            listing == Listing::AllAgain
         ],
     )?;
     Ok(())
 }
 
 /// The suffix of a name, with ASCII letters in lower case.
-fn lower_suffix(alloc: Global, name: &[u8]) -> Result<Option<Vec<u8>>, IndexError> {
+pub(crate) fn lower_suffix(alloc: Global, name: &[u8]) -> Result<Option<Vec<u8>>, IndexError> {
     match suffix_of(name) {
         Some(suffix) => {
             let mut lower = Vec::from_slice(alloc, suffix)?;

@@ -7,6 +7,7 @@
 
 mod adding;
 mod command;
+mod conditions;
 mod connection;
 mod error;
 mod messages;

@@ -16,10 +16,16 @@ const STANDARD_INPUT: &str = "standard input";
 
 /// What takes what messages tell.
 pub(crate) trait Taker {
+    /// Is told that another input begins.
+    fn begin(&mut self);
+
     /// Takes which files a message tells.
     fn take_changes(&mut self, changes: Changes) -> Result<(), IndexError>;
 
-    /// Takes the clock of a message that tells no files.
+    /// Takes the clock of the answer to `subscribe`.
+    fn take_subscribed(&mut self, clock: ByteString) -> Result<(), IndexError>;
+
+    /// Takes the clock of another message that tells no files.
     fn take_clock(&mut self, clock: ByteString) -> Result<(), IndexError>;
 }
 
@@ -86,6 +92,7 @@ fn take_stream<S: Source + Drop, T: Taker, E: Write>(
     errors: &mut E,
 ) {
     let mut frames = Frames::new(alloc, reader);
+    taker.begin();
     for _ in 0..u64::MAX {
         match take_next(alloc, &mut frames, taker, totals) {
             Ok(Next::Taken) => {}
@@ -142,6 +149,11 @@ fn take_next<S: Source, T: Taker>(
             taker.take_changes(changes)?;
             totals.messages = totals.messages.saturating_add(1);
             totals.files = totals.files.saturating_add(files);
+            Ok(Next::Taken)
+        }
+        Told::Subscribed(clock) => {
+            taker.take_subscribed(clock)?;
+            totals.others = totals.others.saturating_add(1);
             Ok(Next::Taken)
         }
         Told::Clock(clock) => {

@@ -205,7 +205,7 @@ fn add<S: Alter, R: Read, W: Write, E: Write>(
     out: &mut W,
     errors: &mut E,
 ) -> Result<bool, IndexError> {
-    let mut adder = Adder::new(rt.alloc(), conn)?;
+    let mut adder = Adder::new(rt.alloc(), conn, false)?;
     let totals = take_inputs(rt.alloc(), rt, names, input, &mut adder, errors);
     print_totals(totals, out)?;
     Ok(totals.refused == 0 && totals.errors == 0)
@@ -236,10 +236,10 @@ fn verify<S: Alter, R: Read, W: Write, E: Write>(
     errors: &mut E,
 ) -> Result<bool, IndexError> {
     require_tables(conn)?;
-    let mut folder = Folder::new(rt.alloc());
+    let mut folder = Folder::new(rt.alloc(), conn)?;
     let totals = take_inputs(rt.alloc(), rt, names, input, &mut folder, errors);
     if totals.refused > 0 {
         return Ok(false);
     }
-    print_differences(conn, folder, out)
+    print_differences(rt.alloc(), conn, folder, out)
 }

@@ -25,16 +25,29 @@ impl Record {
             size: row.get(2)?,
             mode: row.get(3)?,
             kind: match letter {
-                Some(letter) => FileType::from_word(letter.as_str()),
+                Some(letter) => Some(type_of(letter)?),
                 None => None,
             },
             mtime_ms: row.get(5)?,
         };
         let changed = row.get(6)?;
+        let told = row.get(7)?;
         Ok(Record {
             name: ByteString::from_vec(name),
-            row: Row { state, changed },
+            row: Row {
+                state,
+                told,
+                changed,
+            },
         })
+    }
+}
+
+/// The type of a letter in the table.
+fn type_of(letter: String) -> Result<FileType, IndexError> {
+    match FileType::from_word(letter.as_str()) {
+        Some(kind) => Ok(kind),
+        None => Err(IndexError::UnknownType(letter)),
     }
 }
 
