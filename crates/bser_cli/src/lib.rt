@@ -3,7 +3,7 @@
 
 mod canon;
 mod command;
-mod fault;
+pub mod fault;
 mod indented;
 mod lines;
 mod order;
@@ -11,7 +11,7 @@ mod pending;
 mod pointer;
 mod printing;
 pub mod program;
-mod reading;
+pub mod reading;
 mod split;
 pub mod standard;
 mod texts;

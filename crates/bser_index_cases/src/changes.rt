@@ -8,6 +8,9 @@ use bser_vectors::devices::Plan;
 use std::alloc::Global;
 use std::fs;
 
+/// How many columns the line of a file has. The last is the name, which may have spaces.
+const COLUMNS: usize = 7;
+
 /// Compares what the index says to have changed after each clock with the lines of a file, whose
 /// columns are message, clock, number and paths of what the server told since then, and number and
 /// paths of what the index has to say. Those are the server's, and what a message listed that was
@@ -55,8 +58,8 @@ fn found_after(rt: &HostRuntime, clock: &str) -> Result<Found> {
     let output = str::from_utf8(&ran.output)?;
     let mut names = String::new(rt.alloc());
     for line in output.lines().filter(|line| is_file(*line)) {
-        if let Some((_columns, name)) = line.split_once('"') {
-            write!(names, "\"{name}\n")?;
+        if let Some(name) = line.splitn(COLUMNS, ' ').last() {
+            write!(names, "{name}\n")?;
         }
     }
     Ok(Found {

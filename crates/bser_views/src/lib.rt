@@ -9,7 +9,7 @@ pub mod counted;
 mod counts;
 pub mod messages;
 mod open;
-mod quoted;
+pub mod quoted;
 pub mod reports;
 pub mod screen;
 pub mod summary;

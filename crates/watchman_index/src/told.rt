@@ -90,7 +90,13 @@ fn subscription_told(alloc: Global, bytes: &[u8]) -> Result<Told, Unread> {
 
 /// The clock of a message without files, if it has one.
 fn clock_told(alloc: Global, bytes: &[u8]) -> Result<Told, Unread> {
-    if let Ok(Subscribed { clock: Some(clock), .. }) = from_slice(alloc, bytes) {
+    if let Ok(
+        Subscribed {
+            clock: Some(clock),
+            ..
+        },
+    ) = from_slice(alloc, bytes)
+    {
         return Ok(Told::Subscribed(clock));
     }
     match from_slice::<Clock<ByteString>>(alloc, bytes) {

@@ -3,9 +3,8 @@
 use crate::conditions::Conditions;
 use crate::connection::{has_tables, make_tables, read_stored};
 use crate::error::IndexError;
-use crate::messages::Taker;
 use crate::schema::{CLOCK, FORGET, PUT, SOURCE};
-use crate::subject::read_subject;
+use crate::subject::{Subject, read_subject};
 use serde_bser::bytestring::ByteString;
 use sqlite::{Alter, Connection, Statement, Transaction, params};
 use std::alloc::Global;
@@ -47,6 +46,7 @@ pub(crate) struct Adder<'c, S: Alter> {
     conn: &'c mut Connection<S>,
     statements: Statements,
     conditions: Conditions,
+    subject: Option<Subject>,
     messages: u64,
     origin: Origin,
     // the clock of the last message that told files
@@ -54,24 +54,24 @@ pub(crate) struct Adder<'c, S: Alter> {
 }
 
 impl<'c, S: Alter> Adder<'c, S> {
-    /// Adds to the index of this connection, which is made where there are no tables. A message that
-    /// says that there are no files is taken where `may_be_empty`.
+    /// Adds to the index of this connection, which is made where there are no tables.
     pub(crate) fn new(
         alloc: Global,
         conn: &'c mut Connection<S>,
-        may_be_empty: bool,
+        conditions: Conditions,
     ) -> Result<Self, IndexError> {
         if !has_tables(conn)? {
             make_tables(alloc, conn, None)?;
         }
         let statements = Statements::new(conn)?;
-        let conditions = Conditions::new(read_subject(alloc, conn)?, may_be_empty);
+        let subject = read_subject(alloc, conn)?;
         let found = read_stored(conn)?;
         Ok(Adder {
             alloc,
             conn,
             statements,
             conditions,
+            subject,
             messages: found.messages,
             origin: found.origin,
             last_clock: found.clock,
@@ -79,38 +79,37 @@ impl<'c, S: Alter> Adder<'c, S> {
     }
 }
 
-impl<S: Alter> Taker for Adder<'_, S> {
-    fn begin(&mut self) {
-        self.conditions.begin();
-    }
-
-    fn take_changes(&mut self, changes: Changes) -> Result<(), IndexError> {
+impl<S: Alter> Adder<'_, S> {
+    /// Adds which files a message tells.
+    pub(crate) fn add_changes(&mut self, changes: Changes) -> Result<(), IndexError> {
         if let Err(refusal) = self.origin.check(&changes) {
             return Err(IndexError::Refused(refusal));
         }
-        self.conditions.check(&changes, self.last_clock.as_ref())?;
+        let last = self.last_clock.as_ref();
+        self.conditions.check(&self.subject, last, &changes)?;
         let number = next_number(self.messages)?;
-        let listing = Listing::of(
-            changes.is_fresh_instance,
-            self.last_clock.as_ref(),
-            &changes.clock,
-        );
-        add_changes(self.alloc, self.conn, &self.statements, number, listing, &changes)?;
+        let listing = Listing::of(changes.is_fresh_instance, last, &changes.clock);
+        add_message(
+            self.alloc,
+            self.conn,
+            &self.statements,
+            number,
+            listing,
+            &changes,
+        )?;
         self.messages = number;
-        self.conditions.took(&changes);
         self.last_clock = Some(changes.clock);
         self.origin.learn(changes.root, changes.subscription);
         Ok(())
     }
 
-    fn take_subscribed(&mut self, clock: ByteString) -> Result<(), IndexError> {
-        self.take_clock(clock)?;
-        self.conditions.took_subscribed();
+    /// Adds the clock of a message that tells no files, behind the last that does.
+    pub(crate) fn add_clock(&mut self, clock: &ByteString) -> Result<(), IndexError> {
+        let number = param(self.messages);
+        self.statements
+            .clock
+            .execute(self.conn, params![clock.as_bytes(), number])?;
         Ok(())
-    }
-
-    fn take_clock(&mut self, clock: ByteString) -> Result<(), IndexError> {
-        add_clock(self.conn, &self.statements, self.messages, &clock)
     }
 }
 
@@ -129,7 +128,7 @@ fn param(number: u64) -> i64 {
 }
 
 /// Adds what the message of this number tells, all of it or nothing.
-fn add_changes<S: Alter>(
+fn add_message<S: Alter>(
     alloc: Global,
     conn: &mut Connection<S>,
     with: &Statements,
@@ -141,7 +140,14 @@ fn add_changes<S: Alter>(
         return Err(IndexError::NoIndex);
     }
     let mut transaction = conn.transaction();
-    put_files(alloc, &mut transaction, with, number, listing, &changes.files)?;
+    put_files(
+        alloc,
+        &mut transaction,
+        with,
+        number,
+        listing,
+        &changes.files,
+    )?;
     if listing.is_of_all() {
         transaction.execute_prepared(&with.forget, params![param(number)])?;
     }
@@ -160,7 +166,15 @@ fn put_files<S: Alter>(
     files: &BTreeMap<ByteString, FileState>,
 ) -> Result<(), IndexError> {
     for (name, state) in files {
-        put_file(alloc, transaction, with, number, listing, name.as_bytes(), *state)?;
+        put_file(
+            alloc,
+            transaction,
+            with,
+            number,
+            listing,
+            name.as_bytes(),
+            *state,
+        )?;
     }
     Ok(())
 }
@@ -221,17 +235,5 @@ fn put_message<S: Alter>(
         &with.source,
         params![param(number), root, subscription, clock],
     )?;
-    Ok(())
-}
-
-/// Keeps a clock that was told behind the message of this number.
-fn add_clock<S: Alter>(
-    conn: &mut Connection<S>,
-    with: &Statements,
-    number: u64,
-    clock: &ByteString,
-) -> Result<(), IndexError> {
-    with.clock
-        .execute(conn, params![clock.as_bytes(), param(number)])?;
     Ok(())
 }

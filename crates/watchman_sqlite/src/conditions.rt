@@ -8,50 +8,25 @@ use watchman_index::clock::{are_of_one_instance, instance_of_clock};
 use watchman_index::origin::Refusal;
 use watchman_index::row::FileState;
 
-/// What a message has to be for an index that was made by `init`. Any other index takes each.
-#[derive(Drop)]
+/// What is known of a message before it is read. It matters for an index that was made by `init`
+/// alone: any other one takes each message.
+#[derive(Debug, Clone, Copy, PartialEq, Eq)]
 pub(crate) struct Conditions {
-    subject: Option<Subject>,
-    // whether a message that says that there are no files is taken
-    may_be_empty: bool,
-    // whether the input told of the subscription before, so that nothing is missing
-    follows: bool,
+    /// Whether one that says that there are no files is taken.
+    pub(crate) may_be_empty: bool,
+    /// Whether the input told of the subscription before, so that nothing is missing between.
+    pub(crate) follows: bool,
 }
 
 impl Conditions {
-    /// Those of an index of this subject.
-    pub(crate) fn new(subject: Option<Subject>, may_be_empty: bool) -> Self {
-        Conditions {
-            subject,
-            may_be_empty,
-            follows: false,
-        }
-    }
-
-    /// Another input begins.
-    pub(crate) fn begin(&mut self) {
-        self.follows = false;
-    }
-
-    /// The answer to `subscribe` was taken: the messages behind it are told without a gap.
-    pub(crate) fn took_subscribed(&mut self) {
-        self.follows = true;
-    }
-
-    /// A message that told files was taken.
-    pub(crate) fn took(&mut self, changes: &Changes) {
-        if changes.subscription.is_some() {
-            self.follows = true;
-        }
-    }
-
     /// Fails for a message that an index of the subject does not take behind that of the last clock.
     pub(crate) fn check(
-        &self,
-        changes: &Changes,
+        self,
+        subject: &Option<Subject>,
         last: Option<&ByteString>,
+        changes: &Changes,
     ) -> Result<(), IndexError> {
-        let Some(subject) = &self.subject else {
+        let Some(subject) = subject else {
             return Ok(());
         };
         if matches!(&changes.root, Some(root) if *root != subject.root) {

@@ -76,7 +76,8 @@ pub(crate) const CHANGED: &str =
 WHERE changed > ?1 ORDER BY name";
 
 /// What is known of the files that exist and have this suffix.
-pub(crate) const SUFFIX: &str = "SELECT name, present, size, mode, type, mtime_ms, changed, told FROM file
+pub(crate) const SUFFIX: &str =
+    "SELECT name, present, size, mode, type, mtime_ms, changed, told FROM file
 WHERE present = 1 AND suffix = ?1 ORDER BY name";
 
 /// What is known of the file of this name.

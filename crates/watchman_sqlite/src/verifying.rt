@@ -7,7 +7,7 @@ use crate::error::IndexError;
 use crate::messages::Taker;
 use crate::record::Record;
 use crate::schema::{CLOCKS, WHOLE};
-use crate::subject::read_subject;
+use crate::subject::{Subject, read_subject};
 use serde_bser::bytestring::ByteString;
 use sqlite::{Alter, Connection, Row, params};
 use std::alloc::Global;
@@ -19,6 +19,7 @@ use watchman_index::index::Index;
 #[derive(Drop)]
 pub(crate) struct Folder {
     conditions: Conditions,
+    subject: Option<Subject>,
     messages: u64,
     index: Index,
 }
@@ -30,7 +31,11 @@ impl Folder {
         conn: &mut Connection<S>,
     ) -> Result<Self, IndexError> {
         Ok(Folder {
-            conditions: Conditions::new(read_subject(alloc, conn)?, true),
+            conditions: Conditions {
+                may_be_empty: true,
+                follows: false,
+            },
+            subject: read_subject(alloc, conn)?,
             messages: 0,
             index: Index::new(alloc),
         })
@@ -39,24 +44,26 @@ impl Folder {
 
 impl Taker for Folder {
     fn begin(&mut self) {
-        self.conditions.begin();
+        self.conditions.follows = false;
     }
 
     fn take_changes(&mut self, changes: Changes) -> Result<(), IndexError> {
-        self.conditions.check(&changes, self.index.last_clock.as_ref())?;
-        self.conditions.took(&changes);
+        let last = self.index.last_clock.as_ref();
+        self.conditions.check(&self.subject, last, &changes)?;
+        let is_of_subscription = changes.subscription.is_some();
         let number = self.messages.saturating_add(1);
-        match self.index.apply(number, changes) {
-            Ok(()) => {
-                self.messages = number;
-                Ok(())
-            }
-            Err(refusal) => Err(IndexError::Refused(refusal)),
+        if let Err(refusal) = self.index.apply(number, changes) {
+            return Err(IndexError::Refused(refusal));
         }
+        self.messages = number;
+        if is_of_subscription {
+            self.conditions.follows = true;
+        }
+        Ok(())
     }
 
     fn take_subscribed(&mut self, clock: ByteString) -> Result<(), IndexError> {
-        self.conditions.took_subscribed();
+        self.conditions.follows = true;
         self.take_clock(clock)
     }
 
@@ -137,12 +144,19 @@ fn differing_source<W: Write>(
     }
     let (origin, index) = (&found.origin, &folded.index);
     let root = differs("root", &origin.root, &index.origin.root, out)?;
-    let name = differs("subscription", &origin.subscription, &index.origin.subscription, out)?;
+    let name = differs(
+        "subscription",
+        &origin.subscription,
+        &index.origin.subscription,
+        out,
+    )?;
     let clock = differs("last clock", &found.clock, &index.last_clock, out)?;
-    Ok([root, name, clock]
-        .iter()
-        .filter(|differs| **differs)
-        .fold(differences, |sum, _| sum.saturating_add(1)))
+    Ok(
+        [root, name, clock]
+            .iter()
+            .filter(|differs| **differs)
+            .fold(differences, |sum, _| sum.saturating_add(1)),
+    )
 }
 
 /// Whether the index has something else than was told. Then it prints a line.
