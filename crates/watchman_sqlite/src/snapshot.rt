@@ -40,6 +40,7 @@ pub(crate) fn open_snapshot(
 fn real_path(rt: &HostRuntime, path: &str) -> Result<PathBuf, IndexError> {
     match fs::metadata(rt, path) {
         Ok(found) if found.is_dir() => return Err(IndexError::Folder),
+        Ok(found) if !found.is_file() => return Err(IndexError::NoIndex),
         Ok(_) => {}
         Err(fault) => return Err(unread(fault)),
     }
