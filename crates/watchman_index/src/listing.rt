@@ -23,7 +23,7 @@ impl Listing {
     /// What the files of a message say, by whether it is a fresh instance, the clock of the last
     /// message that told files, and its own.
     pub fn of(is_fresh_instance: bool, last: Option<&ByteString>, clock: &ByteString) -> Listing
-        ensures { result ≡ listing_of is_fresh_instance (option_copied last) clock.now }
+        ensures { result ≡ listing_of is_fresh_instance (option_copied last.entry) clock.now }
     {
         if !is_fresh_instance {
             return Listing::Changed;

@@ -44,10 +44,16 @@ impl Row {
             changed: number,
         };
         match (listing, was) {
-            (Listing::AllAgain, Some(row)) if row.state == state => Row {
-                told: number,
-                ..row
-            },
+            (Listing::AllAgain, Some(row)) => {
+                if row.state == state {
+                    Row {
+                        told: number,
+                        ..row
+                    }
+                } else {
+                    new
+                }
+            }
             _ => new,
         }
     }

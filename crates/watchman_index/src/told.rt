@@ -90,13 +90,7 @@ fn subscription_told(alloc: Global, bytes: &[u8]) -> Result<Told, Unread> {
 
 /// The clock of a message without files, if it has one.
 fn clock_told(alloc: Global, bytes: &[u8]) -> Result<Told, Unread> {
-    if let Ok(
-        Subscribed {
-            clock: Some(clock),
-            ..
-        },
-    ) = from_slice(alloc, bytes)
-    {
+    if let Some(clock) = subscribed_clock(alloc, bytes) {
         return Ok(Told::Subscribed(clock));
     }
     match from_slice::<Clock<ByteString>>(alloc, bytes) {
@@ -106,4 +100,10 @@ fn clock_told(alloc: Global, bytes: &[u8]) -> Result<Told, Unread> {
             _ => Ok(Told::Nothing),
         },
     }
+}
+
+/// The clock of the answer to `subscribe`. `None` for another message, and one without a clock.
+fn subscribed_clock(alloc: Global, bytes: &[u8]) -> Option<ByteString> {
+    let answer: Subscribed<ByteString> = from_slice(alloc, bytes).ok()?;
+    answer.clock
 }

@@ -91,6 +91,30 @@ impl<W: Write> Comparer<'_, W> {
         Ok(())
     }
 
+    /// Compares the table of clocks.
+    fn compare_clocks<S: Alter>(&mut self, conn: &mut Connection<S>) -> Result<(), IndexError> {
+        let mut rows = conn.query(CLOCKS, params![])?;
+        for _ in 0..u64::MAX {
+            match rows.next()? {
+                Some(row) => self.compare_clock(row)?,
+                None => break,
+            }
+        }
+        Ok(())
+    }
+
+    /// Compares the table of files.
+    fn compare_files<S: Alter>(&mut self, conn: &mut Connection<S>) -> Result<(), IndexError> {
+        let mut rows = conn.query(WHOLE, params![])?;
+        for _ in 0..u64::MAX {
+            match rows.next()? {
+                Some(row) => self.compare_file(row)?,
+                None => break,
+            }
+        }
+        Ok(())
+    }
+
     /// Compares a clock.
     fn compare_clock(&mut self, row: &Row) -> Result<(), IndexError> {
         let clock: Vec<u8> = row.get(0)?;
@@ -192,20 +216,8 @@ pub(crate) fn print_differences<S: Alter, W: Write>(
         out: &mut *out,
         differences,
     };
-    let mut clocks = conn.query(CLOCKS, params![])?;
-    for _ in 0..u64::MAX {
-        match clocks.next()? {
-            Some(row) => comparer.compare_clock(&row)?,
-            None => break,
-        }
-    }
-    let mut files = conn.query(WHOLE, params![])?;
-    for _ in 0..u64::MAX {
-        match files.next()? {
-            Some(row) => comparer.compare_file(&row)?,
-            None => break,
-        }
-    }
+    comparer.compare_clocks(conn)?;
+    comparer.compare_files(conn)?;
     comparer.tell_rest()?;
     let differences = comparer.differences;
     writeln!(out, "messages {messages}, differences {differences}")?;
