@@ -37,7 +37,7 @@ pub(crate) enum Question<'a> {
 }
 
 /// What the words of a command ask for. `None` for a name that is no command's.
-pub(crate) fn action_of<'a>(name: &str, matches: &'a ArgMatches<'a>) -> Option<Action<'a>> {
+pub(crate) fn action_of<'a>(name: &str, matches: &ArgMatches<'a>) -> Option<Action<'a>> {
     match name {
         "init" => Some(Action::Init(wish_of(matches)?)),
         "request" => Some(Action::Request(asked_of(matches))),
@@ -48,12 +48,11 @@ pub(crate) fn action_of<'a>(name: &str, matches: &'a ArgMatches<'a>) -> Option<A
 }
 
 /// What an index is to be of.
-fn wish_of<'a>(matches: &'a ArgMatches<'a>) -> Option<Wish<'a>> {
+fn wish_of<'a>(matches: &ArgMatches<'a>) -> Option<Wish<'a>> {
     Some(Wish {
         root: matches.get_str("root")?,
         relative_root: matches.get_str("relative-root"),
         expression: matches.get_str("expression"),
-        fields: matches.get_raw("field").unwrap_or(&[]),
     })
 }
 

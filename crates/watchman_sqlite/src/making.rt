@@ -15,17 +15,17 @@ pub(crate) struct Wish<'a> {
     pub(crate) root: &'a str,
     pub(crate) relative_root: Option<&'a str>,
     pub(crate) expression: Option<&'a str>,
-    /// The fields that are asked for. All that an index keeps, where none is named.
-    pub(crate) fields: &'a [&'a str],
 }
 
-/// Makes the index at this path. One that is there already is an error.
+/// Makes the index at this path, with the fields of these words, or all where there is none. An
+/// index that is there already is an error.
 pub(crate) fn make_index(
     rt: &HostRuntime,
     path: &str,
     wish: Wish<'_>,
+    fields: &[&str],
 ) -> Result<(), IndexError> {
-    let subject = subject_of(rt.alloc(), wish)?;
+    let subject = subject_of(rt.alloc(), wish, fields)?;
     check_path(rt, path)?;
     let mut conn = open_index(rt, path)?;
     let made = make_new(rt.alloc(), &mut conn, &subject);
@@ -48,7 +48,7 @@ fn make_new<S: Alter>(
 }
 
 /// What these words say.
-fn subject_of(alloc: Global, wish: Wish<'_>) -> Result<Subject, IndexError> {
+fn subject_of(alloc: Global, wish: Wish<'_>, fields: &[&str]) -> Result<Subject, IndexError> {
     if !wish.root.starts_with('/') {
         return Err(IndexError::Root);
     }
@@ -70,7 +70,7 @@ fn subject_of(alloc: Global, wish: Wish<'_>) -> Result<Subject, IndexError> {
         root: ByteString::from_text(alloc, wish.root)?,
         relative_root,
         expression,
-        fields: fields_of(alloc, wish.fields)?,
+        fields: fields_of(alloc, fields)?,
     })
 }
 

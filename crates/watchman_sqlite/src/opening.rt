@@ -52,8 +52,20 @@ fn why_not(rt: &HostRuntime, path: &str, error: Error) -> IndexError {
 pub(crate) fn check_path(rt: &HostRuntime, path: &str) -> Result<(), IndexError> {
     match fs::metadata(rt, path) {
         Ok(found) => check_file(rt, path, &found),
-        Err(fault) if fault.kind() == ErrorKind::NotFound => Ok(()),
+        Err(fault) if fault.kind() == ErrorKind::NotFound => check_folder(rt, path),
         Err(fault) => Err(unwritten(fault)),
+    }
+}
+
+/// Fails where the folder in which a file is to be made is not there.
+fn check_folder(rt: &HostRuntime, path: &str) -> Result<(), IndexError> {
+    match path.rsplit_once('/') {
+        Some((folder, _name)) if !folder.is_empty() => match fs::metadata(rt, folder) {
+            Ok(_) => Ok(()),
+            Err(fault) if fault.kind() == ErrorKind::NotFound => Err(IndexError::Missing),
+            Err(fault) => Err(unwritten(fault)),
+        },
+        _ => Ok(()),
     }
 }
 

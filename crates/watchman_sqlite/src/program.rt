@@ -91,7 +91,8 @@ fn obey<R: Read, W: Write, E: Write>(
     let (Some(action), Some(path)) = (action_of(name, inner), inner.get_str("INDEX")) else {
         return Ok(UNKNOWN_ARGUMENT);
     };
-    let names = inner.get_raw("FILE").unwrap_or(&[]);
+    let list = if name == "init" { "field" } else { "FILE" };
+    let names = inner.get_raw(list).unwrap_or(&[]);
     run_action(rt, path, action, names, streams)
 }
 
@@ -105,7 +106,8 @@ fn put_usage<W: Write, E: Write>(error: &Error, out: &mut W, errors: &mut E) -> 
     Ok(DONE)
 }
 
-/// Takes the action with the index at this path. The error is that of the output.
+/// Takes the action with the index at this path. The names are those of fields for `init`, and else
+/// those of files of messages. The error is that of the output.
 fn run_action<R: Read, W: Write, E: Write>(
     rt: &HostRuntime,
     path: &str,
@@ -144,7 +146,7 @@ fn act<R: Read, W: Write, E: Write>(
 ) -> Result<bool, IndexError> {
     match action {
         Action::Init(wish) => {
-            make_index(rt, path, wish)?;
+            make_index(rt, path, wish, names)?;
             Ok(true)
         }
         Action::Add(may_be_empty) => add(rt, path, may_be_empty, names, streams),

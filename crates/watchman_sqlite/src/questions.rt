@@ -1,6 +1,6 @@
 //! Answers what an index is asked.
 
-use crate::connection::{has_tables, number_of, read_stored, visit_all};
+use crate::connection::{Stored, has_tables, number_of, read_stored, visit_all};
 use crate::error::IndexError;
 use crate::printing::{Form, Printer, print_clock};
 use crate::request::{Asked, print_request};
@@ -15,7 +15,8 @@ pub(crate) fn print_last_clock<S: Alter, W: Write>(
     conn: &mut Connection<S>,
     out: &mut W,
 ) -> Result<bool, IndexError> {
-    match read_stored(conn)?.clock {
+    let Stored { clock, .. } = read_stored(conn)?;
+    match &clock {
         Some(clock) => {
             out.write_all(clock.as_bytes())?;
             out.write_all(b"\n")?;
@@ -35,9 +36,8 @@ pub(crate) fn print_next_request<S: Alter, W: Write>(
     let Some(subject) = read_subject(alloc, conn)? else {
         return Err(IndexError::NoSubject);
     };
-    let stored = read_stored(conn)?;
-    let subscribed = stored.origin.subscription.as_ref();
-    print_request(alloc, &subject, asked, subscribed, stored.clock, out)
+    let Stored { origin, clock, .. } = read_stored(conn)?;
+    print_request(alloc, &subject, asked, &origin.subscription, clock, out)
 }
 
 /// Prints what changed after a clock; for an unknown clock all files that exist. Before them are the
@@ -50,7 +50,7 @@ pub(crate) fn print_changes<S: Alter, W: Write>(
     form: Form,
     out: &mut W,
 ) -> Result<bool, IndexError> {
-    let last = read_stored(conn)?.clock;
+    let Stored { clock: last, .. } = read_stored(conn)?;
     let number = number_of(conn, clock.as_bytes())?;
     print_clock(alloc, form, last.as_ref(), number.is_none(), out)?;
     let mut printer = Printer::new(alloc, form, out);

@@ -30,7 +30,7 @@ pub(crate) fn print_request<W: Write>(
     alloc: Global,
     subject: &Subject,
     asked: Asked<'_>,
-    subscribed: Option<&ByteString>,
+    subscribed: &Option<ByteString>,
     since: Option<ByteString>,
     out: &mut W,
 ) -> Result<(), IndexError> {
@@ -58,7 +58,7 @@ fn command_of(asked: Asked<'_>) -> &'static str {
 fn subscription_of(
     alloc: Global,
     name: Option<&str>,
-    subscribed: Option<&ByteString>,
+    subscribed: &Option<ByteString>,
 ) -> Result<Value, IndexError> {
     match (name, subscribed) {
         (Some(name), Some(other)) if name.as_bytes() != other.as_bytes() => {

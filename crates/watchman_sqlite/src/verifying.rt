@@ -141,6 +141,17 @@ impl<W: Write> Comparer<'_, W> {
         }
     }
 
+    /// Prints how many messages were folded and how many differences there are, and tells whether
+    /// there is none.
+    fn end(&mut self, messages: u64) -> Result<bool, IndexError> {
+        let differences = self.differences;
+        writeln!(
+            self.out,
+            "messages {messages}, differences {differences}"
+        )?;
+        Ok(differences == 0)
+    }
+
     /// Prints what was folded and was not compared.
     fn tell_rest(&mut self) -> Result<(), IndexError> {
         for (clock, _number) in &self.index.clocks {
@@ -213,13 +224,11 @@ pub(crate) fn print_differences<S: Alter, W: Write>(
     let mut comparer = Comparer {
         alloc,
         index: folded.index,
-        out: &mut *out,
+        out,
         differences,
     };
     comparer.compare_clocks(conn)?;
     comparer.compare_files(conn)?;
     comparer.tell_rest()?;
-    let differences = comparer.differences;
-    writeln!(out, "messages {messages}, differences {differences}")?;
-    Ok(differences == 0)
+    comparer.end(messages)
 }
