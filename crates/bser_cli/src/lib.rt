@@ -3,7 +3,7 @@
 
 mod canon;
 mod command;
-mod fault;
+pub mod fault;
 mod incoming;
 mod indented;
 mod lines;
@@ -13,7 +13,7 @@ mod pieces;
 mod pointer;
 mod printing;
 pub mod program;
-mod reading;
+pub mod reading;
 mod split;
 pub mod standard;
 mod texts;

@@ -12,7 +12,7 @@ mod frame;
 pub mod lack;
 pub mod messages;
 mod open;
-mod quoted;
+pub mod quoted;
 pub mod reports;
 pub mod screen;
 pub mod summary;

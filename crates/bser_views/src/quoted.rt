@@ -6,7 +6,7 @@ use std::fmt;
 /// The bytes of a byte string in quotes: as a text where they are one. Else each byte that is no
 /// printable character of ASCII is `\x` and two hexadecimal digits, with a `b` before the quotes.
 #[derive(Clone, Copy)]
-pub(crate) struct Quoted<'a>(pub(crate) &'a [u8]);
+pub struct Quoted<'a>(pub &'a [u8]);
 
 impl fmt::Display for Quoted<'_> {
     fn fmt<W: fmt::Write>(&self, f: &mut fmt::Formatter<W>) -> fmt::Result {

@@ -5,14 +5,23 @@
 //! program is killed.
 #![tactic(auto)]
 
+mod action;
 mod adding;
 mod command;
+mod conditions;
 mod connection;
 mod error;
+mod making;
 mod messages;
+mod opening;
+mod printing;
 pub mod program;
 mod questions;
 mod record;
+mod reopening;
+mod request;
 mod schema;
+mod snapshot;
 pub mod standard;
+mod subject;
 mod verifying;

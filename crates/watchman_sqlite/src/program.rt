@@ -1,15 +1,23 @@
 //! The program over any streams.
 
-use crate::adding::Adder;
+use crate::action::{Action, Question, action_of};
 use crate::command::command;
 use crate::error::IndexError;
+use crate::making::make_index;
 use crate::messages::{Totals, take_inputs};
-use crate::questions::{Which, print_changes, print_list, print_stat, require_tables};
+use crate::opening::check_path;
+use crate::printing::Form;
+use crate::questions::{
+    print_changes, print_last_clock, print_list, print_next_request, print_stat, require_tables,
+};
+use crate::reopening::Reopening;
+use crate::snapshot::open_snapshot;
 use crate::verifying::{Folder, print_differences};
-use clap::{ArgMatches, Error};
+use bser_views::quoted::Quoted;
+use clap::Error;
 use sqlite::{Alter, Connection};
+use std::io;
 use std::io::{BufWriter, ErrorKind, Read, Write};
-use std::{fs, io};
 
 /// The status where all was done.
 pub const DONE: u8 = 0;
@@ -20,19 +28,12 @@ pub const FAILED: u8 = 1;
 /// The status where the arguments are not known.
 pub const UNKNOWN_ARGUMENT: u8 = 2;
 
-/// What is done with an index.
-#[derive(Clone, Copy)]
-enum Action<'a> {
-    /// Messages are added.
-    Add,
-    /// What changed after this clock is printed.
-    Changes(&'a str),
-    /// Files are listed.
-    List(Which<'a>),
-    /// What is known of the file with this path is printed.
-    Stat(&'a str),
-    /// The index is compared with messages.
-    Verify,
+/// The streams of a run.
+#[derive(Drop)]
+struct Streams<'s, R, W, E> {
+    input: &'s mut R,
+    out: &'s mut W,
+    errors: &'s mut E,
 }
 
 /// Runs the program with these words, the first of which is its name, and answers its status. Where
@@ -50,7 +51,15 @@ pub fn run_index<R: Read, W: Write + Drop, E: Write>(
         Ok(out) => out,
         Err(fault) => return failed(&fault, errors),
     };
-    let done = obey(rt, words, input, &mut out, errors);
+    let done = obey(
+        rt,
+        words,
+        Streams {
+            input,
+            out: &mut out,
+            errors: &mut *errors,
+        },
+    );
     match (done, out.flush()) {
         (Ok(status), Ok(())) => status,
         (Err(fault), _) | (_, Err(fault)) => failed(&fault, errors),
@@ -70,13 +79,11 @@ fn failed<E: Write>(fault: &io::Error, errors: &mut E) -> u8 {
 fn obey<R: Read, W: Write, E: Write>(
     rt: &HostRuntime,
     words: &[String],
-    input: &mut R,
-    out: &mut W,
-    errors: &mut E,
+    streams: Streams<'_, R, W, E>,
 ) -> io::Result<u8> {
     let matches = match command(rt.alloc())?.try_get_matches_from(words) {
         Ok(matches) => matches,
-        Err(error) => return put_usage(&error, out, errors),
+        Err(error) => return put_usage(&error, streams.out, streams.errors),
     };
     let Some((name, inner)) = matches.subcommand() else {
         return Ok(UNKNOWN_ARGUMENT);
@@ -84,8 +91,9 @@ fn obey<R: Read, W: Write, E: Write>(
     let (Some(action), Some(path)) = (action_of(name, inner), inner.get_str("INDEX")) else {
         return Ok(UNKNOWN_ARGUMENT);
     };
-    let names = inner.get_raw("FILE").unwrap_or(&[]);
-    run_action(rt, path, action, names, input, out, errors)
+    let list = if name == "init" { "field" } else { "FILE" };
+    let names = inner.get_raw(list).unwrap_or(&[]);
+    run_action(rt, path, action, names, streams)
 }
 
 /// Prints the help that is asked for, or what is wrong with the words.
@@ -98,116 +106,176 @@ fn put_usage<W: Write, E: Write>(error: &Error, out: &mut W, errors: &mut E) -> 
     Ok(DONE)
 }
 
-/// What the words of a command ask for. `None` for a name that is no command's.
-fn action_of<'a>(name: &str, matches: &ArgMatches<'a>) -> Option<Action<'a>> {
-    match name {
-        "add" => Some(Action::Add),
-        "changes" => Some(Action::Changes(matches.get_str("since")?)),
-        "list" => Some(Action::List(which_of(matches))),
-        "stat" => Some(Action::Stat(matches.get_str("PATH")?)),
-        "verify" => Some(Action::Verify),
-        _ => None,
-    }
-}
-
-/// Which files the words ask for.
-fn which_of<'a>(matches: &ArgMatches<'a>) -> Which<'a> {
-    match matches.get_str("suffix") {
-        Some(suffix) => Which::Suffix(suffix),
-        None if matches.get_flag("all") => Which::All,
-        None => Which::Present,
-    }
-}
-
-/// Takes the action with the index at this path. The error is that of the output.
+/// Takes the action with the index at this path. The names are those of fields for `init`, and else
+/// those of files of messages. The error is that of the output.
 fn run_action<R: Read, W: Write, E: Write>(
     rt: &HostRuntime,
     path: &str,
     action: Action<'_>,
     names: &[&str],
-    input: &mut R,
-    out: &mut W,
-    errors: &mut E,
+    streams: Streams<'_, R, W, E>,
 ) -> io::Result<u8> {
-    let done = match with_index(rt, path, action, names, input, out, errors) {
-        Ok(done) => done,
-        Err(IndexError::Output(fault)) => return Err(fault),
-        Err(failure) => {
-            out.flush()?;
-            let _written = writeln!(errors, "bser_index: {path}: {failure}");
-            false
-        }
+    let Streams { input, out, errors } = streams;
+    let inner = Streams {
+        input,
+        out: &mut *out,
+        errors: &mut *errors,
     };
-    Ok(if done { DONE } else { FAILED })
+    let failure = match act(rt, path, action, names, inner) {
+        Ok(true) => return Ok(DONE),
+        Ok(false) => return Ok(FAILED),
+        Err(IndexError::Output(fault)) => return Err(fault),
+        Err(failure) => failure,
+    };
+    out.flush()?;
+    if failure.is_of_words() {
+        let _written = writeln!(errors, "bser_index: {failure}");
+        return Ok(UNKNOWN_ARGUMENT);
+    }
+    let _written = writeln!(errors, "bser_index: {path}: {failure}");
+    Ok(FAILED)
 }
 
-/// Opens the index at this path, takes the action, and closes it. Tells whether all was done.
-fn with_index<R: Read, W: Write, E: Write>(
+/// Takes the action with the index at this path. Tells whether all was done.
+fn act<R: Read, W: Write, E: Write>(
     rt: &HostRuntime,
     path: &str,
     action: Action<'_>,
     names: &[&str],
-    input: &mut R,
-    out: &mut W,
-    errors: &mut E,
+    streams: Streams<'_, R, W, E>,
 ) -> Result<bool, IndexError> {
-    if !matches!(action, Action::Add) && fs::open(rt, path).is_err() {
-        return Err(IndexError::NoIndex);
+    match action {
+        Action::Init(wish) => {
+            make_index(rt, path, wish, names)?;
+            Ok(true)
+        }
+        Action::Add(may_be_empty) => add(rt, path, may_be_empty, names, streams),
+        Action::Verify | Action::Request(_) | Action::Ask(_) => {
+            let mut conn = open_snapshot(rt, path)?;
+            read(rt, path, &mut conn, action, names, streams)
+        }
     }
-    let mut conn = Connection::open(rt, path)?;
-    let done = act(rt, &mut conn, action, names, input, out, errors);
-    let closed = conn.close();
-    let done = done?;
-    closed?;
-    Ok(done)
 }
 
-/// Takes the action with an index. Tells whether all was done.
-fn act<S: Alter, R: Read, W: Write, E: Write>(
+/// Takes an action that only reads the index. Tells whether all was done.
+fn read<S: Alter, R: Read, W: Write, E: Write>(
     rt: &HostRuntime,
+    path: &str,
     conn: &mut Connection<S>,
     action: Action<'_>,
     names: &[&str],
-    input: &mut R,
-    out: &mut W,
-    errors: &mut E,
+    streams: Streams<'_, R, W, E>,
 ) -> Result<bool, IndexError> {
+    require_tables(conn)?;
     match action {
-        Action::Add => add(rt, conn, names, input, out, errors),
-        Action::Verify => verify(rt, conn, names, input, out, errors),
-        _ => answer(rt, conn, action, out),
+        Action::Verify => verify(rt, conn, names, streams),
+        Action::Request(asked) => {
+            print_next_request(rt.alloc(), conn, asked, streams.out)?;
+            Ok(true)
+        }
+        Action::Ask(question) => answer(rt, path, conn, question, streams),
+        Action::Init(_) | Action::Add(_) => Ok(false),
     }
 }
 
 /// Answers a question. Tells whether there is an answer.
-fn answer<S: Alter, W: Write>(
+fn answer<S: Alter, R: Read, W: Write, E: Write>(
     rt: &HostRuntime,
+    path: &str,
     conn: &mut Connection<S>,
-    action: Action<'_>,
-    out: &mut W,
+    question: Question<'_>,
+    streams: Streams<'_, R, W, E>,
 ) -> Result<bool, IndexError> {
-    require_tables(conn)?;
-    match action {
-        Action::Changes(clock) => print_changes(rt.alloc(), conn, clock, out),
-        Action::List(which) => print_list(rt.alloc(), conn, which, out),
-        Action::Stat(path) => print_stat(conn, path, out),
-        Action::Add | Action::Verify => Ok(false),
+    let Streams { input, out, errors } = streams;
+    match question {
+        Question::Clock => {
+            let is_known = print_last_clock(conn, out)?;
+            if !is_known {
+                let _written = writeln!(errors, "bser_index: {path}: no message told a clock yet");
+            }
+            Ok(is_known)
+        }
+        Question::Changes(clock, form) => {
+            let is_known = print_changes(rt.alloc(), conn, clock, form, out)?;
+            if !is_known && form == Form::Names {
+                let _written = writeln!(errors, "bser_index: {path}: fresh instance");
+            }
+            Ok(true)
+        }
+        Question::List(which, form) => {
+            print_list(rt.alloc(), conn, which, form, out)?;
+            Ok(true)
+        }
+        Question::Stat(name, form) => stat(rt, path, conn, name.as_bytes(), form, out, errors),
+        Question::StatNames(form) => {
+            let mut names = Vec::new(rt.alloc());
+            if let Err(fault) = input.read_to_end(&mut names) {
+                return Err(IndexError::Reader(fault));
+            }
+            stat_names(rt, path, conn, &names, form, out, errors)
+        }
     }
+}
+
+/// Prints what is known of the files whose names these are, each ended by a NUL. Tells whether
+/// something is known of each.
+fn stat_names<S: Alter, W: Write, E: Write>(
+    rt: &HostRuntime,
+    path: &str,
+    conn: &mut Connection<S>,
+    names: &[u8],
+    form: Form,
+    out: &mut W,
+    errors: &mut E,
+) -> Result<bool, IndexError> {
+    let mut are_known = true;
+    for name in names
+        .strip_suffix(b"\0")
+        .unwrap_or(names)
+        .split(|byte| *byte == 0)
+    {
+        are_known &= stat(rt, path, conn, name, form, out, errors)?;
+    }
+    Ok(are_known)
+}
+
+/// Prints what is known of the file with this name. Tells whether something is.
+fn stat<S: Alter, W: Write, E: Write>(
+    rt: &HostRuntime,
+    path: &str,
+    conn: &mut Connection<S>,
+    name: &[u8],
+    form: Form,
+    out: &mut W,
+    errors: &mut E,
+) -> Result<bool, IndexError> {
+    let is_known = print_stat(rt.alloc(), conn, name, form, out)?;
+    if !is_known {
+        let _written = writeln!(
+            errors,
+            "bser_index: {path}: no message listed {}",
+            Quoted(name)
+        );
+    }
+    Ok(is_known)
 }
 
 /// Adds messages, and prints how many there were. Tells whether none was refused, and none told an
 /// error of the server.
-fn add<S: Alter, R: Read, W: Write, E: Write>(
+fn add<R: Read, W: Write, E: Write>(
     rt: &HostRuntime,
-    conn: &mut Connection<S>,
+    path: &str,
+    may_be_empty: bool,
     names: &[&str],
-    input: &mut R,
-    out: &mut W,
-    errors: &mut E,
+    streams: Streams<'_, R, W, E>,
 ) -> Result<bool, IndexError> {
-    let mut adder = Adder::new(rt.alloc(), conn)?;
-    let totals = take_inputs(rt.alloc(), rt, names, input, &mut adder, errors);
+    check_path(rt, path)?;
+    let Streams { input, out, errors } = streams;
+    let mut index = Reopening::new(rt, path, may_be_empty);
+    let totals = take_inputs(rt.alloc(), rt, names, input, &mut index, errors);
+    let closed = index.close();
     print_totals(totals, out)?;
+    closed?;
     Ok(totals.refused == 0 && totals.errors == 0)
 }
 
@@ -231,15 +299,13 @@ fn verify<S: Alter, R: Read, W: Write, E: Write>(
     rt: &HostRuntime,
     conn: &mut Connection<S>,
     names: &[&str],
-    input: &mut R,
-    out: &mut W,
-    errors: &mut E,
+    streams: Streams<'_, R, W, E>,
 ) -> Result<bool, IndexError> {
-    require_tables(conn)?;
-    let mut folder = Folder::new(rt.alloc());
+    let Streams { input, out, errors } = streams;
+    let mut folder = Folder::new(rt.alloc(), conn)?;
     let totals = take_inputs(rt.alloc(), rt, names, input, &mut folder, errors);
     if totals.refused > 0 {
         return Ok(false);
     }
-    print_differences(conn, folder, out)
+    print_differences(rt.alloc(), conn, folder, out)
 }

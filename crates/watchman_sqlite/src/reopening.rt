@@ -1,0 +1,88 @@
+//! Adds messages to an index that others may use between them.
+
+use crate::adding::Adder;
+use crate::conditions::Conditions;
+use crate::error::IndexError;
+use crate::messages::Taker;
+use crate::opening::open_index;
+use serde_bser::bytestring::ByteString;
+use sqlite::{Connection, File, FileStore};
+use watchman_index::changes::Changes;
+
+/// Adds messages to the index at a path, which is opened for the first of them that are at hand, and
+/// closed before the next is waited for: an open index is locked.
+#[derive(Drop)]
+pub(crate) struct Reopening<'r> {
+    rt: &'r HostRuntime,
+    path: &'r str,
+    conditions: Conditions,
+    conn: Option<Connection<FileStore<File>>>,
+}
+
+impl<'r> Reopening<'r> {
+    /// The index is not open yet. A message that says that there are no files is taken where
+    /// `may_be_empty`.
+    pub(crate) fn new(rt: &'r HostRuntime, path: &'r str, may_be_empty: bool) -> Self {
+        Reopening {
+            rt,
+            path,
+            conditions: Conditions {
+                may_be_empty,
+                follows: false,
+            },
+            conn: None,
+        }
+    }
+
+    /// The open index.
+    fn opened(&mut self) -> Result<&mut Connection<FileStore<File>>, IndexError> {
+        let conn = match self.conn.take() {
+            Some(conn) => conn,
+            None => open_index(self.rt, self.path)?,
+        };
+        Ok(self.conn.insert(conn))
+    }
+
+    /// What adds to the open index.
+    fn adder(&mut self) -> Result<Adder<'_, FileStore<File>>, IndexError> {
+        let (alloc, conditions) = (self.rt.alloc(), self.conditions);
+        Adder::new(alloc, self.opened()?, conditions)
+    }
+
+    /// Closes the index, if it is open.
+    pub(crate) fn close(&mut self) -> Result<(), IndexError> {
+        if let Some(conn) = self.conn.take() {
+            conn.close()?;
+        }
+        Ok(())
+    }
+}
+
+impl Taker for Reopening<'_> {
+    fn begin(&mut self) {
+        self.conditions.follows = false;
+    }
+
+    fn take_changes(&mut self, changes: Changes) -> Result<(), IndexError> {
+        let is_of_subscription = changes.subscription.is_some();
+        self.adder()?.add_changes(changes)?;
+        if is_of_subscription {
+            self.conditions.follows = true;
+        }
+        Ok(())
+    }
+
+    fn take_subscribed(&mut self, clock: ByteString) -> Result<(), IndexError> {
+        self.take_clock(clock)?;
+        self.conditions.follows = true;
+        Ok(())
+    }
+
+    fn take_clock(&mut self, clock: ByteString) -> Result<(), IndexError> {
+        self.adder()?.add_clock(&clock)
+    }
+
+    fn pause(&mut self) -> Result<(), IndexError> {
+        self.close()
+    }
+}
