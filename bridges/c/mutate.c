@@ -45,7 +45,8 @@ typedef bser_outcome rewrite(const uint8_t *, size_t, uint8_t *, size_t);
 static void check_outcome(const char *what, bser_outcome outcome, uint32_t code, size_t place, size_t length) {
     calls++;
     if (outcome.code == code && outcome.place == place && outcome.length == length) return;
-    fprintf(stderr, "%s: code %u, place %zu, length %zu\n", what, (unsigned)outcome.code, outcome.place, outcome.length);
+    fprintf(stderr, "%s: code %u, place %zu, length %zu\n", what, (unsigned)outcome.code, outcome.place,
+            outcome.length);
     exit(1);
 }
 

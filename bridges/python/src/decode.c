@@ -8,7 +8,7 @@ typedef struct {
     uint64_t *words;
     size_t at;
     size_t give_at; /* the word at which memory is given back next */
-    size_t lists;   /* how many lists were made where nothing else may change */
+    size_t lists;   /* how many lists of rows were made */
     int mutable;
     const char *encoding, *errors;
     decoder *decode; /* NULL where a codec of the registry decodes */
@@ -224,7 +224,8 @@ static PyObject *by_codec(const walk *w, const char *bytes, Py_ssize_t len) {
     PyObject *made = given == NULL ? NULL : PyCodec_Decode(given, w->encoding, w->errors);
     Py_XDECREF(given);
     if (made == NULL || PyUnicode_Check(made)) return made;
-    PyErr_Format(PyExc_TypeError, "the encoding %s gave a %.100s and no str", w->encoding, Py_TYPE(made)->tp_name);
+    PyErr_Format(PyExc_TypeError, "the encoding %s gave a %.100s and no str", w->encoding,
+                 Py_TYPE(made)->tp_name);
     Py_DECREF(made);
     return NULL;
 }

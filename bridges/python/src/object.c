@@ -8,8 +8,8 @@ typedef struct {
     int has_list;
 } object;
 
-/* A list below the object, of rows, may come to hold the object itself. The collector looks at such an
- * object alone, since its part of the others would take time, and breaks the cycle at the list. */
+/* A list of rows below the object may come to hold the object itself, which is a cycle that the collector
+ * breaks at the list. Objects without one are none of the collector's, which takes less time. */
 PyObject *new_object(PyObject *keys, PyObject *values, int has_list) {
     object *made = has_list ? PyObject_GC_New(object, &object_type) : PyObject_New(object, &object_type);
     if (made == NULL) return NULL;

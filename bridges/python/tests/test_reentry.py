@@ -80,7 +80,8 @@ class Changed(unittest.TestCase):
         self.check_all(lambda: NAMES + [b"y" * 50] * 2000, list.clear, lambda x: x.extend(x), list.reverse)
 
     def test_rows(self):
-        self.check_all(lambda: [{"name": name} for name in NAMES], list.clear, lambda x: [row.clear() for row in x])
+        self.check_all(lambda: [{"name": name} for name in NAMES], list.clear,
+                       lambda x: [row.clear() for row in x])
 
     def test_dict(self):
         self.check_all(lambda: dict.fromkeys(map(str, range(2000)), NAMES[0]), dict.clear,
@@ -132,7 +133,8 @@ class Codecs(unittest.TestCase):
         self.decode = decode
         for mutable in (True, False):
             value = self.loads(message, mutable)
-            self.assertEqual([list(value[key]) for key in FILES], [[v[0].decode()] * 3 for v in FILES.values()])
+            self.assertEqual([list(value[key]) for key in FILES],
+                             [[names[0].decode()] * 3 for names in FILES.values()])
 
     def test_overwritten(self):
         """The codec writes over the message, whose length it cannot change."""
@@ -316,7 +318,8 @@ class Limits(unittest.TestCase):
 
         self.assertLess(-calls(50) + calls(500), 50)
         value = bser.loads(message, False)
-        self.assertEqual(repr(value), "BserObject(('b',), (([BserObject(('a',), (1,)), BserObject(('a',), (2,))],),))")
+        rows = "[BserObject(('a',), (1,)), BserObject(('a',), (2,))]"
+        self.assertEqual(repr(value), f"BserObject(('b',), (({rows},),))")
         self.assertEqual([gc.is_tracked(value), gc.is_tracked(value.b[0][0])], [True, False])
 
     def test_attributes(self):
@@ -338,7 +341,8 @@ class Limits(unittest.TestCase):
 
         for length in (1 << 40, 1 << 62, (1 << 63) - 16, (1 << 63) - 1):
             head = b"\0\2\0\0\0\0\6" + length.to_bytes(8, "little")
-            for file in (io.BytesIO(head + b"\x08"), io.BufferedReader(io.BytesIO(head + b"\x08")), File(head + b"\x08")):
+            data = head + b"\x08"
+            for file in (io.BytesIO(data), io.BufferedReader(io.BytesIO(data)), File(data)):
                 with self.assertRaises(bser.BserDecodeError):
                     bser.load(file)
 
