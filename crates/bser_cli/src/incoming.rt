@@ -58,7 +58,7 @@ impl Incoming {
         self.place.after(&self.bytes[..self.start])
     }
 
-    /// Goes to the next text, and tells whether it is whole. The last one ends where the reader did.
+    /// Goes to the next text, and tells whether it is whole. The last ends where the reader did.
     pub(crate) fn advance(&mut self) -> bool {
         if self.scanned == 0 {
             self.end += blanks(&self.bytes[self.end..]);

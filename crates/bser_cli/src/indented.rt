@@ -82,8 +82,8 @@ impl Indented {
         Ok(())
     }
 
-    /// Writes what is put, and what stands before the first byte of a string. What is put from then on
-    /// stands behind the string.
+    /// Writes what is put, and what stands before the first byte of a string. What is put from
+    /// then on stands behind the string.
     pub(crate) fn begin_string<W: Write>(&mut self, out: &mut W) -> Result<(), Trouble>
         ensures { (start : Option (List ℕ)) (ts : List tokens.Token)
             → PrintsLines start (W.contents out.old) ts self.old

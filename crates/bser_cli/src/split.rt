@@ -29,9 +29,9 @@ impl Scan {
         }
     }
 
-    /// Scans the bytes of a value behind so many that are scanned, and answers where it ends: behind
-    /// the bracket that closes its first, behind the quote that ends its string, or before a blank,
-    /// an opening bracket or a quote. None where that is not among the bytes.
+    /// Scans the bytes of a value behind so many that are scanned, and answers where it ends:
+    /// behind the bracket that closes its first, behind the quote that ends its string, or before
+    /// a blank, an opening bracket or a quote. None where that is not among the bytes.
     pub(crate) fn end(&mut self, bytes: &[u8], scanned: usize) -> Option<usize>
         ensures { IfSome result (λ n. n ≤ length bytes.now) }
     {

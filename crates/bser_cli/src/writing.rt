@@ -42,8 +42,8 @@ const MOST_AROUND: usize = 2 * MOST_LEVELS;
 /// own: bytes that are no UTF-8 are `{"$bytes":"61ff"}`, an infinity and a NaN are
 /// `{"$real":"7ff8000000000000"}` by their bits, and a key that begins with `$` gets one `$` more.
 ///
-/// The text is written as it is made, that of a long string too. The errors are that there is no memory, and those of the writer,
-/// which then has taken some of the text.
+/// The text is written as it is made, that of a long string too. The errors are that there is no
+/// memory, and those of the writer, which then has taken some of the text.
 pub fn write_json<W: Write + Drop>(
     alloc: Global,
     item: Item<'_>,

@@ -10,9 +10,9 @@ const GOOD: &[u8] = b"\x00\x02\x00\x00\x00\x00\x03\x02\x03\x05";
 /// The words of commands whose output does not say where a message is.
 const COMMANDS: [&[&str]; 4] = [&["json"], &["get", ""], &["canon"], &["canon", "--compact"]];
 
-/// Puts each malformed message of the list, as long as its header announces, between two that are in
-/// order, runs commands on them, and prints where not both of these are shown, or not one line is
-/// reported.
+/// Puts each malformed message of the list, as long as its header announces, between two that are
+/// in order, runs commands on them, and prints where not both of these are shown, or not one line
+/// is reported.
 pub fn compare_frames(rt: &HostRuntime, list: &str) -> Result<()> {
     let text = fs::read_to_string(rt, list)?;
     let mut runs = 0u64;
@@ -38,8 +38,8 @@ pub fn compare_frames(rt: &HostRuntime, list: &str) -> Result<()> {
     Ok(())
 }
 
-/// The message, as long as its header announces, where that has one byte for the length and the whole
-/// body is there.
+/// The message, as long as its header announces, where that has one byte for the length and the
+/// whole body is there.
 fn frame_of(message: &[u8]) -> Option<&[u8]> {
     match message {
         [0, 2, _, _, _, _, 3, len, ..] if *len < 128 => message.get(..usize::from(*len) + 8),

@@ -15,8 +15,8 @@ said bs utf8 e = ap (λ (b : Bool). cond b (tokens.string bs ∷ []) (marked (co
 pub returns-in-Ok : goal.returns-in-Ok
 returns-in-Ok g c =
     let bytes = c.args.bytes.now in
-    one_said g.W.Write.contents c.token.result (SaysBytes bytes) (tokens.string c.in-Ok.text.now ∷ []) c.args.out.now c.token.new.self
-    (ap (λ s. tokens.string s ∷ []) c.in-Ok.ensures.cases.0 ∙ said bytes true (is_utf8-from_IsUtf8 bytes c.in-Ok.ensures.cases.1)) c.token.ensures
+    one_said g.W.Write.contents c.string.result (SaysBytes bytes) (tokens.string c.in-Ok.text.now ∷ []) c.args.out.now c.string.new.self
+    (ap (λ s. tokens.string s ∷ []) c.in-Ok.ensures.cases.0 ∙ said bytes true (is_utf8-from_IsUtf8 bytes c.in-Ok.ensures.cases.1)) c.string.ensures
 
 pub returns-in-Err : goal.returns-in-Err
 returns-in-Err g c =

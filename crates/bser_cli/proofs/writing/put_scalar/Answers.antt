@@ -34,9 +34,9 @@ pub returns-in-Some-as_str : goal.returns-in-Some-as_str
 returns-in-Some-as_str g c u h plain =
     let v = c.in-Some-as_str.text.now in
     let x = c.args.out.now in
-    let y = c.token-in-Some-as_str.new.self in
-    let r = c.token-in-Some-as_str.result in
-    same_said g.W.Write.contents r u (text v) x y (text_is u v (rw c.in-Some-as_str.is at c.as_str.ensures u h)) (one_said g.W.Write.contents r (Says (text v)) (tokens.string v ∷ []) x y refl c.token-in-Some-as_str.ensures)
+    let y = c.string.new.self in
+    let r = c.string.result in
+    same_said g.W.Write.contents r u (text v) x y (text_is u v (rw c.in-Some-as_str.is at c.as_str.ensures u h)) (one_said g.W.Write.contents r (Says (text v)) (tokens.string v ∷ []) x y refl c.string.ensures)
 
 pub returns-in-Some-as_bytes : goal.returns-in-Some-as_bytes
 returns-in-Some-as_bytes g c u h plain =
