@@ -52,8 +52,14 @@ impl View for Get<'_> {
             return Ok(false);
         };
         match self.each {
-            Some(container) => self.put_each(alloc, value_at(document.root(), container)?, out)?,
-            None => self.put(alloc, value_at(document.root(), self.pointer)?, out)?,
+            Some(each) => {
+                let container = value_at(document.root(), each)?;
+                self.put_each(alloc, container, out)?;
+            }
+            None => {
+                let value = value_at(document.root(), self.pointer)?;
+                self.put(alloc, value, out)?;
+            }
         }
         Ok(true)
     }

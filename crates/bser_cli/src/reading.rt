@@ -100,24 +100,25 @@ impl<'a> Reading<'a> {
     /// The value that begins with this token, and may nest so many levels.
     #[cycle(value)]
     fn value(&mut self, first: Token<'a>, levels: usize) -> Result<Value, JsonError> {
+        let begun = self.begun;
         match first {
             Token::Null => Ok(Value::Null),
             Token::Bool(truth) => Ok(Value::Bool(truth)),
             Token::String(text) => self.string(text),
             Token::Number(text) => self.number(text),
             Token::BeginArray => {
-                let inside = self.inside(levels, self.begun)?;
+                let inside = self.inside(levels, begun)?;
                 self.array(inside)
             }
             Token::BeginObject => {
-                let begun = self.begun;
-                match self.token()? {
-                    Token::Key(key) if is_mark(key) => self.marked(key),
-                    token => {
-                        let inside = self.inside(levels, begun)?;
-                        self.object(token, inside)
+                let token = self.token()?;
+                if let Token::Key(key) = token {
+                    if is_mark(key) {
+                        return self.marked(key);
                     }
                 }
+                let inside = self.inside(levels, begun)?;
+                self.object(token, inside)
             }
             Token::Key(_) | Token::EndArray | Token::EndObject | Token::Bad => {
                 Err(self.fault(Fault::NotJson))

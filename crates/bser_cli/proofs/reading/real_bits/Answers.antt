@@ -1,5 +1,5 @@
 -- sixteen digits are decoded into eight bytes, and no other text is
-use Rattle.std.proofs.Common.{rules, ◌≡◌, false, true, refl, sym}
+use Rattle.std.proofs.Common.{rules, refl, sym}
 use Rattle.hex.proofs.HexLemmas.{IsOk-decode_sized}
 use Rattle.bser_cli.proofs.reading.real_bits.Goals as goal
 
