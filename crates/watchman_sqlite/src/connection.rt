@@ -24,7 +24,10 @@ pub(crate) struct Stored {
 /// Whether the database is an index, or has no tables at all. Tables of others may stand beside
 /// those of an index. Fails for a database of something else, and for an index of another layout.
 pub(crate) fn has_tables<S: Alter>(conn: &mut Connection<S>) -> Result<bool, IndexError> {
-    let rows = conn.query_all("SELECT name FROM sqlite_schema WHERE type = 'table'", params![])?;
+    let rows = conn.query_all(
+        "SELECT name FROM sqlite_schema WHERE type = 'table'",
+        params![],
+    )?;
     if has_all(&rows, &TABLES)? {
         check_layout(conn)?;
         return Ok(true);

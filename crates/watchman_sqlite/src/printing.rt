@@ -91,11 +91,7 @@ fn print_line<W: Write>(out: &mut W, record: &Record) -> io::Result<()> {
 }
 
 /// Prints an object of JSON in a line. What is not known is null.
-fn print_object<W: Write>(
-    alloc: Global,
-    out: &mut W,
-    record: &Record,
-) -> Result<(), IndexError> {
+fn print_object<W: Write>(alloc: Global, out: &mut W, record: &Record) -> Result<(), IndexError> {
     let mut json = Writer::new(Vec::new(alloc));
     json.begin_object()?;
     json.key("name")?;

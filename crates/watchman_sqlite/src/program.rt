@@ -83,7 +83,10 @@ fn obey<R: Read, W: Write, E: Write>(
 ) -> io::Result<u8> {
     let matches = match command(rt.alloc())?.try_get_matches_from(words) {
         Ok(matches) => matches,
-        Err(error) => return put_usage(&error, streams.out, streams.errors),
+        Err(error) => {
+            let Streams { out, errors, .. } = streams;
+            return put_usage(&error, out, errors);
+        }
     };
     let Some((name, inner)) = matches.subcommand() else {
         return Ok(UNKNOWN_ARGUMENT);

@@ -88,10 +88,7 @@ fn options_of(
         options.insert(String::from_str(alloc, "relative_root")?, path)?;
     }
     if let Some(clock) = since {
-        options.insert(
-            String::from_str(alloc, "since")?,
-            Value::ByteString(clock),
-        )?;
+        options.insert(String::from_str(alloc, "since")?, Value::ByteString(clock))?;
     }
     Ok(options)
 }

@@ -71,7 +71,11 @@ fn read_files(
     let log = copy_of(rt, unless_missing(rt, fs::read(rt, log_path)))?;
     let after = read_head(rt, log_path)?;
     let is_whole = before == after && before.as_slice() == head_of(log.bytes());
-    Ok(if is_whole { Some(Files { log, db }) } else { None })
+    Ok(if is_whole {
+        Some(Files { log, db })
+    } else {
+        None
+    })
 }
 
 /// The first bytes of the log. None where there is no log.

@@ -145,10 +145,7 @@ impl<W: Write> Comparer<'_, W> {
     /// there is none.
     fn end(&mut self, messages: u64) -> Result<bool, IndexError> {
         let differences = self.differences;
-        writeln!(
-            self.out,
-            "messages {messages}, differences {differences}"
-        )?;
+        writeln!(self.out, "messages {messages}, differences {differences}")?;
         Ok(differences == 0)
     }
 

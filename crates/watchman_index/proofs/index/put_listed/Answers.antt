@@ -31,7 +31,8 @@ loop-name-preserved c =
           (subst (λ es. IsPutUpTo c.args.number c.args.listing (of_name c.args.listed q) (at es q)
           (of_name c.args.files.now q) (of_name c.loop-name.files q)) more (held.1 q))
           (c.in_ok-insert.ensures.updates.0 q)
-          (λ same. rw same (subst (λ o. IsTold c.args.number c.args.listing o c.in-Some.state c.told.result)
+          (λ same. rw same (subst
+          (λ o. IsTold c.args.number c.args.listing o c.in-Some.state c.told.result)
           was c.told.ensures)),
     )
 
@@ -39,11 +40,12 @@ pub returns-in_err-insert-clause-err : goal.returns-in_err-insert-clause-err
 returns-in_err-insert-clause-err c =
     let held = c.loop-name.invariant in
     let stays = c.in_err-insert.ensures.err in
-    let partly : PutsPartly c.args.number c.args.listing c.args.listed c.args.files.now c.insert.new.self
+    let partly
+    : PutsPartly c.args.number c.args.listing c.args.listed c.args.files.now c.insert.new.self
     = λ q. subst (λ es. (at es q ≡ of_name c.args.files.now q) ⊎ IsPut c.args.number c.args.listing
     (of_name c.args.listed q) (of_name c.args.files.now q) (at es q)) (sym stays)
-    (put_partly c.args.number c.args.listing (of_name c.args.listed q) (at c.loop-name.name-iterator q)
-    (of_name c.args.files.now q) (of_name c.loop-name.files q) (held.1 q)) in
+    (put_partly c.args.number c.args.listing (of_name c.args.listed q)
+    (at c.loop-name.name-iterator q) (of_name c.args.files.now q) (of_name c.loop-name.files q) (held.1 q)) in
     on_err c.from_residual.result partly
 
 pub returns-clause-ok : goal.returns-clause-ok
