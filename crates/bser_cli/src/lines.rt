@@ -1,7 +1,7 @@
 //! Messages shown as JSON.
 
-use crate::printing::Layout;
-use crate::writing::write_json;
+use bser_json::printing::Layout;
+use bser_json::writing::write_json;
 use bser_document::document::Document;
 use bser_document::item::Item;
 use bser_messages::limits::Limits;

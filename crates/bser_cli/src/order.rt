@@ -2,9 +2,9 @@
 
 use crate::lines::Json;
 use crate::pointer::{Form, Get, is_pointer};
-use crate::printing::Layout;
-use crate::reading::Strings;
-use crate::texts::Writing;
+use bser_json::printing::Layout;
+use bser_json::reading::Strings;
+use bser_json::texts::Writing;
 use bser_views::tree::{Show, Style};
 use clap::ArgMatches;
 use std::fmt;

@@ -2,8 +2,8 @@
 ghost use Rattle.std.specs.Prelude.{◌≡◌, is_some};
 ghost use Rattle.bser_document.specs.Pointer.{tokens};
 
-use crate::printing::Layout;
-use crate::writing::write_json;
+use bser_json::printing::Layout;
+use bser_json::writing::write_json;
 use bser_document::document::Document;
 use bser_document::item::Item;
 use bser_messages::limits::Limits;

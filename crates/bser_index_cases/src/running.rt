@@ -4,7 +4,7 @@ use anyhow::Result;
 use bser_vectors::devices::{Plan, PlannedWriter, Then};
 use std::fs;
 use std::io::ErrorKind;
-use watchman_sqlite::program::run_index;
+use bser_index_cli::program::run_index;
 
 /// What a run left.
 #[derive(Drop)]

@@ -12,18 +12,18 @@ use watchman_index::origin::Origin;
 
 /// What an index has of its messages.
 #[derive(Debug, Drop)]
-pub(crate) struct Stored {
+pub struct Stored {
     /// How many messages that told files were added.
-    pub(crate) messages: u64,
+    pub messages: u64,
     /// What they are of.
-    pub(crate) origin: Origin,
+    pub origin: Origin,
     /// The last clock.
-    pub(crate) clock: Option<ByteString>,
+    pub clock: Option<ByteString>,
 }
 
 /// Whether the database is an index, or has no tables at all. Tables of others may stand beside
 /// those of an index. Fails for a database of something else, and for an index of another layout.
-pub(crate) fn has_tables<S: Alter>(conn: &mut Connection<S>) -> Result<bool, IndexError> {
+pub fn has_tables<S: Alter>(conn: &mut Connection<S>) -> Result<bool, IndexError> {
     let rows = conn.query_all(
         "SELECT name FROM sqlite_schema WHERE type = 'table'",
         params![],
@@ -79,7 +79,7 @@ fn check_layout<S: Alter>(conn: &mut Connection<S>) -> Result<(), IndexError> {
 
 /// Makes the tables of an index of this subject, all of them or none. Without one the index is of
 /// what its messages are of.
-pub(crate) fn make_tables<S: Alter>(
+pub fn make_tables<S: Alter>(
     alloc: Global,
     conn: &mut Connection<S>,
     subject: Option<&Subject>,
@@ -99,7 +99,7 @@ pub(crate) fn make_tables<S: Alter>(
 }
 
 /// What the index has of its messages.
-pub(crate) fn read_stored<S: Alter>(conn: &mut Connection<S>) -> Result<Stored, IndexError> {
+pub fn read_stored<S: Alter>(conn: &mut Connection<S>) -> Result<Stored, IndexError> {
     let row = conn.query_row(
         "SELECT messages, root, subscription, clock FROM source WHERE id = 1",
         params![],
@@ -115,13 +115,13 @@ pub(crate) fn read_stored<S: Alter>(conn: &mut Connection<S>) -> Result<Stored, 
 }
 
 /// The byte string of this column, if it has one.
-pub(crate) fn bytes_at(row: &Row, column: usize) -> Result<Option<ByteString>, IndexError> {
+pub fn bytes_at(row: &Row, column: usize) -> Result<Option<ByteString>, IndexError> {
     let bytes: Option<Vec<u8>> = row.get(column)?;
     Ok(bytes.map(ByteString::from_vec))
 }
 
 /// The number of the last message up to a clock. `None` for one that was not told.
-pub(crate) fn number_of<S: Alter>(
+pub fn number_of<S: Alter>(
     conn: &mut Connection<S>,
     clock: &[u8],
 ) -> Result<Option<u64>, IndexError> {
@@ -133,7 +133,7 @@ pub(crate) fn number_of<S: Alter>(
 }
 
 /// Hands each record of the answer to the visitor.
-pub(crate) fn visit_all<S: Alter, V: Visitor>(
+pub fn visit_all<S: Alter, V: Visitor>(
     conn: &mut Connection<S>,
     question: &str,
     params: &[ValueRef<'_>],

@@ -1,6 +1,6 @@
 //! Why the program cannot do what it was asked for.
 
-use bser_cli::fault::JsonError;
+use bser_json::fault::JsonError;
 use bser_format::errors::Error as SerError;
 use bser_frames::error::FrameError;
 use serde_bser::bytestring::ByteString;
@@ -76,7 +76,7 @@ pub enum IndexError {
 
 impl IndexError {
     /// Whether the words of the command are wrong.
-    pub(crate) fn is_of_words(&self) -> bool {
+    pub fn is_of_words(&self) -> bool {
         matches!(
             self,
             IndexError::Root

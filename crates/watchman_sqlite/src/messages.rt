@@ -25,7 +25,7 @@ const BUFFERED: usize = 1 << 16;
 const FIRST_VERSION: &[u8] = &[0, 1];
 
 /// What takes what messages tell.
-pub(crate) trait Taker {
+pub trait Taker {
     /// Is told that another input begins.
     fn begin(&mut self);
 
@@ -46,23 +46,23 @@ pub(crate) trait Taker {
 
 /// How many messages there were.
 #[derive(Debug, Clone, Copy, Default, PartialEq, Eq)]
-pub(crate) struct Totals {
+pub struct Totals {
     /// Those that told files.
-    pub(crate) messages: u64,
+    pub messages: u64,
     /// The files that these listed.
-    pub(crate) files: u64,
+    pub files: u64,
     /// Those that told no files, and no error.
-    pub(crate) others: u64,
+    pub others: u64,
     /// Those that told an error of the server.
-    pub(crate) errors: u64,
+    pub errors: u64,
     /// Those that could not be taken, and files that could not be read.
-    pub(crate) refused: u64,
+    pub refused: u64,
 }
 
 /// Hands the messages of the files of these names to the taker, up to the first that cannot be
 /// taken. That has a line on `errors`, and each error of the server has one. `input` is read for the
 /// name `-`, and where there is no name.
-pub(crate) fn take_inputs<F: Files, R: Read, T: Taker, E: Write>(
+pub fn take_inputs<F: Files, R: Read, T: Taker, E: Write>(
     alloc: Global,
     files: &F,
     names: &[&str],

@@ -9,22 +9,22 @@ use std::time::Duration;
 use std::{fs, io, thread};
 
 /// With what each file of SQLite begins.
-pub(crate) const MAGIC: &[u8] = b"SQLite format 3\0";
+pub const MAGIC: &[u8] = b"SQLite format 3\0";
 
 /// How often an index is tried that another program writes.
-pub(crate) const TRIES: u32 = 100;
+pub const TRIES: u32 = 100;
 
 /// How many milliseconds are waited between two tries.
 const PAUSE: u64 = 50;
 
 /// Waits until the next try.
-pub(crate) fn wait(rt: &HostRuntime) {
+pub fn wait(rt: &HostRuntime) {
     thread::sleep(rt, Duration::from_millis(PAUSE));
 }
 
 /// Opens the index at this path to write it, and makes the file where there is none. While another
 /// program has it open, it tries again for some seconds.
-pub(crate) fn open_index(
+pub fn open_index(
     rt: &HostRuntime,
     path: &str,
 ) -> Result<Connection<FileStore<File>>, IndexError> {
@@ -49,7 +49,7 @@ fn why_not(rt: &HostRuntime, path: &str, error: Error) -> IndexError {
 
 /// Fails where it is seen at once that no index at this path can be written. A file that is not there
 /// can be made.
-pub(crate) fn check_path(rt: &HostRuntime, path: &str) -> Result<(), IndexError> {
+pub fn check_path(rt: &HostRuntime, path: &str) -> Result<(), IndexError> {
     match fs::metadata(rt, path) {
         Ok(found) => check_file(rt, path, &found),
         Err(fault) if fault.kind() == ErrorKind::NotFound => check_folder(rt, path),

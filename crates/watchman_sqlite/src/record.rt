@@ -8,14 +8,14 @@ use watchman_types::file_type::FileType;
 
 /// What the index has of a file.
 #[derive(Debug, Drop)]
-pub(crate) struct Record {
-    pub(crate) name: ByteString,
-    pub(crate) row: Row,
+pub struct Record {
+    pub name: ByteString,
+    pub row: Row,
 }
 
 impl Record {
     /// The record of a row with the columns that the questions ask for.
-    pub(crate) fn read(row: &DatabaseRow) -> Result<Record, IndexError> {
+    pub fn read(row: &DatabaseRow) -> Result<Record, IndexError> {
         let name: Vec<u8> = row.get(0)?;
         let letter: Option<String> = row.get(4)?;
         let state = FileState {
@@ -50,7 +50,7 @@ fn type_of(letter: String) -> Result<FileType, IndexError> {
 }
 
 /// What takes records, one after the other.
-pub(crate) trait Visitor {
+pub trait Visitor {
     /// Takes the next record.
     fn visit(&mut self, record: Record) -> Result<(), IndexError>;
 }

@@ -12,7 +12,7 @@ use watchman_index::changes::Changes;
 /// Adds messages to the index at a path, which is opened for the first of them that are at hand, and
 /// closed before the next is waited for: an open index is locked.
 #[derive(Drop)]
-pub(crate) struct Reopening<'r> {
+pub struct Reopening<'r> {
     rt: &'r HostRuntime,
     path: &'r str,
     conditions: Conditions,
@@ -22,7 +22,7 @@ pub(crate) struct Reopening<'r> {
 impl<'r> Reopening<'r> {
     /// The index is not open yet. A message that says that there are no files is taken where
     /// `may_be_empty`.
-    pub(crate) fn new(rt: &'r HostRuntime, path: &'r str, may_be_empty: bool) -> Self {
+    pub fn new(rt: &'r HostRuntime, path: &'r str, may_be_empty: bool) -> Self {
         Reopening {
             rt,
             path,
@@ -50,7 +50,7 @@ impl<'r> Reopening<'r> {
     }
 
     /// Closes the index, if it is open.
-    pub(crate) fn close(&mut self) -> Result<(), IndexError> {
+    pub fn close(&mut self) -> Result<(), IndexError> {
         if let Some(conn) = self.conn.take() {
             conn.close()?;
         }

@@ -21,7 +21,7 @@ const SEED: u64 = 1;
 
 /// Opens a copy of the index as it is now. While the log is begun anew so often that no copy is
 /// whole, it tries again for some seconds.
-pub(crate) fn open_snapshot(
+pub fn open_snapshot(
     rt: &HostRuntime,
     path: &str,
 ) -> Result<Connection<FileStore<Memory>>, IndexError> {

@@ -8,7 +8,7 @@ use std::alloc::{AllocError, Global};
 
 /// A field of a file that an index keeps.
 #[derive(Debug, Clone, Copy, PartialEq, Eq)]
-pub(crate) enum Field {
+pub enum Field {
     /// The path, from the root or the relative root on.
     Name,
     /// Whether the file exists.
@@ -24,7 +24,7 @@ pub(crate) enum Field {
 }
 
 /// All fields that an index keeps.
-pub(crate) const FIELDS: [Field; 6] = [
+pub const FIELDS: [Field; 6] = [
     Field::Name,
     Field::Exists,
     Field::Size,
@@ -35,7 +35,7 @@ pub(crate) const FIELDS: [Field; 6] = [
 
 impl Field {
     /// Watchman's word for it.
-    pub(crate) fn word(self) -> &'static str {
+    pub fn word(self) -> &'static str {
         match self {
             Field::Name => "name",
             Field::Exists => "exists",
@@ -47,32 +47,32 @@ impl Field {
     }
 
     /// The field of this word. `None` for one that an index does not keep.
-    pub(crate) fn from_word(word: &str) -> Option<Field> {
+    pub fn from_word(word: &str) -> Option<Field> {
         FIELDS.iter().copied().find(|field| field.word() == word)
     }
 
     /// Whether each request asks for it, since without it a row says nothing.
-    pub(crate) fn is_needed(self) -> bool {
+    pub fn is_needed(self) -> bool {
         matches!(self, Field::Name | Field::Exists)
     }
 }
 
 /// What an index is of.
 #[derive(Debug, Drop)]
-pub(crate) struct Subject {
+pub struct Subject {
     /// The root that the server watches.
-    pub(crate) root: ByteString,
+    pub root: ByteString,
     /// The folder below the root that names are relative to, if it is not the root itself.
-    pub(crate) relative_root: Option<ByteString>,
+    pub relative_root: Option<ByteString>,
     /// Which files are asked for, as a JSON text in one line. All, without it.
-    pub(crate) expression: Option<String>,
+    pub expression: Option<String>,
     /// The fields that are asked for, `name` and `exists` among them.
-    pub(crate) fields: Vec<Field>,
+    pub fields: Vec<Field>,
 }
 
 /// The table of what an index is of. It has one row where the index was made by `init`, and else
 /// none. The words of the fields are parted by commas.
-pub(crate) const CREATE_SUBJECT: &str = "CREATE TABLE subject (id INTEGER PRIMARY KEY,
+pub const CREATE_SUBJECT: &str = "CREATE TABLE subject (id INTEGER PRIMARY KEY,
 root BLOB NOT NULL, relative_root BLOB, expression TEXT, fields TEXT NOT NULL)";
 
 /// Keeps what an index is of.
@@ -80,7 +80,7 @@ const KEEP: &str = "INSERT INTO subject (id, root, relative_root, expression, fi
 VALUES (1, ?1, ?2, ?3, ?4)";
 
 /// What an index is of. `None` for one that was not made by `init`.
-pub(crate) fn read_subject<S: Alter>(
+pub fn read_subject<S: Alter>(
     alloc: Global,
     conn: &mut Connection<S>,
 ) -> Result<Option<Subject>, IndexError> {
@@ -102,7 +102,7 @@ pub(crate) fn read_subject<S: Alter>(
 }
 
 /// Keeps what an index is of. It has to be one of which nothing is kept yet.
-pub(crate) fn write_subject<S: Alter>(
+pub fn write_subject<S: Alter>(
     alloc: Global,
     transaction: &mut Transaction<'_, S>,
     subject: &Subject,

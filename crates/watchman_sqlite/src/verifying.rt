@@ -17,7 +17,7 @@ use watchman_index::index::Index;
 
 /// Folds messages in memory.
 #[derive(Drop)]
-pub(crate) struct Folder {
+pub struct Folder {
     conditions: Conditions,
     subject: Option<Subject>,
     messages: u64,
@@ -26,7 +26,7 @@ pub(crate) struct Folder {
 
 impl Folder {
     /// No message was taken. An index of this connection's subject takes those that this takes.
-    pub(crate) fn new<S: Alter>(
+    pub fn new<S: Alter>(
         alloc: Global,
         conn: &mut Connection<S>,
     ) -> Result<Self, IndexError> {
@@ -210,7 +210,7 @@ fn differs<W: Write>(
 
 /// Compares the index with the messages that were folded, prints each difference and how many there
 /// are, and tells whether there is none.
-pub(crate) fn print_differences<S: Alter, W: Write>(
+pub fn print_differences<S: Alter, W: Write>(
     alloc: Global,
     conn: &mut Connection<S>,
     folded: Folder,

@@ -1,0 +1,29 @@
+-- The parts up to here are put.
+use Rattle.std.proofs.Common.{◌*◌, ◌+◌}
+use Rattle.bser_format.specs.Tree.{entries}
+use Rattle.bser_format.specs.Tree as trees
+use Rattle.bser_document.specs.Sorted.{Lists}
+use Rattle.bser_document.specs.Walks.{HoldsItems}
+use Rattle.bser_json.proofs.Saying.{SayingItems, SayingEntries}
+use Rattle.bser_json.proofs.writing.+put.Given as goal
+
+abbrev pub decreases-put_item : goal.decreases-put_item
+decreases-put_item g l = l.room * 4 + 1
+
+abbrev pub decreases-put_container : goal.decreases-put_container
+decreases-put_container g l = l.room * 4
+
+abbrev pub decreases-put_items : goal.decreases-put_items
+decreases-put_items g l = l.room * 4 + 2
+
+abbrev pub decreases-put_entries : goal.decreases-put_entries
+decreases-put_entries g l = l.room * 4 + 3
+
+abbrev pub decreases-put_sorted : goal.decreases-put_sorted
+decreases-put_sorted g l = l.room * 4 + 2
+
+abbrev pub invariant-put_items-loop-item : goal.invariant-put_items-loop-item
+invariant-put_items-loop-item g l = (us : trees.Items) → HoldsItems l.fn.items us → SayingItems g.W.Write.contents us l.item-iterator l.fn.out l.out
+
+abbrev pub invariant-put_sorted-loop-key : goal.invariant-put_sorted-loop-key
+invariant-put_sorted-loop-key g l = (es : trees.Entries) → Lists (entries es) l.sorted.entries → SayingEntries g.W.Write.contents es l.key-iterator l.fn.out l.out

@@ -1,0 +1,247 @@
+//! A value as JSON.
+ghost use Rattle.std.specs.Prelude.{◌≡◌, ℕ, List, codes, IfOk, OnOk};
+ghost use Rattle.std.specs.Float.{float_is_finite};
+ghost use Rattle.bser_format.specs.Tree.{Tree, integer, array, object, entries, entries_of};
+ghost use Rattle.bser_format.specs.Tree as trees;
+ghost use Rattle.bser_document.specs.Holds.{HoldsItem};
+ghost use Rattle.bser_document.specs.Pairs.{HoldsEntries};
+ghost use Rattle.bser_document.specs.Put.{IsPlain};
+ghost use Rattle.bser_document.specs.Sorted.{Lists};
+ghost use Rattle.bser_document.specs.Walks.{HoldsItems};
+ghost use Rattle.bser_format.specs.Normal.{last_entries};
+ghost use Rattle.bser_json.specs.Said.{
+  PutsSaid,
+  Says,
+  SaysBytes,
+  SaysKey,
+  SaysMarked,
+  SaysNumber,
+  SaysReal,
+  WritesText,
+};
+
+use crate::printing::{Layout, Printing};
+use bser_deserializer::deserializer::MOST_LEVELS;
+use bser_document::entries::Entries;
+use bser_document::item::{Item, ItemKind};
+use bser_document::items::Items;
+use bser_format::real::float_of;
+use bser_views::trouble::Trouble;
+use json::Token;
+use std::alloc::Global;
+use std::collections::BTreeMap;
+use std::io::Write;
+
+/// How many containers a value may be inside of. A message that is read nests no deeper: a level is
+/// one container, and two where it is a template and one of its rows.
+const MOST_AROUND: usize = 2 * MOST_LEVELS;
+
+/// Writes the value as a JSON text, as `{}` prints it, in this layout, and gives the writer back. An
+/// object has each key once, in rising order, with its last value; a template is an array of objects,
+/// and a skipped field null. A byte string in UTF-8 is a string. What JSON cannot say has a form of its
+/// own: bytes that are no UTF-8 are `{"$bytes":"61ff"}`, an infinity and a NaN are
+/// `{"$real":"7ff8000000000000"}` by their bits, and a key that begins with `$` gets one `$` more.
+///
+/// The text is written as it is made, that of a long string too. The errors are that there is no
+/// memory, and those of the writer, which then has taken some of the text.
+pub fn write_json<W: Write + Drop>(
+    alloc: Global,
+    item: Item<'_>,
+    layout: Layout,
+    out: W,
+) -> Result<W, Trouble>
+    ensures { (u : Tree) → HoldsItem item.entry u
+        → IfOk result (λ new. WritesText layout u (W.contents out) (W.contents new)) }
+{
+    let mut printing = Printing::new(alloc, layout, out)?;
+    put_item(alloc, item, MOST_AROUND, &mut printing)?;
+    printing.finish()
+}
+
+/// Puts an item that is inside of fewer containers than `MOST_AROUND`, by `room`.
+#[cycle(put)]
+fn put_item<W: Write>(
+    alloc: Global,
+    item: Item<'_>,
+    room: usize,
+    out: &mut Printing<W>,
+) -> Result<(), Trouble>
+    ensures { (u : Tree) → HoldsItem item.entry u
+        → OnOk result (PutsSaid W.contents (Says u) out.old out.new) }
+{
+    match item.kind() {
+        ItemKind::Array | ItemKind::Object => put_container(alloc, item, room, out),
+        _ => put_scalar(alloc, item, out),
+    }
+}
+
+/// Puts an array or an object.
+#[cycle(put)]
+fn put_container<W: Write>(
+    alloc: Global,
+    item: Item<'_>,
+    room: usize,
+    out: &mut Printing<W>,
+) -> Result<(), Trouble>
+    ensures { (u : Tree) → HoldsItem item.entry u
+        → OnOk result (PutsSaid W.contents (Says u) out.old out.new) }
+{
+    if room == 0 {
+        return Err(Trouble::Memory);
+    }
+    if let Some(items) = item.items() {
+        return put_items(alloc, items, room - 1, out);
+    }
+    match item.entries() {
+        Some(entries) => put_entries(alloc, entries, room - 1, out),
+        None => Err(Trouble::Memory),
+    }
+}
+
+/// Puts an array of these items.
+#[cycle(put)]
+fn put_items<W: Write>(
+    alloc: Global,
+    items: Items<'_>,
+    room: usize,
+    out: &mut Printing<W>,
+) -> Result<(), Trouble>
+    ensures { (us : trees.Items) → HoldsItems items.entry us
+        → OnOk result (PutsSaid W.contents (Says (array us)) out.old out.new) }
+{
+    out.token(Token::BeginArray)?;
+    for item in items {
+        put_item(alloc, item, room, out)?;
+    }
+    out.token(Token::EndArray)
+}
+
+/// Puts an object of these entries, in order.
+#[cycle(put)]
+fn put_entries<W: Write>(
+    alloc: Global,
+    entries: Entries<'_>,
+    room: usize,
+    out: &mut Printing<W>,
+) -> Result<(), Trouble>
+    ensures { (m : List (List ℕ × Tree)) → HoldsEntries entries.entry m
+        → OnOk result (PutsSaid W.contents (Says (object (entries_of (last_entries m)))) out.old out.new) }
+{
+    let sorted = entries.sorted(alloc)?;
+    put_sorted(alloc, &sorted, room, out)
+}
+
+/// Puts an object of these entries.
+#[cycle(put)]
+fn put_sorted<W: Write>(
+    alloc: Global,
+    sorted: &BTreeMap<&str, Item<'_>>,
+    room: usize,
+    out: &mut Printing<W>,
+) -> Result<(), Trouble>
+    ensures { (es : trees.Entries) → Lists (entries es) sorted.now.entries
+        → OnOk result (PutsSaid W.contents (Says (object es)) out.old out.new) }
+{
+    out.token(Token::BeginObject)?;
+    for (key, item) in sorted {
+        put_key(alloc, *key, out)?;
+        put_item(alloc, *item, room, out)?;
+    }
+    out.token(Token::EndObject)
+}
+
+/// Puts a key, and before one that begins with a dollar sign one more.
+fn put_key<W: Write>(alloc: Global, key: &str, out: &mut Printing<W>) -> Result<(), Trouble>
+    ensures { OnOk result (PutsSaid W.contents (SaysKey key.now) out.old out.new) }
+{
+    match key.as_bytes().first().copied() {
+        Some(b'$') => {
+            let marked = format!(in alloc; "${key}")?;
+            out.token(Token::Key(marked.as_str()))
+        }
+        _ => out.token(Token::Key(key)),
+    }
+}
+
+/// Puts a value that is no container.
+fn put_scalar<W: Write>(alloc: Global, item: Item<'_>, out: &mut Printing<W>) -> Result<(), Trouble>
+    ensures { (u : Tree) → HoldsItem item.entry u → IsPlain u
+        → OnOk result (PutsSaid W.contents (Says u) out.old out.new) }
+{
+    if let Some(truth) = item.as_bool() {
+        return out.token(Token::Bool(truth));
+    }
+    if let Some(number) = item.as_i64() {
+        return put_integer(number, out);
+    }
+    if let Some(bits) = item.as_real_bits() {
+        return put_real(alloc, bits, out);
+    }
+    if let Some(text) = item.as_str() {
+        return out.string(alloc, text);
+    }
+    match item.as_bytes() {
+        Some(bytes) => put_bytes(alloc, bytes, out),
+        None => out.token(Token::Null),
+    }
+}
+
+/// Puts an integer.
+fn put_integer<W: Write>(number: i64, out: &mut Printing<W>) -> Result<(), Trouble>
+    ensures { OnOk result (PutsSaid W.contents (Says (integer number)) out.old out.new) }
+{
+    let mut buffer = itoa::Buffer::new();
+    out.token(Token::Number(buffer.format(number)))
+}
+
+/// Puts a byte string.
+fn put_bytes<W: Write>(alloc: Global, bytes: &[u8], out: &mut Printing<W>) -> Result<(), Trouble>
+    ensures { OnOk result (PutsSaid W.contents (SaysBytes bytes.now) out.old out.new) }
+{
+    match std::str::from_utf8(bytes) {
+        Ok(text) => out.string(alloc, text),
+        Err(_) => put_marked(alloc, "$bytes", bytes, out),
+    }
+}
+
+/// Puts a real with these bits.
+fn put_real<W: Write>(alloc: Global, bits: u64, out: &mut Printing<W>) -> Result<(), Trouble>
+    ensures { OnOk result (PutsSaid W.contents (SaysReal bits) out.old out.new) }
+{
+    match float_of(bits) {
+        Some(number) => put_float(alloc, bits, number, out),
+        None => put_marked(alloc, "$real", &bits.to_be_bytes(), out),
+    }
+}
+
+/// Puts a number with these bits.
+fn put_float<W: Write>(
+    alloc: Global,
+    bits: u64,
+    number: f64,
+    out: &mut Printing<W>,
+) -> Result<(), Trouble>
+    ensures { OnOk result (PutsSaid W.contents (SaysNumber bits number (float_is_finite number))
+        out.old out.new) }
+{
+    if number.is_finite() {
+        let mut buffer = ryu::Buffer::new();
+        return out.token(Token::Number(buffer.format_finite(number)));
+    }
+    put_marked(alloc, "$real", &bits.to_be_bytes(), out)
+}
+
+/// Puts an object of this key and the bytes in hexadecimal.
+fn put_marked<W: Write>(
+    alloc: Global,
+    key: &str,
+    bytes: &[u8],
+    out: &mut Printing<W>,
+) -> Result<(), Trouble>
+    ensures { OnOk result (PutsSaid W.contents (SaysMarked key.now bytes.now) out.old out.new) }
+{
+    out.token(Token::BeginObject)?;
+    out.token(Token::Key(key))?;
+    out.hexadecimal(alloc, bytes)?;
+    out.token(Token::EndObject)
+}
