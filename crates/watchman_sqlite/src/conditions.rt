@@ -14,7 +14,8 @@ use watchman_index::row::FileState;
 pub(crate) struct Conditions {
     /// Whether one that says that there are no files is taken.
     pub(crate) may_be_empty: bool,
-    /// Whether the input told of the subscription before, so that nothing is missing between.
+    /// Whether it follows another message of the subscription, so that nothing is missing between.
+    /// The server's own client may lose the first one behind the answer to `subscribe`.
     pub(crate) follows: bool,
 }
 

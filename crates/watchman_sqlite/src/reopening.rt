@@ -73,9 +73,8 @@ impl Taker for Reopening<'_> {
     }
 
     fn take_subscribed(&mut self, clock: ByteString) -> Result<(), IndexError> {
-        self.take_clock(clock)?;
-        self.conditions.follows = true;
-        Ok(())
+        self.conditions.follows = false;
+        self.take_clock(clock)
     }
 
     fn take_clock(&mut self, clock: ByteString) -> Result<(), IndexError> {

@@ -63,7 +63,7 @@ impl Taker for Folder {
     }
 
     fn take_subscribed(&mut self, clock: ByteString) -> Result<(), IndexError> {
-        self.conditions.follows = true;
+        self.conditions.follows = false;
         self.take_clock(clock)
     }
 
