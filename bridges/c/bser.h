@@ -37,7 +37,7 @@ typedef struct {
 enum bser_code {
     BSER_OK = 0,
     BSER_NOT_WHOLE = 1,     /* bser_message_length: more bytes are needed to tell */
-    BSER_TOO_SMALL = 2,     /* length tells how many bytes or words are wanted: more than there is room for */
+    BSER_TOO_SMALL = 2,     /* length tells how many bytes or words are wanted: with that room this does not come again */
     BSER_NO_MEMORY = 3,     /* an allocation failed */
     BSER_TAPE_INVALID = 4,  /* bser_of_tape: place tells at which word */
     BSER_CONTRADICTION = 5, /* the library contradicts itself: a bug */

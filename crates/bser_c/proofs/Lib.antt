@@ -1,2 +1,4 @@
+pub mod Counts
+pub mod Exports
 pub mod Tapes
 pub mod Samples

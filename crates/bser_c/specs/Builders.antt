@@ -1,5 +1,5 @@
 -- What the builders of this crate take.
-use Rattle.std.specs.Prelude.{◌≡◌, ◌≤◌, ℕ, List, ◌++◌, length, take}
+use Rattle.std.specs.Prelude.{◌≡◌, ◌≤◌, ◌+◌, ◌-◌, ◌^◌, min, ℕ, List, ◌++◌, length, take}
 use Rattle.bser_events.specs.Events.{Event}
 use Rattle.bser_c.specs.Tape.{AreWordsOf}
 use Rattle.bser_c.specs.declared.writing.Tape.{Tape}
@@ -19,6 +19,7 @@ pub record Grew (old : Tape) (e : Event) (new : Tape) : Type 0 where
   pub longer : old.len ≤ new.len
   pub added : List ℕ
   pub are : AreWordsOf old.input.now e added
+  pub counted : new.len ≡ min (old.len + length added) (2 ^ 64 - 1)
   pub grew : new.len ≤ length new.words.now → words_in new ≡ words_in old ++ added
 
 -- ---- a tape that is compared

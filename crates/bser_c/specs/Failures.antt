@@ -2,6 +2,7 @@
 use Rattle.std.specs.Prelude.{◌≡◌, ◌≤◌, ℕ, List, length, Some}
 use Rattle.bser_format.specs.declared.errors.Error.{Error}
 use Rattle.bser_format.specs.ReadsAny.{reads_ignored}
+use Rattle.bser_format.specs.Tree.{Tree}
 use Rattle.bser_deserializer.specs.Askings.{asking_ignored}
 use Rattle.bser_deserializer.specs.Reading.{owned}
 use Rattle.bser_messages.specs.Descriptions.{cause_of, place_of}
@@ -30,10 +31,10 @@ Tells (Refused d) code byte place = AreOf (cause_of d) code byte × (place ≡ p
 Tells (Failed e) code byte place = AreOf e code byte × (place ≡ 0)
 Tells (TooLong size) code byte place = code ≡ 2
 
--- the message was refused at this place, or it was read, and its value was not written
-pub record TellsWhyUnwritten (bytes : List ℕ) (room code byte place : ℕ) : Type 0 where
+-- the message was refused at this place, or it was read, and no message can be made of its value
+pub record TellsWhyUnwritten (form : Tree → Tree) (bytes : List ℕ) (room code byte place : ℕ) : Type 0 where
   pub reason : Unwritten
-  pub refused : RefusesSliceRewriting bytes reason
+  pub refused : RefusesSliceRewriting form bytes reason
   pub are : Tells reason code byte place
   pub within : LiesInSlice (length bytes) room reason
 

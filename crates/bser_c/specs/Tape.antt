@@ -83,3 +83,11 @@ pub record BeginsWithTape (levels : ℕ) (bytes : List ℕ) (capabilities size :
   pub front : bytes ≡ text ++ rest
   pub size_is : length text ≡ size
   pub has : HasTape levels bytes capabilities text words
+
+-- the bytes begin with a message whose tape has so many words
+pub record HasTapeOf (levels : ℕ) (bytes : List ℕ) (len : ℕ) : Type 0 where
+  pub capabilities : ℕ
+  pub size : ℕ
+  pub words : List ℕ
+  pub tape : BeginsWithTape levels bytes capabilities size words
+  pub len_is : length words ≡ len

@@ -20,10 +20,10 @@ ghost use Rattle.bser_format.specs.Compact.{fold_templates};
 ghost use Rattle.bser_format.specs.Named.{head, refuses, eof};
 ghost use Rattle.bser_messages.specs.Lengths.{HasLength, IsLengthOfEach};
 ghost use Rattle.bser_canonical.specs.Canon.{canonical};
-ghost use Rattle.bser_canonical.specs.Slices.{RewroteSlice};
+ghost use Rattle.bser_canonical.specs.Slices.{RewritesToSize, RewroteSlice};
 ghost use Rattle.bser_canonical.specs.declared.slice.Unwritten.TheVariants.{TooLong};
 ghost use Rattle.bser_c.specs.Codes.{TellsWhy};
-ghost use Rattle.bser_c.specs.Tape.{BeginsWithTape, HasTape};
+ghost use Rattle.bser_c.specs.Tape.{BeginsWithTape, HasTape, HasTapeOf};
 ghost use Rattle.bser_c.specs.declared.codes.TheConstants.{DONE, TOO_SMALL};
 ghost use Rattle.bser_c.specs.Failures.{IsRefused, Tells, TellsWhyNoLength, TellsWhyUnwritten};
 
@@ -81,7 +81,8 @@ fn place_of_error(alloc: Global, bytes: &[u8]) -> usize
 /// Writes the tape of the message at the start of `bytes` to the front of `words`. The outcome has
 /// the message's capabilities, how many bytes it has, and how many words its tape has.
 ///
-/// Where these have no room the code is that of it, and nothing is said of what `words` holds.
+/// Where these have no room the code is that of it, the length is that of the tape, and nothing is
+/// said of what `words` holds.
 #[unsafe(no_mangle)]
 pub extern "C" fn bser_tape(alloc: Global, bytes: &[u8], words: &mut [u64]) -> BserOutcome
     ensures done { result.code ≡ DONE → BeginsWithTape 128 bytes.now result.detail result.place
@@ -89,6 +90,7 @@ pub extern "C" fn bser_tape(alloc: Global, bytes: &[u8], words: &mut [u64]) -> B
     ensures failed { result.code ≢ DONE → result.code ≢ TOO_SMALL
         → TellsWhy bytes.now result.code result.detail result.place }
     ensures more { result.code ≡ TOO_SMALL → length words.old < result.length }
+    ensures wanted { result.code ≡ TOO_SMALL → HasTapeOf 128 bytes.now result.length }
 {
     let room = words.len();
     match tape_of(alloc, bytes, words) {
@@ -131,12 +133,15 @@ pub extern "C" fn bser_of_tape(
 /// Writes the canonical message of the value of the message at the start of `bytes` to the front of
 /// `out`. Memory is linear in the length of the message, and at most `out` more.
 #[unsafe(no_mangle)]
+#[tactic(auto, using(crate::proofs::Exports::rewrote_size, crate::proofs::Exports::wanted_size))]
 pub extern "C" fn bser_canonical(alloc: Global, bytes: &[u8], out: &mut [u8]) -> BserOutcome
     ensures done { result.code ≡ DONE
         → RewroteSlice canonical bytes.now (take result.length out.new) }
     ensures failed { result.code ≢ DONE → result.code ≢ TOO_SMALL
-        → TellsWhyUnwritten bytes.now (length out.old) result.code result.detail result.place }
+        → TellsWhyUnwritten canonical bytes.now (length out.old)
+        result.code result.detail result.place }
     ensures more { result.code ≡ TOO_SMALL → length out.old < result.length }
+    ensures wanted { result.code ≡ TOO_SMALL → RewritesToSize canonical bytes.now result.length }
 {
     match canonical_of(alloc, bytes, out.len()) {
         Ok(message) => handed_out(&message, out),
@@ -148,12 +153,16 @@ pub extern "C" fn bser_canonical(alloc: Global, bytes: &[u8], out: &mut [u8]) ->
 /// take more than 128 bytes of memory for each byte of the message, and more than 512,000, the code is
 /// that of no memory.
 #[unsafe(no_mangle)]
+#[tactic(auto, using(crate::proofs::Exports::rewrote_size, crate::proofs::Exports::wanted_size))]
 pub extern "C" fn bser_compact(alloc: Global, bytes: &[u8], out: &mut [u8]) -> BserOutcome
     ensures done { result.code ≡ DONE
         → RewroteSlice fold_templates bytes.now (take result.length out.new) }
     ensures failed { result.code ≢ DONE → result.code ≢ TOO_SMALL
-        → TellsWhyUnwritten bytes.now (length out.old) result.code result.detail result.place }
+        → TellsWhyUnwritten fold_templates bytes.now (length out.old)
+        result.code result.detail result.place }
     ensures more { result.code ≡ TOO_SMALL → length out.old < result.length }
+    ensures wanted { result.code ≡ TOO_SMALL
+        → RewritesToSize fold_templates bytes.now result.length }
 {
     match compact_of(alloc, bytes, out.len()) {
         Ok(message) => handed_out(&message, out),

@@ -81,6 +81,7 @@ pub fn handed_out(bytes: &[u8], out: &mut [u8]) -> BserOutcome
     ensures fits { result.code ≡ DONE → result.length ≤ length out.new }
     ensures small { result.code ≢ DONE → result.code ≡ TOO_SMALL }
     ensures more { result.code ≡ TOO_SMALL → length out.old < result.length }
+    ensures wanted { result.code ≡ TOO_SMALL → result.length ≡ length bytes.now }
 {
     if bytes.len() > out.len() {
         return too_small(bytes.len());

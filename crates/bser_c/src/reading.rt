@@ -3,7 +3,7 @@ ghost use Rattle.std.specs.Prelude.{◌≤◌, true, length, take, IfOk, IfErr};
 ghost use Rattle.bser_deserializer.specs.declared.deserializer.TheConstants.{LEVELS};
 ghost use Rattle.bser_messages.specs.Limited.{usual_limits};
 ghost use Rattle.bser_messages.specs.Told.{IsReasonWithin, SliceUntold};
-ghost use Rattle.bser_c.specs.Tape.{BeginsWithTape};
+ghost use Rattle.bser_c.specs.Tape.{BeginsWithTape, HasTapeOf};
 
 use crate::writing::Tape;
 use bser_messages::limits::Limits;
@@ -30,6 +30,7 @@ pub struct Taped {
 pub fn tape_of(alloc: Global, bytes: &[u8], words: &mut [u64]) -> Result<Taped, Untold>
     ensures found { IfOk result (λ t. t.len ≤ length words.new
         → BeginsWithTape LEVELS bytes.now t.capabilities t.size (take t.len words.new)) }
+    ensures wanted { IfOk result (λ t. HasTapeOf LEVELS bytes.now t.len) }
     ensures failed { IfErr result (λ e. SliceUntold usual_limits true bytes.now e.reason) }
     ensures place { IfErr result (λ e. IsReasonWithin (length bytes.now) e.reason) }
 {

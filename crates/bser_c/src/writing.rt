@@ -1,5 +1,5 @@
 //! A tape, as a message is told.
-ghost use Rattle.std.specs.Prelude.{◌≡◌, ◌≤◌, ◌+◌, true, false, [], ◌∷◌, ◌++◌, length, IfSome};
+ghost use Rattle.std.specs.Prelude.{◌≡◌, ◌≤◌, ◌+◌, ◌-◌, ◌^◌, min, true, false, [], ◌∷◌, ◌++◌, length, IfSome};
 ghost use Rattle.bser_events.specs.Told.{told};
 ghost use Rattle.bser_c.specs.Builders.{Grew, words_in};
 ghost use Rattle.bser_c.specs.Tape.{IsSecond, StandsAt};
@@ -37,6 +37,7 @@ impl<'i, 't> Tape<'i, 't> {
         ensures input { self.new.input ≡ self.old.input }
         ensures room { length self.new.words.now ≡ length self.old.words.now }
         ensures longer { self.old.len ≤ self.new.len }
+        ensures counted { self.new.len ≡ min (self.old.len + 2) (2 ^ 64 - 1) }
         ensures grew { self.new.len ≤ length self.new.words.now
             → words_in self.new ≡ words_in self.old ++ first ∷ second ∷ [] }
     {

@@ -1,9 +1,21 @@
 -- A message in a slice that was read, as the tree of its value, and its message in memory.
-use Rattle.std.proofs.Common.{◌≡◌, ◌<◌, ◌^◌, ℕ, List, length}
-use Rattle.bser_format.specs.Content.{Content}
-use Rattle.bser_format.specs.Tree.{Tree}
+use Rattle.std.proofs.Common.{◌≡◌, ◌<◌, ◌≤◌, ◌^◌, ℕ, ℤ, pos, List, length, Ok, inl, inr, refl, sym, ap, subst, ◌∙◌, arith}
+use Rattle.std.proofs.lemmas.Option.{same_Some}
+use Rattle.bser_format.specs.Content.{Content, value}
+use Rattle.bser_format.specs.Expand.{expand}
+use Rattle.bser_format.specs.Tree.{Tree, null}
 use Rattle.bser_format.specs.ReadsAny.{reads_value}
-use Rattle.bser_format.specs.Canonical.{canonical_body, canonical_message}
+use Rattle.bser_format.specs.Canonical.{canonical_body, canonical_message, least_count, least_integer, least_size}
+use Rattle.bser_format.specs.Grammar.{IntSize, int8, int16, int32, int64, int_bytes}
+use Rattle.bser_format.specs.declared.errors.Error.{Error}
+use Rattle.bser_format.specs.declared.errors.Error.TheVariants.{OutOfMemory, Io}
+use Rattle.bser_format.proofs.Canon.{length-int_bytes}
+use Rattle.bser_format.proofs.GrammarLaws.{one_message}
+use Rattle.bser_format.proofs.Lengths.{length-message}
+use Rattle.bser_source.specs.Device.{counts_to}
+use Rattle.bser_ser.specs.Message.{IsUnmeasured, Missed}
+use Rattle.bser_ser.specs.Sent.{IsExcuse}
+use Rattle.bser_ser.specs.Stopped.{Tells}
 use Rattle.bser_format.specs.Compact.{fold_templates}
 use Rattle.bser_messages.specs.Messages.{BeginsWith}
 use Rattle.bser_value.specs.ValueView.{tree_of, HoldsValue}
@@ -11,7 +23,9 @@ use Rattle.bser_value.specs.declared.value.Value.{Value}
 use Rattle.bser_document.specs.declared.document.Document.{Document}
 use Rattle.bser_document.specs.DocumentView.{HoldsDocument, value_of}
 use Rattle.bser_canonical.specs.Canon.{IsReadAs, canonical}
-use Rattle.bser_canonical.specs.Slices.{ReadsTree, RewroteSlice}
+use Rattle.bser_canonical.specs.Slices.{LiesInSlice, ReadsTree, RefusesSliceRewriting, RewritesToSize, RewroteSlice, in_memory}
+use Rattle.bser_canonical.specs.declared.slice.Unwritten.{Unwritten}
+use Rattle.bser_canonical.specs.declared.slice.Unwritten.TheVariants.{Failed}
 use Rattle.bser_canonical.proofs.Writing.{value_read, document_read}
 
 -- what was read as a value of a type was read as the tree of that value
@@ -32,9 +46,75 @@ rewrote_document d bytes message h written short = record { tree = value_of d; r
 pub rewrote_value : (v : Value) (bytes message : List ℕ) → BeginsWith 128 reads_value HoldsValue bytes v → message ≡ canonical_message (fold_templates (tree_of v)) → length (canonical_body (fold_templates (tree_of v))) < 2 ^ 63 → RewroteSlice fold_templates bytes message
 rewrote_value v bytes message h written short = record { tree = tree_of v; read = read_as_value v bytes h; written = written; short = short }
 
--- a tree was read
-pub was_document : (d : Document) (bytes : List ℕ) → BeginsWith 128 reads_value HoldsDocument bytes d → (t : Tree) × ReadsTree bytes t
-was_document d bytes h = (value_of d, read_document d bytes h)
+-- ---- what is too long
 
-pub was_value : (v : Value) (bytes : List ℕ) → BeginsWith 128 reads_value HoldsValue bytes v → (t : Tree) × ReadsTree bytes t
-was_value v bytes h = (tree_of v, read_as_value v bytes h)
+sized : (s : IntSize) (v : ℤ) → length (int_bytes s v) ≤ 9
+sized int8 v = omega (arith, length-int_bytes int8 v)
+sized int16 v = omega (arith, length-int_bytes int16 v)
+sized int32 v = omega (arith, length-int_bytes int32 v)
+sized int64 v = omega (arith, length-int_bytes int64 v)
+
+short_count : (n : ℕ) → length (least_count n) ≤ 9
+unfolding least_integer
+short_count n = sized (least_size (pos n)) (pos n)
+
+-- a count of bytes up to the greatest one is exact where the body is short
+pub counted : (t : Tree) (n : ℕ) → n ≡ counts_to 0 (length (canonical_message t)) → length (canonical_body t) < 2 ^ 63 → n ≡ length (canonical_message t)
+counted t n is short = omega (arith, is, short, length-message t, short_count (length (canonical_body t)))
+
+pub document_size : (d : Document) (bytes : List ℕ) (before n : ℕ) → BeginsWith 128 reads_value HoldsDocument bytes d → before ≡ 0 → n ≡ counts_to before (length (canonical_message (value_of d))) → length (canonical_body (value_of d)) < 2 ^ 63 → RewritesToSize canonical bytes n
+document_size d bytes before n h none is short = (value_of d, read_document d bytes h, counted (value_of d) n (is ∙ ap (λ k. counts_to k (length (canonical_message (value_of d)))) none) short)
+
+pub value_size : (v : Value) (bytes message : List ℕ) (n : ℕ) → BeginsWith 128 reads_value HoldsValue bytes v → message ≡ canonical_message (fold_templates (tree_of v)) → n ≡ length message → RewritesToSize fold_templates bytes n
+value_size v bytes message n h written is = (tree_of v, read_as_value v bytes h, is ∙ ap length written)
+
+-- a message that was measured fits as its measure does
+pub document_fits : (d : Document) (message : List ℕ) (n most : ℕ) → n ≡ counts_to 0 (length (canonical_message (value_of d))) → length (canonical_body (value_of d)) < 2 ^ 63 → message ≡ canonical_message (value_of d) → n ≤ most → length message ≤ most
+document_fits d message n most is short written fits = omega (arith, counted (value_of d) n is short, ap length written, fits)
+
+-- ---- what is not made
+
+-- an excuse is want of memory there
+excused : (e : Error) → IsExcuse e → in_memory e ≡ OutOfMemory
+excused OutOfMemory h = refl
+excused (Io e) h = refl
+excused _ h = absurd h
+
+unmeasured : (t : Tree) (e : Error) → IsUnmeasured (Ok t) e → IsUnmeasured (Ok t) (in_memory e)
+unmeasured t e (inl is) = inl (ap in_memory is)
+unmeasured t e (inr many) = inr (ap in_memory many.0, many.1)
+
+missed_there : {S : Type 0} (sink : Tells S) (t : Tree) (old new : S) (e : Error) → Missed sink (Ok t) old new e → IsUnmeasured (Ok t) (in_memory e)
+missed_there sink t old new e (inl m) = unmeasured t e m.0
+missed_there sink t old new e (inr broke) = inl (excused e broke.excuse)
+
+pub document_not_made : {S : Type 0} (sink : Tells S) (d : Document) (bytes : List ℕ) (old new : S) (e : Error) (u : Unwritten) → BeginsWith 128 reads_value HoldsDocument bytes d → Missed sink (Ok (value_of d)) old new e → u ≡ Failed (in_memory e) → RefusesSliceRewriting canonical bytes u
+document_not_made sink d bytes old new e u h m is = subst (RefusesSliceRewriting canonical bytes) (sym is) (value_of d, read_document d bytes h, missed_there sink (value_of d) old new e m)
+
+pub value_not_made : {S : Type 0} (sink : Tells S) (v : Value) (bytes : List ℕ) (old new : S) (e : Error) (u : Unwritten) → BeginsWith 128 reads_value HoldsValue bytes v → Missed sink (Ok (fold_templates (tree_of v))) old new e → u ≡ Failed (in_memory e) → RefusesSliceRewriting fold_templates bytes u
+value_not_made sink v bytes old new e u h m is = subst (RefusesSliceRewriting fold_templates bytes) (sym is) (tree_of v, read_as_value v bytes h, missed_there sink (fold_templates (tree_of v)) old new e m)
+
+-- a document is there, and no memory for its value
+pub unaffordable : (d : Document) (bytes : List ℕ) → BeginsWith 128 reads_value HoldsDocument bytes d → RefusesSliceRewriting fold_templates bytes (Failed OutOfMemory)
+unaffordable d bytes h = (value_of d, read_document d bytes h, inl refl)
+
+-- such an error has no place
+pub failed_lies : (len most : ℕ) (e : Error) (u : Unwritten) → u ≡ Failed e → LiesInSlice len most u
+failed_lies len most e u is = subst (LiesInSlice len most) (sym is) tt
+
+-- ---- what one turn more needs
+
+said : Content → Tree
+said (value t) = t
+said _ = null
+
+-- the message at the start of the bytes is the value of one tree, and so one size is wanted
+pub one_size : (form : Tree → Tree) (bytes : List ℕ) (m n : ℕ) → RewritesToSize form bytes m → RewritesToSize form bytes n → m ≡ n
+unfolding said
+one_size form bytes m n a b =
+    let x = a.1 in
+    let y = b.1 in
+    let same = one_message 128 x.message.capabilities y.message.capabilities x.text y.text x.rest y.rest x.message.tree y.message.tree x.message.message y.message.message (sym x.front ∙ y.front) in
+    let content : x.content ≡ y.content = same_Some x.content y.content (sym x.message.read ∙ ap (λ t. reads_value (expand t)) same.2 ∙ y.message.read) in
+    let tree : a.0 ≡ b.0 = ap said (sym x.held.same ∙ content ∙ y.held.same) in
+    a.2 ∙ ap (λ t. length (canonical_message (form t))) tree ∙ sym b.2

@@ -1,8 +1,9 @@
 //! A message in a slice, and its canonical or its compact message in a vector.
-ghost use Rattle.std.specs.Prelude.{IfOk, IfErr, length, ℕ};
+ghost use Rattle.std.specs.Prelude.{◌≡◌, ◌≤◌, IfOk, IfErr, length, ℕ};
 ghost use Rattle.bser_format.specs.Compact.{fold_templates};
 ghost use Rattle.bser_canonical.specs.Canon.{canonical};
-ghost use Rattle.bser_canonical.specs.Slices.{LiesInSlice, RewroteSlice, RefusesSliceRewriting};
+ghost use Rattle.bser_canonical.specs.Slices.{LiesInSlice, RewroteSlice, RefusesSliceRewriting, in_memory};
+ghost use Rattle.bser_canonical.specs.declared.slice.Unwritten.TheVariants.{Failed};
 
 use crate::footprint::is_affordable;
 use bser_document::document::Document;
@@ -20,11 +21,12 @@ use std::alloc::Global;
 pub enum Unwritten {
     /// It cannot be read.
     Refused(Description),
-    /// Its value cannot be written.
+    /// Its value has no message: the body would be longer than `i64::MAX` bytes
+    /// (`Complaint::CountTooGreat`); or memory ran out (`Error::OutOfMemory`).
     Failed(Error),
     /// The new message has more bytes than there is room for.
     TooLong {
-        /// How many bytes it has.
+        /// How many bytes it has, and so how many are wanted.
         size: usize,
     },
 }
@@ -34,10 +36,11 @@ pub enum Unwritten {
 ///
 /// It is measured first, and made only where it has at most `most` bytes. Beside it this takes memory
 /// that is linear in the length of the message that is read, since no `Value` is made.
-#[tactic(auto, using(crate::proofs::Slices::rewrote_document, crate::proofs::Slices::was_document))]
+#[tactic(auto, using(crate::proofs::Slices::rewrote_document, crate::proofs::Slices::document_size, crate::proofs::Slices::document_fits, crate::proofs::Slices::document_not_made, crate::proofs::Slices::failed_lies))]
 pub fn canonical_of(alloc: Global, bytes: &[u8], most: usize) -> Result<Vec<u8>, Unwritten>
     ensures ok { IfOk result (λ message. RewroteSlice canonical bytes.now message.items) }
-    ensures refused { IfErr result (RefusesSliceRewriting bytes.now) }
+    ensures fits { IfOk result (λ message. length message.items ≤ most) }
+    ensures refused { IfErr result (RefusesSliceRewriting canonical bytes.now) }
     ensures place { IfErr result (LiesInSlice (length bytes.now) most) }
 {
     let read: Document = match described::from_slice(alloc, bytes) {
@@ -46,7 +49,7 @@ pub fn canonical_of(alloc: Global, bytes: &[u8], most: usize) -> Result<Vec<u8>,
     };
     let mut counter = CountWrite::new();
     if let Err(error) = serialize_to(alloc, &mut counter, &read) {
-        return Err(Unwritten::Failed(error));
+        return Err(not_made(error));
     }
     let size = counter.count();
     if size > most {
@@ -55,7 +58,7 @@ pub fn canonical_of(alloc: Global, bytes: &[u8], most: usize) -> Result<Vec<u8>,
     let mut memory = InMemory::new(Vec::new(alloc));
     match serialize_to(alloc, &mut memory, &read) {
         Ok(()) => Ok(memory.into_inner()),
-        Err(error) => Err(Unwritten::Failed(error)),
+        Err(error) => Err(not_made(error)),
     }
 }
 
@@ -65,10 +68,11 @@ pub fn canonical_of(alloc: Global, bytes: &[u8], most: usize) -> Result<Vec<u8>,
 /// It makes a `Value`, and first looks how much memory that may take. Where this is more than 128
 /// bytes for each byte of the message, and more than 512,000, the error is `Error::OutOfMemory`, as of
 /// a template of many skipped fields.
-#[tactic(auto, using(crate::proofs::Slices::rewrote_value, crate::proofs::Slices::was_value, crate::proofs::Slices::was_document))]
+#[tactic(auto, using(crate::proofs::Slices::rewrote_value, crate::proofs::Slices::value_size, crate::proofs::Slices::value_not_made, crate::proofs::Slices::failed_lies))]
 pub fn compact_of(alloc: Global, bytes: &[u8], most: usize) -> Result<Vec<u8>, Unwritten>
     ensures ok { IfOk result (λ message. RewroteSlice fold_templates bytes.now message.items) }
-    ensures refused { IfErr result (RefusesSliceRewriting bytes.now) }
+    ensures fits { IfOk result (λ message. length message.items ≤ most) }
+    ensures refused { IfErr result (RefusesSliceRewriting fold_templates bytes.now) }
     ensures place { IfErr result (LiesInSlice (length bytes.now) most) }
 {
     if !is_affordable(alloc, bytes) {
@@ -80,7 +84,7 @@ pub fn compact_of(alloc: Global, bytes: &[u8], most: usize) -> Result<Vec<u8>, U
     };
     let mut memory = InMemory::new(Vec::new(alloc));
     if let Err(error) = serialize_compact(alloc, &mut memory, &read) {
-        return Err(Unwritten::Failed(error));
+        return Err(not_made(error));
     }
     let message = memory.into_inner();
     if message.len() > most {
@@ -93,13 +97,23 @@ pub fn compact_of(alloc: Global, bytes: &[u8], most: usize) -> Result<Vec<u8>, U
 
 /// Why a message has no compact one of which no `Value` is made: it cannot be read, or there is no
 /// memory for that.
-#[tactic(auto, using(crate::proofs::Slices::was_document))]
+#[tactic(auto, using(crate::proofs::Slices::unaffordable))]
 fn unaffordable(alloc: Global, bytes: &[u8]) -> Unwritten
-    ensures refused { RefusesSliceRewriting bytes.now result }
+    ensures refused { RefusesSliceRewriting fold_templates bytes.now result }
     ensures place { (most : ℕ) → LiesInSlice (length bytes.now) most result }
 {
     match described::from_slice::<Document>(alloc, bytes) {
         Ok(_read) => Unwritten::Failed(Error::OutOfMemory),
         Err(description) => Unwritten::Refused(description),
+    }
+}
+
+/// Why no message was made in memory. An I/O error comes of want of memory alone.
+fn not_made(error: Error) -> Unwritten
+    ensures { result ≡ Failed (in_memory error) }
+{
+    match error {
+        Error::Io(_) => Unwritten::Failed(Error::OutOfMemory),
+        error => Unwritten::Failed(error),
     }
 }

@@ -50,7 +50,7 @@ body_length n c k t a rest body b m front h =
 
 begun : (levels most len : ℕ) (b x body rest : List ℕ) → IsBytes b → b ≡ 0x00 ∷ 0x02 ∷ x → 4 ≤ length x → counting NegativeLength (behind 4 x) ≡ reads len body
     → length body ≤ length b → Takes (with_text_keys levels) body rest → length rest + len ≡ length body → len ≤ most → length b < 2 ^ 63
-    → HasMessage levels most b ((length b - length body) + len)
+    → HasMessage levels most b (length b - length body) len
 begun levels most len b x body rest all is long count within value same short small =
     let c = from_le_bytes w32 (take 4 x) in
     let h : head b ≡ reads (c, len) body = ap head is ∙ header x body len long count in
@@ -60,6 +60,7 @@ begun levels most len b x body rest all is long count within value same short sm
     ∙ ap (and_then (λ z. ends_at b body len (c, z))) value.1
     ∙ ends_there (length b - length body) len (length b - length rest) (c, t) rest (omega (arith, within, same, small)) (omega (arith, within, same)) in
     let exact = (reads_text_key_messages levels c b rest t all).0 read in
+    let long = body_length levels c len t exact.0 rest body b exact.2 exact.1 h in
     record {
       text = exact.0;
       rest = rest;
@@ -67,15 +68,16 @@ begun levels most len b x body rest all is long count within value same short sm
       tree = t;
       front = exact.1;
       message = exact.2;
-      short = subst (λ k. k ≤ most) (sym (body_length levels c len t exact.0 rest body b exact.2 exact.1 h)) short;
+      short = subst (λ k. k ≤ most) (sym long) short;
       keys = exact.3;
+      body = long;
       whole = omega (arith, within, same, ap length exact.1, length-append exact.0 rest);
     }
 
 pub begins : (levels most len : ℕ) (b body rest : List ℕ) → IsBytes b → 6 ≤ length b → get_or b 0 0 ≡ 0x00 → get_or b 1 0 ≡ 0x02
     → ((k : Complaint) → counting k (behind 6 b) ≡ reads len body) → length body ≤ length b → Takes (with_text_keys levels) body rest
     → length rest + len ≡ length body → len ≤ most → length b < 2 ^ 63
-    → HasMessage levels most b ((length b - length body) + len)
+    → HasMessage levels most b (length b - length body) len
 begins levels most len [] body rest all long first second count within value same short small = absurd (omega (arith, long))
 begins levels most len (a ∷ []) body rest all long first second count within value same short small = absurd (omega (arith, long))
 begins levels most len (a ∷ d ∷ x) body rest all long first second count within value same short small =

@@ -1,5 +1,5 @@
 -- What was checked is a well-formed message.
-use Rattle.std.proofs.Common.{◌≡◌, ◌-◌, ◌^◌, min, ℕ, List, ◌++◌, length, sym, ap, subst, ◌∙◌, arith, append-nil, length-append}
+use Rattle.std.proofs.Common.{◌≡◌, ◌-◌, ◌^◌, min, ℕ, ◌+◌, List, ◌++◌, length, sym, ap, subst, ◌∙◌, arith, append-nil, length-append}
 use Rattle.std.proofs.lemmas.List.{nil_from_length}
 use Rattle.bser_serde.specs.HasMessage.{HasMessage}
 use Rattle.bser_messages.specs.declared.limits.Limits.{Limits}
@@ -10,7 +10,7 @@ use Rattle.bser_serde.specs.Refusals.{SliceUnread, FrameUnread, IsUnfit}
 use Rattle.bser_serde.specs.declared.refusal.Refusal.{Refusal}
 use Rattle.bser_serde.proofs.Told.{usual, unfit_slice, unread_frame}
 
-module _ (limits : Limits) (bytes : List ℕ) (k : ℕ) (b : HasMessage limits.levels limits.bytes bytes k) where
+module _ (limits : Limits) (bytes : List ℕ) (start len : ℕ) (b : HasMessage limits.levels limits.bytes bytes start len) where
   checked_text : IsWellFormed limits b.text
   checked_text = record { capabilities = b.capabilities; tree = b.tree; message = b.message; short = b.short; keys = b.keys }
 
@@ -19,7 +19,7 @@ module _ (limits : Limits) (bytes : List ℕ) (k : ℕ) (b : HasMessage limits.l
   checked_slice = record { text = b.text; rest = b.rest; front = b.front; message = checked_text }
 
   -- and the whole slice, where it is as long
-  pub checked_whole : (n : ℕ) → n ≡ min k (2 ^ 64 - 1) → n ≡ length bytes → IsWellFormed limits bytes
+  pub checked_whole : (n : ℕ) → n ≡ min (start + len) (2 ^ 64 - 1) → n ≡ length bytes → IsWellFormed limits bytes
   checked_whole n is same =
       let whole = b.whole in
       let short = b.message.short in
@@ -28,12 +28,12 @@ module _ (limits : Limits) (bytes : List ℕ) (k : ℕ) (b : HasMessage limits.l
       subst (IsWellFormed limits) (sym text_is) checked_text
 
 -- a frame that is one, within the usual limits
-pub whole_frame : (limits : Limits) (bytes : List ℕ) (k n : ℕ) → limits.levels ≡ LEVELS → limits.bytes ≡ any_length → HasMessage limits.levels limits.bytes bytes k
-    → n ≡ min k (2 ^ 64 - 1) → n ≡ length bytes → IsWellFormed usual_limits bytes
-whole_frame limits bytes k n levels most b is same = subst (λ l. IsWellFormed l bytes) (usual limits levels most) (checked_whole limits bytes k b n is same)
+pub whole_frame : (limits : Limits) (bytes : List ℕ) (start len n : ℕ) → limits.levels ≡ LEVELS → limits.bytes ≡ any_length → HasMessage limits.levels limits.bytes bytes start len
+    → n ≡ min (start + len) (2 ^ 64 - 1) → n ≡ length bytes → IsWellFormed usual_limits bytes
+whole_frame limits bytes start len n levels most b is same = subst (λ l. IsWellFormed l bytes) (usual limits levels most) (checked_whole limits bytes start len b n is same)
 
 -- and is a misfit
-pub unfit_frame : (limits : Limits) (bytes : List ℕ) (k : ℕ) (e : Refusal) → limits.levels ≡ LEVELS → limits.bytes ≡ any_length → HasMessage limits.levels limits.bytes bytes k
+pub unfit_frame : (limits : Limits) (bytes : List ℕ) (start len : ℕ) (e : Refusal) → limits.levels ≡ LEVELS → limits.bytes ≡ any_length → HasMessage limits.levels limits.bytes bytes start len
     → IsUnfit e → FrameUnread usual_limits bytes e
-unfit_frame limits bytes k e levels most b h =
-    unread_frame usual_limits bytes e (subst (λ l. SliceUnread l bytes e) (usual limits levels most) (unfit_slice limits bytes e (checked_slice limits bytes k b) h))
+unfit_frame limits bytes start len e levels most b h =
+    unread_frame usual_limits bytes e (subst (λ l. SliceUnread l bytes e) (usual limits levels most) (unfit_slice limits bytes e (checked_slice limits bytes start len b) h))

@@ -1,11 +1,11 @@
 -- A message at the start of some bytes.
-use Rattle.std.specs.Prelude.{◌≡◌, ◌≤◌, ℕ, List, ◌++◌, length}
+use Rattle.std.specs.Prelude.{◌≡◌, ◌≤◌, ℕ, ◌+◌, List, ◌++◌, length}
 use Rattle.bser_format.specs.Message.{IsMessage}
 use Rattle.bser_format.specs.NamedLaws.{HasTextKeys}
 use Rattle.bser_format.specs.Tree.{Tree}
 
--- the first n bytes are a well-formed message of at most so many levels, whose body has at most so many bytes, and all of whose keys are UTF-8
-pub record HasMessage (levels most : ℕ) (bytes : List ℕ) (n : ℕ) : Type 0 where
+-- a header of so many bytes and a body of so many are the front of the bytes: a well-formed message of at most so many levels, whose body has at most so many bytes, and all of whose keys are UTF-8
+pub record HasMessage (levels most : ℕ) (bytes : List ℕ) (header len : ℕ) : Type 0 where
   pub text : List ℕ
   pub rest : List ℕ
   pub capabilities : ℕ
@@ -14,4 +14,5 @@ pub record HasMessage (levels most : ℕ) (bytes : List ℕ) (n : ℕ) : Type 0 
   pub message : IsMessage levels capabilities tree text
   pub short : length message.body ≤ most
   pub keys : HasTextKeys tree
-  pub whole : length text ≡ n
+  pub body : length message.body ≡ len
+  pub whole : length text ≡ header + len

@@ -1,5 +1,5 @@
 //! The message at the start of some bytes.
-ghost use Rattle.std.specs.Prelude.{◌+◌, IfSome};
+ghost use Rattle.std.specs.Prelude.{IfSome};
 ghost use Rattle.bser_serde.specs.HasMessage.{HasMessage};
 
 use crate::heads::{Counted, count};
@@ -21,7 +21,7 @@ pub struct Body {
 /// None tells nothing: the reading that reports to a builder then finds what is wrong, and where.
 /// Passing over a row of scalars and short strings takes three fifths of its instructions here.
 pub fn body_of(bytes: &[u8], levels: usize, most: usize) -> Option<Body>
-    ensures { IfSome result (λ b. HasMessage levels most bytes.now (b.start + b.len)) }
+    ensures { IfSome result (λ b. HasMessage levels most bytes.now b.start b.len) }
 {
     if bytes.len() < HEADER_START.len()
         || bytes[0] != HEADER_START[0]
