@@ -1,9 +1,9 @@
 //! Messages shown as JSON.
 
-use bser_json::printing::Layout;
-use bser_json::writing::write_json;
 use bser_document::document::Document;
 use bser_document::item::Item;
+use bser_json::printing::Layout;
+use bser_json::writing::write_json;
 use bser_messages::limits::Limits;
 use bser_source::device::Source;
 use bser_views::messages::{View, ViewError};

@@ -2,10 +2,10 @@
 ghost use Rattle.std.specs.Prelude.{◌≡◌, is_some};
 ghost use Rattle.bser_document.specs.Pointer.{tokens};
 
-use bser_json::printing::Layout;
-use bser_json::writing::write_json;
 use bser_document::document::Document;
 use bser_document::item::Item;
+use bser_json::printing::Layout;
+use bser_json::writing::write_json;
 use bser_messages::limits::Limits;
 use bser_source::device::Source;
 use bser_views::lack::Lack;

@@ -3,8 +3,8 @@
 use crate::canon::Canon;
 use crate::command::command;
 use crate::order::{Task, order_of};
-use bser_json::texts::{TextError, Writing, write_messages};
 use bser_format::errors::Error as MessageError;
+use bser_json::texts::{TextError, Writing, write_messages};
 use bser_source::device::Watched;
 use bser_views::beside::Beside;
 use bser_views::counted::Counted;

@@ -1,9 +1,9 @@
 //! What the words of a command ask for.
 
-use crate::making::Wish;
 use crate::printing::Form;
 use crate::questions::Which;
 use crate::request::Asked;
+use crate::wish::Wish;
 use clap::ArgMatches;
 
 /// What is done with an index.

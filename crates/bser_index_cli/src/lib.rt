@@ -3,9 +3,9 @@
 
 mod action;
 mod command;
-mod making;
 mod printing;
 pub mod program;
 mod questions;
 mod request;
 pub mod standard;
+mod wish;

@@ -1,7 +1,5 @@
 //! Prints what an index has of files.
 
-use watchman_sqlite::error::IndexError;
-use watchman_sqlite::record::{Record, Visitor};
 use bser_views::quoted::Quoted;
 use json::Writer;
 use serde_bser::bytestring::ByteString;
@@ -9,6 +7,8 @@ use std::alloc::Global;
 use std::io;
 use std::io::Write;
 use watchman_index::row::FileState;
+use watchman_sqlite::error::IndexError;
+use watchman_sqlite::record::{Record, Visitor};
 
 /// How files are printed.
 #[derive(Debug, Clone, Copy, PartialEq, Eq)]

@@ -2,22 +2,23 @@
 
 use crate::action::{Action, Question, action_of};
 use crate::command::command;
-use watchman_sqlite::error::IndexError;
-use crate::making::make_index;
-use watchman_sqlite::messages::{Totals, take_inputs};
-use watchman_sqlite::opening::check_path;
 use crate::printing::Form;
 use crate::questions::{
-    print_changes, print_last_clock, print_list, print_next_request, print_stat, require_tables,
+    print_changes, print_last_clock, print_list, print_next_request, print_stat,
 };
-use watchman_sqlite::reopening::Reopening;
-use watchman_sqlite::snapshot::open_snapshot;
-use watchman_sqlite::verifying::{Folder, print_differences};
+use crate::wish::subject_of;
 use bser_views::quoted::Quoted;
 use clap::Error;
 use sqlite::{Alter, Connection};
 use std::io;
 use std::io::{BufWriter, ErrorKind, Read, Write};
+use watchman_sqlite::error::IndexError;
+use watchman_sqlite::making::make_index;
+use watchman_sqlite::messages::{Totals, take_inputs};
+use watchman_sqlite::opening::check_path;
+use watchman_sqlite::reopening::add_inputs;
+use watchman_sqlite::snapshot::{Inquiry, ask_snapshot};
+use watchman_sqlite::verifying::{Folder, print_differences};
 
 /// The status where all was done.
 pub const DONE: u8 = 0;
@@ -139,23 +140,52 @@ fn run_action<R: Read, W: Write, E: Write>(
     Ok(FAILED)
 }
 
+/// An action that only reads the index.
+#[derive(Drop)]
+struct Reading<'r, 's, R, W, E> {
+    rt: &'r HostRuntime,
+    path: &'r str,
+    action: Action<'r>,
+    names: &'r [&'r str],
+    streams: Streams<'s, R, W, E>,
+}
+
+impl<R: Read, W: Write, E: Write> Inquiry for Reading<'_, '_, R, W, E> {
+    fn ask<S: Alter>(&mut self, conn: &mut Connection<S>) -> Result<bool, IndexError> {
+        let (rt, path, action, names) = (self.rt, self.path, self.action, self.names);
+        let streams = Streams {
+            input: &mut *self.streams.input,
+            out: &mut *self.streams.out,
+            errors: &mut *self.streams.errors,
+        };
+        read(rt, path, conn, action, names, streams)
+    }
+}
+
 /// Takes the action with the index at this path. Tells whether all was done.
-fn act<R: Read, W: Write, E: Write>(
-    rt: &HostRuntime,
-    path: &str,
-    action: Action<'_>,
-    names: &[&str],
+fn act<'r, R: Read, W: Write, E: Write>(
+    rt: &'r HostRuntime,
+    path: &'r str,
+    action: Action<'r>,
+    names: &'r [&'r str],
     streams: Streams<'_, R, W, E>,
 ) -> Result<bool, IndexError> {
     match action {
         Action::Init(wish) => {
-            make_index(rt, path, wish, names)?;
+            let subject = subject_of(rt.alloc(), wish, names)?;
+            make_index(rt, path, &subject)?;
             Ok(true)
         }
         Action::Add(may_be_empty) => add(rt, path, may_be_empty, names, streams),
         Action::Verify | Action::Request(_) | Action::Ask(_) => {
-            let mut conn = open_snapshot(rt, path)?;
-            read(rt, path, &mut conn, action, names, streams)
+            let mut reading = Reading {
+                rt,
+                path,
+                action,
+                names,
+                streams,
+            };
+            ask_snapshot(rt, path, &mut reading)
         }
     }
 }
@@ -169,7 +199,6 @@ fn read<S: Alter, R: Read, W: Write, E: Write>(
     names: &[&str],
     streams: Streams<'_, R, W, E>,
 ) -> Result<bool, IndexError> {
-    require_tables(conn)?;
     match action {
         Action::Verify => verify(rt, conn, names, streams),
         Action::Request(asked) => {
@@ -274,9 +303,7 @@ fn add<R: Read, W: Write, E: Write>(
 ) -> Result<bool, IndexError> {
     check_path(rt, path)?;
     let Streams { input, out, errors } = streams;
-    let mut index = Reopening::new(rt, path, may_be_empty);
-    let totals = take_inputs(rt.alloc(), rt, names, input, &mut index, errors);
-    let closed = index.close();
+    let (totals, closed) = add_inputs(rt, path, may_be_empty, names, input, errors);
     print_totals(totals, out)?;
     closed?;
     Ok(totals.refused == 0 && totals.errors == 0)

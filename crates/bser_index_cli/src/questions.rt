@@ -1,14 +1,14 @@
 //! Answers what an index is asked.
 
-use watchman_sqlite::connection::{Stored, has_tables, number_of, read_stored, visit_all};
-use watchman_sqlite::error::IndexError;
 use crate::printing::{Form, Printer, print_clock};
 use crate::request::{Asked, print_request};
-use watchman_sqlite::schema::{CHANGED, FILES, NAMED, PRESENT, SUFFIX};
-use watchman_sqlite::subject::read_subject;
 use sqlite::{Alter, Connection, params};
 use std::alloc::Global;
 use std::io::Write;
+use watchman_sqlite::connection::{Stored, number_of, read_stored, visit_all};
+use watchman_sqlite::error::IndexError;
+use watchman_sqlite::schema::{CHANGED, FILES, NAMED, PRESENT, SUFFIX};
+use watchman_sqlite::subject::read_subject;
 
 /// Prints the last clock as it is. False where there is none.
 pub(crate) fn print_last_clock<S: Alter, W: Write>(
@@ -106,13 +106,4 @@ pub(crate) fn print_stat<S: Alter, W: Write>(
     let mut printer = Printer::new(alloc, form, out);
     visit_all(conn, NAMED, params![name], &mut printer)?;
     Ok(printer.count() > 0)
-}
-
-/// Fails where the database is no index, or has nothing in it.
-pub(crate) fn require_tables<S: Alter>(conn: &mut Connection<S>) -> Result<(), IndexError> {
-    if has_tables(conn)? {
-        Ok(())
-    } else {
-        Err(IndexError::NoIndex)
-    }
 }

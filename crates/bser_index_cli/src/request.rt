@@ -1,7 +1,5 @@
 //! The request whose answer an index takes next.
 
-use watchman_sqlite::error::IndexError;
-use watchman_sqlite::subject::Subject;
 use bser_json::reading::{Strings, value_of};
 use bser_ser::message::serialize_to;
 use bser_source::device::Watched;
@@ -10,6 +8,8 @@ use serde_bser::bytestring::ByteString;
 use std::alloc::{AllocError, Global};
 use std::collections::BTreeMap;
 use std::io::Write;
+use watchman_sqlite::error::IndexError;
+use watchman_sqlite::subject::Subject;
 
 /// The name of a subscription where no other is asked for.
 const SUBSCRIPTION: &str = "bser_index";

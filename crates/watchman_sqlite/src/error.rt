@@ -1,8 +1,8 @@
 //! Why the program cannot do what it was asked for.
 
-use bser_json::fault::JsonError;
 use bser_format::errors::Error as SerError;
 use bser_frames::error::FrameError;
+use bser_json::fault::JsonError;
 use serde_bser::bytestring::ByteString;
 use sqlite::Error as DatabaseError;
 use std::alloc::{AllocError, AllocFailed};

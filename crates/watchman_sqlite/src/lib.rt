@@ -8,6 +8,7 @@ mod adding;
 mod conditions;
 pub mod connection;
 pub mod error;
+pub mod making;
 pub mod messages;
 pub mod opening;
 pub mod record;

@@ -24,10 +24,7 @@ pub fn wait(rt: &HostRuntime) {
 
 /// Opens the index at this path to write it, and makes the file where there is none. While another
 /// program has it open, it tries again for some seconds.
-pub fn open_index(
-    rt: &HostRuntime,
-    path: &str,
-) -> Result<Connection<FileStore<File>>, IndexError> {
+pub fn open_index(rt: &HostRuntime, path: &str) -> Result<Connection<FileStore<File>>, IndexError> {
     for _ in 0..TRIES {
         match Connection::open(rt, path) {
             Ok(conn) => return Ok(conn),

@@ -3,16 +3,32 @@
 use crate::adding::Adder;
 use crate::conditions::Conditions;
 use crate::error::IndexError;
-use crate::messages::Taker;
+use crate::messages::{Taker, Totals, take_inputs};
 use crate::opening::open_index;
 use serde_bser::bytestring::ByteString;
 use sqlite::{Connection, File, FileStore};
+use std::io::{Read, Write};
 use watchman_index::changes::Changes;
+
+/// Adds the messages of the files of these names to the index at a path, or those of `input` where
+/// there is no name. Answers how many there were, and whether the index could be closed.
+pub fn add_inputs<R: Read, E: Write>(
+    rt: &HostRuntime,
+    path: &str,
+    may_be_empty: bool,
+    names: &[&str],
+    input: &mut R,
+    errors: &mut E,
+) -> (Totals, Result<(), IndexError>) {
+    let mut index = Reopening::new(rt, path, may_be_empty);
+    let totals = take_inputs(rt.alloc(), rt, names, input, &mut index, errors);
+    (totals, index.close())
+}
 
 /// Adds messages to the index at a path, which is opened for the first of them that are at hand, and
 /// closed before the next is waited for: an open index is locked.
 #[derive(Drop)]
-pub struct Reopening<'r> {
+struct Reopening<'r> {
     rt: &'r HostRuntime,
     path: &'r str,
     conditions: Conditions,
@@ -22,7 +38,7 @@ pub struct Reopening<'r> {
 impl<'r> Reopening<'r> {
     /// The index is not open yet. A message that says that there are no files is taken where
     /// `may_be_empty`.
-    pub fn new(rt: &'r HostRuntime, path: &'r str, may_be_empty: bool) -> Self {
+    fn new(rt: &'r HostRuntime, path: &'r str, may_be_empty: bool) -> Self {
         Reopening {
             rt,
             path,
@@ -50,7 +66,7 @@ impl<'r> Reopening<'r> {
     }
 
     /// Closes the index, if it is open.
-    pub fn close(&mut self) -> Result<(), IndexError> {
+    fn close(&mut self) -> Result<(), IndexError> {
         if let Some(conn) = self.conn.take() {
             conn.close()?;
         }

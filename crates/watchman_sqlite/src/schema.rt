@@ -66,18 +66,15 @@ pub const FILES: &str =
     "SELECT name, present, size, mode, type, mtime_ms, changed, told FROM file ORDER BY name";
 
 /// What is known of the files that exist.
-pub const PRESENT: &str =
-    "SELECT name, present, size, mode, type, mtime_ms, changed, told FROM file
+pub const PRESENT: &str = "SELECT name, present, size, mode, type, mtime_ms, changed, told FROM file
 WHERE present = 1 ORDER BY name";
 
 /// What is known of the files that a message behind that of this number changed.
-pub const CHANGED: &str =
-    "SELECT name, present, size, mode, type, mtime_ms, changed, told FROM file
+pub const CHANGED: &str = "SELECT name, present, size, mode, type, mtime_ms, changed, told FROM file
 WHERE changed > ?1 ORDER BY name";
 
 /// What is known of the files that exist and have this suffix.
-pub const SUFFIX: &str =
-    "SELECT name, present, size, mode, type, mtime_ms, changed, told FROM file
+pub const SUFFIX: &str = "SELECT name, present, size, mode, type, mtime_ms, changed, told FROM file
 WHERE present = 1 AND suffix = ?1 ORDER BY name";
 
 /// What is known of the file of this name.

@@ -5,9 +5,10 @@
 //! has the same head before both were read, and behind them, whatever was added meanwhile. The copy
 //! is opened in memory, so the index itself need not be writable, and no writer has to wait.
 
+use crate::connection::has_tables;
 use crate::error::IndexError;
 use crate::opening::{MAGIC, TRIES, wait};
-use sqlite::{Connection, FileStore, Files, Options};
+use sqlite::{Alter, Connection, FileStore, Files, Options};
 use sqlite_disk::{Disk, Memory};
 use std::io::{ErrorKind, Read};
 use std::path::PathBuf;
@@ -19,9 +20,30 @@ const LOG_HEAD: usize = 32;
 /// What the random numbers of a writer would begin with. A copy is not written.
 const SEED: u64 = 1;
 
+/// What an index is asked.
+pub trait Inquiry {
+    /// Asks the index. Tells whether there is an answer.
+    fn ask<S: Alter>(&mut self, conn: &mut Connection<S>) -> Result<bool, IndexError>;
+}
+
+/// Asks a copy of the index as it is now. While the log is begun anew so often that no copy is whole,
+/// it tries again for some seconds. What is no index is an error.
+pub fn ask_snapshot<Q: Inquiry>(
+    rt: &HostRuntime,
+    path: &str,
+    inquiry: &mut Q,
+) -> Result<bool, IndexError> {
+    let mut conn = open_snapshot(rt, path)?;
+    if has_tables(&mut conn)? {
+        inquiry.ask(&mut conn)
+    } else {
+        Err(IndexError::NoIndex)
+    }
+}
+
 /// Opens a copy of the index as it is now. While the log is begun anew so often that no copy is
 /// whole, it tries again for some seconds.
-pub fn open_snapshot(
+fn open_snapshot(
     rt: &HostRuntime,
     path: &str,
 ) -> Result<Connection<FileStore<Memory>>, IndexError> {

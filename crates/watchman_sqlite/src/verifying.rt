@@ -26,10 +26,7 @@ pub struct Folder {
 
 impl Folder {
     /// No message was taken. An index of this connection's subject takes those that this takes.
-    pub fn new<S: Alter>(
-        alloc: Global,
-        conn: &mut Connection<S>,
-    ) -> Result<Self, IndexError> {
+    pub fn new<S: Alter>(alloc: Global, conn: &mut Connection<S>) -> Result<Self, IndexError> {
         Ok(Folder {
             conditions: Conditions {
                 may_be_empty: true,

@@ -1,13 +1,10 @@
-//! Makes an index that knows what it is of.
+//! What an index is to be of.
 
-use watchman_sqlite::connection::{has_tables, make_tables};
-use watchman_sqlite::error::IndexError;
-use watchman_sqlite::opening::{check_path, open_index};
 use crate::request::expression_of;
-use watchman_sqlite::subject::{FIELDS, Field, Subject};
 use serde_bser::bytestring::ByteString;
-use sqlite::{Alter, Connection};
 use std::alloc::Global;
+use watchman_sqlite::error::IndexError;
+use watchman_sqlite::subject::{FIELDS, Field, Subject};
 
 /// What an index is to be of, in the words of the command.
 #[derive(Debug, Clone, Copy)]
@@ -17,38 +14,12 @@ pub(crate) struct Wish<'a> {
     pub(crate) expression: Option<&'a str>,
 }
 
-/// Makes the index at this path, with the fields of these words, or all where there is none. An
-/// index that is there already is an error.
-pub(crate) fn make_index(
-    rt: &HostRuntime,
-    path: &str,
+/// What these words say, with the fields of these words, or all where there is none.
+pub(crate) fn subject_of(
+    alloc: Global,
     wish: Wish<'_>,
     fields: &[&str],
-) -> Result<(), IndexError> {
-    let subject = subject_of(rt.alloc(), wish, fields)?;
-    check_path(rt, path)?;
-    let mut conn = open_index(rt, path)?;
-    let made = make_new(rt.alloc(), &mut conn, &subject);
-    let closed = conn.close();
-    made?;
-    closed?;
-    Ok(())
-}
-
-/// Makes the tables, which may not be there.
-fn make_new<S: Alter>(
-    alloc: Global,
-    conn: &mut Connection<S>,
-    subject: &Subject,
-) -> Result<(), IndexError> {
-    if has_tables(conn)? {
-        return Err(IndexError::Exists);
-    }
-    make_tables(alloc, conn, Some(subject))
-}
-
-/// What these words say.
-fn subject_of(alloc: Global, wish: Wish<'_>, fields: &[&str]) -> Result<Subject, IndexError> {
+) -> Result<Subject, IndexError> {
     if !wish.root.starts_with('/') {
         return Err(IndexError::Root);
     }
