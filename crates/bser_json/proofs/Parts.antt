@@ -1,5 +1,5 @@
 -- A string that is put in parts.
-use Rattle.std.proofs.Common.{◌≡◌, ℕ, List, [], ◌∷◌, ◌++◌, ◌/◌, ◌%◌, ◌+◌, ◌-◌, length, take, drop, min, Option, Result, Ok, Err, OnOk, Bool, true, false, cond, ◌&&◌, refl, sym, ap, subst, ◌∙◌, append_assoc, append-nil, arith, length-append}
+use Rattle.std.proofs.Common.{◌≡◌, ℕ, List, [], ◌∷◌, ◌++◌, ◌/◌, ◌%◌, ◌+◌, ◌-◌, length, take, drop, min, Option, Result, Ok, Err, OnOk, Bool, true, false, cond, ◌&&◌, ◌==◌, refl, sym, ap, subst, ◌∙◌, append_assoc, append-nil, arith, length-append}
 use Rattle.std.proofs.lemmas.List.{take_all, take-append-le}
 use Rattle.std.proofs.lemmas.Grind.{flat_map-append}
 use Rattle.std.specs.Prelude.{slice_index}
@@ -193,3 +193,8 @@ hexadecimal_splits (x ∷ a) b = ap (λ l. slice_index lower_digits (x / 16) ∷
 pub no_digits : encode_lower [] ≡ []
 unfolding encode_with
 no_digits = refl
+
+-- what has no byte left is empty
+pub none_left : (xs : List ℕ) (empty : Bool) → empty ≡ (length xs == 0) → empty ≡ true → xs ≡ []
+none_left [] empty is told = refl
+none_left (x ∷ xs) empty is told = absurd (grind (arith, sym is ∙ told))
