@@ -120,11 +120,16 @@ fn query_since<'a>(project: &'a WatchProject<ByteString>, clock: &'a str) -> Que
     Query {
         since: Some(Moment::Clock(clock)),
         fields: Some(&["name", "exists", "size"]),
-        relative_root: project
-            .relative_path
-            .as_ref()
-            .map(|path| Bytes(path.as_bytes())),
+        relative_root: relative_root(project),
         ..Query::new()
+    }
+}
+
+/// Where the folder is below the root, if it is not the root itself.
+fn relative_root(project: &WatchProject<ByteString>) -> Option<Bytes<'_>> {
+    match &project.relative_path {
+        Some(path) => Some(Bytes(path.as_bytes())),
+        None => None,
     }
 }
 
