@@ -6,7 +6,7 @@
 #![tactic(auto)]
 
 use std::process::ExitCode;
-use bser_index_cli::standard::run_process;
+use watchman_sqlite::standard::run_process;
 
 fn main(rt: HostRuntime) -> ExitCode {
     run_process(rt)

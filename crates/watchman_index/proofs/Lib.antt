@@ -2,5 +2,4 @@ pub mod Same
 pub mod Names
 pub mod Puts
 pub mod Forgets
-pub mod Instances
 pub mod Samples

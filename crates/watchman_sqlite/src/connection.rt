@@ -2,104 +2,55 @@
 
 use crate::error::IndexError;
 use crate::record::{Record, Visitor};
-use crate::schema::{CREATE, KEEP_LAYOUT, LAYOUT, OLD_TABLES, TABLES};
-use crate::subject::{CREATE_SUBJECT, Subject, write_subject};
+use crate::schema::TABLES;
 use serde_bser::bytestring::ByteString;
 use sqlite::types::ValueRef;
 use sqlite::{Alter, Connection, Row, params};
-use std::alloc::Global;
 use watchman_index::origin::Origin;
 
 /// What an index has of its messages.
 #[derive(Debug, Drop)]
-pub struct Stored {
+pub(crate) struct Stored {
     /// How many messages that told files were added.
-    pub messages: u64,
+    pub(crate) messages: u64,
     /// What they are of.
-    pub origin: Origin,
+    pub(crate) origin: Origin,
     /// The last clock.
-    pub clock: Option<ByteString>,
+    pub(crate) clock: Option<ByteString>,
 }
 
-/// Whether the database is an index, or has no tables at all. Tables of others may stand beside
-/// those of an index. Fails for a database of something else, and for an index of another layout.
-pub fn has_tables<S: Alter>(conn: &mut Connection<S>) -> Result<bool, IndexError> {
-    let rows = conn.query_all(
-        "SELECT name FROM sqlite_schema WHERE type = 'table'",
+/// Whether the database is an index, or has no tables at all.
+pub(crate) fn has_tables<S: Alter>(conn: &mut Connection<S>) -> Result<bool, IndexError> {
+    let names = conn.query_all(
+        "SELECT name FROM sqlite_schema WHERE type = 'table' ORDER BY name",
         params![],
     )?;
-    if has_all(&rows, &TABLES)? {
-        check_layout(conn)?;
-        return Ok(true);
+    if names.is_empty() {
+        return Ok(false);
     }
-    if has_all(&rows, &OLD_TABLES)? {
-        return Err(IndexError::OtherLayout);
-    }
-    if rows.is_empty() {
-        Ok(false)
+    if are_tables(&names)? {
+        Ok(true)
     } else {
         Err(IndexError::NoIndex)
     }
 }
 
-/// Whether rows of names have each of these.
-fn has_all(rows: &[Row], names: &[&str]) -> Result<bool, IndexError> {
-    for name in names {
-        if !has_name(rows, *name)? {
+/// Whether these rows name the tables of an index.
+fn are_tables(names: &[Row]) -> Result<bool, IndexError> {
+    if names.len() != TABLES.len() {
+        return Ok(false);
+    }
+    for (row, table) in names.iter().zip(TABLES.iter()) {
+        let name: String = row.get(0)?;
+        if name.as_str() != *table {
             return Ok(false);
         }
     }
     Ok(true)
 }
 
-/// Whether rows of names have this one.
-fn has_name(rows: &[Row], wanted: &str) -> Result<bool, IndexError> {
-    for row in rows {
-        let name: String = row.get(0)?;
-        if name.as_str() == wanted {
-            return Ok(true);
-        }
-    }
-    Ok(false)
-}
-
-/// Fails for an index of another layout.
-fn check_layout<S: Alter>(conn: &mut Connection<S>) -> Result<(), IndexError> {
-    let rows = conn.query_all("SELECT version FROM layout WHERE id = 1", params![])?;
-    let version: Option<i64> = match rows.first() {
-        Some(row) => row.get(0)?,
-        None => None,
-    };
-    if version == Some(LAYOUT) {
-        Ok(())
-    } else {
-        Err(IndexError::OtherLayout)
-    }
-}
-
-/// Makes the tables of an index of this subject, all of them or none. Without one the index is of
-/// what its messages are of.
-pub fn make_tables<S: Alter>(
-    alloc: Global,
-    conn: &mut Connection<S>,
-    subject: Option<&Subject>,
-) -> Result<(), IndexError> {
-    if !conn.is_autocommit() {
-        return Err(IndexError::NoIndex);
-    }
-    let mut transaction = conn.transaction();
-    transaction.execute_batch(CREATE)?;
-    transaction.execute_batch(CREATE_SUBJECT)?;
-    transaction.execute(KEEP_LAYOUT, params![LAYOUT])?;
-    if let Some(subject) = subject {
-        write_subject(alloc, &mut transaction, subject)?;
-    }
-    transaction.commit()?;
-    Ok(())
-}
-
 /// What the index has of its messages.
-pub fn read_stored<S: Alter>(conn: &mut Connection<S>) -> Result<Stored, IndexError> {
+pub(crate) fn read_stored<S: Alter>(conn: &mut Connection<S>) -> Result<Stored, IndexError> {
     let row = conn.query_row(
         "SELECT messages, root, subscription, clock FROM source WHERE id = 1",
         params![],
@@ -115,13 +66,13 @@ pub fn read_stored<S: Alter>(conn: &mut Connection<S>) -> Result<Stored, IndexEr
 }
 
 /// The byte string of this column, if it has one.
-pub fn bytes_at(row: &Row, column: usize) -> Result<Option<ByteString>, IndexError> {
+fn bytes_at(row: &Row, column: usize) -> Result<Option<ByteString>, IndexError> {
     let bytes: Option<Vec<u8>> = row.get(column)?;
     Ok(bytes.map(ByteString::from_vec))
 }
 
 /// The number of the last message up to a clock. `None` for one that was not told.
-pub fn number_of<S: Alter>(
+pub(crate) fn number_of<S: Alter>(
     conn: &mut Connection<S>,
     clock: &[u8],
 ) -> Result<Option<u64>, IndexError> {
@@ -133,7 +84,7 @@ pub fn number_of<S: Alter>(
 }
 
 /// Hands each record of the answer to the visitor.
-pub fn visit_all<S: Alter, V: Visitor>(
+pub(crate) fn visit_all<S: Alter, V: Visitor>(
     conn: &mut Connection<S>,
     question: &str,
     params: &[ValueRef<'_>],
