@@ -5,8 +5,8 @@
 //! used, or 2 for unknown arguments.
 #![tactic(auto)]
 
+use bser_index_cli::standard::run_process;
 use std::process::ExitCode;
-use watchman_sqlite::standard::run_process;
 
 fn main(rt: HostRuntime) -> ExitCode {
     run_process(rt)

@@ -8,15 +8,19 @@ use bser_vectors::devices::Plan;
 use std::alloc::Global;
 use std::fs;
 
+/// How many columns the line of a file has. The last is the name, which may have spaces.
+const COLUMNS: usize = 7;
+
 /// Compares what the index says to have changed after each clock with the lines of a file, whose
-/// columns are message, clock, and number and paths of the files that were told and that changed
-/// after it. The clocks of the messages `unknown` were not added.
+/// columns are message, clock, number and paths of what the server told since then, and number and
+/// paths of what the index has to say. Those are the server's, and what a message listed that was
+/// asked for since an earlier clock. The clocks of the messages `unknown` were not added.
 pub fn check_changes(rt: &HostRuntime, file: &str, unknown: &[u32]) -> Result<()> {
     let lines = fs::read_to_string(rt, file)?;
     let mut compared = 0u32;
     let mut fresh = 0u32;
     for line in lines.as_str().lines().skip(1) {
-        let [message, clock, _told, _told_paths, _changed, paths, ..] = columns(line, "\t");
+        let [message, clock, _server, _server_paths, _index, paths, ..] = columns(line, "\t");
         let found = found_after(rt, clock)?;
         if unknown.contains(&message.parse()?) {
             if !found.is_fresh {
@@ -54,8 +58,8 @@ fn found_after(rt: &HostRuntime, clock: &str) -> Result<Found> {
     let output = str::from_utf8(&ran.output)?;
     let mut names = String::new(rt.alloc());
     for line in output.lines().filter(|line| is_file(*line)) {
-        if let Some((_columns, name)) = line.split_once('"') {
-            write!(names, "\"{name}\n")?;
+        if let Some(name) = line.splitn(COLUMNS, ' ').last() {
+            write!(names, "{name}\n")?;
         }
     }
     Ok(Found {

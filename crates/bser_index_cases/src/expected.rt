@@ -2,7 +2,7 @@
 
 use anyhow::{Context, Result};
 use bser_vectors::columns::columns;
-use serde_bser::bytestring::ByteString;
+use bser_views::quoted::Quoted;
 use std::alloc::Global;
 
 /// The numbers of the session's messages that tell files, in their order.
@@ -21,8 +21,8 @@ impl Numbers<'_> {
 
 /// The name of a path in hexadecimal, as it is printed.
 pub fn shown_name(alloc: Global, path: &str) -> Result<String> {
-    let name = ByteString::from_vec(hex::decode(alloc, path.as_bytes())?);
-    Ok(format!(in alloc; "{name}")?)
+    let name = hex::decode(alloc, path.as_bytes())?;
+    Ok(format!(in alloc; "{}", Quoted(&name))?)
 }
 
 /// The line of the table's row, whose columns are path, existence, size, mode, type, last message,

@@ -2,7 +2,8 @@
 //! prints the line, what the program wrote, what it reported, and its status where that is not 0.
 //!
 //! The words of a line are parted by a space. Behind them may stand, as in a shell, `< FILE` for
-//! what is read, and `> /dev/full` for an output that fails. Other lines are printed as they are.
+//! what is read, `> /dev/full` for an output that fails, and `| tr '\0' '\n'` for one whose NULs are
+//! printed as newlines. Other lines are printed as they are.
 //! Then the messages of a recorded session are added, and the index is compared after each with
 //! tables that were folded elsewhere.
 #![tactic(auto)]

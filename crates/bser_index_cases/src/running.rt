@@ -1,10 +1,10 @@
 //! The program, run in memory.
 
 use anyhow::Result;
+use bser_index_cli::program::run_index;
 use bser_vectors::devices::{Plan, PlannedWriter, Then};
 use std::fs;
 use std::io::ErrorKind;
-use watchman_sqlite::program::run_index;
 
 /// What a run left.
 #[derive(Drop)]
@@ -17,8 +17,25 @@ pub struct Ran {
     pub errors: Vec<u8>,
 }
 
+/// Behind a line whose output has a newline in place of each NUL.
+const NEWLINES: &str = " | tr '\\0' '\\n'";
+
 /// Runs the program as a line says.
 pub fn run_line(rt: &HostRuntime, text: &str) -> Result<Ran> {
+    let Some(front) = text.strip_suffix(NEWLINES) else {
+        return run_streams(rt, text);
+    };
+    let mut ran = run_streams(rt, front)?;
+    for byte in &mut ran.output {
+        if *byte == 0 {
+            *byte = b'\n';
+        }
+    }
+    Ok(ran)
+}
+
+/// Runs the program as a line with an input and an output says.
+fn run_streams(rt: &HostRuntime, text: &str) -> Result<Ran> {
     let (rest, plan) = match text.strip_suffix(" > /dev/full") {
         Some(rest) => {
             let full = Then::Faults(ErrorKind::StorageFull);

@@ -12,8 +12,12 @@ use std::fs;
 /// The session's messages that are answers to queries of another expression or with other fields.
 const OTHERS: [u32; 4] = [39, 41, 43, 45];
 
-/// Adds the session's messages up to each that tells files, compares the index with the table after
-/// it, and at the end what changed after each clock.
+/// The last of the session's messages that tells files before the server was started anew.
+const LAST_OF_FIRST: u32 = 71;
+
+/// Adds the session's messages up to each that tells files, and compares the index with the table
+/// after it. Compares what changed after each clock before the server was started anew with what it
+/// told then, and at the end what changed after some clocks.
 pub fn print_session(rt: &HostRuntime) -> Result<()> {
     let stream = fs::read(rt, "stream-server.bser")?;
     let list = fs::read_to_string(rt, "messages.tsv")?;
@@ -32,9 +36,12 @@ pub fn print_session(rt: &HostRuntime) -> Result<()> {
             check_table(rt, &numbers, tables.as_str(), message.number)?;
             bytes.clear();
         }
+        if message.number == LAST_OF_FIRST {
+            check_changes(rt, "since.tsv", &OTHERS)?;
+        }
     }
     println!(rt; "{} tables compared", folded.len())?;
-    check_changes(rt, "changes.tsv", &OTHERS)
+    check_changes(rt, "restart.tsv", &OTHERS)
 }
 
 /// The numbers of those that tell files and are added.

@@ -3,19 +3,30 @@ use Rattle.std.specs.Prelude.{◌≡◌, ◌≢◌, ℕ, false, Option, Some, No
 use Rattle.watchman_index.specs.declared.row.FileState.{FileState}
 use Rattle.watchman_index.specs.declared.row.Row.{Row}
 use Rattle.watchman_index.specs.declared.listed.Listed.{Listed}
+use Rattle.watchman_index.specs.declared.listing.Listing.{Listing}
+use Rattle.watchman_index.specs.declared.listing.Listing.TheVariants.{Changed, AllAgain, AllAnew}
 
--- a row that message n changed
+-- a row that message n lists and changed
 abbrev pub changed_by : ℕ → FileState → Row
-changed_by n s = record { state = s; changed = n }
+changed_by n s = record { state = s; told = n; changed = n }
 
--- the row of a file that message n lists as s: it stays where that was known, and else n changed it
-abbrev pub IsTold : ℕ → Option Row → FileState → Row → Type 0
-IsTold n None s now = now ≡ changed_by n s
-IsTold n (Some was) s now = (was.state ≡ s → now ≡ was) × (was.state ≢ s → now ≡ changed_by n s)
+-- a row that message n lists as it was
+abbrev pub told_again : ℕ → Row → Row
+told_again n was = record was { told = n }
 
--- the row of a file that message n says to be gone
+-- the row of a file that message n lists as s. Message n changed it, but where it tells all files
+-- again, and tells of this one what was known
+abbrev pub IsTold : ℕ → Listing → Option Row → FileState → Row → Type 0
+IsTold n Changed was s now = now ≡ changed_by n s
+IsTold n AllAnew was s now = now ≡ changed_by n s
+IsTold n AllAgain None s now = now ≡ changed_by n s
+IsTold n AllAgain (Some was) s now =
+    (was.state ≡ s → now ≡ told_again n was) × (was.state ≢ s → now ≡ changed_by n s)
+
+-- the row of a file that message n says to be gone, though it does not list it
 abbrev pub gone : ℕ → Row → Row
-gone n was = if was.state.exists then changed_by n (record was.state { exists = false }) else was
+gone n was = if was.state.exists
+    then record was { state = record was.state { exists = false }; changed = n } else was
 
 -- what is said of a listed file
 abbrev pub state_of : Listed → FileState

@@ -1,11 +1,13 @@
 -- What a message makes of all that is known of files, by their names.
-use Rattle.std.specs.Prelude.{◌≡◌, ◌⊎◌, ℕ, Bool, true, List, Option, Some, None, IsSomeAnd, if◌then◌else◌, nat_lt, filter}
+use Rattle.std.specs.Prelude.{◌≡◌, ◌⊎◌, ℕ, Bool, List, Option, Some, None, IsSomeAnd, if◌then◌else◌, nat_lt, filter}
 use Rattle.std.specs.Option.{option_map, is_some}
 use Rattle.std.specs.BTreeMap.{BTreeMap, get}
 use Rattle.std.specs.Ordering.{nat_cmp}
 use Rattle.std.specs.Cmp.Lexicographic.{slice_cmp}
+use Rattle.watchman_index.specs.declared.listing.Listing.{Listing}
 use Rattle.watchman_index.specs.declared.row.FileState.{FileState}
 use Rattle.watchman_index.specs.declared.row.Row.{Row}
+use Rattle.watchman_index.specs.Listings.{is_of_all}
 use Rattle.watchman_index.specs.Rows.{gone, IsTold}
 
 -- what a table has of a name
@@ -13,31 +15,49 @@ abbrev pub of_name : {X : Type 0} → BTreeMap (List ℕ) X → List ℕ → Opt
 of_name table name = get (slice_cmp nat_cmp) table name
 
 -- the row of a file that message n does not list: gone, where the message tells all files
-abbrev pub unlisted : ℕ → Bool → Option Row → Option Row
-unlisted n fresh was = if fresh then option_map (gone n) was else was
+abbrev pub unlisted : ℕ → Listing → Option Row → Option Row
+unlisted n listing was = if is_of_all listing then option_map (gone n) was else was
 
 -- the row of a file after message n, which says `listed` of it, if it lists it
-abbrev pub IsRowAfter : ℕ → Bool → Option FileState → Option Row → Option Row → Type 0
-IsRowAfter n fresh (Some s) was now = IsSomeAnd now (IsTold n was s)
-IsRowAfter n fresh None was now = now ≡ unlisted n fresh was
+abbrev pub IsRowAfter : ℕ → Listing → Option FileState → Option Row → Option Row → Type 0
+IsRowAfter n listing (Some s) was now = IsSomeAnd now (IsTold n listing was s)
+IsRowAfter n listing None was now = now ≡ unlisted n listing was
+
+-- the row of a file that was put, where message n says `listed` of it, and else as it was
+abbrev pub IsPut : ℕ → Listing → Option FileState → Option Row → Option Row → Type 0
+IsPut n listing (Some s) was now = IsSomeAnd now (IsTold n listing was s)
+IsPut n listing None was now = now ≡ was
 
 -- each file's row is that after message n, which lists these files
-abbrev pub Applies : ℕ → Bool → BTreeMap (List ℕ) FileState
+abbrev pub Applies : ℕ → Listing → BTreeMap (List ℕ) FileState
     → BTreeMap (List ℕ) Row → BTreeMap (List ℕ) Row → Type 0
-Applies n fresh listed old new = (name : List ℕ)
-    → IsRowAfter n fresh (of_name listed name) (of_name old name) (of_name new name)
+Applies n listing listed old new = (name : List ℕ)
+    → IsRowAfter n listing (of_name listed name) (of_name old name) (of_name new name)
 
 -- each file's row is as before, or that after message n
-abbrev pub AppliesPartly : ℕ → Bool → BTreeMap (List ℕ) FileState
+abbrev pub AppliesPartly : ℕ → Listing → BTreeMap (List ℕ) FileState
     → BTreeMap (List ℕ) Row → BTreeMap (List ℕ) Row → Type 0
-AppliesPartly n fresh listed old new = (name : List ℕ) → (of_name new name ≡ of_name old name)
-    ⊎ IsRowAfter n fresh (of_name listed name) (of_name old name) (of_name new name)
+AppliesPartly n listing listed old new = (name : List ℕ) → (of_name new name ≡ of_name old name)
+    ⊎ IsRowAfter n listing (of_name listed name) (of_name old name) (of_name new name)
 
 -- files that message n does not list are gone, and the others as they were
 abbrev pub Forgets : ℕ → BTreeMap (List ℕ) FileState
     → BTreeMap (List ℕ) Row → BTreeMap (List ℕ) Row → Type 0
 Forgets n listed old new = (name : List ℕ) → of_name new name
-    ≡ (if is_some (of_name listed name) then of_name old name else unlisted n true (of_name old name))
+    ≡ (if is_some (of_name listed name) then of_name old name
+    else option_map (gone n) (of_name old name))
+
+-- files that message n lists are put, and the others as they were
+abbrev pub Puts : ℕ → Listing → BTreeMap (List ℕ) FileState
+    → BTreeMap (List ℕ) Row → BTreeMap (List ℕ) Row → Type 0
+Puts n listing listed old new = (name : List ℕ)
+    → IsPut n listing (of_name listed name) (of_name old name) (of_name new name)
+
+-- each file's row is as before, or put
+abbrev pub PutsPartly : ℕ → Listing → BTreeMap (List ℕ) FileState
+    → BTreeMap (List ℕ) Row → BTreeMap (List ℕ) Row → Type 0
+PutsPartly n listing listed old new = (name : List ℕ) → (of_name new name ≡ of_name old name)
+    ⊎ IsPut n listing (of_name listed name) (of_name old name) (of_name new name)
 
 -- whether a message behind that of this number changed the row; behind none that is known, whether
 -- the file exists

@@ -11,6 +11,7 @@ pub record IsOfQuery (answer : QueryResult (List ℕ) Listed) (c : Changes) : Ty
   pub root : c.root ≡ answer.root
   pub subscription : c.subscription ≡ None
   pub clock : c.clock ≡ answer.clock
+  pub since : c.since ≡ None
   pub fresh : c.is_fresh_instance ≡ answer.is_fresh_instance
   pub files : HasListed answer.files.items c.files
 
@@ -19,5 +20,6 @@ pub record IsOfSubscription (told : FilesChanged (List ℕ) Listed) (c : Changes
   pub root : c.root ≡ told.root
   pub subscription : c.subscription ≡ Some told.subscription
   pub clock : c.clock ≡ told.clock
+  pub since : c.since ≡ told.since
   pub fresh : c.is_fresh_instance ≡ told.is_fresh_instance
   pub files : HasListed told.files.items c.files

@@ -20,6 +20,8 @@ pub struct Changes {
     pub subscription: Option<ByteString>,
     /// The clock of the message.
     pub clock: ByteString,
+    /// The clock that a message of a subscription tells the changes from.
+    pub since: Option<ByteString>,
     /// Whether the files that are listed are all that there are, and not those that changed.
     pub is_fresh_instance: bool,
     /// The files that are listed, each once.
@@ -38,6 +40,7 @@ impl Changes {
             root: answer.root,
             subscription: None,
             clock: answer.clock,
+            since: None,
             is_fresh_instance: answer.is_fresh_instance,
             files: files_of(alloc, answer.files)?,
         })
@@ -54,6 +57,7 @@ impl Changes {
             root: told.root,
             subscription: Some(told.subscription),
             clock: told.clock,
+            since: told.since,
             is_fresh_instance: told.is_fresh_instance,
             files: files_of(alloc, told.files)?,
         })

@@ -1,14 +1,17 @@
 //! An index of files.
-ghost use Rattle.std.specs.Prelude.{◌≡◌, ◌≢◌, false, not, map, Some, Err, IfOk, IfErr, OnOk, OnErr};
+ghost use Rattle.std.specs.Prelude.{◌≡◌, ◌≢◌, not, map, Some, None, Err, IfOk, IfErr, OnOk, OnErr};
 ghost use Rattle.std.specs.Option.{is_some};
 ghost use Rattle.std.specs.Ordering.{nat_cmp};
 ghost use Rattle.std.specs.BTreeMap.{IsEmpty, Updates};
 ghost use Rattle.std.specs.Map.Iter.{deref_pair};
 ghost use Rattle.std.specs.Cmp.Lexicographic.{slice_cmp};
+ghost use Rattle.watchman_index.specs.Listings.{listing_of};
 ghost use Rattle.watchman_index.specs.Origins.{Agrees, Learns};
-ghost use Rattle.watchman_index.specs.Tables.{of_name, since_entries, Applies, AppliesPartly, Forgets};
+ghost use Rattle.watchman_index.specs.Tables.{of_name, since_entries, Applies, AppliesPartly};
+ghost use Rattle.watchman_index.specs.Tables.{Forgets, Puts, PutsPartly};
 
 use crate::changes::Changes;
+use crate::listing::Listing;
 use crate::origin::{Origin, Refusal};
 use crate::row::{FileState, Row};
 use serde_bser::bytestring::ByteString;
@@ -24,6 +27,8 @@ pub struct Index {
     pub origin: Origin,
     /// For each clock that was told the number of the last message up to it.
     pub clocks: BTreeMap<ByteString, u64>,
+    /// The clock of the last message that told files, up to which all is told.
+    pub last_clock: Option<ByteString>,
     /// The files. Of those that were deleted it is known that they are.
     pub files: BTreeMap<ByteString, Row>,
 }
@@ -42,10 +47,12 @@ impl Index {
     pub fn new(alloc: Global) -> Self
         ensures files { IsEmpty result.files }
         ensures clocks { IsEmpty result.clocks }
+        ensures last { result.last_clock ≡ None }
     {
         Index {
             origin: Origin::new(),
             clocks: BTreeMap::new(alloc),
+            last_clock: None,
             files: BTreeMap::new(alloc),
         }
     }
@@ -53,16 +60,18 @@ impl Index {
     /// Applies what the message of this number tells.
     ///
     /// A file that it lists has the state that it tells. Where it tells all files, those that it
-    /// does not list are gone; else they are as before. A file counts as changed by this message
-    /// where its state is another one than before.
+    /// does not list are gone; else they are as before. The message changed each file that it lists,
+    /// but where it tells all files again ([`Listing::AllAgain`]), and of this one what was known.
     ///
     /// A message of another root or subscription is refused, and nothing is changed. Where there is
     /// no memory, each file is as before or as after the message, which may be applied again.
     pub fn apply(&mut self, number: u64, changes: Changes) -> Result<(), Refusal>
-        ensures files { OnOk result (Applies number changes.is_fresh_instance changes.files
-            self.old.files self.new.files) }
+        ensures files { OnOk result (Applies number
+            (listing_of changes.is_fresh_instance self.old.last_clock changes.clock)
+            changes.files self.old.files self.new.files) }
         ensures clocks { OnOk result (Updates (slice_cmp nat_cmp) self.old.clocks self.new.clocks
             changes.clock (Some number)) }
+        ensures last { OnOk result (self.new.last_clock ≡ Some changes.clock) }
         ensures origin { OnOk result (Learns self.old.origin changes.root changes.subscription
             self.new.origin) }
         ensures agrees { OnOk result (Agrees self.old.origin.root changes.root
@@ -72,22 +81,28 @@ impl Index {
         ensures subscription { result ≡ Err Refusal.OtherSubscription
             → ¬ Agrees self.old.origin.subscription changes.subscription }
         ensures refused { IfErr result (λ e. e ≢ Refusal.OutOfMemory → self.new ≡ self.old) }
-        ensures partly { OnErr result (AppliesPartly number changes.is_fresh_instance changes.files
-            self.old.files self.new.files) }
+        ensures partly { OnErr result (AppliesPartly number
+            (listing_of changes.is_fresh_instance self.old.last_clock changes.clock)
+            changes.files self.old.files self.new.files) }
+        ensures last_on_err { OnErr result (self.new.last_clock ≡ self.old.last_clock) }
     {
         self.origin.check(&changes)?;
         let Changes {
             root,
             subscription,
             clock,
+            since: _,
             is_fresh_instance,
             files,
         } = changes;
-        if is_fresh_instance {
+        let listing = Listing::of(is_fresh_instance, self.last_clock.as_ref(), &clock);
+        if listing.is_of_all() {
             forget_unlisted(&mut self.files, number, &files);
         }
-        put_listed(&mut self.files, number, files)?;
+        put_listed(&mut self.files, number, listing, files)?;
+        let last = clock.clone()?;
         self.apply_clock(number, clock)?;
+        self.last_clock = Some(last);
         self.origin.learn(root, subscription);
         Ok(())
     }
@@ -99,6 +114,7 @@ impl Index {
             clock (Some number)) }
         ensures files { self.new.files ≡ self.old.files }
         ensures origin { self.new.origin ≡ self.old.origin }
+        ensures last { self.new.last_clock ≡ self.old.last_clock }
         ensures err { OnErr result (self.new.clocks.entries ≡ self.old.clocks.entries) }
     {
         self.clocks.insert(clock, number)?;
@@ -149,14 +165,15 @@ fn forget_unlisted(
 fn put_listed(
     files: &mut BTreeMap<ByteString, Row>,
     number: u64,
+    listing: Listing,
     listed: BTreeMap<ByteString, FileState>,
 ) -> Result<(), AllocError>
-    ensures ok { OnOk result (Applies number false listed files.old files.new) }
-    ensures err { OnErr result (AppliesPartly number false listed files.old files.new) }
+    ensures ok { OnOk result (Puts number listing listed files.old files.new) }
+    ensures err { OnErr result (PutsPartly number listing listed files.old files.new) }
 {
     for (name, state) in listed {
         let was = files.get(&name).copied();
-        files.insert(name, Row::told(number, was, state))?;
+        files.insert(name, Row::told(number, listing, was, state))?;
     }
     Ok(())
 }

@@ -6,8 +6,10 @@
 #![tactic(auto)]
 
 pub mod changes;
+pub mod clock;
 pub mod index;
 pub mod listed;
+pub mod listing;
 pub mod origin;
 pub mod row;
 pub mod suffix;

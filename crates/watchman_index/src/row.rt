@@ -3,6 +3,7 @@ ghost use Rattle.std.specs.Prelude.{◌≡◌, if◌then◌else◌};
 ghost use Rattle.watchman_index.specs.Rows.{gone, IsTold};
 ghost use Rattle.watchman_index.specs.Tables.{is_since};
 
+use crate::listing::Listing;
 use watchman_types::file_type::FileType;
 
 /// What a message says of a file, but for its name. What was not asked for is `None`.
@@ -25,23 +26,35 @@ pub struct FileState {
 pub struct Row {
     /// What was last said of it.
     pub state: FileState,
+    /// The number of the message that listed it last.
+    pub told: u64,
     /// The number of the message that changed it last.
     pub changed: u64,
 }
 
 impl Row {
-    /// The row of a file that the message of this number lists so. Where nothing else was known of
-    /// it before, it stays as it was.
-    pub(crate) fn told(number: u64, was: Option<Row>, state: FileState) -> Row
-        ensures { IsTold number was state result }
+    /// The row of a file that the message of this number lists so, and what it was before. The
+    /// message changed it, but where it tells all files again, and of this one what was known.
+    pub(crate) fn told(number: u64, listing: Listing, was: Option<Row>, state: FileState) -> Row
+        ensures { IsTold number listing was state result }
     {
         let new = Row {
             state,
+            told: number,
             changed: number,
         };
-        match was {
-            Some(row) => { if row.state == state { row } else { new } }
-            None => new,
+        match (listing, was) {
+            (Listing::AllAgain, Some(row)) => {
+                if row.state == state {
+                    Row {
+                        told: number,
+                        ..row
+                    }
+                } else {
+                    new
+                }
+            }
+            _ => new,
         }
     }
 
@@ -60,6 +73,7 @@ impl Row {
         Row {
             state,
             changed: number,
+            ..self
         }
     }
 

@@ -11,7 +11,7 @@ use watchman_types::error_reply::ErrorReply;
 use watchman_types::header::Header;
 use watchman_types::kind::{EventKind, Kind};
 use watchman_types::query::QueryResult;
-use watchman_types::subscription::FilesChanged;
+use watchman_types::subscription::{FilesChanged, Subscribed};
 use watchman_types::watch::Clock;
 
 /// What a message tells that an index can use.
@@ -21,6 +21,8 @@ pub enum Told {
     Files(Changes),
     /// A clock, and no files.
     Clock(ByteString),
+    /// The clock of the answer to `subscribe`, behind which come the messages of a subscription.
+    Subscribed(ByteString),
     /// An error of the server, in the place of an answer.
     ServerError(ByteString),
     /// None of these.
@@ -88,6 +90,9 @@ fn subscription_told(alloc: Global, bytes: &[u8]) -> Result<Told, Unread> {
 
 /// The clock of a message without files, if it has one.
 fn clock_told(alloc: Global, bytes: &[u8]) -> Result<Told, Unread> {
+    if let Some(clock) = subscribed_clock(alloc, bytes) {
+        return Ok(Told::Subscribed(clock));
+    }
     match from_slice::<Clock<ByteString>>(alloc, bytes) {
         Ok(told) => Ok(Told::Clock(told.clock)),
         Err(error) => match error.cause() {
@@ -95,4 +100,10 @@ fn clock_told(alloc: Global, bytes: &[u8]) -> Result<Told, Unread> {
             _ => Ok(Told::Nothing),
         },
     }
+}
+
+/// The clock of the answer to `subscribe`. `None` for another message, and one without a clock.
+fn subscribed_clock(alloc: Global, bytes: &[u8]) -> Option<ByteString> {
+    let answer: Subscribed<ByteString> = from_slice(alloc, bytes).ok()?;
+    answer.clock
 }

@@ -1,14 +1,16 @@
 //! Adds what messages tell to an index, each message in a transaction.
 
-use crate::connection::{has_tables, read_stored};
+use crate::conditions::{Conditions, is_told_by};
+use crate::connection::{has_tables, make_tables, read_stored};
 use crate::error::IndexError;
-use crate::messages::Taker;
-use crate::schema::{CLOCK, CREATE, FORGET, PUT, SOURCE};
+use crate::schema::{CLOCK, FORGET, PUT, SOURCE};
+use crate::subject::{Subject, read_subject};
 use serde_bser::bytestring::ByteString;
 use sqlite::{Alter, Connection, Statement, Transaction, params};
 use std::alloc::Global;
 use std::collections::BTreeMap;
 use watchman_index::changes::Changes;
+use watchman_index::listing::Listing;
 use watchman_index::origin::Origin;
 use watchman_index::row::FileState;
 use watchman_index::suffix::suffix_of;
@@ -43,42 +45,93 @@ pub(crate) struct Adder<'c, S: Alter> {
     alloc: Global,
     conn: &'c mut Connection<S>,
     statements: Statements,
+    conditions: Conditions,
+    subject: Option<Subject>,
     messages: u64,
     origin: Origin,
+    // the clock of the last message that told files
+    last_clock: Option<ByteString>,
 }
 
 impl<'c, S: Alter> Adder<'c, S> {
     /// Adds to the index of this connection, which is made where there are no tables.
-    pub(crate) fn new(alloc: Global, conn: &'c mut Connection<S>) -> Result<Self, IndexError> {
+    pub(crate) fn new(
+        alloc: Global,
+        conn: &'c mut Connection<S>,
+        conditions: Conditions,
+    ) -> Result<Self, IndexError> {
         if !has_tables(conn)? {
-            conn.execute_batch(CREATE)?;
+            make_tables(alloc, conn, None)?;
         }
         let statements = Statements::new(conn)?;
+        let subject = read_subject(alloc, conn)?;
         let found = read_stored(conn)?;
         Ok(Adder {
             alloc,
             conn,
             statements,
+            conditions,
+            subject,
             messages: found.messages,
             origin: found.origin,
+            last_clock: found.clock,
         })
     }
 }
 
-impl<S: Alter> Taker for Adder<'_, S> {
-    fn take_changes(&mut self, changes: Changes) -> Result<(), IndexError> {
+impl<S: Alter> Adder<'_, S> {
+    /// Adds which files a message tells.
+    pub(crate) fn add_changes(&mut self, changes: Changes) -> Result<(), IndexError> {
         if let Err(refusal) = self.origin.check(&changes) {
             return Err(IndexError::Refused(refusal));
         }
-        let number = self.messages.saturating_add(1);
-        add_changes(self.alloc, self.conn, &self.statements, number, &changes)?;
+        let last = self.last_clock.as_ref();
+        self.conditions.check(&self.subject, last, &changes)?;
+        let number = next_number(self.messages)?;
+        let listing = Listing::of(changes.is_fresh_instance, last, &changes.clock);
+        add_message(
+            self.alloc,
+            self.conn,
+            &self.statements,
+            number,
+            listing,
+            &changes,
+        )?;
         self.messages = number;
+        self.last_clock = Some(changes.clock);
         self.origin.learn(changes.root, changes.subscription);
         Ok(())
     }
 
-    fn take_clock(&mut self, clock: ByteString) -> Result<(), IndexError> {
-        add_clock(self.conn, &self.statements, self.messages, &clock)
+    /// How many messages that told files were added.
+    pub(crate) fn messages(&self) -> u64 {
+        self.messages
+    }
+
+    /// Whether messages were added behind so many, and all is told up to this clock.
+    pub(crate) fn is_told_since(&self, messages: u64, clock: &ByteString) -> bool {
+        match &self.last_clock {
+            Some(last) => self.messages > messages && is_told_by(last, clock),
+            None => false,
+        }
+    }
+
+    /// Adds the clock of a message that tells no files, behind the last that does.
+    pub(crate) fn add_clock(&mut self, clock: &ByteString) -> Result<(), IndexError> {
+        let number = param(self.messages);
+        self.statements
+            .clock
+            .execute(self.conn, params![clock.as_bytes(), number])?;
+        Ok(())
+    }
+}
+
+/// The number of the message behind that of this number.
+fn next_number(number: u64) -> Result<u64, IndexError> {
+    if number < i64::MAX as u64 {
+        Ok(number + 1)
+    } else {
+        Err(IndexError::TooManyMessages)
     }
 }
 
@@ -88,19 +141,27 @@ fn param(number: u64) -> i64 {
 }
 
 /// Adds what the message of this number tells, all of it or nothing.
-fn add_changes<S: Alter>(
+fn add_message<S: Alter>(
     alloc: Global,
     conn: &mut Connection<S>,
     with: &Statements,
     number: u64,
+    listing: Listing,
     changes: &Changes,
 ) -> Result<(), IndexError> {
     if !conn.is_autocommit() {
         return Err(IndexError::NoIndex);
     }
     let mut transaction = conn.transaction();
-    put_files(alloc, &mut transaction, with, number, &changes.files)?;
-    if changes.is_fresh_instance {
+    put_files(
+        alloc,
+        &mut transaction,
+        with,
+        number,
+        listing,
+        &changes.files,
+    )?;
+    if listing.is_of_all() {
         transaction.execute_prepared(&with.forget, params![param(number)])?;
     }
     put_message(&mut transaction, with, number, changes)?;
@@ -114,10 +175,19 @@ fn put_files<S: Alter>(
     transaction: &mut Transaction<'_, S>,
     with: &Statements,
     number: u64,
+    listing: Listing,
     files: &BTreeMap<ByteString, FileState>,
 ) -> Result<(), IndexError> {
     for (name, state) in files {
-        put_file(alloc, transaction, with, number, name.as_bytes(), *state)?;
+        put_file(
+            alloc,
+            transaction,
+            with,
+            number,
+            listing,
+            name.as_bytes(),
+            *state,
+        )?;
     }
     Ok(())
 }
@@ -128,6 +198,7 @@ fn put_file<S: Alter>(
     transaction: &mut Transaction<'_, S>,
     with: &Statements,
     number: u64,
+    listing: Listing,
     name: &[u8],
     state: FileState,
 ) -> Result<(), IndexError> {
@@ -143,14 +214,15 @@ fn put_file<S: Alter>(
             state.mode,
             kind,
             state.mtime_ms,
-            param(number)
+            param(number),
+            listing == Listing::AllAgain
         ],
     )?;
     Ok(())
 }
 
 /// The suffix of a name, with ASCII letters in lower case.
-fn lower_suffix(alloc: Global, name: &[u8]) -> Result<Option<Vec<u8>>, IndexError> {
+pub(crate) fn lower_suffix(alloc: Global, name: &[u8]) -> Result<Option<Vec<u8>>, IndexError> {
     match suffix_of(name) {
         Some(suffix) => {
             let mut lower = Vec::from_slice(alloc, suffix)?;
@@ -176,17 +248,5 @@ fn put_message<S: Alter>(
         &with.source,
         params![param(number), root, subscription, clock],
     )?;
-    Ok(())
-}
-
-/// Keeps a clock that was told behind the message of this number.
-fn add_clock<S: Alter>(
-    conn: &mut Connection<S>,
-    with: &Statements,
-    number: u64,
-    clock: &ByteString,
-) -> Result<(), IndexError> {
-    with.clock
-        .execute(conn, params![clock.as_bytes(), param(number)])?;
     Ok(())
 }

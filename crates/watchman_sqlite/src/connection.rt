@@ -2,55 +2,104 @@
 
 use crate::error::IndexError;
 use crate::record::{Record, Visitor};
-use crate::schema::TABLES;
+use crate::schema::{CREATE, KEEP_LAYOUT, LAYOUT, OLD_TABLES, TABLES};
+use crate::subject::{CREATE_SUBJECT, Subject, write_subject};
 use serde_bser::bytestring::ByteString;
 use sqlite::types::ValueRef;
 use sqlite::{Alter, Connection, Row, params};
+use std::alloc::Global;
 use watchman_index::origin::Origin;
 
 /// What an index has of its messages.
 #[derive(Debug, Drop)]
-pub(crate) struct Stored {
+pub struct Stored {
     /// How many messages that told files were added.
-    pub(crate) messages: u64,
+    pub messages: u64,
     /// What they are of.
-    pub(crate) origin: Origin,
+    pub origin: Origin,
     /// The last clock.
-    pub(crate) clock: Option<ByteString>,
+    pub clock: Option<ByteString>,
 }
 
-/// Whether the database is an index, or has no tables at all.
-pub(crate) fn has_tables<S: Alter>(conn: &mut Connection<S>) -> Result<bool, IndexError> {
-    let names = conn.query_all(
-        "SELECT name FROM sqlite_schema WHERE type = 'table' ORDER BY name",
+/// Whether the database is an index, or has no tables at all. Tables of others may stand beside
+/// those of an index. Fails for a database of something else, and for an index of another layout.
+pub fn has_tables<S: Alter>(conn: &mut Connection<S>) -> Result<bool, IndexError> {
+    let rows = conn.query_all(
+        "SELECT name FROM sqlite_schema WHERE type = 'table'",
         params![],
     )?;
-    if names.is_empty() {
-        return Ok(false);
+    if has_all(&rows, &TABLES)? {
+        check_layout(conn)?;
+        return Ok(true);
     }
-    if are_tables(&names)? {
-        Ok(true)
+    if has_all(&rows, &OLD_TABLES)? {
+        return Err(IndexError::OtherLayout);
+    }
+    if rows.is_empty() {
+        Ok(false)
     } else {
         Err(IndexError::NoIndex)
     }
 }
 
-/// Whether these rows name the tables of an index.
-fn are_tables(names: &[Row]) -> Result<bool, IndexError> {
-    if names.len() != TABLES.len() {
-        return Ok(false);
-    }
-    for (row, table) in names.iter().zip(TABLES.iter()) {
-        let name: String = row.get(0)?;
-        if name.as_str() != *table {
+/// Whether rows of names have each of these.
+fn has_all(rows: &[Row], names: &[&str]) -> Result<bool, IndexError> {
+    for name in names {
+        if !has_name(rows, *name)? {
             return Ok(false);
         }
     }
     Ok(true)
 }
 
+/// Whether rows of names have this one.
+fn has_name(rows: &[Row], wanted: &str) -> Result<bool, IndexError> {
+    for row in rows {
+        let name: String = row.get(0)?;
+        if name.as_str() == wanted {
+            return Ok(true);
+        }
+    }
+    Ok(false)
+}
+
+/// Fails for an index of another layout.
+fn check_layout<S: Alter>(conn: &mut Connection<S>) -> Result<(), IndexError> {
+    let rows = conn.query_all("SELECT version FROM layout WHERE id = 1", params![])?;
+    let version: Option<i64> = match rows.first() {
+        Some(row) => row.get(0)?,
+        None => None,
+    };
+    if version == Some(LAYOUT) {
+        Ok(())
+    } else {
+        Err(IndexError::OtherLayout)
+    }
+}
+
+/// Makes the tables of an index of this subject, all of them or none. Without one the index is of
+/// what its messages are of.
+pub fn make_tables<S: Alter>(
+    alloc: Global,
+    conn: &mut Connection<S>,
+    subject: Option<&Subject>,
+) -> Result<(), IndexError> {
+    if !conn.is_autocommit() {
+        return Err(IndexError::NoIndex);
+    }
+    let mut transaction = conn.transaction();
+    transaction.execute_batch(CREATE)?;
+    transaction.execute_batch(CREATE_SUBJECT)?;
+    transaction.execute(KEEP_LAYOUT, params![LAYOUT])?;
+    if let Some(subject) = subject {
+        write_subject(alloc, &mut transaction, subject)?;
+    }
+    transaction.commit()?;
+    Ok(())
+}
+
 /// What the index has of its messages.
-pub(crate) fn read_stored<S: Alter>(conn: &mut Connection<S>) -> Result<Stored, IndexError> {
+pub fn read_stored<S: Alter>(conn: &mut Connection<S>) -> Result<Stored, IndexError> {
     let row = conn.query_row(
         "SELECT messages, root, subscription, clock FROM source WHERE id = 1",
         params![],
@@ -66,13 +115,13 @@ pub(crate) fn read_stored<S: Alter>(conn: &mut Connection<S>) -> Result<Stored, 
 }
 
 /// The byte string of this column, if it has one.
-fn bytes_at(row: &Row, column: usize) -> Result<Option<ByteString>, IndexError> {
+pub fn bytes_at(row: &Row, column: usize) -> Result<Option<ByteString>, IndexError> {
     let bytes: Option<Vec<u8>> = row.get(column)?;
     Ok(bytes.map(ByteString::from_vec))
 }
 
 /// The number of the last message up to a clock. `None` for one that was not told.
-pub(crate) fn number_of<S: Alter>(
+pub fn number_of<S: Alter>(
     conn: &mut Connection<S>,
     clock: &[u8],
 ) -> Result<Option<u64>, IndexError> {
@@ -84,7 +133,7 @@ pub(crate) fn number_of<S: Alter>(
 }
 
 /// Hands each record of the answer to the visitor.
-pub(crate) fn visit_all<S: Alter, V: Visitor>(
+pub fn visit_all<S: Alter, V: Visitor>(
     conn: &mut Connection<S>,
     question: &str,
     params: &[ValueRef<'_>],

@@ -1,18 +1,19 @@
-//! The program `bser_index`: a SQLite file of what a Watchman server told of the files below a
-//! root.
+//! A SQLite file of what a Watchman server told of the files below a root.
 //!
 //! One message is one transaction, so the file holds all of a message or nothing, also where the
-//! program is killed.
+//! program that writes it is killed.
 #![tactic(auto)]
 
 mod adding;
-mod command;
-mod connection;
-mod error;
-mod messages;
-pub mod program;
-mod questions;
-mod record;
-mod schema;
-pub mod standard;
-mod verifying;
+mod conditions;
+pub mod connection;
+pub mod error;
+pub mod making;
+pub mod messages;
+pub mod opening;
+pub mod record;
+pub mod reopening;
+pub mod schema;
+pub mod snapshot;
+pub mod subject;
+pub mod verifying;

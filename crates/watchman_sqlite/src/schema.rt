@@ -1,65 +1,82 @@
 //! The tables of an index, and the statements that write them.
 //!
+//! `layout` has one row, the version of the layout. `subject` says which query the index is of.
 //! `source` has one row: how many messages were added, what they are of, and the last clock.
 //! `clock` has for each clock that was told the number of the last message up to it. `file` has a
 //! row for each file that was ever listed: `told` is the number of the last message that listed it,
 //! and `changed` that of the last one that changed it.
 
-/// The names of the tables, in their order.
-pub(crate) const TABLES: [&str; 3] = ["clock", "file", "source"];
+/// The version of the layout of the tables. The indices without a version have other tables.
+pub const LAYOUT: i64 = 2;
 
-/// Makes the tables.
-pub(crate) const CREATE: &str = "BEGIN;
+/// The names of the tables.
+pub const TABLES: [&str; 5] = ["clock", "file", "layout", "source", "subject"];
+
+/// The names of the tables of an index without a version.
+pub const OLD_TABLES: [&str; 3] = ["clock", "file", "source"];
+
+/// Makes the tables, but for the one of what the index is of.
+pub const CREATE: &str = "CREATE TABLE layout (id INTEGER PRIMARY KEY,
+version INTEGER NOT NULL);
 CREATE TABLE source (id INTEGER PRIMARY KEY, messages INTEGER NOT NULL, root BLOB,
 subscription BLOB, clock BLOB);
 CREATE TABLE clock (id INTEGER PRIMARY KEY, clock BLOB NOT NULL UNIQUE, message INTEGER NOT NULL);
 CREATE TABLE file (id INTEGER PRIMARY KEY, name BLOB NOT NULL UNIQUE, suffix BLOB,
 present INTEGER NOT NULL, size INTEGER, mode INTEGER, type TEXT, mtime_ms INTEGER,
 told INTEGER NOT NULL, changed INTEGER NOT NULL);
-INSERT INTO source (id, messages) VALUES (1, 0);
-COMMIT";
+INSERT INTO source (id, messages) VALUES (1, 0)";
 
-/// Puts a file that is listed: name, suffix, whether it is present, size, mode, type, time, and the
-/// number of the message.
-pub(crate) const PUT: &str =
+/// Keeps the version of the layout.
+pub const KEEP_LAYOUT: &str = "INSERT INTO layout (id, version) VALUES (1, ?1)";
+
+/// Puts a file that is listed: name, suffix, whether it is present, size, mode, type, time, the
+/// number of the message, and whether one that stays as it was has not changed.
+pub const PUT: &str =
     "INSERT INTO file (name, suffix, present, size, mode, type, mtime_ms, told, changed)
 VALUES (?1, ?2, ?3, ?4, ?5, ?6, ?7, ?8, ?8)
 ON CONFLICT (name) DO UPDATE SET
-changed = CASE WHEN present = excluded.present AND size IS excluded.size AND mode IS excluded.mode
-AND type IS excluded.type AND mtime_ms IS excluded.mtime_ms THEN changed ELSE excluded.changed END,
+changed = CASE WHEN ?9 = 1 AND present = excluded.present AND size IS excluded.size
+AND mode IS excluded.mode AND type IS excluded.type AND mtime_ms IS excluded.mtime_ms
+THEN changed ELSE excluded.changed END,
 present = excluded.present, size = excluded.size, mode = excluded.mode, type = excluded.type,
 mtime_ms = excluded.mtime_ms, told = excluded.told";
 
 /// Files that the message of this number does not list are gone.
-pub(crate) const FORGET: &str =
+pub const FORGET: &str =
     "UPDATE file SET present = 0, changed = ?1 WHERE present = 1 AND told < ?1";
 
 /// Keeps a clock and the number of the last message.
-pub(crate) const CLOCK: &str = "INSERT INTO clock (clock, message) VALUES (?1, ?2)
+pub const CLOCK: &str = "INSERT INTO clock (clock, message) VALUES (?1, ?2)
 ON CONFLICT (clock) DO UPDATE SET message = excluded.message";
 
 /// Keeps the number of messages, the root, the subscription and the clock.
-pub(crate) const SOURCE: &str = "UPDATE source SET messages = ?1, root = coalesce(root, ?2),
+pub const SOURCE: &str = "UPDATE source SET messages = ?1, root = coalesce(root, ?2),
 subscription = coalesce(subscription, ?3), clock = ?4 WHERE id = 1";
 
+/// All of the table of clocks.
+pub const CLOCKS: &str = "SELECT clock, message FROM clock ORDER BY clock";
+
+/// All of the table of files.
+pub const WHOLE: &str =
+    "SELECT name, present, size, mode, type, mtime_ms, changed, told, suffix FROM file
+ORDER BY name";
+
 /// What is known of all files.
-pub(crate) const FILES: &str =
-    "SELECT name, present, size, mode, type, mtime_ms, changed FROM file ORDER BY name";
+pub const FILES: &str =
+    "SELECT name, present, size, mode, type, mtime_ms, changed, told FROM file ORDER BY name";
 
 /// What is known of the files that exist.
-pub(crate) const PRESENT: &str =
-    "SELECT name, present, size, mode, type, mtime_ms, changed FROM file
+pub const PRESENT: &str = "SELECT name, present, size, mode, type, mtime_ms, changed, told FROM file
 WHERE present = 1 ORDER BY name";
 
 /// What is known of the files that a message behind that of this number changed.
-pub(crate) const CHANGED: &str =
-    "SELECT name, present, size, mode, type, mtime_ms, changed FROM file
+pub const CHANGED: &str = "SELECT name, present, size, mode, type, mtime_ms, changed, told FROM file
 WHERE changed > ?1 ORDER BY name";
 
 /// What is known of the files that exist and have this suffix.
-pub(crate) const SUFFIX: &str = "SELECT name, present, size, mode, type, mtime_ms, changed FROM file
+pub const SUFFIX: &str = "SELECT name, present, size, mode, type, mtime_ms, changed, told FROM file
 WHERE present = 1 AND suffix = ?1 ORDER BY name";
 
 /// What is known of the file of this name.
-pub(crate) const NAMED: &str =
-    "SELECT name, present, size, mode, type, mtime_ms, changed FROM file WHERE name = ?1";
+pub const NAMED: &str =
+    "SELECT name, present, size, mode, type, mtime_ms, changed, told FROM file WHERE name = ?1";

@@ -1,11 +1,11 @@
-use Rattle.std.proofs.Common.{◌≡◌, false, ◌∷◌, sym, ◌∙◌, subst, ◌⊎◌}
+use Rattle.std.proofs.Common.{◌≡◌, ◌∷◌, sym, ◌∙◌, subst, ◌⊎◌}
 use Rattle.std.specs.List.{IsDistinct}
 use Rattle.std.specs.Map.{keys_of}
 use Rattle.std.specs.Ordering.{nat_cmp, eq_by_cmp}
 use Rattle.std.specs.Cmp.Lexicographic.{slice_cmp}
 use Rattle.std.proofs.lemmas.Map.Keys.{IsDistinct-from_sorted}
 use Rattle.std.proofs.lemmas.Map.Iter.{rest_more, rest_all}
-use Rattle.watchman_index.specs.Tables.{of_name, AppliesPartly, IsRowAfter}
+use Rattle.watchman_index.specs.Tables.{of_name, PutsPartly, IsPut}
 use Rattle.watchman_index.specs.Rows.{IsTold}
 use Rattle.watchman_index.proofs.Puts.{at, IsPutUpTo, put_begin, put_step, put_end, put_partly, distinct_tail, on_err}
 use Rattle.watchman_index.proofs.index.put_listed.Goals as goal
@@ -13,7 +13,7 @@ use Rattle.watchman_index.proofs.index.put_listed.Goals as goal
 pub loop-name-init : goal.loop-name-init
 loop-name-init c =
     let g = c.into_iter-name-iterator.ensures.into_iter_gives in
-    rw g.0 (IsDistinct-from_sorted _ _ g.5, λ name. put_begin _ (of_name c.args.listed name) _)
+    rw g.0 (IsDistinct-from_sorted _ _ g.5, λ name. put_begin _ _ (of_name c.args.listed name) _)
 
 pub loop-name-preserved : goal.loop-name-preserved
 loop-name-preserved c =
@@ -25,13 +25,14 @@ loop-name-preserved c =
     let d : IsDistinct (eq_by_cmp (slice_cmp nat_cmp)) (name ∷ keys_of c.next.new.self)
     = subst (λ es. IsDistinct (eq_by_cmp (slice_cmp nat_cmp)) (keys_of es)) more held.0 in (
       distinct_tail _ _ _ d,
-      λ q. put_step c.args.number name q c.in-Some.state c.next.new.self
+      λ q. put_step c.args.number c.args.listing name q c.in-Some.state c.next.new.self
           c.told.result (of_name c.args.listed q) (of_name c.args.files.now q)
           (of_name c.loop-name.files q) (of_name c.insert.new.self q) d
-          (subst (λ es. IsPutUpTo c.args.number (of_name c.args.listed q) (at es q)
+          (subst (λ es. IsPutUpTo c.args.number c.args.listing (of_name c.args.listed q) (at es q)
           (of_name c.args.files.now q) (of_name c.loop-name.files q)) more (held.1 q))
           (c.in_ok-insert.ensures.updates.0 q)
-          (λ same. rw same (subst (λ o. IsTold c.args.number o c.in-Some.state c.told.result)
+          (λ same. rw same (subst
+          (λ o. IsTold c.args.number c.args.listing o c.in-Some.state c.told.result)
           was c.told.ensures)),
     )
 
@@ -39,18 +40,19 @@ pub returns-in_err-insert-clause-err : goal.returns-in_err-insert-clause-err
 returns-in_err-insert-clause-err c =
     let held = c.loop-name.invariant in
     let stays = c.in_err-insert.ensures.err in
-    let partly : AppliesPartly c.args.number false c.args.listed c.args.files.now c.insert.new.self
-    = λ q. subst (λ es. (at es q ≡ of_name c.args.files.now q) ⊎ IsRowAfter c.args.number false
+    let partly
+    : PutsPartly c.args.number c.args.listing c.args.listed c.args.files.now c.insert.new.self
+    = λ q. subst (λ es. (at es q ≡ of_name c.args.files.now q) ⊎ IsPut c.args.number c.args.listing
     (of_name c.args.listed q) (of_name c.args.files.now q) (at es q)) (sym stays)
-    (put_partly c.args.number (of_name c.args.listed q) (at c.loop-name.name-iterator q)
-    (of_name c.args.files.now q) (of_name c.loop-name.files q) (held.1 q)) in
+    (put_partly c.args.number c.args.listing (of_name c.args.listed q)
+    (at c.loop-name.name-iterator q) (of_name c.args.files.now q) (of_name c.loop-name.files q) (held.1 q)) in
     on_err c.from_residual.result partly
 
 pub returns-clause-ok : goal.returns-clause-ok
 returns-clause-ok c =
     let none = rest_all (λ p. p) _ _ c.next.result c.in-None.is c.next.ensures.steps in
     let held = c.loop-name.invariant in
-    λ q. put_end c.args.number (of_name c.args.listed q) (of_name c.args.files.now q)
-    (of_name c.loop-name.files q) (subst (λ es. IsPutUpTo c.args.number
+    λ q. put_end c.args.number c.args.listing (of_name c.args.listed q) (of_name c.args.files.now q)
+    (of_name c.loop-name.files q) (subst (λ es. IsPutUpTo c.args.number c.args.listing
     (of_name c.args.listed q) (at es q) (of_name c.args.files.now q)
     (of_name c.loop-name.files q)) none (held.1 q))

@@ -4,5 +4,6 @@ use Rattle.watchman_index.proofs.Same.{same_state}
 
 pub returns-then-eq : goal.returns-then-eq
 returns-then-eq c =
-    let same = same_state c.in-Some.row.state c.args.state (sym c.eq.ensures ∙ c.if-eq.true) in
-    rw c.in-Some.is (λ _. refl, λ other. absurd (other same))
+    let arm = c.in-AllAgain-Some in
+    let same = same_state arm.row.state c.args.state (sym c.eq.ensures ∙ c.if-eq.true) in
+    rw (arm.is-0, arm.is-1) (λ _. refl, λ other. absurd (other same))

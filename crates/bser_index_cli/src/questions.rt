@@ -1,0 +1,109 @@
+//! Answers what an index is asked.
+
+use crate::printing::{Form, Printer, print_clock};
+use crate::request::{Asked, print_request};
+use sqlite::{Alter, Connection, params};
+use std::alloc::Global;
+use std::io::Write;
+use watchman_sqlite::connection::{Stored, number_of, read_stored, visit_all};
+use watchman_sqlite::error::IndexError;
+use watchman_sqlite::schema::{CHANGED, FILES, NAMED, PRESENT, SUFFIX};
+use watchman_sqlite::subject::read_subject;
+
+/// Prints the last clock as it is. False where there is none.
+pub(crate) fn print_last_clock<S: Alter, W: Write>(
+    conn: &mut Connection<S>,
+    out: &mut W,
+) -> Result<bool, IndexError> {
+    let Stored { clock, .. } = read_stored(conn)?;
+    match &clock {
+        Some(clock) => {
+            out.write_all(clock.as_bytes())?;
+            out.write_all(b"\n")?;
+            Ok(true)
+        }
+        None => Ok(false),
+    }
+}
+
+/// Prints the request whose answer comes next.
+pub(crate) fn print_next_request<S: Alter, W: Write>(
+    alloc: Global,
+    conn: &mut Connection<S>,
+    asked: Asked<'_>,
+    out: &mut W,
+) -> Result<(), IndexError> {
+    let Some(subject) = read_subject(alloc, conn)? else {
+        return Err(IndexError::NoSubject);
+    };
+    let Stored { origin, clock, .. } = read_stored(conn)?;
+    print_request(alloc, &subject, asked, &origin.subscription, clock, out)
+}
+
+/// Prints what changed after a clock; for an unknown clock all files that exist. Before them are the
+/// last clock, and whether the one that is asked for is unknown, but not where names alone are
+/// printed. Tells whether it is known.
+pub(crate) fn print_changes<S: Alter, W: Write>(
+    alloc: Global,
+    conn: &mut Connection<S>,
+    clock: &str,
+    form: Form,
+    out: &mut W,
+) -> Result<bool, IndexError> {
+    let Stored { clock: last, .. } = read_stored(conn)?;
+    let number = number_of(conn, clock.as_bytes())?;
+    print_clock(alloc, form, last.as_ref(), number.is_none(), out)?;
+    let mut printer = Printer::new(alloc, form, out);
+    match number {
+        Some(number) => {
+            let after = i64::try_from(number).unwrap_or(i64::MAX);
+            visit_all(conn, CHANGED, params![after], &mut printer)?;
+        }
+        None => visit_all(conn, PRESENT, params![], &mut printer)?,
+    }
+    Ok(number.is_some())
+}
+
+/// Which files are listed.
+#[derive(Debug, Clone, Copy, PartialEq, Eq)]
+pub(crate) enum Which<'a> {
+    /// Those that exist.
+    Present,
+    /// Those that exist, and those that were deleted.
+    All,
+    /// Those that exist and have this suffix, in letters of either case.
+    Suffix(&'a str),
+}
+
+/// Prints files.
+pub(crate) fn print_list<S: Alter, W: Write>(
+    alloc: Global,
+    conn: &mut Connection<S>,
+    which: Which<'_>,
+    form: Form,
+    out: &mut W,
+) -> Result<(), IndexError> {
+    let mut printer = Printer::new(alloc, form, out);
+    match which {
+        Which::Present => visit_all(conn, PRESENT, params![], &mut printer),
+        Which::All => visit_all(conn, FILES, params![], &mut printer),
+        Which::Suffix(suffix) => {
+            let mut lower = Vec::from_slice(alloc, suffix.as_bytes())?;
+            lower.make_ascii_lowercase();
+            visit_all(conn, SUFFIX, params![&lower], &mut printer)
+        }
+    }
+}
+
+/// Prints what is known of the file with this name. False where nothing is.
+pub(crate) fn print_stat<S: Alter, W: Write>(
+    alloc: Global,
+    conn: &mut Connection<S>,
+    name: &[u8],
+    form: Form,
+    out: &mut W,
+) -> Result<bool, IndexError> {
+    let mut printer = Printer::new(alloc, form, out);
+    visit_all(conn, NAMED, params![name], &mut printer)?;
+    Ok(printer.count() > 0)
+}
