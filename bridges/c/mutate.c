@@ -54,7 +54,7 @@ static void check_outcome(const char *what, bser_outcome outcome, uint32_t code,
 
 /* A slice of no bytes or words may be a null pointer, in each call and in each place. */
 static void check_nulls(void) {
-    static const char early[] = "end of input, at byte 0, in .";
+    static const char early[] = "end of input, at byte 0";
     const uint8_t message[] = {0, 2, 0, 0, 0, 0, 3, 1, 8};
     const uint64_t tape[] = {BSER_TRUE, 0};
     size_t len = sizeof message, line = sizeof early - 1;

@@ -1,12 +1,14 @@
 """Builds the wheel: the extension over the archive that KUVTSADA_BSER_ARCHIVE names, by the C compiler.
 
-pip calls `build_wheel`. It takes nothing but Python's own library, so that a build needs no network.
+pip calls `build_wheel`, and `build_editable` for `pip install -e`. They take nothing but Python's own
+library, so that a build needs no network.
 """
 
 import base64
 import hashlib
 import os
 import shlex
+import shutil
 import subprocess
 import sys
 import sysconfig
@@ -61,20 +63,46 @@ def line_of(name, content):
     return f"{name},sha256={digest},{len(content)}\n"
 
 
-def build_wheel(wheel_directory, config_settings=None, metadata_directory=None):
-    """Makes the wheel, and answers its name."""
-    files = {f"{NAME}/{path.name}": path.read_bytes() for path in (HERE / NAME).glob("*.py*")}
-    with tempfile.TemporaryDirectory() as folder:
-        extension = Path(folder) / "_bser.so"
-        compile_extension(extension)
-        files[f"{NAME}/_bser{sysconfig.get_config_var('EXT_SUFFIX')}"] = extension.read_bytes()
+def package_files():
+    """The files of the package as they stand here."""
+    return sorted(path for path in (HERE / NAME).iterdir() if path.is_file())
+
+
+def extension_name():
+    """The name that this interpreter looks for."""
+    return f"_bser{sysconfig.get_config_var('EXT_SUFFIX')}"
+
+
+def write_wheel(folder, files):
+    """Writes a wheel of these files into the folder, and answers its name."""
     info = f"{NAME}-{VERSION}.dist-info"
     files[f"{info}/METADATA"] = METADATA.encode()
     files[f"{info}/WHEEL"] = f"Wheel-Version: 1.0\nRoot-Is-Purelib: false\nTag: {tag()}\n".encode()
     record = "".join(line_of(name, content) for name, content in files.items())
     files[f"{info}/RECORD"] = f"{record}{info}/RECORD,,\n".encode()
     wheel = f"{NAME}-{VERSION}-{tag()}.whl"
-    with zipfile.ZipFile(Path(wheel_directory) / wheel, "w", zipfile.ZIP_DEFLATED) as out:
+    with zipfile.ZipFile(Path(folder) / wheel, "w", zipfile.ZIP_DEFLATED) as out:
         for name, content in files.items():
             out.writestr(name, content)
     return wheel
+
+
+def build_wheel(wheel_directory, config_settings=None, metadata_directory=None):
+    """Makes the wheel, and answers its name."""
+    files = {f"{NAME}/{path.name}": path.read_bytes() for path in package_files()}
+    with tempfile.TemporaryDirectory() as folder:
+        extension = Path(folder) / "_bser.so"
+        compile_extension(extension)
+        files[f"{NAME}/{extension_name()}"] = extension.read_bytes()
+    return write_wheel(wheel_directory, files)
+
+
+def build_editable(wheel_directory, config_settings=None, metadata_directory=None):
+    """Makes a wheel that leads to links to the package's files, beside an extension, and answers its name."""
+    folder = BRIDGES / "build" / tag()
+    shutil.rmtree(folder, ignore_errors=True)
+    (folder / NAME).mkdir(parents=True)
+    for path in package_files():
+        (folder / NAME / path.name).symlink_to(path)
+    compile_extension(folder / NAME / extension_name())
+    return write_wheel(wheel_directory, {f"{NAME}.pth": f"{folder}\n".encode()})

@@ -19,6 +19,8 @@ typedef struct {
     size_t len, strings_room;
     size_t most; /* how many bytes the message has at most, beside its head */
     seen_key seen[MOST_SEEN];
+    seen_key *filled[MOST_SEEN]; /* those of them that have a key */
+    size_t filled_count;
 } tape;
 
 static int put(tape *t, PyObject *x, int levels);
@@ -77,39 +79,58 @@ static int add_string(tape *t, unsigned tag, const char *bytes, size_t len) {
     return add_place(t, tag, t->len - len, len);
 }
 
-/* A str without what UTF-8 cannot say: surrogates. No exception is made on the way, since the collector
- * may run where one is allocated. */
+/* A str without what UTF-8 cannot say: surrogates. Code that the collector runs meanwhile may drop it. No
+ * exception is made on the way, since the collector may run where one is allocated. */
 static int put_lossy(tape *t, unsigned tag, PyObject *x) {
+    Py_INCREF(x);
     PyObject *bytes = PyUnicode_AsEncodedString(x, "utf-8", "ignore");
+    Py_DECREF(x);
     if (bytes == NULL) return -1;
     int added = add_string(t, tag, PyBytes_AS_STRING(bytes), (size_t)PyBytes_GET_SIZE(bytes));
     Py_DECREF(bytes);
     return added;
 }
 
-static int put_string(tape *t, unsigned tag, PyObject *x) {
-    if (PyBytes_Check(x)) return add_string(t, tag, PyBytes_AS_STRING(x), (size_t)PyBytes_GET_SIZE(x));
-    if (!PyUnicode_Check(x)) {
-        PyErr_Format(PyExc_TypeError, "a key has to be str or bytes, not %.100s", Py_TYPE(x)->tp_name);
-        return -1;
-    }
-    if (!PyUnicode_IS_ASCII(x)) return put_lossy(t, tag, x);
-    Py_ssize_t len;
-    const char *utf8 = PyUnicode_AsUTF8AndSize(x, &len);
-    return utf8 == NULL ? -1 : add_string(t, tag, utf8, (size_t)len);
+static int put_bytes(tape *t, unsigned tag, PyObject *x) {
+    return add_string(t, tag, PyBytes_AS_STRING(x), (size_t)PyBytes_GET_SIZE(x));
 }
 
-/* Objects share their keys, whose bytes are copied once then. */
+static int put_str(tape *t, unsigned tag, PyObject *x) {
+    if (!PyUnicode_IS_ASCII(x)) return put_lossy(t, tag, x);
+    return add_string(t, tag, (const char *)PyUnicode_1BYTE_DATA(x), (size_t)PyUnicode_GET_LENGTH(x));
+}
+
 static int put_key(tape *t, PyObject *x) {
-    seen_key *seen = &t->seen[(uintptr_t)x / 16 % MOST_SEEN];
-    if (seen->key == x) return add_place(t, BSER_BYTES_KEY, seen->at, seen->len);
-    size_t at = t->len;
-    if (put_string(t, BSER_BYTES_KEY, x) < 0) return -1;
+    if (PyUnicode_Check(x)) return put_str(t, BSER_BYTES_KEY, x);
+    if (PyBytes_Check(x)) return put_bytes(t, BSER_BYTES_KEY, x);
+    PyErr_Format(PyExc_TypeError, "a key has to be str or bytes, not %.100s", Py_TYPE(x)->tp_name);
+    return -1;
+}
+
+/* Puts a key in the place of the one that was seen there, and owns it from then on. */
+static int put_new_key(tape *t, seen_key *seen, PyObject *x) {
     PyObject *was = seen->key;
+    if (was == NULL) t->filled[t->filled_count++] = seen;
     Py_INCREF(x);
-    *seen = (seen_key){x, at, t->len - at};
+    *seen = (seen_key){x, t->len, 0};
+    int added = put_key(t, x);
+    seen->len = t->len - seen->at;
     Py_XDECREF(was);
-    return 0;
+    return added;
+}
+
+/* Objects share their keys, whose bytes are copied once then. Code that runs where one is new may drop the
+ * value behind it. */
+static int put_entry(tape *t, PyObject *key, PyObject *x, int levels) {
+    seen_key *seen = &t->seen[(uintptr_t)key / 16 % MOST_SEEN];
+    if (seen->key == key) {
+        if (add_place(t, BSER_BYTES_KEY, seen->at, seen->len) < 0) return -1;
+        return put(t, x, levels);
+    }
+    Py_INCREF(x);
+    int added = put_new_key(t, seen, key) < 0 ? -1 : put(t, x, levels);
+    Py_DECREF(x);
+    return added;
 }
 
 static int put_int(tape *t, PyObject *x) {
@@ -140,12 +161,8 @@ static int put_items(tape *t, PyObject *x, int levels) {
     Py_ssize_t count = PySequence_Fast_GET_SIZE(x);
     if (add(t, BSER_ARRAY, (size_t)count, 0) < 0) return -1;
     for (Py_ssize_t i = 0; i < count; i++) {
-        if (PySequence_Fast_GET_SIZE(x) != count) return changed();
-        PyObject *item = PySequence_Fast_GET_ITEM(x, i);
-        Py_INCREF(item);
-        int added = put(t, item, levels);
-        Py_DECREF(item);
-        if (added < 0) return -1;
+        if (Py_SIZE(x) != count) return changed();
+        if (put(t, PySequence_Fast_GET_ITEM(x, i), levels) < 0) return -1;
     }
     return add_close(t);
 }
@@ -156,20 +173,17 @@ static int put_entries(tape *t, PyObject *x, int levels) {
     if (add(t, BSER_OBJECT, (size_t)count, 0) < 0) return -1;
     for (; left != 0; left--) {
         if (PyDict_GET_SIZE(x) != count || !PyDict_Next(x, &place, &key, &one)) return changed();
-        Py_INCREF(key);
-        Py_INCREF(one);
-        int added = put_key(t, key) < 0 ? -1 : put(t, one, levels);
-        Py_DECREF(key);
-        Py_DECREF(one);
-        if (added < 0) return -1;
+        if (put_entry(t, key, one, levels) < 0) return -1;
     }
     return add_close(t);
 }
 
+/* Puts a value. It is owned where code may run before its last byte is taken. */
 static int put(tape *t, PyObject *x, int levels) {
     if (x == Py_None) return add(t, BSER_NULL, 0, 0);
     if (PyBool_Check(x)) return add(t, x == Py_True ? BSER_TRUE : BSER_FALSE, 0, 0);
-    if (PyBytes_Check(x) || PyUnicode_Check(x)) return put_string(t, BSER_BYTES, x);
+    if (PyBytes_Check(x)) return put_bytes(t, BSER_BYTES, x);
+    if (PyUnicode_Check(x)) return put_str(t, BSER_BYTES, x);
     if (PyLong_Check(x)) return put_int(t, x);
     int is_list = PyList_Check(x) || PyTuple_Check(x);
     if (!is_list && !PyDict_Check(x)) {
@@ -181,7 +195,10 @@ static int put(tape *t, PyObject *x, int levels) {
         raise_error(encode_error, "more than 128 levels", BSER_TOO_DEEP, 0, 0);
         return -1;
     }
-    return is_list ? put_items(t, x, levels - 1) : put_entries(t, x, levels - 1);
+    Py_INCREF(x);
+    int added = is_list ? put_items(t, x, levels - 1) : put_entries(t, x, levels - 1);
+    Py_DECREF(x);
+    return added;
 }
 
 /* Why the library wrote no message: a key that is no UTF-8 is all that a tape of `put` can have. */
@@ -256,14 +273,14 @@ static void begin(tape *t) {
     t->words_room = kept_words == NULL ? 0 : kept_words_room;
     t->strings = kept_strings;
     t->strings_room = kept_strings == NULL ? 0 : kept_strings_room;
-    t->count = t->len = t->most = 0;
+    t->count = t->len = t->most = t->filled_count = 0;
     memset(t->seen, 0, sizeof t->seen);
     kept_words = NULL;
     kept_strings = NULL;
 }
 
 static void end(const tape *t) {
-    for (size_t i = 0; i < MOST_SEEN; i++) Py_XDECREF(t->seen[i].key);
+    for (size_t i = 0; i < t->filled_count; i++) Py_DECREF(t->filled[i]->key);
     if (kept_words != NULL || 8 * t->words_room + t->strings_room > MOST_KEPT) {
         PyMem_Free(t->words);
         PyMem_Free(t->strings);

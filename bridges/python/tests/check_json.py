@@ -24,7 +24,7 @@ def main(program, names):
             sys.exit(f"{name}: another value")
         count += 1
     wrong = subprocess.run([program], input=b"\0\2\0\0\0\0\3\1\x14", capture_output=True, check=False)
-    said = "unknown byte 0x14 where a value is wanted, at byte 8, in .\n"
+    said = "unknown byte 0x14 where a value is wanted, at byte 8\n"
     if (wrong.returncode, wrong.stderr.decode()) != (1, said):
         sys.exit(f"an error is told as {wrong.stderr!r}")
     print(f"{count} messages, and an error")

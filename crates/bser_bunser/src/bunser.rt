@@ -3,6 +3,7 @@ ghost use Rattle.std.specs.Prelude.{◌≡◌, ◌≢◌, ◌≤◌, ◌<◌, �
 ghost use Rattle.bser_format.specs.Errors.{error_of};
 ghost use Rattle.bser_format.specs.Named.{next, front};
 ghost use Rattle.bser_source.specs.declared.read.TheConstants.{WINDOW};
+ghost use Rattle.bser_source.specs.Refusal.{EndsShort};
 ghost use Rattle.bser_source.specs.Window.{Peeks, consumed};
 ghost use Rattle.bser_bunser.specs.Calls.{bytes_taken, Buffers, Takes, TakesToken, Keeps, Closes, FailsShort, FailsBy};
 ghost use Rattle.bser_bunser.specs.Names.{Names};
@@ -200,12 +201,17 @@ impl<R: DeRead> Bunser<R> {
         ensures ok { IfOk result (λ b. Peeks self.old.window self.new.window b) }
         ensures kept { OnOk result (Keeps self.old self.new) }
         ensures err { IfErr result (λ e. ShortOf 1 e self.old.window self.new.window) }
+        ensures end { IfErr result (λ e. e ≡ error_of ReadCause.Eof
+            → EndsShort 1 self.old.window self.new.window) }
         ensures names { IfErr result (λ e. Names next e self.old.window) }
         ensures memory { IfErr result (λ e. e ≢ Error.OutOfMemory) }
     {
-        match self.fill(1) {
-            Ok(()) => Ok(self.read.buffered()[0]),
-            Err(Refused) => Err(self.take_refusal()),
+        match self.read.peek() {
+            Ok(byte) => Ok(byte),
+            Err(cause) => {
+                self.read.close();
+                Err(Error::de_reader_error(cause))
+            }
         }
     }
 

@@ -1,4 +1,10 @@
 pub mod Counts
 pub mod Exports
+pub mod Says
+pub mod Told
 pub mod Tapes
+pub mod Steps
+pub mod Puts
+pub mod Untapes
+pub mod Compares
 pub mod Samples

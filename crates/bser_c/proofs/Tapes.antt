@@ -1,18 +1,16 @@
 -- What a builder of this crate took is a tape.
 use Rattle.std.proofs.Common.{◌≡◌, ◌≤◌, ◌+◌, ◌-◌, ◌*◌, ◌^◌, min, ℕ, List, [], ◌∷◌, ◌++◌, length, take, length-append, append-nil, append_assoc, refl, sym, ap, subst, ◌∙◌, arith}
-use Rattle.std.proofs.lemmas.List.{take_all, nil_from_length}
 use Rattle.bser_format.specs.Message.{IsMessage}
 use Rattle.bser_format.proofs.GrammarLaws.{one_message}
-use Rattle.bser_events.specs.Events.{Event, TakesAll, events, none, more}
-use Rattle.bser_events.specs.Places.{Placed}
+use Rattle.bser_events.specs.Events.{Event, events}
+use Rattle.bser_events.specs.Places.{TakesIn, none, more}
 use Rattle.bser_messages.specs.declared.limits.Limits.{Limits}
 use Rattle.bser_messages.specs.Told.{BeginsTold}
 use Rattle.bser_messages.specs.declared.told.Header.{Header}
-use Rattle.bser_c.specs.Builders.{Grew, Agreed, words_in, words_before}
+use Rattle.bser_c.specs.Builders.{Grew, words_in}
 use Rattle.bser_c.specs.Tape as tapes
-use Rattle.bser_c.specs.Tape.{AreWordsOfAll, BeginsWithTape, HasTape, HasTapeOf}
+use Rattle.bser_c.specs.Tape.{AreWordsOfAll, BeginsWithTape, HasTapeOf}
 use Rattle.bser_c.specs.declared.writing.Tape.{Tape}
-use Rattle.bser_c.specs.declared.comparing.Compared.{Compared}
 use Rattle.bser_c.proofs.Counts.{events_few}
 
 -- ---- a tape that is written
@@ -41,18 +39,19 @@ grew_by a b c e es first p = record {
 }
 
 -- a count of words that is the greatest or less stays so
-grew_by_all : (a b : ℕ × Tape) (es : List Event) → a.1.len ≤ 2 ^ 64 - 1 → TakesAll (Placed (λ x e p y. Grew x e y)) a es b → GrewByAll a.1 es b.1
-grew_by_all a b es small (none m) = record { through = refl; input = refl; room = refl; longer = omega arith; added = []; are = tapes.none; counted = omega (arith, small); grew = λ fits. sym (append-nil (words_in m.1)) }
-grew_by_all a b es small (more m n o e rest first after) = grew_by m.1 n.1 o.1 e rest first.took (grew_by_all n o rest (omega (arith, first.took.counted)) after)
+grew_by_all : (at : ℕ) (bytes : List ℕ) (a b : Tape) (es : List Event) → a.len ≤ 2 ^ 64 - 1 → TakesIn (λ x e p y. Grew x e y) at bytes a es b → GrewByAll a es b
+grew_by_all at bytes a b es small (none n m) = record { through = refl; input = refl; room = refl; longer = omega arith; added = []; are = tapes.none; counted = omega (arith, small); grew = λ fits. sym (append-nil (words_in m)) }
+grew_by_all at bytes a b es small (more n own rest m k o e others spelled first after) =
+    grew_by m k o e others first (grew_by_all (n + length own) rest k o others (omega (arith, first.counted)) after)
 
 -- two words for each event
-words_counted : (input : List ℕ) (es : List Event) (words : List ℕ) → AreWordsOfAll input es words → length words ≡ 2 * length es
+pub words_counted : (input : List ℕ) (es : List Event) (words : List ℕ) → AreWordsOfAll input es words → length words ≡ 2 * length es
 words_counted input es words tapes.none = refl
 words_counted input es words (tapes.more e rest these after first others) = omega (arith, length-append these after, ap length first.are, words_counted input rest after others)
 
 module _ (limits : Limits) (bytes : List ℕ) (before after : Tape) (h : Header) (size len : ℕ) (levels : limits.levels ≡ 128) (fresh : before.len ≡ 0) (input : before.input.now ≡ bytes) (t : BeginsTold limits (λ x e p y. Grew x e y) bytes before after h) (size_is : size ≡ min (h.start + h.len) (2 ^ 64 - 1)) (len_is : len ≡ after.len) where
   grew_by_told : GrewByAll before (events t.tells.tree) after
-  grew_by_told = grew_by_all (h.start, before) (t.tells.told.end, after) (events t.tells.tree) (omega (arith, fresh)) t.tells.told.told
+  grew_by_told = grew_by_all h.start t.tells.bytes before after (events t.tells.tree) (omega (arith, fresh)) t.tells.told
 
   -- the words of the events that were told, with room or without, are the message's tape
   told_tape : (words : List ℕ) → words ≡ grew_by_told.added → BeginsWithTape 128 bytes h.capabilities size words
@@ -106,46 +105,3 @@ one_length bytes m n a b =
     let a_is = a.len_is in
     let b_is = b.len_is in
     omega (arith, len, other, ap (λ t. length (events t)) same.2, a_is, b_is)
-
--- ---- a tape that is compared
-
--- the words of events stood where it was
-record AgreedAll (old : Compared) (es : List Event) (new : Compared) : Type 0 where
-  words : new.words ≡ old.words
-  strings : new.strings ≡ old.strings
-  added : List ℕ
-  are : AreWordsOfAll old.strings.now es added
-  grew : words_before new ≡ words_before old ++ added
-
-agreed_by : (a b c : Compared) (e : Event) (es : List Event) → Agreed a e b → AgreedAll b es c → AgreedAll a (e ∷ es) c
-agreed_by a b c e es first p = record {
-  words = p.words ∙ first.words;
-  strings = p.strings ∙ first.strings;
-  added = first.added ++ p.added;
-  are = tapes.more e es first.added p.added first.are (subst (λ i. AreWordsOfAll i.now es p.added) first.strings p.are);
-  grew = p.grew ∙ ap (λ ws. ws ++ p.added) first.grew ∙ append_assoc (words_before a) first.added p.added;
-}
-
-agreed_all : (a b : ℕ × Compared) (es : List Event) → TakesAll (Placed (λ x e p y. Agreed x e y)) a es b → AgreedAll a.1 es b.1
-agreed_all a b es (none m) = record { words = refl; strings = refl; added = []; are = tapes.none; grew = sym (append-nil (words_before m.1)) }
-agreed_all a b es (more m n o e rest first after) = agreed_by m.1 n.1 o.1 e rest first.took (agreed_all n o rest after)
-
-pub untaped : (limits : Limits) (words strings message : List ℕ) (before after : Compared) (h : Header) → limits.levels ≡ 128 → before.at ≡ 0 → before.words.now ≡ words → before.strings.now ≡ strings → BeginsTold limits (λ x e p y. Agreed x e y) message before after h
-    → min (h.start + h.len) (2 ^ 64 - 1) ≡ length message → h.capabilities ≡ 0 → after.at ≡ length words → HasTape 128 strings 0 message words
-untaped limits words strings message before after h levels fresh same_words same_strings t size free whole_tape =
-    let m = t.tells in
-    let a = agreed_all (h.start, before) (m.told.end, after) (events m.tree) m.told.told in
-    let none_yet : words_before before ≡ [] = ap (λ n. take n before.words.now) fresh in
-    let after_words : after.words.now ≡ words = ap (λ w. w.now) a.words ∙ same_words in
-    let all : words_before after ≡ words = ap (λ n. take n after.words.now) whole_tape ∙ ap (λ ws. take (length words) ws) after_words ∙ take_all (length words) words (omega arith) in
-    let are_added : words ≡ a.added = sym all ∙ a.grew ∙ ap (λ ws. ws ++ a.added) none_yet in
-    let short = m.message.short in
-    let whole = m.whole in
-    let no_rest : t.rest ≡ [] = nil_from_length t.rest (omega (arith, whole, short, size, ap length t.front, length-append t.text t.rest)) in
-    let is_text : message ≡ t.text = t.front ∙ ap (λ r. t.text ++ r) no_rest ∙ append-nil t.text in
-    record {
-      tree = m.tree;
-      message = subst (λ b. IsMessage 128 0 m.tree b) (sym is_text) (subst (λ c. IsMessage 128 c m.tree t.text) free (subst (λ n. IsMessage n h.capabilities m.tree t.text) levels m.message));
-      keys = m.keys;
-      tape = subst (λ ws. AreWordsOfAll strings (events m.tree) ws) (sym are_added) (subst (λ s. AreWordsOfAll s (events m.tree) a.added) same_strings a.are);
-    }

@@ -1,5 +1,5 @@
 -- What the builders of this crate take.
-use Rattle.std.specs.Prelude.{◌≡◌, ◌≤◌, ◌+◌, ◌-◌, ◌^◌, min, ℕ, List, ◌++◌, length, take}
+use Rattle.std.specs.Prelude.{◌≡◌, ◌⊎◌, ◌≤◌, ◌+◌, ◌-◌, ◌^◌, min, ℕ, List, ◌++◌, length, take, drop}
 use Rattle.bser_events.specs.Events.{Event}
 use Rattle.bser_c.specs.Tape.{AreWordsOf}
 use Rattle.bser_c.specs.declared.writing.Tape.{Tape}
@@ -28,10 +28,30 @@ pub record Grew (old : Tape) (e : Event) (new : Tape) : Type 0 where
 abbrev pub words_before : Compared → List ℕ
 words_before c = take c.at c.words.now
 
--- the words of an event stand where it is
+-- the words of an event stand next
+pub record StandNext (c : Compared) (e : Event) : Type 0 where
+  pub these : List ℕ
+  pub rest : List ℕ
+  pub next : drop c.at c.words.now ≡ these ++ rest
+  pub are : AreWordsOf c.strings.now e these
+
+-- they stand next, and it goes on behind them
 pub record Agreed (old : Compared) (e : Event) (new : Compared) : Type 0 where
   pub words : new.words ≡ old.words
   pub strings : new.strings ≡ old.strings
   pub added : List ℕ
   pub are : AreWordsOf old.strings.now e added
+  pub longer : new.at ≡ old.at + 2
+  pub within : new.at ≤ length old.words.now
   pub grew : words_before new ≡ words_before old ++ added
+
+-- others stand next, and from there on none agree
+pub record Parted (old : Compared) (e : Event) (new : Compared) : Type 0 where
+  pub words : new.words ≡ old.words
+  pub strings : new.strings ≡ old.strings
+  pub at : new.at ≡ 2 ^ 64 - 1
+  pub other : StandNext old e → ⊥
+
+-- an event was compared with the words that stand next
+abbrev pub Compares : Compared → Event → Compared → Type 0
+Compares old e new = Agreed old e new ⊎ Parted old e new

@@ -1,5 +1,5 @@
 -- Why a call wrote nothing, by its number, its byte and its place.
-use Rattle.std.specs.Prelude.{◌≡◌, ◌≤◌, ℕ, List, length, Some}
+use Rattle.std.specs.Prelude.{◌≡◌, ◌⊎◌, ◌≤◌, ℕ, List, length, Some}
 use Rattle.bser_format.specs.declared.errors.Error.{Error}
 use Rattle.bser_format.specs.ReadsAny.{reads_ignored}
 use Rattle.bser_format.specs.Tree.{Tree}
@@ -13,6 +13,7 @@ use Rattle.bser_canonical.specs.Slices.{LiesInSlice, RefusesSliceRewriting}
 use Rattle.bser_canonical.specs.declared.slice.Unwritten.{Unwritten}
 use Rattle.bser_canonical.specs.declared.slice.Unwritten.TheVariants.{Refused, Failed, TooLong}
 use Rattle.bser_c.specs.Codes.{byte_of, code_of}
+use Rattle.bser_c.specs.Untaped.{AreTape}
 
 -- they are those of an error
 abbrev pub AreOf : Error → ℕ → ℕ → Type 0
@@ -42,3 +43,7 @@ pub record TellsWhyUnwritten (form : Tree → Tree) (bytes : List ℕ) (room cod
 pub record IsRefused (bytes : List ℕ) : Type 0 where
   pub description : Description
   pub refused : RefusesSlice 128 reads_ignored (Some asking_ignored) owned (cause_of description) bytes
+
+-- the words are no tape, or memory ran out
+abbrev pub TellsWhyUntaped : List ℕ → List ℕ → ℕ → Type 0
+TellsWhyUntaped strings words code = ((code ≡ 4) × (AreTape strings words → ⊥)) ⊎ (code ≡ 3)

@@ -34,6 +34,10 @@ head_of is_text (events.open_rows n) = first_word 0x10 n
 head_of is_text events.skip = first_word 0x0c 0
 head_of is_text events.close = first_word 0x11 0
 
+-- the first word of an event, under either mark
+abbrev pub IsFirst : Event → ℕ → Type 0
+IsFirst e w = (is_text : Bool) × (w ≡ head_of is_text e)
+
 -- these bytes stand there, within the input
 pub record StandsAt (input : List ℕ) (at : ℕ) (s : List ℕ) : Type 0 where
   pub within : at + length s ≤ length input

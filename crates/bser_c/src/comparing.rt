@@ -1,26 +1,41 @@
 //! A tape, compared with a message as it is told.
-ghost use Rattle.std.specs.Prelude.{◌≡◌, ◌+◌, true, false};
+ghost use Rattle.std.specs.Prelude.{◌≡◌, ◌-◌, ◌^◌, true, false, length};
 ghost use Rattle.bser_events.specs.Told.{told};
-ghost use Rattle.bser_c.specs.Builders.{Agreed};
-ghost use Rattle.bser_c.specs.Tape.{IsSecond};
+ghost use Rattle.bser_c.specs.Builders.{Agreed, Compares, StandNext};
+ghost use Rattle.bser_c.specs.Tape.{IsFirst, IsSecond};
+ghost use Rattle.bser_c.specs.Untaped.{IsSame};
 
 use crate::heads::{head, stands_at};
 use bser_events::builder::{Builder, Stop};
 use bser_events::event::{Event, Place};
+use bser_messages::told::Header;
 
 /// The words of a tape, over the bytes of its strings, and how many of them agreed with the events
-/// that were told.
+/// that were told. It takes all events, also behind one whose words are others.
 #[derive(Drop)]
 pub struct Compared<'w, 's> {
-    pub words: &'w [u64],
-    pub strings: &'s [u8],
-    pub at: usize,
+    words: &'w [u64],
+    strings: &'s [u8],
+    /// How many words agreed, or `usize::MAX` where others stood next.
+    at: usize,
+    /// How many words agreed then.
+    parted: usize,
+}
+
+/// Whether this is the first word of an event. A key is under either of its tags.
+#[inline(always)]
+fn is_first(event: Event<'_>, word: u64) -> bool
+    ensures found { result ≡ true → IsFirst (told event.entry) word }
+    ensures other { IsFirst (told event.entry) word → result ≡ true }
+{
+    word == head(event, true) || word == head(event, false)
 }
 
 /// Whether this is the second word of an event.
 #[inline(always)]
 fn is_second(strings: &[u8], event: Event<'_>, word: u64) -> bool
-    ensures { result ≡ true → IsSecond strings.now (told event.entry) word }
+    ensures found { result ≡ true → IsSecond strings.now (told event.entry) word }
+    ensures other { IsSecond strings.now (told event.entry) word → result ≡ true }
 {
     match event {
         Event::Int(number) => word == number.cast_unsigned(),
@@ -33,16 +48,52 @@ fn is_second(strings: &[u8], event: Event<'_>, word: u64) -> bool
 }
 
 impl<'w, 's> Compared<'w, 's> {
+    /// No event was told.
+    pub fn new(words: &'w [u64], strings: &'s [u8]) -> Self
+        ensures words { result.words ≡ words.entry }
+        ensures strings { result.strings ≡ strings.entry }
+        ensures at { result.at ≡ 0 }
+    {
+        Compared {
+            words,
+            strings,
+            at: 0,
+            parted: 0,
+        }
+    }
+
+    /// Whether a message of so many bytes, of which `header` tells, was told whole, and all words
+    /// agreed.
+    pub fn is_same(&self, header: Header, size: usize) -> bool
+        ensures found { result ≡ true
+            → IsSame header size self.now.at (length self.now.words.now) }
+        ensures other { IsSame header size self.now.at (length self.now.words.now)
+            → result ≡ true }
+    {
+        header.message_length() == size && header.capabilities == 0 && self.at == self.words.len()
+    }
+
+    /// How many words agreed before any others, and so lie before those that are wrong.
+    pub fn place(&self) -> usize {
+        if self.at == usize::MAX {
+            self.parted
+        } else {
+            self.at
+        }
+    }
+
     /// Whether the words of the event come next. Then they agreed.
     #[inline(always)]
-    fn agrees(&mut self, event: Event<'_>, is_text: bool) -> bool
-        ensures { result ≡ true → Agreed self.old (told event.entry) self.new }
+    fn agrees(&mut self, event: Event<'_>) -> bool
+        ensures agreed { result ≡ true → Agreed self.old (told event.entry) self.new }
+        ensures same { result ≡ false → self.new ≡ self.old }
+        ensures other { StandNext self.old (told event.entry) → result ≡ true }
     {
         let at = self.at;
         if at > self.words.len() || self.words.len() - at < 2 {
             return false;
         }
-        if self.words[at] != head(event, is_text) {
+        if !is_first(event, self.words[at]) {
             return false;
         }
         if !is_second(self.strings, event, self.words[at + 1]) {
@@ -51,14 +102,30 @@ impl<'w, 's> Compared<'w, 's> {
         self.at = at + 2;
         true
     }
+
+    /// Notes that other words stand next.
+    #[cold]
+    #[inline(never)]
+    fn part(&mut self)
+        ensures words { self.new.words ≡ self.old.words }
+        ensures strings { self.new.strings ≡ self.old.strings }
+        ensures at { self.new.at ≡ 2 ^ 64 - 1 }
+    {
+        if self.at != usize::MAX {
+            self.parted = self.at;
+            self.at = usize::MAX;
+        }
+    }
 }
 
 impl<'w, 's> Builder for Compared<'w, 's> {
-    ghost takes = { λ a e _ b. Agreed a e b };
+    ghost takes = { λ a e _ b. Compares a e b };
 
-    ghost stops = { true };
+    ghost stopped = { λ _ _ _ _ _. ⊥ };
 
-    ghost asks = { true };
+    ghost stops = { false };
+
+    ghost asks = { false };
 
     ghost bytes = { true };
 
@@ -68,12 +135,11 @@ impl<'w, 's> Builder for Compared<'w, 's> {
     }
 
     #[inline(always)]
-    fn take(&mut self, event: Event<'_>, place: Place) -> Result<(), Stop> {
-        if self.agrees(event, place.is_text) {
-            Ok(())
-        } else {
-            Err(Stop::Asked)
+    fn take(&mut self, event: Event<'_>, _place: Place) -> Result<(), Stop> {
+        if !self.agrees(event) {
+            self.part();
         }
+        Ok(())
     }
 
     fn bytes_passed(&mut self, _len: usize, _place: Place) -> Result<(), Stop> {

@@ -47,7 +47,8 @@ pub(crate) fn head(event: Event<'_>, is_text: bool) -> u64
 /// Whether these bytes stand there.
 #[inline(always)]
 pub(crate) fn stands_at(input: &[u8], at: usize, string: &[u8]) -> bool
-    ensures { result ≡ true → StandsAt input.now at string.now }
+    ensures found { result ≡ true → StandsAt input.now at string.now }
+    ensures other { StandsAt input.now at string.now → result ≡ true }
 {
     if at > input.len() || string.len() > input.len() - at {
         return false;

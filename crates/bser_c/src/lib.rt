@@ -25,7 +25,8 @@ ghost use Rattle.bser_canonical.specs.declared.slice.Unwritten.TheVariants.{TooL
 ghost use Rattle.bser_c.specs.Codes.{TellsWhy};
 ghost use Rattle.bser_c.specs.Tape.{BeginsWithTape, HasTape, HasTapeOf};
 ghost use Rattle.bser_c.specs.declared.codes.TheConstants.{DONE, TOO_SMALL};
-ghost use Rattle.bser_c.specs.Failures.{IsRefused, Tells, TellsWhyNoLength, TellsWhyUnwritten};
+ghost use Rattle.bser_c.specs.Failures.{IsRefused, Tells, TellsWhyNoLength, TellsWhyUntaped, TellsWhyUnwritten};
+ghost use Rattle.bser_c.specs.Untaped.{WantsBytes};
 
 use crate::codes::{CONTRADICTION, NO_MEMORY, NOT_WHOLE, TAPE_INVALID};
 pub use crate::outcome::BserOutcome;
@@ -34,10 +35,12 @@ use crate::reading::tape_of;
 use crate::untape::{Untaped, message_of};
 use bser_canonical::slice::{Unwritten, canonical_of, compact_of};
 use bser_messages::described;
+use bser_messages::description::Description;
 use bser_messages::length::message_length;
+use bser_messages::path::Path;
 use bser_messages::told::Reason;
 use bser_types::impls::Ignored;
-use std::alloc::Global;
+use std::alloc::{AllocError, Global};
 
 /// The version of these calls. It changes where a call, a number or the form of a tape does.
 pub const ABI_VERSION: u32 = 1;
@@ -111,6 +114,7 @@ pub extern "C" fn bser_tape(alloc: Global, bytes: &[u8], words: &mut [u64]) -> B
 /// Writes the message of a tape whose strings stand in `strings` to the front of `out`. The place of
 /// an error counts words.
 #[unsafe(no_mangle)]
+#[tactic(auto, using(crate::proofs::Exports::no_tape, crate::proofs::Exports::no_memory))]
 pub extern "C" fn bser_of_tape(
     alloc: Global,
     words: &[u64],
@@ -120,7 +124,10 @@ pub extern "C" fn bser_of_tape(
     ensures done { result.code ≡ DONE
         → HasTape 128 strings.now 0 (take result.length out.new) words.now }
     ensures place { result.code ≢ DONE → result.place ≤ length words.now }
+    ensures failed { result.code ≢ DONE → result.code ≢ TOO_SMALL
+        → TellsWhyUntaped strings.now words.now result.code }
     ensures more { result.code ≡ TOO_SMALL → length out.old < result.length }
+    ensures wanted { result.code ≡ TOO_SMALL → WantsBytes strings.now words.now result.length }
 {
     match message_of(alloc, words, strings, out) {
         Ok(size) => done(size),
@@ -182,6 +189,15 @@ fn not_written(unwritten: Unwritten) -> BserOutcome
     }
 }
 
+/// An error as a line, with the part of the message that it is in, if that is not the message itself.
+fn line_of(alloc: Global, description: &Description, path: &Path) -> Result<String, AllocError> {
+    if path.steps().is_empty() {
+        format!(in alloc; "{description}")
+    } else {
+        format!(in alloc; "{description}, in {path}")
+    }
+}
+
 /// Writes a line for people to the front of `out`, in UTF-8 and without an end: why the message at
 /// the start of `bytes` cannot be read, where, and in which part of it. The line is empty where it
 /// can be read.
@@ -198,7 +214,7 @@ pub extern "C" fn bser_describe(alloc: Global, bytes: &[u8], out: &mut [u8]) -> 
             let Ok(path) = description.path(alloc, bytes) else {
                 return stopped(NO_MEMORY, 0);
             };
-            match format!(in alloc; "{description}, in {path}") {
+            match line_of(alloc, &description, &path) {
                 Ok(line) => handed_out(line.as_bytes(), out),
                 Err(_error) => stopped(NO_MEMORY, 0),
             }

@@ -152,6 +152,27 @@ fn compact_without_memory(rt: HostRuntime) {
     assert_eq!(rt; (wrong.code, wrong.detail, wrong.place), (16, 0x14, 619));
 }
 
+/// A `Value` of so many skipped fields is counted as 896 bytes for each of their maps with its key,
+/// and for one more, 66 for each row and for the key, 4 for each of the 20 bytes and a byte for each
+/// row, and 72, 448, 2,000 and 1,024 for the list, two open containers, its pieces and the calls:
+/// 966 for each row and 4,586. Of 525 rows that is 511,736, and of 526 it is 512,702.
+#[test]
+fn compact_at_the_border_of_memory(rt: HostRuntime) {
+    let alloc = rt.alloc();
+    let mut bytes = [0x0cu8; 546];
+    bytes[..20].copy_from_slice(
+        b"\x00\x02\x00\x00\x00\x00\x04\x18\x02\x0b\x00\x03\x01\x0d\x03\x01a\x04\x0d\x02",
+    );
+    check_wanted(&rt, bser_compact(alloc, &bytes[..545], &mut []), 545);
+    bytes[7] = 0x19;
+    bytes[18] = 0x0e;
+    let many = bser_compact(alloc, &bytes, &mut []);
+    assert_eq!(rt;
+        (many.code, many.detail, many.place, many.length),
+        (3, 0, 0, 0)
+    );
+}
+
 #[test]
 fn descriptions(rt: HostRuntime) {
     let alloc = rt.alloc();

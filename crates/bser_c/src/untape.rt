@@ -1,8 +1,12 @@
 //! The message of a tape.
-ghost use Rattle.std.specs.Prelude.{◌≤◌, ℕ, IfOk, IfErr, OnOk, length, take};
+ghost use Rattle.std.specs.Prelude.{◌≡◌, ◌≤◌, ◌<◌, ◌+◌, ◌^◌, ◌++◌, ℕ, Some, IfOk, IfErr, IfSome, IfNone, OnOk, length, take, drop};
 ghost use Rattle.bser_deserializer.specs.declared.deserializer.TheConstants.{LEVELS};
+ghost use Rattle.bser_c.specs.Fronts.{Puts};
+ghost use Rattle.bser_c.specs.Parts.{header_of, part};
+ghost use Rattle.bser_c.specs.Puts.{PutsAll, PutsPart};
 ghost use Rattle.bser_c.specs.Tape.{HasTape};
-ghost use Rattle.bser_c.specs.Untaped.{LiesIn};
+ghost use Rattle.bser_c.specs.Untaped.{AreToldBy, LiesIn, RefusesTape, RefusesWords, untaped_by};
+ghost use Rattle.bser_c.specs.declared.untape.Untaped.TheVariants.{Memory};
 
 use crate::comparing::Compared;
 use crate::front::Front;
@@ -28,7 +32,7 @@ pub enum Untaped {
     },
     /// The message has more bytes than there is room for.
     TooLong {
-        /// How many bytes it would have.
+        /// How many bytes it has, and so how many are wanted.
         size: usize,
     },
     /// An allocation failed.
@@ -41,6 +45,7 @@ pub enum Untaped {
 ///
 /// A tape nests at most 128 levels, and has no words after its value. The message is told again and
 /// compared with the tape before this answers. After an error `out` holds nothing of use.
+#[tactic(auto, using(crate::proofs::Untapes::refused_words, crate::proofs::Untapes::refused_compared))]
 pub fn message_of(
     alloc: Global,
     words: &[u64],
@@ -50,18 +55,20 @@ pub fn message_of(
     ensures made { IfOk result (λ n. HasTape LEVELS strings.now 0 (take n out.new) words.now) }
     ensures fits { IfOk result (λ size. size ≤ length out.new) }
     ensures place { IfErr result (LiesIn (length words.now) (length out.old)) }
+    ensures refused { IfErr result (RefusesTape strings.now words.now) }
 {
     let size = write(words, strings, out)?;
-    let Some(message) = out.get(..size) else {
-        return Err(Untaped::Invalid { at: 0 });
-    };
-    compare(alloc, words, strings, message)?;
+    compare(alloc, words, strings, &out[..size])?;
     Ok(size)
 }
 
 /// Writes what the words tell, and answers how many bytes that are. It may be no message.
+#[tactic(auto, using(crate::proofs::Untapes::told_size, crate::proofs::Untapes::written))]
 fn write(words: &[u64], strings: &[u8], out: &mut [u8]) -> Result<usize, Untaped>
+    ensures told { IfOk result (λ n. AreToldBy strings.now words.now (take n out.new)) }
+    ensures fits { IfOk result (λ size. size ≤ length out.new) }
     ensures place { IfErr result (LiesIn (length words.now) (length out.old)) }
+    ensures refused { IfErr result (RefusesWords strings.now words.now) }
 {
     let body = match size_of(words, strings) {
         Ok(body) => body,
@@ -81,7 +88,9 @@ fn write(words: &[u64], strings: &[u8], out: &mut [u8]) -> Result<usize, Untaped
 /// Puts the header of a body of this length, and what the words tell. The error is how many words
 /// lie before those that are wrong.
 fn put_all(body: usize, words: &[u64], strings: &[u8], front: &mut Front<'_>) -> Result<(), usize>
-    ensures { IfErr result (λ at. at ≤ length words.now) }
+    requires { body < 2 ^ 63 }
+    ensures told { PutsAll body words.now strings.now front.old front.new result }
+    ensures place { IfErr result (λ at. at ≤ length words.now) }
 {
     let Some(()) = put_header(body, front) else {
         return Err(0);
@@ -96,24 +105,31 @@ fn put_all(body: usize, words: &[u64], strings: &[u8], front: &mut Front<'_>) ->
 }
 
 /// Puts the magic, no capabilities, and the length of the body.
-fn put_header(body: usize, front: &mut Front<'_>) -> Option<()> {
+#[tactic(auto, using(crate::proofs::Puts::puts_both, crate::proofs::Puts::full_first))]
+fn put_header(body: usize, front: &mut Front<'_>) -> Option<()>
+    requires { body < 2 ^ 63 }
+    ensures { Puts front.old front.new (header_of body) result }
+{
     front.put(&HEADER_START)?;
     front.put_count(body)
 }
 
 /// Puts what two words tell, or answers none where they tell nothing.
 #[inline(always)]
-fn put_part(first: u64, second: u64, strings: &[u8], front: &mut Front<'_>) -> Option<()> {
+#[tactic(auto, using(crate::proofs::Puts::puts_both, crate::proofs::Puts::full_first))]
+fn put_part(first: u64, second: u64, strings: &[u8], front: &mut Front<'_>) -> Option<()>
+    ensures { PutsPart (part strings.now first second) front.old front.new result }
+{
     let count = (first / 256) as usize;
     match (first % 256) as u8 {
         tag @ (BSER_NULL | BSER_TRUE | BSER_FALSE | BSER_SKIP) => front.put(&[tag]),
         BSER_INT64 => front.put_integer(second.cast_signed()),
-        BSER_REAL => front.put_real(second),
+        BSER_REAL => front.put_tagged(BSER_REAL, &second.to_le_bytes()),
         BSER_BYTESTRING | BYTES_KEY => {
-            put_string(BSER_BYTESTRING, string_at(strings, count, second)?, front)
+            front.put_string(BSER_BYTESTRING, string_at(strings, count, second)?)
         }
         BSER_UTF8STRING | KEY => {
-            put_string(BSER_UTF8STRING, string_at(strings, count, second)?, front)
+            front.put_string(BSER_UTF8STRING, string_at(strings, count, second)?)
         }
         tag @ (BSER_ARRAY | BSER_OBJECT) => front.put_head(tag, count),
         BSER_TEMPLATE => {
@@ -121,52 +137,53 @@ fn put_part(first: u64, second: u64, strings: &[u8], front: &mut Front<'_>) -> O
             front.put_head(BSER_ARRAY, count)
         }
         ROWS => front.put_count(count),
-        CLOSE => Some(()),
+        CLOSE => front.put(&[]),
         _ => None,
     }
 }
 
-/// Puts a string under this tag.
-#[inline(always)]
-fn put_string(tag: u8, string: &[u8], front: &mut Front<'_>) -> Option<()> {
-    front.put_head(tag, string.len())?;
-    front.put(string)
-}
-
 /// The string of so many bytes that begins there.
 #[inline(always)]
-fn string_at(strings: &[u8], len: usize, at: u64) -> Option<&[u8]> {
+fn string_at(strings: &[u8], len: usize, at: u64) -> Option<&[u8]>
+    ensures some { IfSome result (λ s. s.now ≡ take len (drop at strings.now)) }
+    ensures len { IfSome result (λ s. length s.now ≡ len) }
+    ensures within { IfSome result (λ _. at + len ≤ length strings.now) }
+    ensures none { IfNone result (length strings.now < at + len) }
+{
     let at = at as usize;
-    strings.get(at..at.checked_add(len)?)
+    let end = at.checked_add(len)?;
+    if end > strings.len() {
+        return None;
+    }
+    Some(&strings[at..end])
 }
 
 /// Tells the message, and compares it with the tape.
 fn compare(alloc: Global, words: &[u64], strings: &[u8], message: &[u8]) -> Result<(), Untaped>
     ensures has { OnOk result (HasTape LEVELS strings.now 0 message.now words.now) }
+    ensures refused { HasTape LEVELS strings.now 0 message.now words.now
+        → IfErr result (λ e. e ≡ Memory) }
     ensures place { (room : ℕ) → IfErr result (LiesIn (length words.now) room) }
 {
-    let mut compared = Compared {
-        words,
-        strings,
-        at: 0,
-    };
+    let mut compared = Compared::new(words, strings);
     let answer = telling::from_slice(alloc, Limits::new(), message, &mut compared);
-    let at = compared.at.min(words.len());
+    let at = compared.place().min(words.len());
     match answer {
-        Ok(header) => {
-            let is_whole = header.message_length() == message.len();
-            if is_whole && header.capabilities == 0 && compared.at == words.len() {
-                Ok(())
-            } else {
-                Err(Untaped::Invalid { at })
-            }
-        }
+        Ok(header) if compared.is_same(header, message.len()) => Ok(()),
+        Ok(_header) => Err(Untaped::Invalid { at }),
         Err(untold) => match untold.reason {
-            Reason::Failed(description) => match description.cause() {
-                Error::OutOfMemory => Err(Untaped::Memory),
-                _ => Err(Untaped::Invalid { at }),
-            },
+            Reason::Failed(description) => Err(of_error(description.cause(), at)),
             Reason::Stopped { place: _ } => Err(Untaped::Invalid { at }),
         },
+    }
+}
+
+/// Why a message that the words told was not told, before whose error so many words agreed.
+fn of_error(error: &Error, at: usize) -> Untaped
+    ensures { result ≡ untaped_by error.now at }
+{
+    match error {
+        Error::OutOfMemory => Untaped::Memory,
+        _ => Untaped::Invalid { at },
     }
 }

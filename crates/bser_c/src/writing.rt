@@ -85,6 +85,8 @@ fn string_at(input: &[u8], string: &[u8], place: Place) -> Option<u64>
 impl<'i, 't> Builder for Tape<'i, 't> {
     ghost takes = { λ a e _ b. Grew a e b };
 
+    ghost stopped = { λ _ _ _ _ _. Unit {0} };
+
     ghost stops = { true };
 
     ghost asks = { true };

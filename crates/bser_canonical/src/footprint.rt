@@ -175,6 +175,8 @@ fn map_blocks(len: u64) -> u64 {
 impl Builder for Footprint {
     ghost takes = { λ _ _ _ _. Unit {0} };
 
+    ghost stopped = { λ _ _ _ _ _. ⊥ };
+
     ghost stops = { false };
 
     ghost asks = { false };

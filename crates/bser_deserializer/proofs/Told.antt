@@ -1,7 +1,8 @@
 -- Whatever is due is read and told: values, fields and keys.
-use Rattle.std.proofs.Common.{◌≡◌, ◌⊎◌, inl, inr, ℕ, zero, suc, ◌-◌, ◌≤◌, ◌^◌, min, Bool, true, false, cond, List, [], ◌∷◌, ◌++◌, length, get_or, Option, Some, None, refl, sym, ap, subst, ◌∙◌, append-nil, length-append, arith, IsUtf8}
+use Rattle.std.proofs.Common.{◌≡◌, ◌⊎◌, inl, inr, ℕ, zero, suc, ◌-◌, ◌≤◌, ◌<◌, ◌^◌, min, map, Bool, true, false, cond, List, [], ◌∷◌, ◌++◌, length, get_or, Option, Some, None, refl, sym, ap, subst, ◌∙◌, append-nil, length-append, arith, IsUtf8}
 use Rattle.std.specs.Str.{is_utf8}
 use Rattle.std.proofs.lemmas.Bool.{ne_eqb}
+use Rattle.std.proofs.lemmas.List.{get_or-map}
 use Rattle.std.proofs.lemmas.Str.{is_utf8-from_IsUtf8, IsUtf8-from_is_utf8}
 use Rattle.bser_format.specs.Tree as trees
 use Rattle.bser_format.specs.Tree.{Tree}
@@ -25,9 +26,14 @@ use Rattle.bser_source.specs.Window.{Window, AreOctets, Filled, Took, consumed}
 use Rattle.bser_source.proofs.Windows.{took_grown}
 use Rattle.bser_bunser.specs.Refusal.{Fails}
 use Rattle.bser_events.specs.Events as events
-use Rattle.bser_events.specs.Events.{Event, TakesAll}
+use Rattle.bser_events.specs.Events.{Event, TakesAll, none, more}
 use Rattle.bser_events.specs.Found as found
-use Rattle.bser_events.specs.Places.{Placed, reading_at}
+use Rattle.bser_events.specs.Places.{Placed, PlacedAs, SpellsEvent, AnyBytes, place_at, counted, reading_at, mark_of}
+use Rattle.bser_events.specs.declared.event.Place.{Place}
+use Rattle.bser_events.proofs.Midways.{took_none}
+use Rattle.bser_events.proofs.Placings.{stands_by, with_any_bytes}
+use Rattle.bser_deserializer.specs.Calls.{spells_due}
+use Rattle.std.specs.Prelude.{Result, Ok, Err, OnErr}
 use Rattle.bser_events.proofs.Takings.{takes_one, takes_anywhere}
 use Rattle.bser_deserializer.specs.declared.due.Due as code
 use Rattle.bser_deserializer.specs.declared.due.Due.TheVariants as due
@@ -37,7 +43,7 @@ use Rattle.bser_deserializer.specs.Reading.{Answers, NamesBy, FillsReadably, Ref
 use Rattle.bser_deserializer.specs.Askings.{asking_bytes, asking_ignored}
 use Rattle.bser_deserializer.proofs.Clean.{clean_any}
 use Rattle.bser_deserializer.proofs.Refusals.{by_name, names_bare, names_by_more}
-use Rattle.bser_deserializer.specs.Any.{TookAny, TookValue, TookField, told_field, IsKeyDue}
+use Rattle.bser_deserializer.specs.Any.{TookAny, TookValue, TookField, TellsName, told_field, IsKeyDue}
 use Rattle.bser_deserializer.proofs.Strings.{key_tags, other_after, took_first, peeks_first}
 use Rattle.bser_deserializer.proofs.Tags.{peeked_names}
 use Rattle.bser_deserializer.proofs.WholeRows.{spelled_whole, field_whole}
@@ -87,35 +93,62 @@ spelled_some (suc (suc n)) (trees.template ks rs) b h = then_some 0x0b _ b h.1
 
 -- ---- fields
 
--- a value that begins with another byte than a skip's
-pub value_field : {B : Type 0} (takes : B → Event → B → Type 0) (n : ℕ) (a b c : Window) (before after : B)
-    → Filled 1 a b → TookValue takes n before after b c → TookField takes n before after a c
-value_field takes n a b c before after filled v = record {
+-- they begin with an event that has bytes
+abbrev StartsValue : List Event → Type 0
+StartsValue [] = ⊥
+StartsValue (e ∷ es) = (text : List ℕ) → SpellsEvent e text → 1 ≤ length text
+
+value_starts : (t : Tree) → StartsValue (events.events t)
+value_starts trees.null = λ text h. omega (arith, ap length h)
+value_starts (trees.boolean v) = λ text h. omega (arith, ap length h)
+value_starts (trees.integer v) = λ text h. omega (arith, ap length h.spelled)
+value_starts (trees.real r) = λ text h. omega (arith, ap length h.1)
+value_starts (trees.bytes s) = λ text h. then_some 0x02 _ text h
+value_starts (trees.text s) = λ text h. then_some 0x0d _ text h
+value_starts (trees.array ts) = λ text h. omega (arith, ap length h.whole)
+value_starts (trees.object es) = λ text h. omega (arith, ap length h.whole)
+value_starts (trees.template ks rs) = λ text h. omega (arith, ap length h.whole)
+
+-- what was told from where a byte was buffered was told from before that
+told_before : {B : Type 0} (takes : B → Event → Place → B → Type 0) (a : Window) (b c : Window × B) (es : List Event) → Filled 1 a b.0 → StartsValue es
+    → TakesAll (Placed takes) b es c → TakesAll (PlacedAs AnyBytes takes) (a, b.1) es c
+told_before takes a b c es filled starts (none m) = absurd starts
+told_before takes a b c es filled starts (more m n o e rest first after) =
+    more (a, m.1) n o e rest
+    (record {
+      text = first.text;
+      took = took_grown a m.0 n.0 1 first.text filled.grown (starts first.text first.spelled) first.took;
+      spelled = tt;
+      told = subst (λ k. takes m.1 e (place_at (counted k) (reading_at n.0) (mark_of e first.text)) n.1) filled.grown.count first.told;
+    })
+    (with_any_bytes takes n o rest after)
+
+-- a value that begins with another byte than a skip's, which was buffered
+pub field_from : {B : Type 0} (takes : B → Event → Place → B → Type 0) (n : ℕ) (a b c : Window) (x y : B)
+    → Filled 1 a b → TookValue (Placed takes) n (b, x) (c, y) b c → TookField (PlacedAs AnyBytes takes) n (a, x) (c, y) a c
+field_from takes n a b c x y filled v = record {
   field = Some v.tree;
   text = v.text;
   spelled = v.spelled;
   keys = v.keys;
   took = took_grown a b c 1 v.text filled.grown (spelled_some n v.tree v.text v.spelled) v.took;
-  told = v.told;
+  told = told_before takes a (b, x) (c, y) (events.events v.tree) filled (value_starts v.tree) v.told;
 }
-
--- the same field, where buffering a byte moved nothing
-pub field_from : {B : Type 0} (takes : ℕ × B → Event → ℕ × B → Type 0) (n : ℕ) (a b c : Window) (before : B) (after : ℕ × B)
-    → Filled 1 a b → TookField takes n (reading_at b, before) after a c → TookField takes n (reading_at a, before) after a c
-field_from takes n a b c before after filled f =
-    subst (λ k. TookField takes n (min k (2 ^ 64 - 1), before) after a c) filled.grown.count f
 
 -- a skip
-pub skipped_field : {B : Type 0} (takes : B → Event → B → Type 0) (n : ℕ) (held : List ℕ) (a b c d : Window) (before after : B)
-    → held ≡ b.buffered → Filled 1 a b → c ≡ consumed 1 b → get_or held 0 0 ≡ 0x0c → d ≡ c → takes before events.null after → TookField takes n before after a d
-skipped_field takes n held a b c d before after same filled took skip end told = record {
-  field = None;
-  text = 0x0c ∷ [];
-  spelled = refl;
-  keys = refl;
-  took = subst (λ w. Took a w (0x0c ∷ [])) (sym end) (subst (λ t. Took a c (t ∷ [])) skip (took_first held a b c same filled took));
-  told = takes_one takes before after events.null told;
-}
+pub skipped_field : {B : Type 0} (takes : B → Event → Place → B → Type 0) (n start : ℕ) (held : List ℕ) (a b c d : Window) (x y : B)
+    → held ≡ b.buffered → Filled 1 a b → c ≡ consumed 1 b → get_or held 0 0 ≡ 0x0c → d ≡ c → start ≡ reading_at a → takes x events.null (place_at start (reading_at c) false) y
+    → TookField (PlacedAs AnyBytes takes) n (a, x) (d, y) a d
+skipped_field takes n start held a b c d x y same filled took skip end at told =
+    let skipped : Took a c (0x0c ∷ []) = subst (λ t. Took a c (t ∷ [])) skip (took_first held a b c same filled took) in
+    record {
+      field = None;
+      text = 0x0c ∷ [];
+      spelled = refl;
+      keys = refl;
+      took = subst (λ w. Took a w (0x0c ∷ [])) (sym end) skipped;
+      told = takes_one (PlacedAs AnyBytes takes) (a, x) (d, y) events.null (stands_by AnyBytes takes start false events.null (0x0c ∷ []) a c d x y skipped at refl tt end told);
+    }
 
 field_other : (r : Reader Tree) (t : ℕ) (y : List ℕ) (e : Error) → (t ≡ 0x0c → ⊥) → r (t ∷ y) ≡ refuses e → field_of r (t ∷ y) ≡ refuses e
 field_other r t y e never h = rw (ne_eqb t 0x0c never) (ap (and_then (λ u. give (Some u))) h)
@@ -128,6 +161,11 @@ field_names n held e a b same filled never h =
     (λ f y p. field_other (with_text_keys n) (get_or held 0 0) y f never p) (peeks_first held a b same filled) h
 
 -- ---- a value or a field that is due
+
+-- the bytes said in another way
+pub told_as : {B : Type 0} (F G : Event → Format) (takes : B → Event → Place → B → Type 0) (before after : Window × B) (s z : State) → F ≡ G
+    → TookAny (PlacedAs F takes) before after s z → TookAny (PlacedAs G takes) before after s z
+told_as F G takes before after s z same h = subst (λ f. TookAny (PlacedAs f takes) before after s z) same h
 
 pub any_value : {B : Type 0} (takes : B → Event → B → Type 0) (s z : State) (before after : B) → s.due ≡ node_due
     → TookValue takes s.levels before after s.source z.source → z ≡ past s z.source → TookAny takes before after s z
@@ -177,6 +215,30 @@ any_field_refused e s z due fails said =
     (λ f x p. subst (λ d. asks_any s.opened s.levels d x ≡ refuses f) (sym due) (ap (and_then done) p)) fails said
 
 -- ---- keys
+
+-- a key of a row, which has no bytes
+pub name_told : {B : Type 0} (takes : B → Event → Place → B → Type 0) (start place : ℕ) (ks : List (List ℕ)) (k : List ℕ) (w c : Window) (x y : B) → w.failed ≡ false → start ≡ reading_at w → c ≡ w
+    → IsUtf8 k → k ≡ get_or ks place [] → takes x (events.key k) (place_at start (reading_at w) false) y → TellsName (PlacedAs AnyBytes takes) place ks (w, x) (c, y)
+name_told takes start place ks k w c x y works at end utf8 is told = record {
+  utf8 = subst (λ l. IsUtf8 l) is utf8;
+  told = subst (λ l. PlacedAs AnyBytes takes (w, x) (events.key l) (c, y)) is (stands_by AnyBytes takes start false (events.key k) [] w w c x y (took_none w works) at refl tt end told);
+}
+
+pub kept_key : {A : Type 0} (kept : A → List ℕ) (ks : List A) (i : ℕ) (d v : A) (k : List ℕ) → i < length ks → v ≡ get_or ks i d → k ≡ kept v → k ≡ get_or (map kept ks) i []
+kept_key kept ks i d v k inside found is = is ∙ ap kept found ∙ sym (get_or-map kept ks i d [] inside)
+
+-- of a key that is expected nothing is said of the bytes
+pub key_spells : (d : Due) → IsKeyDue d → AnyBytes ≡ spells_due d
+key_spells nothing_due is = refl
+key_spells key_due is = refl
+key_spells (name_due k) is = refl
+key_spells node_due is = absurd is
+key_spells field_due is = absurd is
+key_spells (row_due ks) is = absurd is
+
+pub no_value_due : {X E : Type 0} (P : Type 0) (r : Result X E) (d : Due) → IsKeyDue d → OnErr r (d ≡ node_due → P)
+no_value_due P (Ok x) d is = tt
+no_value_due P (Err e) d is = λ due. absurd (subst IsKeyDue due is)
 
 name_is : (place : ℕ) (ks : List (List ℕ)) → IsKeyDue (name_at place ks)
 name_is place [] = tt
@@ -275,7 +337,7 @@ any_bytes_key held takes s m z v t before after is a same bad end told =
 
 -- ---- builders that do not look at places
 
-pub any_told : {B : Type 0} (takes : B → Event → B → Type 0) (before after : ℕ × B) (s z : State) → TookAny (Placed (λ x e p y. takes x e y)) before after s z → TookAny takes before.1 after.1 s z
+pub any_told : {B : Type 0} {spells : Event → Format} (takes : B → Event → B → Type 0) (before after : Window × B) (s z : State) → TookAny (PlacedAs spells (λ x e p y. takes x e y)) before after s z → TookAny takes before.1 after.1 s z
 any_told takes before after s z k = record {
   tree = k.tree;
   text = k.text;

@@ -2,7 +2,8 @@
 use Rattle.std.specs.Prelude.{◌≡◌, ◌≢◌, ℕ, ℤ, Bool, true, false, MatchBool, List, Some}
 use Rattle.bser_format.specs.Content.{Content, Meaning}
 use Rattle.bser_format.specs.ReadsScalars.{reads_signed, reads_slice, reads_string}
-use Rattle.bser_format.specs.Expected.{row_due}
+use Rattle.bser_format.specs.Expected.{Due, node_due, row_due}
+use Rattle.bser_format.specs.Grammar.{Format}
 use Rattle.bser_format.specs.Errors.{error_of}
 use Rattle.bser_format.specs.declared.errors.Complaint.{Complaint}
 use Rattle.bser_format.specs.declared.errors.Error.{Error}
@@ -16,7 +17,9 @@ use Rattle.bser_source.specs.Window.{Window}
 use Rattle.bser_bunser.specs.Names.{Names}
 use Rattle.bser_bunser.specs.Refusal.{Fails}
 use Rattle.bser_events.specs.Events.{Event}
-use Rattle.bser_events.specs.Places.{Placed, reading_at}
+use Rattle.bser_events.specs.Places.{Placed, PlacedAs, SpellsEvent, AnyBytes}
+use Rattle.bser_events.specs.Cut.{Cut}
+use Rattle.bser_events.specs.declared.builder.Stop.{Stop}
 use Rattle.bser_events.specs.declared.event.Place.{Place}
 use Rattle.bser_deserializer.specs.Access.{OpensItems, OpensPairs, RefusesItems, RefusesPairs, KeysOutside, IsItemsHead, after_closing}
 use Rattle.bser_deserializer.specs.Any.{TookAny, TookValue, TookField, TellsName}
@@ -160,33 +163,47 @@ KeysGivenBack h old new = (k : ℕ) → KeysOutside (wanted_items old.state.keys
 
 -- ---- whatever is expected
 
--- what was expected was taken and reported, its places in order from where reading was to where it is
+-- the bytes of an event are its own where a value is expected. A skipped field is told as null, a row
+-- and its keys have no bytes, and a key alone has either tag.
+abbrev pub spells_due : Due → Event → Format
+spells_due node_due = SpellsEvent
+spells_due _ = AnyBytes
+
+-- what was expected was taken and reported, each event at the place of the bytes that were read since
+-- the one before it: the first from where reading was, the last up to where it is
 abbrev pub AnyTold : {B : Type 0} → (B → Event → Place → B → Type 0) → B → B → Seen → Seen → Type 0
-AnyTold takes before after old new = TookAny (Placed takes) (reading_at old.state.source, before) (reading_at new.state.source, after) old.state new.state
+AnyTold takes before after old new =
+    TookAny (PlacedAs (spells_due old.state.due) takes) (old.state.source, before) (new.state.source, after) old.state new.state
 
 -- the key that was expected was taken and reported
 abbrev pub KeyTold : {B : Type 0} → (B → Event → Place → B → Type 0) → B → B → Seen → Seen → Type 0
-KeyTold = AnyTold
+KeyTold takes before after old new =
+    TookAny (PlacedAs AnyBytes takes) (old.state.source, before) (new.state.source, after) old.state new.state
 
 -- a row was taken as if it was expected, and reported
 abbrev pub RowTold : {B : Type 0} → (B → Event → Place → B → Type 0) → B → B → Seen → Seen → Type 0
 RowTold takes before after old new =
-    TookAny (Placed takes) (reading_at old.state.source, before) (reading_at new.state.source, after) (awaiting (row_due old.state.keys) old.state) new.state
+    TookAny (PlacedAs AnyBytes takes) (old.state.source, before) (new.state.source, after) (awaiting (row_due old.state.keys) old.state) new.state
 
 -- a value was taken and reported
 abbrev pub ValueTold : {B : Type 0} → (B → Event → Place → B → Type 0) → B → B → Seen → Seen → Type 0
 ValueTold takes before after old new =
-    TookValue (Placed takes) old.state.levels (reading_at old.state.source, before) (reading_at new.state.source, after) old.state.source new.state.source
+    TookValue (Placed takes) old.state.levels (old.state.source, before) (new.state.source, after) old.state.source new.state.source
 
 -- a row's field was taken and reported
 abbrev pub FieldTold : {B : Type 0} → (B → Event → Place → B → Type 0) → B → B → Seen → Seen → Type 0
 FieldTold takes before after old new =
-    TookField (Placed takes) old.state.levels (reading_at old.state.source, before) (reading_at new.state.source, after) old.state.source new.state.source
+    TookField (PlacedAs AnyBytes takes) old.state.levels (old.state.source, before) (new.state.source, after) old.state.source new.state.source
 
 -- the key at this place of a row's keys was reported
 abbrev pub NameTold : {B : Type 0} → (B → Event → Place → B → Type 0) → ℕ → B → B → Seen → Seen → Type 0
 NameTold takes place before after old new =
-    TellsName (Placed takes) place old.state.keys (reading_at old.state.source, before) (reading_at new.state.source, after)
+    TellsName (PlacedAs AnyBytes takes) place old.state.keys (old.state.source, before) (new.state.source, after)
+
+-- the builder was told some events of a value, each once and in order, and then took no more, or was
+-- told no more
+abbrev pub ValueCut : {B : Type 0} → (B → Event → Place → B → Type 0) → (Stop → B → Event → Place → B → Type 0) → B → B → Seen → Type 0
+ValueCut takes stopped before after old = Cut takes stopped (old.state.source, before) after
 
 -- what is expected, whatever it is, gives the first error
 abbrev pub RefusesAny : Seen → Seen → Type 0

@@ -1,9 +1,10 @@
 //! Reading what is expected, whatever it is, reported to a builder.
-ghost use Rattle.std.specs.Prelude.{◌≡◌, ◌≤◌, ◌<◌, length, OnOk, OnErr};
+ghost use Rattle.std.specs.Prelude.{◌≡◌, ◌≤◌, ◌<◌, false, length, OnOk, OnErr};
 ghost use Rattle.bser_events.specs.Told.{told};
-ghost use Rattle.bser_events.specs.Places.{Placed, reading_at};
+ghost use Rattle.bser_events.specs.Places.{place_at, reading_at};
+ghost use Rattle.bser_format.specs.Expected.{node_due};
 ghost use Rattle.bser_deserializer.specs.Any.{IsKeyDue};
-ghost use Rattle.bser_deserializer.specs.Calls.{Keeps, HasFailed, TookDue, AnyTold, KeyTold, NameTold, RowTold, ValueTold, FieldTold, RefusesAny, RefusesRow, NamesValue, NamesField};
+ghost use Rattle.bser_deserializer.specs.Calls.{Keeps, HasFailed, TookDue, AnyTold, KeyTold, NameTold, RowTold, ValueTold, ValueCut, FieldTold, RefusesAny, RefusesRow, NamesValue, NamesField};
 ghost use Rattle.bser_deserializer.specs.State.{refused};
 
 use crate::cursor::Cursor;
@@ -27,14 +28,18 @@ impl<R: DeRead> Deserializer<R> {
     /// The keys of objects have to be UTF-8; a key that is expected by itself need not be. The
     /// error is the first one in the order of reading, as the plain reader answers it. A builder
     /// that takes no more, and no room for the containers that are open or for a string over a
-    /// reader, are [`Error::OutOfMemory`]. After an error no clause says what the builder is.
+    /// reader, are [`Error::OutOfMemory`]. After an error where a value is expected the builder
+    /// took some of its events, each once and in order, and then no more, or took no more at the
+    /// next one; else no clause says what it is.
     ///
     /// A row's beginning and end, and its keys, have no bytes of their own. A key that is expected
-    /// by itself is placed as if under no text's tag.
+    /// by itself is placed as if under the tag of what is reported.
     pub fn read_any<B: Builder>(&mut self, builder: &mut B) -> Answer<()>
         ensures found { OnOk result (AnyTold B.takes builder.old builder.new self.old self.new) }
         ensures kept { OnOk result (Keeps self.old self.new) }
         ensures refused { OnErr result (RefusesAny self.old self.new) }
+        ensures cut { OnErr result (self.old.state.due ≡ node_due
+            → ValueCut B.takes B.stopped builder.old builder.new self.old) }
     {
         let mut frames = Vec::new(self.alloc);
         let mut scratch = Vec::new(self.alloc);
@@ -48,16 +53,22 @@ impl<R: DeRead> Deserializer<R> {
 
     /// Tells the builder an event, which began at `start` and ends where reading is.
     #[inline(always)]
-    fn tell<B: Builder>(&mut self, builder: &mut B, event: Event<'_>, start: usize) -> Answer<()>
+    fn tell<B: Builder>(
+        &mut self,
+        builder: &mut B,
+        event: Event<'_>,
+        start: usize,
+        is_text: bool,
+    ) -> Answer<()>
         requires begun { start ≤ reading_at self.old.state.source }
-        ensures ok { OnOk result (Placed B.takes (start, builder.old) (told event.entry)
-            (reading_at self.new.state.source, builder.new)) }
+        ensures ok { OnOk result (B.takes builder.old (told event.entry)
+            (place_at start (reading_at self.old.state.source) is_text) builder.new) }
         ensures same { OnOk result (self.new.state ≡ self.old.state) }
         ensures kept { OnOk result (Keeps self.old self.new) }
         ensures reason { OnErr result (self.new.refusal ≡ Error.OutOfMemory) }
         ensures err { OnErr result (self.new.state ≡ refused self.old.state) }
     {
-        tell(&mut self.bunser, builder, event, start, false)
+        tell(&mut self.bunser, builder, event, start, is_text)
     }
 
     /// Reads a value, and reports it. Nothing is expected then.
@@ -73,6 +84,8 @@ impl<R: DeRead> Deserializer<R> {
         ensures kept { OnOk result (Keeps self.old self.new) }
         ensures err { OnErr result (HasFailed self.old self.new) }
         ensures names { OnErr result (NamesValue self.old self.new) }
+        ensures cut { OnErr result
+            (ValueCut B.takes B.stopped builder.old builder.new self.old) }
     {
         read_value(&mut self.bunser, frames, scratch, self.levels, builder)?;
         self.due = Due::Nothing;
@@ -100,7 +113,7 @@ impl<R: DeRead> Deserializer<R> {
         let start = taken(&self.bunser);
         self.bunser.consume(1);
         self.due = Due::Nothing;
-        self.tell(builder, Event::Null, start)
+        self.tell(builder, Event::Null, start, false)
     }
 
     /// Reads a row, as if one was expected, and reports it as the object of its keys and fields.
@@ -120,19 +133,20 @@ impl<R: DeRead> Deserializer<R> {
         self.due = Due::Nothing;
         let len = self.keys.len();
         let start = taken(&self.bunser);
-        self.tell(builder, Event::Object { len }, start)?;
+        self.tell(builder, Event::Object { len }, start, false)?;
         for place in 0..len {
             self.tell_name(place, builder)?;
             self.tell_field(frames, scratch, builder)?;
         }
         let end = taken(&self.bunser);
-        self.tell(builder, Event::Close, end)
+        self.tell(builder, Event::Close, end, false)
     }
 
     /// Tells the key at this place.
     #[inline(always)]
     fn tell_name<B: Builder>(&mut self, place: usize, builder: &mut B) -> Answer<()>
-        requires { place < length self.old.state.keys }
+        requires place { place < length self.old.state.keys }
+        requires working { self.old.state.source.failed ≡ false }
         ensures ok { OnOk result
             (NameTold B.takes place builder.old builder.new self.old self.new) }
         ensures same { OnOk result (self.new.state ≡ self.old.state) }
@@ -155,8 +169,8 @@ impl<R: DeRead> Deserializer<R> {
         let start = taken(&self.bunser);
         let bytes = self.read_bytes(scratch)?;
         match as_text(bytes.get_ref()) {
-            Some(text) => self.tell(builder, Event::Text(text), start),
-            None => self.tell(builder, Event::Bytes(bytes.get_ref()), start),
+            Some(text) => self.tell(builder, Event::Text(text), start, true),
+            None => self.tell(builder, Event::Bytes(bytes.get_ref()), start, false),
         }
     }
 }

@@ -3,6 +3,7 @@ ghost use Rattle.std.specs.Prelude.{IsTrue, ◌≡◌, ◌≢◌, ◌≤◌, ◌
 ghost use Rattle.bser_format.specs.Errors.{error_of};
 ghost use Rattle.bser_format.specs.Expected.{nothing_due};
 ghost use Rattle.bser_format.specs.Named as named;
+ghost use Rattle.bser_source.specs.Refusal.{EndsShort};
 ghost use Rattle.bser_source.specs.Window.{Peeks};
 ghost use Rattle.bser_bunser.specs.Names.{Names};
 ghost use Rattle.bser_bunser.specs.Refusal.{ShortOf};
@@ -126,6 +127,8 @@ impl<R: DeRead> Deserializer<R> {
             (self.new.state ≡ with_source self.old.state self.new.state.source) }
         ensures err { IfErr result (λ e.
             ShortOf 1 e self.old.state.source self.new.state.source) }
+        ensures end { IfErr result (λ e. e ≡ error_of ReadCause.Eof
+            → EndsShort 1 self.old.state.source self.new.state.source) }
         ensures memory { IfErr result (λ e. e ≢ Error.OutOfMemory) }
     {
         self.bunser.peek()

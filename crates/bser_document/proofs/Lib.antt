@@ -1,5 +1,6 @@
 mod Spelled
 pub mod Readings
+pub mod Found
 mod Places
 mod Facts
 pub mod Whole

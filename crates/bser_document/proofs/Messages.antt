@@ -4,7 +4,7 @@ use Rattle.bser_format.specs.Expand.{expand}
 use Rattle.bser_format.specs.Expected.{node_due}
 use Rattle.bser_format.proofs.Settled.{filled_settles}
 use Rattle.bser_events.specs.Events.{events}
-use Rattle.bser_events.proofs.Takings.{takes_anywhere}
+use Rattle.bser_events.proofs.Takings.{told_anywhere}
 use Rattle.bser_deserializer.proofs.WholeRows.{spelled_whole}
 use Rattle.bser_value.proofs.Read.{value_there}
 use Rattle.bser_messages.specs.Told.{TellsMessage, BeginsTold, TookTold, IsNextTold}
@@ -30,7 +30,7 @@ message_told limits before after h text views k =
       normal = w.1;
       values = filled_settles limits.levels node_due (expand k.tree) w.0 body (record { tree = k.tree; stands = refl; spelled = k.message.value }) w.1;
       rows = spelled_whole limits.levels k.tree body k.message.value;
-      views = all_taken before (events k.tree) after (takes_anywhere Takes (h.start, before) (k.told.end, after) (events k.tree) k.told.told) [] views;
+      views = all_taken before (events k.tree) after (told_anywhere Takes h.start k.bytes before after (events k.tree) k.told) [] views;
     }
 
 module _ (limits : Limits) (before after : DocumentBuilder) (d : Document) where
@@ -38,7 +38,7 @@ module _ (limits : Limits) (before after : DocumentBuilder) (d : Document) where
   unfolding message_told
   message_kept h text views nodes strings k =
       let v = message_told limits before after h text views k in
-      let kept : ViewsDocument d (events k.tree) = as_document after d (events k.tree) nodes strings (all_taken before (events k.tree) after (takes_anywhere Takes (h.start, before) (k.told.end, after) (events k.tree) k.told.told) [] views) in
+      let kept : ViewsDocument d (events k.tree) = as_document after d (events k.tree) nodes strings (all_taken before (events k.tree) after (told_anywhere Takes h.start k.bytes before after (events k.tree) k.told) [] views) in
       record {
         capabilities = h.capabilities;
         tree = k.tree;

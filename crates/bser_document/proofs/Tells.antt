@@ -7,9 +7,9 @@ use Rattle.bser_format.specs.Tree.{Tree}
 use Rattle.bser_format.specs.Content.{Content, value}
 use Rattle.bser_format.specs.ValueTree.{IsValueTree}
 use Rattle.bser_events.specs.Events.{Event, events, TakesAll, none as no_more}
-use Rattle.bser_events.specs.Places.{Placed}
+use Rattle.bser_events.specs.Places.{place_at}
 use Rattle.bser_events.specs.declared.event.Place.{Place}
-use Rattle.bser_events.proofs.Takings.{takes_one, takes_then, takes_anywhere}
+use Rattle.bser_events.proofs.Takings.{takes_one, takes_then}
 use Rattle.bser_value.specs.declared.value.Value.{Value}
 use Rattle.bser_value.specs.declared.builder.ValueBuilder.{ValueBuilder}
 use Rattle.bser_value.specs.Made.{unread, read_as}
@@ -20,7 +20,7 @@ use Rattle.bser_value.proofs.Steps.{all_taken}
 use Rattle.bser_document.specs.declared.document.Document.{Document}
 use Rattle.bser_document.specs.declared.document.DocumentNode.{DocumentNode}
 use Rattle.bser_document.specs.DocumentView.{Within, event_of, HoldsDocument}
-use Rattle.bser_document.specs.Tells.{Told}
+use Rattle.bser_document.specs.Tells.{Told, TakesNowhere, is_text_value}
 
 -- the first k nodes were told, if each text is UTF-8
 abbrev pub FrontTold : {B : Type 0} → (B → Event → B → Type 0) → Document → ℕ → B → B → Type 0
@@ -34,36 +34,30 @@ within_there s [] k z h less = absurd (omega (arith, less))
 within_there s (n ∷ ns) zero z h less = h.0
 within_there s (n ∷ ns) (suc k) z h less = within_there s ns k z h.1 (omega (arith, less))
 
-pub one_told : {B : Type 0} (takes : B → Event → B → Type 0) (d : Document) (ms : List DocumentNode) (k : ℕ) (z : DocumentNode) (e : Event) (before mid after : B) → ms ≡ d.nodes.items → k < length ms → (Within d.strings.items (get_or ms k z) → e ≡ event_of d.strings.items (get_or ms k z)) → takes mid e after
-    → FrontTold takes d k before mid → FrontTold takes d (k + 1) before after
-one_told takes d ms k z e before mid after same less' tells' taken front h =
+pub one_told : {B : Type 0} (takes : B → Event → B → Type 0) (d : Document) (ms : List DocumentNode) (k : ℕ) (z : DocumentNode) (before mid after : B) → ms ≡ d.nodes.items → k < length ms
+    → (Within d.strings.items (get_or ms k z) → takes mid (event_of d.strings.items (get_or ms k z)) after) → FrontTold takes d k before mid → FrontTold takes d (k + 1) before after
+one_told takes d ms k z before mid after same less' taken' front h =
     let s : List ℕ = d.strings.items in
     let ns : List DocumentNode = d.nodes.items in
     let n : DocumentNode = get_or ns k z in
     let less : k < length ns = subst (λ l. k < length l) same less' in
-    let tells : Within s n → e ≡ event_of s n = subst (λ l. Within s (get_or l k z) → e ≡ event_of s (get_or l k z)) same tells' in
-    let w : Within s n = within_there s ns k z h less in
-    subst (λ l. TakesAll takes before l after) (sym (ap (map (event_of s)) (take_more ns k z less) ∙ map_push (event_of s) (take k ns) n ∙ ap (λ x. map (event_of s) (take k ns) ++ x ∷ []) (sym (tells w))))
-    (takes_then takes before mid after (map (event_of s) (take k ns)) (e ∷ []) (front h) (takes_one takes mid after e taken))
+    let taken : Within s n → takes mid (event_of s n) after = subst (λ l. Within s (get_or l k z) → takes mid (event_of s (get_or l k z)) after) same taken' in
+    subst (λ l. TakesAll takes before l after) (sym (ap (map (event_of s)) (take_more ns k z less) ∙ map_push (event_of s) (take k ns) n))
+    (takes_then takes before mid after (map (event_of s) (take k ns)) (event_of s n ∷ []) (front h) (takes_one takes mid after (event_of s n) (taken (within_there s ns k z h less))))
 
-pub all_told : {B : Type 0} (takes : B → Event → Place → B → Type 0) (d : Document) (k : ℕ) (before after : B) → length d.nodes.items ≤ k → FrontTold (Placed takes) d k (0, before) (0, after) → Told takes d before after
+pub all_told : {B : Type 0} (takes : B → Event → Place → B → Type 0) (d : Document) (k : ℕ) (before after : B) → length d.nodes.items ≤ k → FrontTold (TakesNowhere takes) d k before after → Told takes d before after
 all_told takes d k before after past front t views =
-    subst (λ l. TakesAll (Placed takes) (0, before) l (0, after)) (ap (map (event_of d.strings.items)) (take_all k d.nodes.items past) ∙ views.shows.same) (front views.shows.within)
+    subst (λ l. TakesAll (TakesNowhere takes) before l after) (ap (map (event_of d.strings.items)) (take_all k d.nodes.items past) ∙ views.shows.same) (front views.shows.within)
 
--- an event at no place
-pub placed_nowhere : {B : Type 0} (takes : B → Event → Place → B → Type 0) (e : Event) (p : Place) (before after : B) → p.start ≡ 0 → p.end ≡ 0 → takes before e p after → Placed takes (0, before) e (0, after)
-placed_nowhere takes e p before after first last took = record {
-  place = p;
-  behind = omega (arith, first);
-  forwards = omega (arith, first, last);
-  end = sym last;
-  took = took;
-}
+-- a node's event at no place
+pub told_nowhere : {B : Type 0} (takes : B → Event → Place → B → Type 0) (told kept : Event) (p : Place) (before after : B) → p ≡ place_at 0 0 (is_text_value kept) → told ≡ kept → takes before told p after → TakesNowhere takes before kept after
+told_nowhere takes told kept p before after place same took =
+    subst (λ e. takes before e (place_at 0 0 (is_text_value kept)) after) same (subst (λ q. takes before told q after) place took)
 
 -- the value is what the document holds
 pub value_made : (d : Document) (before after : ValueBuilder) (r : Option Value) → Shows before unread → Told (λ x e p y. Takes x e y) d before after → ((t : Tree) → Shows after (read_as t) → option_map tree_of r ≡ Some t) → (c : Content) (h : HoldsDocument d c) → option_map tree_of r ≡ Some h.read
 value_made d before after r shows tells whole c h =
-    whole h.read (all_taken before (events h.tree) after (takes_anywhere Takes (0, before) (0, after) (events h.tree) (tells h.tree h.views)) unread (read_as h.read) shows (made h.tree h.rows h.read unread h.normal))
+    whole h.read (all_taken before (events h.tree) after (tells h.tree h.views) unread (read_as h.read) shows (made h.tree h.rows h.read unread h.normal))
 
 pub value_held : (d : Document) (before after : ValueBuilder) (r : Option Value) (v : Value) → r ≡ Some v → Shows before unread → Told (λ x e p y. Takes x e y) d before after → ((t : Tree) → Shows after (read_as t) → option_map tree_of r ≡ Some t) → (c : Content) → HoldsDocument d c → HoldsValue v c
 value_held d before after r v is shows tells whole c h =

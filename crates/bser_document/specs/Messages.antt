@@ -1,11 +1,12 @@
 -- Whole messages that are kept as documents.
 use Rattle.std.specs.Prelude.{◌≡◌, ◌≤◌, ℕ, ◌+◌, List, ◌++◌, length, Option, Some, None}
-use Rattle.std.specs.Io.KnownBytes.{Consumes, IsAtEnd}
+use Rattle.std.specs.Io.KnownBytes.{Consumes}
 use Rattle.bser_format.specs.Expand.{expand}
 use Rattle.bser_format.specs.Message.{IsMessage}
 use Rattle.bser_format.specs.Normal.{normal}
 use Rattle.bser_format.specs.Tree.{Tree}
 use Rattle.bser_events.specs.Events.{events}
+use Rattle.bser_messages.specs.Streams.{StaysAtEnd}
 use Rattle.bser_messages.specs.declared.limits.Limits.{Limits}
 use Rattle.bser_document.specs.declared.document.Document.{Document}
 use Rattle.bser_document.specs.DocumentView.{ViewsDocument, value_of}
@@ -36,5 +37,5 @@ pub record TookKept (limits : Limits) (old new : Option (List ℕ)) (d : Documen
 
 -- the next message was kept, or nothing was left
 abbrev pub IsNextKept : Limits → Option (List ℕ) → Option (List ℕ) → Option Document → Type 0
-IsNextKept limits old new None = IsAtEnd old
+IsNextKept limits old new None = StaysAtEnd old new
 IsNextKept limits old new (Some d) = TookKept limits old new d

@@ -2,6 +2,7 @@
 ghost use Rattle.std.specs.Prelude.{◌≡◌, true, false, [], ◌∷◌, ◌++◌, length, string_bytes, OnOk, IfOk};
 ghost use Rattle.bser_events.specs.Events as events;
 ghost use Rattle.bser_events.specs.Told.{told};
+ghost use Rattle.bser_events.specs.declared.builder.Stop.TheVariants.{Memory};
 ghost use Rattle.bser_document.specs.DocumentView.{Views, ViewsValue, Takes, SameEvents, Closes, end_of, with_end};
 ghost use Rattle.bser_document.specs.declared.document.DocumentNode.TheVariants as nodes;
 
@@ -198,6 +199,8 @@ impl DocumentBuilder {
 
 impl Builder for DocumentBuilder {
     ghost takes = { λ a e _ b. Takes a e b };
+
+    ghost stopped = { λ stop _ _ _ _. stop ≡ Memory };
 
     ghost stops = { true };
 

@@ -2,9 +2,10 @@
 ghost use Rattle.std.specs.Prelude.{◌<◌, ℕ, List};
 ghost use Rattle.std.specs.Fmt.{DisplaysOnOk};
 ghost use Rattle.bser_format.specs.Measures.{depth, items_depth, entries_depth};
+ghost use Rattle.bser_format.specs.SomeText.{WritesSomeOnOk};
 ghost use Rattle.bser_format.specs.Tree.{Tree, array, object, entries, entries_of};
 ghost use Rattle.bser_format.specs.Tree as trees;
-ghost use Rattle.bser_value.specs.TreeText.{tree_text, entry_text};
+ghost use Rattle.bser_value.specs.TreeText.{IsTextOf, IsEntryText, tree_text};
 ghost use Rattle.bser_document.specs.DocumentView.{value_of};
 ghost use Rattle.bser_document.specs.Holds.{HoldsItem, IsReadAs, ShowsNode, item_value};
 ghost use Rattle.bser_document.specs.Pairs.{HoldsEntries};
@@ -30,7 +31,12 @@ use std::fmt;
 impl fmt::Display for Document {
     ghost output = { λ d. tree_text (value_of d) };
 
-    fn fmt<W: fmt::Write>(&self, f: &mut fmt::Formatter<W>) -> fmt::Result {
+    fn fmt<W: fmt::Write>(&self, f: &mut fmt::Formatter<W>) -> fmt::Result
+        ensures writes { DisplaysOnOk W.write_str_gives f.old result
+            (tree_text (value_of self.now)) f.new }
+        ensures text { WritesSomeOnOk W.write_str_gives f.old result
+            (IsTextOf (value_of self.now)) f.new }
+    {
         show(self.root(), self.nodes.len() + 1, f)
     }
 }
@@ -39,7 +45,12 @@ impl fmt::Display for Document {
 impl fmt::Display for Item<'_> {
     ghost output = { λ i. tree_text (item_value i) };
 
-    fn fmt<W: fmt::Write>(&self, f: &mut fmt::Formatter<W>) -> fmt::Result {
+    fn fmt<W: fmt::Write>(&self, f: &mut fmt::Formatter<W>) -> fmt::Result
+        ensures writes { DisplaysOnOk W.write_str_gives f.old result
+            (tree_text (item_value self.now)) f.new }
+        ensures text { WritesSomeOnOk W.write_str_gives f.old result
+            (IsTextOf (item_value self.now)) f.new }
+    {
         show(*self, self.document.nodes.len() + 2, f)
     }
 }
@@ -48,7 +59,7 @@ impl fmt::Display for Item<'_> {
 #[cycle(show)]
 fn show<W: fmt::Write>(item: Item<'_>, room: usize, f: &mut fmt::Formatter<W>) -> fmt::Result
     ensures { (u : Tree) → IsReadAs item.entry u → depth u < room
-        → DisplaysOnOk W.write_str_gives f.old result (tree_text u) f.new }
+        → WritesSomeOnOk W.write_str_gives f.old result (IsTextOf u) f.new }
 {
     match item.node() {
         DocumentNode::Array { len: _, end: _ }
@@ -66,7 +77,7 @@ fn show_container<W: fmt::Write>(
     f: &mut fmt::Formatter<W>,
 ) -> fmt::Result
     ensures { (u : Tree) → HoldsItem item.entry u → depth u < room
-        → DisplaysOnOk W.write_str_gives f.old result (tree_text u) f.new }
+        → WritesSomeOnOk W.write_str_gives f.old result (IsTextOf u) f.new }
 {
     if room == 0 {
         return Err(fmt::Error);
@@ -94,7 +105,7 @@ fn show_items<W: fmt::Write>(
     f: &mut fmt::Formatter<W>,
 ) -> fmt::Result
     ensures { (us : trees.Items) → HoldsItems items.entry us → items_depth us < room
-        → DisplaysOnOk W.write_str_gives f.old result (tree_text (array us)) f.new }
+        → WritesSomeOnOk W.write_str_gives f.old result (IsTextOf (array us)) f.new }
 {
     f.write_str("[")?;
     let mut before = "";
@@ -115,7 +126,7 @@ fn show_spelled<W: fmt::Write>(
 ) -> fmt::Result
     ensures { (m : List (List ℕ × Tree)) → HoldsEntries entries.entry m
         → entries_depth (entries_of m) < room
-        → DisplaysOnOk W.write_str_gives f.old result (tree_text (object (entries_of m))) f.new }
+        → WritesSomeOnOk W.write_str_gives f.old result (IsTextOf (object (entries_of m))) f.new }
 {
     f.write_str("{")?;
     let mut before = "";
@@ -136,7 +147,7 @@ fn show_sorted<W: fmt::Write>(
 ) -> fmt::Result
     ensures { (es : trees.Entries) → Lists (entries es) sorted.now.entries
         → entries_depth es < room
-        → DisplaysOnOk W.write_str_gives f.old result (tree_text (object es)) f.new }
+        → WritesSomeOnOk W.write_str_gives f.old result (IsTextOf (object es)) f.new }
 {
     f.write_str("{")?;
     let mut before = "";
@@ -157,7 +168,7 @@ fn show_entry<W: fmt::Write>(
     f: &mut fmt::Formatter<W>,
 ) -> fmt::Result
     ensures { (u : Tree) → HoldsItem item.entry u → depth u < room
-        → DisplaysOnOk W.write_str_gives f.old result (entry_text key.now u) f.new }
+        → WritesSomeOnOk W.write_str_gives f.old result (IsEntryText key.now u) f.new }
 {
     write_key(key, f)?;
     f.write_str(": ")?;
@@ -172,7 +183,7 @@ impl Document {
         f: &mut fmt::Formatter<W>,
     ) -> fmt::Result
         ensures { (u : Tree) → ShowsNode u self.now node → IsPlain u
-            → DisplaysOnOk W.write_str_gives f.old result (tree_text u) f.new }
+            → WritesSomeOnOk W.write_str_gives f.old result (IsTextOf u) f.new }
     {
         match node {
             DocumentNode::Bool(truth) => write!(f, "{truth}"),

@@ -1,11 +1,12 @@
 //! A document told to a builder again, and made a `Value`.
-ghost use Rattle.std.specs.Prelude.{◌≡◌, true, IfOk, IfErr, OnOk, OnErr, IsUtf8};
+ghost use Rattle.std.specs.Prelude.{◌≡◌, ℕ, List, true, IfOk, IfErr, OnOk, OnErr, IsUtf8};
 ghost use Rattle.bser_format.specs.Content.{Content, value};
+ghost use Rattle.bser_events.specs.Places.{place_at};
 ghost use Rattle.bser_events.specs.Told.{told};
 ghost use Rattle.bser_events.specs.declared.builder.Stop.TheVariants.{Asked};
 ghost use Rattle.bser_value.specs.ValueView.{HoldsValue};
 ghost use Rattle.bser_document.specs.DocumentView.{HoldsDocument, IsText, Within, event_of, piece, value_of};
-ghost use Rattle.bser_document.specs.Tells.{Told};
+ghost use Rattle.bser_document.specs.Tells.{Told, is_text_value};
 
 use crate::document::{Document, DocumentNode};
 use bser_events::builder::{Builder, Stop};
@@ -88,8 +89,7 @@ impl Document {
 /// No place, of a node of this kind.
 #[inline(always)]
 fn place(node: DocumentNode) -> Place
-    ensures start { result.start ≡ 0 }
-    ensures end { result.end ≡ 0 }
+    ensures { (s : List ℕ) → result ≡ place_at 0 0 (is_text_value (event_of s node)) }
 {
     let is_text = match node {
         DocumentNode::Text { .. } => true,

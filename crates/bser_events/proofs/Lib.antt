@@ -9,3 +9,5 @@ pub mod Measures
 pub mod Outcomes
 pub mod InFront
 pub mod Runs
+pub mod Cuts
+pub mod Asked

@@ -52,7 +52,7 @@ midway_on takes whole ev Field d n p q fs a b before after counted m = midway_ne
 
 -- ---- a piece
 
-consumed_then : (m n : ℕ) (b : Window) → consumed n (consumed m b) ≡ consumed (m + n) b
+pub consumed_then : (m n : ℕ) (b : Window) → consumed n (consumed m b) ≡ consumed (m + n) b
 consumed_then m n b =
     ap (λ l. record b { buffered = l; count = b.count + m + n }) (drop-drop n m b.buffered)
     ∙ ap (λ k. record b { buffered = drop (m + n) b.buffered; count = k }) (let e : b.count + m + n ≡ b.count + (m + n) = omega arith in e)
@@ -165,6 +165,21 @@ run_refused takes wants whole Next at e a b c before after m is why end =
       };
       name = inr (refl, why);
     })
+
+-- no memory after what was read
+pub memory_refused : {Y B : Type 0} (takes : B → Event → B → Type 0) (wants : Type 0) (whole : Reader Y) (Next : Reader Y → List Event → Type 0) (e : Error) (a b c : Window) (before after : B)
+    → Midway takes whole Next a b before after → e ≡ OutOfMemory → wants → c ≡ closed b → Refuses wants whole e a c
+memory_refused takes wants whole Next e a b c before after m is why end =
+    subst (λ z. Refuses wants whole e a z) (sym end) (subst (λ z. Refuses wants whole z a (closed b)) (sym is) (record {
+      fails = record {
+        before = λ old. (let works = m.took.working in absurd cc);
+        failed = refl;
+        lends = m.took.lends;
+        through = m.took.through;
+        failures = m.took.failures;
+      };
+      name = inr (refl, why);
+    }))
 
 -- ---- how much is left
 

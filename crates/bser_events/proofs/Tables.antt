@@ -7,12 +7,16 @@ use Rattle.bser_format.specs.declared.errors.Error.{Error}
 use Rattle.bser_format.specs.declared.errors.Error.TheVariants.{DeInvalidStartByte, DeRecursionLimitExceeded}
 use Rattle.bser_format.specs.declared.errors.Kind.TheVariants as kinds
 use Rattle.bser_format.specs.declared.errors.Complaint.TheVariants.{NegativeCount, RowsWithoutKeys}
+use Rattle.bser_format.specs.DueReaders.{less_one}
+use Rattle.bser_events.specs.declared.frame.Frame.{Frame}
 use Rattle.bser_format.specs.Named.{Answer, Reader, reads, refuses, and_then, ◌>>=◌, give, count, many, complain, text_of, field_of, with_text_keys, rows_body, template_body}
 use Rattle.bser_source.specs.Window.{Window, Filled, Took, consumed, closed}
 use Rattle.bser_source.proofs.Windows.{took_then, took_filled}
 use Rattle.bser_bunser.specs.Refusal.{failures_by, Fails}
 use Rattle.bser_bunser.specs.Names.{Names}
 use Rattle.bser_bunser.specs.Tagged.{TookInt}
+use Rattle.bser_bunser.specs.Tokens.{Headed}
+use Rattle.bser_format.specs.Grammar.{SpellsCount}
 use Rattle.bser_bunser.specs.declared.prefix.Token.{Token}
 use Rattle.bser_bunser.specs.declared.prefix.Token.TheVariants as tokens
 use Rattle.bser_bunser.proofs.Names.{names_rejected, names_taken}
@@ -229,6 +233,19 @@ body_begins : (n : ℕ) (x : List ℕ) → (n ≡ 0 → ⊥) → table_at n (0x0
 body_begins zero x never = absurd (never refl)
 body_begins (suc n) x never = refl
 
+-- the tag of the keys
+pub array_tag : (tag : ℕ) (a b c : Window) → tag ≡ 0x00 → Filled 1 a b → b.buffered ≡ tag ∷ drop 1 b.buffered → c ≡ consumed 1 b → Took a c (0x00 ∷ [])
+array_tag tag a b c is filled first end =
+    subst (λ w. Took a w (0x00 ∷ [])) (sym end) (subst (Took a (consumed 1 b)) (ap (take 1) first ∙ ap (λ z. z ∷ []) is) (took_filled 1 a b filled))
+
+-- the bytes of a template's head
+pub template_spelled : (w : ℕ) (pre number : List ℕ) → pre ≡ 0x0b ∷ [] → SpellsCount w number → Headed 0x0b (Headed 0x00 (SpellsCount w)) (pre ++ ((0x00 ∷ []) ++ number))
+template_spelled w pre number is count = record {
+  rest = 0x00 ∷ number;
+  whole = ap (λ l. l ++ (0x00 ∷ number)) is;
+  body = record { rest = number; whole = refl; body = count };
+}
+
 -- the tag of the keys was taken
 pub table_begun : {B : Type 0} (takes : B → Event → B → Type 0) (n tag : ℕ) (a b c : Window) (before : B) → (n ≡ 0 → ⊥) → tag ≡ 0x00
     → Filled 1 a b → b.buffered ≡ tag ∷ drop 1 b.buffered → c ≡ consumed 1 b
@@ -355,6 +372,15 @@ object_at takes n k t a b before after is level works same told =
     subst (λ z. Opened takes (value_rest n z) (frame_of (n - 1) (parts.Entries k)) a b before after) (sym is)
     (subst (λ z. Opened takes (value_rest z (tokens.Object k)) (frame_of (n - 1) (parts.Entries k)) a b before after) (sym (one_more n (level (subst IsContainer (sym is) tt))))
     (object_opened takes (n - 1) k a b before after works same told))
+
+less_by_one : (n : ℕ) → n - 1 ≡ less_one n
+less_by_one zero = refl
+less_by_one (suc n) = omega arith
+
+pub template_at : {B : Type 0} (takes : B → Event → B → Type 0) (n : ℕ) (t : Token) (f : Frame) (a b : Window) (before after : B) → t ≡ tokens.Template
+    → Opened takes (table_at (n - 1)) f a b before after → Opened takes (value_rest n t) f a b before after
+template_at takes n t f a b before after is opened =
+    subst (λ z. Opened takes (value_rest n z) f a b before after) (sym is) (subst (λ k. Opened takes (table_at k) f a b before after) (less_by_one n) opened)
 
 -- a skip where a value is due
 pub skip_refused : (wants : Type 0) (n : ℕ) (t : Token) (f : Error) (a c : Window) → t ≡ tokens.Skip → a.failed ≡ false → f ≡ DeInvalidStartByte kinds.NextItem 0x0c → c ≡ closed a

@@ -19,6 +19,7 @@ use Rattle.bser_bunser.proofs.Refusals.{fails_untaken}
 use Rattle.bser_events.specs.Events as events
 use Rattle.bser_events.specs.Events.{Event}
 use Rattle.bser_events.specs.Found.{Found, Refuses, text_bytes}
+use Rattle.bser_events.specs.Places.{begins_as_text}
 use Rattle.bser_events.proofs.Takings.{takes_one}
 
 -- ---- texts
@@ -100,6 +101,12 @@ tag_taken tag a b c is filled first end = record {
   either = key_tag_told tag is;
   took = subst (λ w. Took a w (tag ∷ [])) (sym end) (subst (Took a (consumed 1 b)) (ap (take 1) first) (took_filled 1 a b filled));
 }
+
+-- it is that tag
+pub tag_kept : (tag : ℕ) (a b c : Window) (is : is_key_tag tag ≡ true) (filled : Filled 1 a b) (first : b.buffered ≡ tag ∷ drop 1 b.buffered) (end : c ≡ consumed 1 b)
+    → begins_as_text (tag ∷ []) ≡ begins_as_text ((tag_taken tag a b c is filled first end).tag ∷ [])
+unfolding tag_taken
+tag_kept tag a b c is filled first end = refl
 
 pub key_found : {B : Type 0} (takes : B → Event → B → Type 0) (kind : Kind) (s given t : List ℕ) (a m b c : Window) (before after : B)
     → TookKeyTag a m → TookCounted m b s → given ≡ s → t ≡ given → IsUtf8 given → c ≡ b → takes before (events.key t) after

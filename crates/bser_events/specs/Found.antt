@@ -1,5 +1,5 @@
 -- What a call that reads and reports came to.
-use Rattle.std.specs.Prelude.{◌≡◌, ◌⊎◌, ◌<◌, ℕ, zero, suc, Bool, true, List, [], ◌∷◌, ◌++◌, Option, Some, None, ◌==◌, if◌then◌else◌, ⊤, drop}
+use Rattle.std.specs.Prelude.{◌≡◌, ◌⊎◌, ◌<◌, ℕ, zero, suc, Bool, true, false, List, [], ◌∷◌, ◌++◌, Option, Some, None, ◌==◌, if◌then◌else◌, ⊤, drop}
 use Rattle.bser_format.specs.Tree.{Tree}
 use Rattle.bser_format.specs.declared.errors.Error.{Error}
 use Rattle.bser_format.specs.declared.errors.Error.TheVariants.{OutOfMemory, DeRecursionLimitExceeded}
@@ -11,7 +11,7 @@ use Rattle.bser_source.specs.Window.{Window, Filled, Took}
 use Rattle.bser_bunser.specs.Refusal.{Fails}
 use Rattle.bser_bunser.specs.Names.{Names, RefusesBy}
 use Rattle.bser_bunser.specs.Seen.{Seen}
-use Rattle.bser_bunser.specs.Tokens.{token, token_after, after_token}
+use Rattle.bser_bunser.specs.Tokens.{SpellsToken, token, token_after, after_token}
 use Rattle.bser_bunser.specs.declared.prefix.Token.{Token}
 use Rattle.bser_bunser.specs.declared.prefix.Token.TheVariants as tokens
 use Rattle.bser_events.specs.Events as told
@@ -119,41 +119,50 @@ pub record Refuses {X : Type 0} (wants : Type 0) (r : Reader X) (e : Error) (old
 
 -- ---- what callers see: bunser before and after, and the builder before and after
 
--- places are in order, from where reading was, or from a start before it, to where it is
+-- each event has the bytes that were read since the one before it: the first those from where reading
+-- was, or from a start before it, and the last those up to where reading is
+
+-- from each window on that is at this start, and of which the bytes up to this one were taken, and are
+-- this token
+abbrev pub From : ℕ → Token → Window → (Window → Type 0) → Type 0
+From start t here P = (v : Window) (text : List ℕ) → start ≡ reading_at v → Took v here text → SpellsToken t text → P v
 
 -- a value with so many levels was read and reported
 abbrev pub TellsValue : {B : Type 0} → (B → Event → Place → B → Type 0) → ℕ → Seen → Seen → B → B → Type 0
-TellsValue takes levels old new before after = Found (Placed takes) (with_text_keys levels) events old.window new.window (reading_at old.window, before) (reading_at new.window, after)
+TellsValue takes levels old new before after = Found (Placed takes) (with_text_keys levels) events old.window new.window (old.window, before) (new.window, after)
 
 -- so many keys of a template were read and reported
 abbrev pub TellsKeys : {B : Type 0} → (B → Event → Place → B → Type 0) → ℕ → Seen → Seen → B → B → Type 0
-TellsKeys takes count old new before after = Found (Placed takes) (keys_at count) key_events old.window new.window (reading_at old.window, before) (reading_at new.window, after)
+TellsKeys takes count old new before after = Found (Placed takes) (keys_at count) key_events old.window new.window (old.window, before) (new.window, after)
 
 -- a key was read and reported
 abbrev pub TellsKey : {B : Type 0} → (B → Event → Place → B → Type 0) → Kind → Seen → Seen → B → B → Type 0
-TellsKey takes kind old new before after = Found (Placed takes) (text_of kind) (λ s. key s ∷ []) old.window new.window (reading_at old.window, before) (reading_at new.window, after)
+TellsKey takes kind old new before after = Found (Placed takes) (text_of kind) (λ s. key s ∷ []) old.window new.window (old.window, before) (new.window, after)
 
 -- a key was read and reported where an entry is expected, and else nothing changed
 abbrev pub TellsDueKey : {B : Type 0} → (B → Event → Place → B → Type 0) → Part → Seen → Seen → B → B → Type 0
-TellsDueKey takes due old new before after = KeyFound (Placed takes) due old.window new.window (reading_at old.window, before) (reading_at new.window, after)
+TellsDueKey takes due old new before after = KeyFound (Placed takes) due old.window new.window (old.window, before) (new.window, after)
 
 -- so many bytes were read and reported as a text
 abbrev pub TellsText : {B : Type 0} → (B → Event → Place → B → Type 0) → ℕ → ℕ → Seen → Seen → B → B → Type 0
-TellsText takes len start old new before after = Found (Placed takes) (text_bytes len) (λ s. told.text s ∷ []) old.window new.window (start, before) (reading_at new.window, after)
+TellsText takes len start old new before after =
+    From start (tokens.Str true len) old.window (λ v. Found (Placed takes) (text_bytes len) (λ s. told.text s ∷ []) old.window new.window (v, before) (new.window, after))
 
 -- so many bytes were read, or passed over, and reported as a byte string
 abbrev pub TellsBytes : {B : Type 0} → (B → Event → Place → B → Type 0) → ℕ → ℕ → Seen → Seen → B → B → Type 0
-TellsBytes takes len start old new before after = Found (Placed takes) (front len) (λ s. told.bytes s ∷ []) old.window new.window (start, before) (reading_at new.window, after)
+TellsBytes takes len start old new before after =
+    From start (tokens.Str false len) old.window (λ v. Found (Placed takes) (front len) (λ s. told.bytes s ∷ []) old.window new.window (v, before) (new.window, after))
 
 -- a template was opened, of which this frame is left
 abbrev pub OpensTemplate : {B : Type 0} → (B → Event → Place → B → Type 0) → ℕ → Frame → ℕ → Seen → Seen → B → B → Type 0
-OpensTemplate takes levels f start old new before after = Opened (Placed takes) (table_at levels) f old.window new.window (start, before) (reading_at new.window, after)
+OpensTemplate takes levels f start old new before after =
+    From start tokens.Template old.window (λ v. Opened (Placed takes) (table_at levels) f old.window new.window (v, before) (new.window, after))
 
 -- what follows this token was read and reported, or it opened a container, of which this frame is
 -- left
 abbrev pub TellsRest : {B : Type 0} → (B → Event → Place → B → Type 0) → ℕ → Token → Option Frame → ℕ → Seen → Seen → B → B → Type 0
 TellsRest takes levels t f start old new before after =
-    FoundOrOpened (Placed takes) (value_rest levels t) old.window new.window (start, before) (reading_at new.window, after) f
+    From start t old.window (λ v. FoundOrOpened (Placed takes) (value_rest levels t) old.window new.window (v, before) (new.window, after) f)
 
 -- no token was taken: the error is that of one where so many levels are left
 abbrev pub NoToken : ℕ → Seen → Seen → Type 0

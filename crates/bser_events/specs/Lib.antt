@@ -4,6 +4,7 @@ pub mod Kinds
 pub mod Places
 pub mod Frames
 pub mod Found
+pub mod Cut
 pub mod Pieces
 pub mod Refusal
 pub mod Around

@@ -3,7 +3,8 @@ ghost use Rattle.std.specs.Prelude.{◌≡◌, ◌≤◌, ℕ, Bool, true, false
 ghost use Rattle.bser_format.specs.declared.errors.Error.TheVariants.{OutOfMemory};
 ghost use Rattle.bser_bunser.specs.Calls.{Closes};
 ghost use Rattle.bser_events.specs.Events as events;
-ghost use Rattle.bser_events.specs.Places.{Placed, reading_at};
+ghost use Rattle.bser_events.specs.Places.{place_at, reading_at};
+ghost use Rattle.bser_events.specs.Cut.{Stops};
 ghost use Rattle.bser_events.specs.Told.{told};
 ghost use Rattle.bser_events.specs.declared.builder.Stop.TheVariants.{Asked};
 
@@ -25,9 +26,13 @@ pub enum Stop {
 /// What makes something of the events of a value, as they are read.
 pub trait Builder {
     ghost use Rattle.bser_events.specs.declared.event.Place.{Place};
+    ghost use Rattle.bser_events.specs.declared.builder.Stop.{Stop};
 
     // it took this event, which stands at this place
     ghost takes: { Self → events.Event → Place → Self → Type 0 };
+
+    // it took no more at this event, which stands at this place, for this reason
+    ghost stopped: { Stop → Self → events.Event → Place → Self → Type 0 };
 
     // whether it may take no more, for either reason
     ghost stops: { Bool };
@@ -49,6 +54,8 @@ pub trait Builder {
         requires forwards { place.start ≤ place.end }
         ensures ok { OnOk result (Self.takes self.old (told event.entry) place self.new) }
         ensures err { OnErr result (Self.stops ≡ true) }
+        ensures stopped { IfErr result (λ stop.
+            Self.stopped stop self.old (told event.entry) place self.new) }
         ensures asked { IfErr result (λ stop. stop ≡ Asked → Self.asks ≡ true) };
 
     /// Takes a text, which is the builder's now, as [`Self::take`] does: one that was copied from
@@ -58,6 +65,8 @@ pub trait Builder {
         ensures ok { OnOk result
             (Self.takes self.old (events.text (string_bytes text)) place self.new) }
         ensures err { OnErr result (Self.stops ≡ true) }
+        ensures stopped { IfErr result (λ stop.
+            Self.stopped stop self.old (events.text (string_bytes text)) place self.new) }
         ensures asked { IfErr result (λ stop. stop ≡ Asked → Self.asks ≡ true) }
     {
         self.take(Event::Text(text.as_str()), place)
@@ -69,6 +78,8 @@ pub trait Builder {
         ensures ok { OnOk result
             (Self.takes self.old (events.bytes string.items) place self.new) }
         ensures err { OnErr result (Self.stops ≡ true) }
+        ensures stopped { IfErr result (λ stop.
+            Self.stopped stop self.old (events.bytes string.items) place self.new) }
         ensures asked { IfErr result (λ stop. stop ≡ Asked → Self.asks ≡ true) }
     {
         self.take(Event::Bytes(string.as_slice()), place)
@@ -81,6 +92,8 @@ pub trait Builder {
         ensures ok { OnOk result (bytes ≡ false
             → (s : List ℕ) → length s ≡ len → takes self.old (events.bytes s) place self.new) }
         ensures err { OnErr result (stops ≡ true) }
+        ensures stopped { IfErr result (λ stop. bytes ≡ false → (s : List ℕ) → length s ≡ len
+            → stopped stop self.old (events.bytes s) place self.new) }
         ensures asked { IfErr result (λ stop. stop ≡ Asked → asks ≡ true) };
 }
 
@@ -95,9 +108,7 @@ pub fn taken<R: DeRead>(bunser: &Bunser<R>) -> usize
 /// The place from `start` on to where reading is.
 #[inline(always)]
 pub(crate) fn place_from<R: DeRead>(bunser: &Bunser<R>, start: usize, is_text: bool) -> Place
-    ensures start { result.start ≡ start }
-    ensures end { result.end ≡ reading_at bunser.now.window }
-    ensures text { result.is_text ≡ is_text }
+    ensures { result ≡ place_at start (reading_at bunser.now.window) is_text }
 {
     Place {
         start,
@@ -117,12 +128,14 @@ pub fn tell<R: DeRead, B: Builder>(
     is_text: bool,
 ) -> Answer<()>
     requires begun { start ≤ reading_at bunser.old.window }
-    ensures ok { OnOk result (Placed B.takes (start, builder.old) (told event.entry)
-        (reading_at bunser.new.window, builder.new)) }
+    ensures ok { OnOk result (B.takes builder.old (told event.entry)
+        (place_at start (reading_at bunser.old.window) is_text) builder.new) }
     ensures same { OnOk result (bunser.new ≡ bunser.old) }
     ensures err { OnErr result (Closes bunser.old bunser.new) }
     ensures reason { OnErr result (bunser.new.refusal ≡ OutOfMemory) }
     ensures stops { OnErr result (B.stops ≡ true) }
+    ensures stopped { OnErr result (Stops B.stopped builder.old (told event.entry)
+        (place_at start (reading_at bunser.old.window) is_text) builder.new) }
 {
     let place = place_from(bunser, start, is_text);
     match builder.take(event, place) {
@@ -137,12 +150,16 @@ pub(crate) fn tell_close<R: DeRead, B: Builder>(
     bunser: &mut Bunser<R>,
     builder: &mut B,
 ) -> Answer<()>
-    ensures ok { OnOk result (Placed B.takes (reading_at bunser.old.window, builder.old)
-        events.close (reading_at bunser.new.window, builder.new)) }
+    ensures ok { OnOk result (B.takes builder.old events.close
+        (place_at (reading_at bunser.old.window) (reading_at bunser.old.window) false)
+        builder.new) }
     ensures same { OnOk result (bunser.new ≡ bunser.old) }
     ensures err { OnErr result (Closes bunser.old bunser.new) }
     ensures reason { OnErr result (bunser.new.refusal ≡ OutOfMemory) }
     ensures stops { OnErr result (B.stops ≡ true) }
+    ensures stopped { OnErr result (Stops B.stopped builder.old events.close
+        (place_at (reading_at bunser.old.window) (reading_at bunser.old.window) false)
+        builder.new) }
 {
     let end = taken(bunser);
     tell(bunser, builder, Event::Close, end, false)
@@ -157,6 +174,8 @@ pub struct Ignored;
 
 impl Builder for Ignored {
     ghost takes = { λ _ _ _ _. Unit {0} };
+
+    ghost stopped = { λ _ _ _ _ _. ⊥ };
 
     ghost stops = { false };
 
@@ -183,6 +202,8 @@ impl Builder for Ignored {
 /// A `&mut` to a builder is one.
 impl<B: Builder> Builder for &mut B {
     ghost takes = { λ a e p b. (b.ghost_name ≡ a.ghost_name) × B.takes a.now e p b.now };
+
+    ghost stopped = { λ s a e p b. (b.ghost_name ≡ a.ghost_name) × B.stopped s a.now e p b.now };
 
     ghost stops = { B.stops };
 

@@ -10,8 +10,8 @@ use bser_format::header::{
 
 /// Where an event stands, by how many bytes of the source were taken before it.
 ///
-/// What is reported of a value stands in order: no place begins before the last one ended, or ends
-/// past the bytes that were taken.
+/// What is reported of a value stands in order, each right behind the one before it: the first
+/// begins where reading was, and the last ends where reading is.
 ///
 /// A container stands where its head does. The head of a template is its tag, the tag of its keys
 /// and their count; that of its rows is their count. The end of a container has no bytes.

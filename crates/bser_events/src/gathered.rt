@@ -1,11 +1,13 @@
 //! Strings of which more is wanted than is buffered: they are gathered, and given to the builder.
-ghost use Rattle.std.specs.Prelude.{◌≡◌, ◌≤◌, ◌<◌, true, length, string_bytes, OnOk, OnErr};
+ghost use Rattle.std.specs.Prelude.{◌≡◌, ◌≤◌, ◌<◌, true, false, length, string_bytes, OnOk, OnErr};
 ghost use Rattle.bser_format.specs.Named.{front};
 ghost use Rattle.bser_format.specs.declared.errors.Error.TheVariants.{OutOfMemory};
+ghost use Rattle.bser_events.specs.Cut.{CutFrom, Stops};
 ghost use Rattle.bser_bunser.specs.Calls.{Keeps, Closes};
+ghost use Rattle.bser_bunser.specs.declared.prefix.Token.TheVariants.{Str};
 ghost use Rattle.bser_events.specs.Events as events;
 ghost use Rattle.bser_events.specs.Found.{TellsText, TellsBytes, RefusesTelling, text_bytes};
-ghost use Rattle.bser_events.specs.Places.{Placed, reading_at};
+ghost use Rattle.bser_events.specs.Places.{place_at, reading_at};
 
 use crate::builder::{Builder, place_from};
 use crate::refusal::{Fault, refuse_with};
@@ -31,6 +33,9 @@ pub(crate) fn gather_text<R: DeRead, B: Builder>(
         (TellsText B.takes len start bunser.old bunser.new builder.old builder.new) }
     ensures kept { OnOk result (Keeps bunser.old bunser.new) }
     ensures err { OnErr result (RefusesTelling B.stops (text_bytes len) bunser.old bunser.new) }
+    ensures cut { OnErr result
+        (CutFrom B.takes B.stopped start (Str true len) bunser.old.window builder.old
+        builder.new) }
 {
     let mut bytes = Vec::new(alloc);
     bunser.gather(len, &mut bytes)?;
@@ -57,6 +62,9 @@ pub(crate) fn gather_bytes<R: DeRead, B: Builder>(
         (TellsBytes B.takes len start bunser.old bunser.new builder.old builder.new) }
     ensures kept { OnOk result (Keeps bunser.old bunser.new) }
     ensures err { OnErr result (RefusesTelling B.stops (front len) bunser.old bunser.new) }
+    ensures cut { OnErr result
+        (CutFrom B.takes B.stopped start (Str false len) bunser.old.window builder.old
+        builder.new) }
 {
     let mut bytes = Vec::new(alloc);
     bunser.gather(len, &mut bytes)?;
@@ -71,12 +79,14 @@ fn give_text<R: DeRead, B: Builder>(
     start: usize,
 ) -> Answer<()>
     requires begun { start ≤ reading_at bunser.old.window }
-    ensures ok { OnOk result (Placed B.takes (start, builder.old) (events.text (string_bytes text))
-        (reading_at bunser.new.window, builder.new)) }
+    ensures ok { OnOk result (B.takes builder.old (events.text (string_bytes text))
+        (place_at start (reading_at bunser.old.window) true) builder.new) }
     ensures same { OnOk result (bunser.new ≡ bunser.old) }
     ensures err { OnErr result (Closes bunser.old bunser.new) }
     ensures reason { OnErr result (bunser.new.refusal ≡ OutOfMemory) }
     ensures stops { OnErr result (B.stops ≡ true) }
+    ensures stopped { OnErr result (Stops B.stopped builder.old (events.text (string_bytes text))
+        (place_at start (reading_at bunser.old.window) true) builder.new) }
 {
     let place = place_from(bunser, start, true);
     match builder.take_text(text, place) {
@@ -93,12 +103,14 @@ fn give_bytes<R: DeRead, B: Builder>(
     start: usize,
 ) -> Answer<()>
     requires begun { start ≤ reading_at bunser.old.window }
-    ensures ok { OnOk result (Placed B.takes (start, builder.old) (events.bytes bytes.items)
-        (reading_at bunser.new.window, builder.new)) }
+    ensures ok { OnOk result (B.takes builder.old (events.bytes bytes.items)
+        (place_at start (reading_at bunser.old.window) false) builder.new) }
     ensures same { OnOk result (bunser.new ≡ bunser.old) }
     ensures err { OnErr result (Closes bunser.old bunser.new) }
     ensures reason { OnErr result (bunser.new.refusal ≡ OutOfMemory) }
     ensures stops { OnErr result (B.stops ≡ true) }
+    ensures stopped { OnErr result (Stops B.stopped builder.old (events.bytes bytes.items)
+        (place_at start (reading_at bunser.old.window) false) builder.new) }
 {
     let place = place_from(bunser, start, false);
     match builder.take_bytes(bytes, place) {

@@ -1,5 +1,6 @@
 //! What follows a token where a value begins.
 ghost use Rattle.std.specs.Prelude.{◌≡◌, ◌≢◌, ◌≤◌, ◌<◌, true, false, MatchBool, IfOk, OnOk, OnErr};
+ghost use Rattle.bser_events.specs.Cut.{Cut, CutFrom};
 ghost use Rattle.bser_bunser.specs.Calls.{Keeps};
 ghost use Rattle.bser_bunser.specs.Tokens.{LengthFits};
 ghost use Rattle.bser_events.specs.Frames.{IsSmall};
@@ -50,6 +51,8 @@ pub fn read_after<R: DeRead, B: Builder>(
     ensures kept { OnOk result (Keeps bunser.old bunser.new) }
     ensures err { OnErr result
         (RefusesTelling B.stops (value_rest levels token) bunser.old bunser.new) }
+    ensures cut { OnErr result
+        (CutFrom B.takes B.stopped start token bunser.old.window builder.old builder.new) }
 {
     if let Some(event) = scalar(token) {
         tell(bunser, builder, event, start, false)?;
@@ -103,6 +106,9 @@ fn read_table<R: DeRead, B: Builder>(
     ensures small { IfOk result (λ f. IsSmall f.parts) }
     ensures kept { OnOk result (Keeps bunser.old bunser.new) }
     ensures err { OnErr result (RefusesTelling B.stops (table_at levels) bunser.old bunser.new) }
+    ensures cut { OnErr result
+        (CutFrom B.takes B.stopped start Token.Template bunser.old.window builder.old
+        builder.new) }
 {
     bunser.fill(1)?;
     let byte = bunser.buffered()[0];
@@ -154,6 +160,8 @@ fn read_keys<R: DeRead, B: Builder>(
         (TellsKeys B.takes count bunser.old bunser.new builder.old builder.new) }
     ensures kept { OnOk result (Keeps bunser.old bunser.new) }
     ensures err { OnErr result (RefusesTelling B.stops (keys_at count) bunser.old bunser.new) }
+    ensures cut { OnErr result
+        (Cut B.takes B.stopped (bunser.old.window, builder.old) builder.new) }
 {
     for _ in 0..count {
         read_key(bunser, Kind::TemplateKey, scratch, builder)?;

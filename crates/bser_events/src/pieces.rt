@@ -1,5 +1,6 @@
 //! Pieces of a value that are buffered whole.
-ghost use Rattle.std.specs.Prelude.{◌≡◌, ◌≢◌, ◌+◌, ◌-◌, ◌^◌, min, ⊤, MatchBool, MatchOption};
+ghost use Rattle.std.specs.Prelude.{◌≡◌, ◌≢◌, ◌+◌, ⊤, take, MatchBool, MatchOption};
+ghost use Rattle.bser_events.specs.Places.{counted, Marked, place_at};
 ghost use Rattle.bser_events.specs.Told.{told};
 ghost use Rattle.bser_events.specs.Pieces.{
   DueInFront,
@@ -30,8 +31,7 @@ impl Piece<'_> {
     /// Its place, where so many bytes were taken before it.
     #[inline(always)]
     pub fn place(&self, start: usize) -> Place
-        ensures start { result.start ≡ start }
-        ensures end { result.end ≡ min (start + self.now.len) (2 ^ 64 - 1) }
+        ensures { result ≡ place_at start (counted (start + self.now.len)) self.now.is_text }
     {
         Place {
             start,
@@ -46,7 +46,9 @@ impl Piece<'_> {
 /// None where it is not there whole, or another thing is: a container, or an error.
 #[inline(always)]
 pub fn due_piece(due: Part, bytes: &[u8]) -> Option<Piece<'_>>
-    ensures { MatchOption result ⊤ (λ p. DueInFront due bytes.now p.len (told p.event)) }
+    ensures front { MatchOption result ⊤ (λ p. DueInFront due bytes.now p.len (told p.event)) }
+    ensures mark { MatchOption result ⊤ (λ p.
+        Marked p.is_text (told p.event) (take p.len bytes.now)) }
 {
     let Prefix::Found { value, len } = token_prefix(bytes) else {
         return None;

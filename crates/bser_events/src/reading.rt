@@ -4,6 +4,7 @@ ghost use Rattle.std.specs.Prelude.{◌≡◌, ◌≤◌, ◌++◌, ◌∷◌, [
 ghost use Rattle.bser_format.specs.declared.errors.Kind.TheVariants as kinds;
 ghost use Rattle.bser_format.specs.Named.{text_of};
 ghost use Rattle.bser_format.specs.declared.errors.Error.TheVariants.{OutOfMemory};
+ghost use Rattle.bser_events.specs.Cut.{Cut};
 ghost use Rattle.bser_bunser.specs.Calls.{Keeps, Closes};
 ghost use Rattle.bser_events.specs.Found.{TellsValue, TellsDueKey, RefusesValue, RefusesTelling};
 
@@ -29,7 +30,8 @@ use bser_source::read::DeRead;
 /// `Error::DeRecursionLimitExceeded`, before its count is looked at. A builder that takes no more, a
 /// scratch over a reader and `frames` that do not grow are `Error::OutOfMemory`; `frames` with
 /// room for as many containers as there are levels need not grow. After an error each later call of
-/// `bunser` fails, and no clause says what the builder is.
+/// `bunser` fails. The builder took some events, each once and in order, and then no more, or took
+/// no more at the next one.
 ///
 /// `frames` and `scratch` are room for the reading, and what they held is dropped.
 ///
@@ -47,6 +49,8 @@ pub fn read_value<R: DeRead, B: Builder>(
     ensures kept { OnOk result (Keeps bunser.old bunser.new) }
     ensures refused { OnErr result
         (RefusesValue B.stops (vec_capacity frames.old) levels bunser.old bunser.new) }
+    ensures cut { OnErr result
+        (Cut B.takes B.stopped (bunser.old.window, builder.old) builder.new) }
 {
     check_working(bunser)?;
     frames.clear();
@@ -106,6 +110,8 @@ fn read_due_key<R: DeRead, B: Builder>(
     ensures entry { OnErr result (due ≡ Part.Entry) }
     ensures err { OnErr result
         (RefusesTelling B.stops (text_of kinds.MapKey) bunser.old bunser.new) }
+    ensures cut { OnErr result
+        (Cut B.takes B.stopped (bunser.old.window, builder.old) builder.new) }
 {
     match due {
         Part::Entry => read_key(bunser, Kind::MapKey, scratch, builder),

@@ -1,7 +1,9 @@
 //! Strings and keys, read and reported.
-ghost use Rattle.std.specs.Prelude.{◌≡◌, ◌≤◌, ◌<◌, ◌^◌, OnOk, OnErr};
+ghost use Rattle.std.specs.Prelude.{◌≡◌, ◌≤◌, ◌<◌, ◌^◌, true, false, OnOk, OnErr};
 ghost use Rattle.bser_format.specs.Named.{front, text_of};
+ghost use Rattle.bser_events.specs.Cut.{Cut, CutFrom};
 ghost use Rattle.bser_bunser.specs.Calls.{Keeps};
+ghost use Rattle.bser_bunser.specs.declared.prefix.Token.TheVariants.{Str};
 ghost use Rattle.bser_events.specs.Found.{TellsText, TellsBytes, TellsKey, RefusesTelling, text_bytes};
 ghost use Rattle.bser_events.specs.Places.{reading_at};
 
@@ -32,6 +34,9 @@ pub fn read_text<R: DeRead, B: Builder>(
         (TellsText B.takes len start bunser.old bunser.new builder.old builder.new) }
     ensures kept { OnOk result (Keeps bunser.old bunser.new) }
     ensures err { OnErr result (RefusesTelling B.stops (text_bytes len) bunser.old bunser.new) }
+    ensures cut { OnErr result
+        (CutFrom B.takes B.stopped start (Str true len) bunser.old.window builder.old
+        builder.new) }
 {
     if len > count_octets(bunser.buffered()) && len > WINDOW {
         return gather_text(bunser, *scratch.allocator(), len, start, builder);
@@ -59,6 +64,9 @@ pub fn read_bytes<R: DeRead, B: Builder>(
         (TellsBytes B.takes len start bunser.old bunser.new builder.old builder.new) }
     ensures kept { OnOk result (Keeps bunser.old bunser.new) }
     ensures err { OnErr result (RefusesTelling B.stops (front len) bunser.old bunser.new) }
+    ensures cut { OnErr result
+        (CutFrom B.takes B.stopped start (Str false len) bunser.old.window builder.old
+        builder.new) }
 {
     if builder.wants_bytes() {
         if len > count_octets(bunser.buffered()) && len > WINDOW {
@@ -88,6 +96,8 @@ pub fn read_key<R: DeRead, B: Builder>(
     ensures ok { OnOk result (TellsKey B.takes kind bunser.old bunser.new builder.old builder.new) }
     ensures kept { OnOk result (Keeps bunser.old bunser.new) }
     ensures err { OnErr result (RefusesTelling B.stops (text_of kind) bunser.old bunser.new) }
+    ensures cut { OnErr result
+        (Cut B.takes B.stopped (bunser.old.window, builder.old) builder.new) }
 {
     let start = taken(bunser);
     bunser.fill(1)?;

@@ -33,4 +33,5 @@ pub mod WrittenOut
 pub mod SameTree
 pub mod MarkedText
 pub mod QuotedText
+pub mod SomeText
 pub mod RealText

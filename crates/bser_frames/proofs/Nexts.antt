@@ -33,4 +33,4 @@ at_end (Some y) frame e end = ap (λ l. l ++ y) e ∙ end
 pub next_found : (most : ℕ) (whole : Bool) (old new : Option (List ℕ)) (due frame : List ℕ) → Reads old new due frame → (whole ≡ true → IsFrameWithin most frame)
     → (whole ≡ false → frame ≡ []) → (whole ≡ false → IsAtEnd new) → IsNextFrame most whole (prepend_known due old) (prepend_known (if whole then [] else frame) new) frame
 next_found most true old new due frame r is none end = (is refl, taken old new due frame r.more r.items r.device)
-next_found most false old new due frame r is none end = (ended old new due r.more (sym (none refl) ∙ r.items) r.device (end refl), none refl, kept old new due frame r, at_end new frame (none refl) (end refl))
+next_found most false old new due frame r is none end = ((ended old new due r.more (sym (none refl) ∙ r.items) r.device (end refl), kept old new due frame r, at_end new frame (none refl) (end refl)), none refl)

@@ -1,5 +1,5 @@
 -- The messages of a reader, read as values.
-use Rattle.std.specs.Prelude.{◌≡◌, ℕ, Bool, true, false, List, Option, Some, None}
+use Rattle.std.specs.Prelude.{◌≡◌, ℕ, Bool, true, false, List, Option, Some, None, Result, Ok, Err}
 use Rattle.std.specs.Io.KnownBytes.{Keeps}
 use Rattle.bser_format.specs.declared.errors.Error.{Error}
 use Rattle.bser_source.specs.declared.device.Source as source
@@ -14,6 +14,12 @@ use Rattle.bser_frames.specs.declared.error.MessageError.TheVariants.{Frame, Mes
 -- the frame is refused as a message of the type, as by a reader that never fails
 abbrev pub FrameRefused : {A : Type 0} → ℕ → shape.Ghosts A → List ℕ → Error → Type 0
 FrameRefused n type frame e = RefusesReader n type.reads type.asks e (Some frame) 0 0
+
+-- what reading a frame as a value answered, and nothing where there is no frame
+abbrev pub read_answer : {A : Type 0} → Result (Option A) MessageError → Result (Option A) Error
+read_answer (Ok v) = Ok v
+read_answer (Err (Frame e)) = Ok None
+read_answer (Err (Message d)) = Err (cause_of d)
 
 module _ {A S : Type 0} (type : shape.Ghosts A) (told : source.Ghosts S) where
   -- the next frame was taken, or nothing was left

@@ -1,6 +1,7 @@
 -- What callers see of what gives the messages of a reader as bytes.
 use Rattle.std.specs.Prelude.{◌≡◌, ◌≤◌, ℕ, ◌+◌, ◌-◌, ◌^◌, min, Bool, true, false, if◌then◌else◌, List, [], length, Option}
-use Rattle.std.specs.Io.KnownBytes.{Consumes, IsAtEnd, Keeps, prepend_known}
+use Rattle.std.specs.Io.KnownBytes.{Consumes, prepend_known}
+use Rattle.bser_messages.specs.Streams.{StaysAtEnd}
 use Rattle.bser_messages.specs.declared.limits.Limits.{Limits}
 use Rattle.bser_frames.specs.Headers.{IsFrame}
 
@@ -31,7 +32,7 @@ pub record IsFrameWithin (most : ℕ) (bytes : List ℕ) : Type 0 where
   pub whole : IsFrame bytes
   pub short : whole.announced ≤ most
 
--- exactly the next frame was taken, or nothing was left and nothing is
+-- exactly the next frame was taken, or nothing was left and there is none
 abbrev pub IsNextFrame : ℕ → Bool → Option (List ℕ) → Option (List ℕ) → List ℕ → Type 0
 IsNextFrame most true old new frame = IsFrameWithin most frame × Consumes old new frame
-IsNextFrame most false old new frame = IsAtEnd old × (frame ≡ []) × Keeps old new × IsAtEnd new
+IsNextFrame most false old new frame = StaysAtEnd old new × (frame ≡ [])

@@ -1,9 +1,9 @@
 //! The messages of a reader, one after the other, as bytes.
-ghost use Rattle.std.specs.Prelude.{◌≡◌, ◌≤◌, ◌+◌, [], max, true, false, length, IfOk, IfErr, OnOk, OnErr};
+ghost use Rattle.std.specs.Prelude.{◌≡◌, ◌≤◌, ◌+◌, [], max, true, false, length, Some, IfOk, IfErr, OnOk, OnErr};
 ghost use Rattle.std.specs.Io.KnownBytes.{Keeps};
 ghost use Rattle.bser_deserializer.specs.declared.deserializer.TheConstants.{LEVELS, MOST_LEVELS};
 ghost use Rattle.bser_messages.specs.Limited.{any_length};
-ghost use Rattle.bser_messages.specs.Messages.{BeginsWith, SliceRefused};
+ghost use Rattle.bser_messages.specs.Messages.{BeginsWith, HeadFirst, SliceRefused, SparesMemory};
 ghost use Rattle.bser_messages.specs.Descriptions.{LiesWithin, caused};
 ghost use Rattle.bser_frames.specs.Headers.{IsDue};
 ghost use Rattle.bser_frames.specs.Stops.{Stops, failures_after};
@@ -58,7 +58,7 @@ impl<S> Model for Frames<S> {
 }
 
 impl<S: Source> Frames<S> {
-    ghost use Rattle.bser_frames.specs.Messages.{GivesMessage, RefusesMessage};
+    ghost use Rattle.bser_frames.specs.Messages.{GivesMessage, RefusesMessage, read_answer};
     ghost use Rattle.bser_frames.specs.Stream.{IsNextFrame, due_of, left, next_position};
 
     /// Takes from the reader's next byte on, messages of any length, which are read with at most
@@ -69,6 +69,8 @@ impl<S: Source> Frames<S> {
         ensures left { left S.remaining result ≡ S.remaining reader }
         ensures reader { result.reader ≡ reader }
         ensures position { next_position result ≡ 0 }
+        ensures frame { result.frame ≡ [] }
+        ensures room { result.room ≡ 0 }
     {
         Self::with_limits(alloc, Limits::new(), reader)
     }
@@ -81,6 +83,8 @@ impl<S: Source> Frames<S> {
         ensures left { left S.remaining result ≡ S.remaining reader }
         ensures reader { result.reader ≡ reader }
         ensures position { next_position result ≡ 0 }
+        ensures frame { result.frame ≡ [] }
+        ensures room { result.room ≡ 0 }
     {
         Frames {
             alloc,
@@ -171,6 +175,7 @@ impl<S: Source> Frames<S> {
             (BeginsWith self.now.limits.levels T.reads T.holds self.now.frame) }
         ensures refused { IfErr (caused result)
             (SliceRefused self.now.limits.levels T.Shape self.now.frame) }
+        ensures head { HeadFirst (Some self.now.frame) (caused result) }
         ensures place { IfErr result (LiesWithin (length self.now.frame)) }
     {
         from_slice_within(self.alloc, self.limits.levels, self.buffer.as_slice())
@@ -184,6 +189,8 @@ impl<S: Source> Frames<S> {
     pub fn next_message<T: DeserializeOwned>(&mut self) -> Result<Option<T>, MessageError>
         ensures found { IfOk result (GivesMessage T.Shape S.Source self.old self.new) }
         ensures refused { IfErr result (RefusesMessage T.Shape S.Source self.old self.new) }
+        ensures memory { SparesMemory T.needs (read_answer result) }
+        ensures head { HeadFirst (Some self.new.frame) (read_answer result) }
         ensures kept { OnOk result
             (S.failures self.new.reader ≡ S.failures self.old.reader) }
         ensures position { self.new.position ≡ next_position self.old }

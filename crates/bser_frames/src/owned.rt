@@ -1,7 +1,7 @@
 //! Values that borrow nothing, read from a message as bytes.
-ghost use Rattle.std.specs.Prelude.{◌≤◌, IfOk, IfErr};
+ghost use Rattle.std.specs.Prelude.{◌≤◌, Some, IfOk, IfErr};
 ghost use Rattle.bser_deserializer.specs.declared.deserializer.TheConstants.{MOST_LEVELS};
-ghost use Rattle.bser_messages.specs.Messages.{BeginsWith};
+ghost use Rattle.bser_messages.specs.Messages.{BeginsWith, HeadFirst, SparesMemory};
 ghost use Rattle.bser_messages.specs.Descriptions.{caused};
 ghost use Rattle.bser_frames.specs.Messages.{FrameRefused};
 
@@ -23,6 +23,8 @@ pub fn read_owned<T: DeserializeOwned>(
     requires { limit ≤ MOST_LEVELS }
     ensures found { IfOk (caused result) (BeginsWith limit T.reads T.holds bytes.now) }
     ensures refused { IfErr (caused result) (FrameRefused limit T.Shape bytes.now) }
+    ensures memory { SparesMemory T.needs (caused result) }
+    ensures head { HeadFirst (Some bytes.now) (caused result) }
 {
     from_reader_within(alloc, limit, &mut Bytes::new(bytes))
 }

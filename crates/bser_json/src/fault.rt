@@ -67,7 +67,7 @@ impl Place {
     pub(crate) fn after(self, bytes: &[u8]) -> Place {
         match memrchr(b'\n', bytes) {
             Some(last) => Place {
-                line: self.line.saturating_add(memchr_iter(b'\n', bytes).count()),
+                line: self.line.saturating_add(newlines(bytes)),
                 column: characters(&bytes[last + 1..]).saturating_add(1),
             },
             None => Place {
@@ -90,6 +90,15 @@ impl Place {
             column: self.column.saturating_add(inner.column.saturating_sub(1)),
         }
     }
+}
+
+/// How many newlines the bytes have. Where they are few, this looks at few bytes one by one.
+fn newlines(bytes: &[u8]) -> usize {
+    let mut count: usize = 0;
+    for _newline in memchr_iter(b'\n', bytes) {
+        count = count.saturating_add(1);
+    }
+    count
 }
 
 /// How many characters the bytes have, or would have as UTF-8.

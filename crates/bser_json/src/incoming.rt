@@ -93,8 +93,11 @@ impl Incoming {
         }
     }
 
-    /// Drops the texts that came before.
+    /// Drops the texts that came before, if there are any.
     fn drop_front(&mut self) {
+        if self.end == 0 {
+            return;
+        }
         self.place = self.place.after(&self.bytes[..self.end]);
         let left = self.bytes.len() - self.end;
         self.bytes.copy_within(self.end.., 0);

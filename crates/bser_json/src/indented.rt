@@ -84,6 +84,8 @@ impl Indented {
 
     /// Writes what is put, and what stands before the first byte of a string. What is put from
     /// then on stands behind the string.
+    #[cold]
+    #[inline(never)]
     pub(crate) fn begin_string<W: Write>(&mut self, out: &mut W) -> Result<(), Trouble>
         ensures { (start : Option (List ℕ)) (ts : List tokens.Token)
             → PrintsLines start (W.contents out.old) ts self.old
@@ -122,6 +124,7 @@ impl Indented {
 }
 
 /// The text with what stands before a token: a comma where that is behind a value, and a gap.
+#[inline(always)]
 fn with_gap(text: Vec<u8>, last: Last, opens: bool, depth: usize) -> Result<Vec<u8>, AllocError>
     ensures { IfOk result (λ new. new.items
         ≡ text.items ++ (cond (is_value (last_of last) && opens) (44 ∷ []) []

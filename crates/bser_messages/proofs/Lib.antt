@@ -14,5 +14,6 @@ pub mod Tallies
 pub mod TreeSizes
 pub mod SizeReads
 pub mod ValueSizes
+pub mod Throughs
 pub mod Tellings
 pub mod Skips

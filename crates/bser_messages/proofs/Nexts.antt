@@ -1,14 +1,16 @@
 -- The first byte of a reader's next message, or none.
-use Rattle.std.proofs.Common.{◌≡◌, ℕ, false, List, [], Option, Some, length, length-append, sym, ap, subst, ◌∙◌, arith}
+use Rattle.std.proofs.Common.{◌≡◌, ℕ, ◌<◌, false, List, [], ◌∷◌, ◌++◌, Option, Some, None, length, length-append, sym, ap, subst, ◌∙◌, arith}
 use Rattle.std.specs.Borrow.{GName}
+use Rattle.std.specs.Io.KnownBytes.{Consumes, IsAtEnd}
 use Rattle.bser_format.specs.Content.{Content, Meaning}
 use Rattle.bser_format.specs.declared.errors.Error.{Error}
+use Rattle.bser_source.specs.Refusal.{EndsShort}
 use Rattle.bser_source.specs.Window.{Window, Filled, left}
 use Rattle.bser_source.proofs.Windows.{left_grown, hand_first}
 use Rattle.bser_deserializer.specs.Reading.{Asking, Needs}
 use Rattle.bser_messages.proofs.Sources.{reader_fresh, fresh_itself, fresh_left}
 use Rattle.bser_messages.specs.Limited.{RefusesWithin}
-use Rattle.bser_messages.specs.Streams.{IsNext, RefusesNext}
+use Rattle.bser_messages.specs.Streams.{IsNext, StaysAtEnd, RefusesNext}
 use Rattle.bser_messages.proofs.Readers.{reader_refused_within}
 use Rattle.bser_messages.proofs.Within.{refused_before}
 
@@ -37,3 +39,16 @@ next_known n m reads asks e old new x y before after i j p q r s u = rw (sym p, 
 pub given_known : {A : Type 0} (n m : ℕ) (reads : Meaning) (holds : A → Content → Type 0) (old new x y : Option (List ℕ)) (v : Option A) → x ≡ old → y ≡ new
     → IsNext n m reads holds x y v → IsNext n m reads holds old new v
 given_known n m reads holds old new x y v p q r = rw (sym p, sym q) r
+
+-- ---- no byte is left
+
+-- a reader that had no first byte is as it was
+pub over : (old new : Option (List ℕ)) (a b : Window) → a.buffered ≡ [] → a.beyond ≡ old → b.beyond ≡ new → EndsShort 1 a b → StaysAtEnd old new
+over old new a b empty p q s =
+    rw (sym p, sym q) (go a.beyond b.beyond s.more s.device (omega (arith, s.fewer, ap (λ l. length (l ++ s.more)) empty)) s.end)
+  where
+    go : (x y : Option (List ℕ)) (more : List ℕ) → Consumes x y more → length more < 1 → IsAtEnd y → StaysAtEnd x y
+    go None y more device few end = (tt, tt, end)
+    go (Some xs) None more device few end = absurd device
+    go (Some xs) (Some ys) [] device few end = (device ∙ end, sym device, end)
+    go (Some xs) (Some ys) (m ∷ more) device few end = absurd (omega (arith, few))

@@ -111,6 +111,10 @@ pub fresh_left : (remaining : Option (List ℕ)) (failures : ℕ) (through : Opt
 fresh_left None failures through b e = absurd cc
 fresh_left (Some xs) failures through b e = e
 
+-- a window on a reader that was not read has left what the reader has
+pub fresh_known : (remaining : Option (List ℕ)) (failures : ℕ) (through : Option GName) (w : Window) (b : List ℕ) → w ≡ reader_fresh remaining failures through → remaining ≡ Some b → left w ≡ Some b
+fresh_known remaining failures through w b fresh known = ap left fresh ∙ fresh_left remaining failures through b known
+
 -- bytes that may come from a reader agree with those left
 reader_comes : (remaining : Option (List ℕ)) (failures : ℕ) (through : Option GName) (b : List ℕ) → bunser.MayCome (reader_fresh remaining failures through) b → (x : List ℕ) → remaining ≡ Some x → Agree b x
 reader_comes remaining failures through b m x known = subst (λ l. Agree l x) (sym m.whole) (m.known x known)

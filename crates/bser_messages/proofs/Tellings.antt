@@ -1,9 +1,7 @@
 -- A message that was told, and one that was not.
-use Rattle.std.proofs.Common.{◌≡◌, ℕ, ◌+◌, ◌-◌, ◌≤◌, ◌<◌, ◌^◌, min, Bool, true, List, [], ◌∷◌, ◌++◌, Option, None, Some, length, length-append, append-nil, refl, sym, ap, subst, ◌∙◌, arith, inl, inr}
-use Rattle.std.specs.Prelude.{pos, if◌then◌else◌, IsTrue, IfSome}
+use Rattle.std.proofs.Common.{◌≡◌, ℕ, ◌+◌, ◌-◌, ◌≤◌, ◌<◌, ◌^◌, min, Bool, true, List, [], ◌∷◌, ◌++◌, Option, None, Some, length, take, length-append, append-nil, refl, sym, ap, subst, ◌∙◌, arith, inl, inr}
+use Rattle.std.specs.Prelude.{pos, if◌then◌else◌, IsTrue, IfSome, IsSome}
 use Rattle.std.specs.Borrow.{GName, MutBor}
-use Rattle.std.specs.Io.KnownBytes as known_bytes
-use Rattle.bser_format.specs.declared.errors.ReadCause.TheVariants.{Eof}
 use Rattle.bser_messages.proofs.Sources.{reader_fresh, fresh_left}
 use Rattle.std.proofs.lemmas.Int.{ints}
 use Rattle.bser_format.specs.Content.{one}
@@ -17,12 +15,19 @@ use Rattle.bser_format.specs.declared.errors.Error.TheVariants.{OutOfMemory}
 use Rattle.bser_format.proofs.Frames.{framed}
 use Rattle.bser_source.specs.Window.{Window, Grown, Took, left, with_limit}
 use Rattle.bser_source.specs.Slice.{slice_fresh}
-use Rattle.bser_source.specs.Refusal.{Refused}
 use Rattle.bser_source.proofs.Windows.{left_took, left_grown}
 use Rattle.bser_bunser.specs.Names.{Names}
 use Rattle.bser_bunser.specs.Refusal.{Fails}
-use Rattle.bser_events.specs.Events.{Event, TakesAll, events, none, more}
-use Rattle.bser_events.specs.Places.{Placed, reading_at}
+use Rattle.bser_events.specs.Events.{Event, TakesAll, events}
+use Rattle.bser_events.specs.Cut.{Cut, nowhere}
+use Rattle.bser_events.specs.Places.{Placed, PlacedAs, TakesIn}
+use Rattle.bser_events.specs.declared.builder.Stop.{Stop}
+use Rattle.bser_events.proofs.Cuts.{cut_then}
+use Rattle.bser_events.proofs.Placings.{ToldIn, takes_in}
+use Rattle.bser_format.specs.Expected.{node_due}
+use Rattle.bser_deserializer.specs.Calls.{spells_due}
+use Rattle.bser_messages.proofs.Throughs.{Through, told_through}
+use Rattle.std.proofs.lemmas.List.{take_at}
 use Rattle.bser_events.specs.declared.event.Place.{Place}
 use Rattle.bser_deserializer.specs.Any.{TookAny}
 use Rattle.bser_deserializer.specs.Askings.{asking_ignored}
@@ -34,7 +39,7 @@ use Rattle.bser_messages.specs.Messages.{ReadsBody}
 use Rattle.bser_messages.specs.Limited.{RefusesSliceWithin, RefusesWithin}
 use Rattle.bser_messages.specs.declared.limits.Limits.{Limits}
 use Rattle.bser_messages.specs.declared.told.Header.{Header}
-use Rattle.bser_messages.specs.Told.{TellsMessage, BeginsTold, TookTold, ReadsTold, BeginWithHeader, BodyUntold, IsReasonOf, IsReasonWithin, IsStop, NextUntold, SliceUntold}
+use Rattle.bser_messages.specs.Told.{TellsMessage, BeginsTold, TookTold, ReadsTold, BeginWithHeader, BodyCut, BodyUntold, IsReasonOf, IsReasonWithin, IsStop, NextUntold, SliceUntold}
 use Rattle.bser_messages.specs.Streams.{RefusesNextOf}
 use Rattle.bser_source.specs.declared.device.Source as source
 use Rattle.bser_messages.specs.declared.told.Reason.{Reason}
@@ -44,18 +49,6 @@ use Rattle.bser_messages.proofs.Heads.{body_size, some_message}
 use Rattle.bser_messages.proofs.Messages.{read_text}
 use Rattle.bser_messages.proofs.Readers.{reader_gave}
 use Rattle.bser_messages.proofs.Within.{before_took, head_refused_within, value_refused_within, body_read, end_refused_within, message_refused}
-
--- ---- through a builder that is watched
-
--- events that one builder took by way of another
-pub told_through : {B W : Type 0} (takes : B → Event → Place → B → Type 0) (of : W → MutBor B) (a b : ℕ × W) (es : List Event)
-    → TakesAll (Placed (λ x e p y. ((of y).ghost_name ≡ (of x).ghost_name) × takes (of x).now e p (of y).now)) a es b
-    → ((of b.1).ghost_name ≡ (of a.1).ghost_name) × TakesAll (Placed takes) (a.0, (of a.1).now) es (b.0, (of b.1).now)
-told_through takes of a b es (none m) = (refl, none (m.0, (of m.1).now))
-told_through takes of a b es (more m n o e rest first after) =
-    let p = told_through takes of n o rest after in
-    let one : Placed takes (m.0, (of m.1).now) e (n.0, (of n.1).now) = record { place = first.place; behind = first.behind; forwards = first.forwards; end = first.end; took = first.took.1 } in
-    (p.0 ∙ first.took.0, more (m.0, (of m.1).now) (n.0, (of n.1).now) (o.0, (of o.1).now) e rest one p.1)
 
 -- ---- what was told of a value
 
@@ -105,13 +98,22 @@ header_there n a s h begins fresh tells =
       front = λ x known. (let r = left_took a (with_limit a.limit s.source) head.text x head.took known in (r.0, r.2));
     }
 
+-- what was taken from one window to another, where the bytes are known
+one_text : (a : Window) (s t : State) (head text other all : List ℕ) → Took a (with_limit a.limit s.source) head → Took s.source t.source text → Took s.source t.source other
+    → length text ≡ length other → left a ≡ Some all → text ≡ other
+one_text a s t head text other all first second third long known =
+    let r = left_took a (with_limit a.limit s.source) head all first known in
+    let p = left_took s.source t.source text r.0 second r.1 in
+    let q = left_took s.source t.source other r.0 third r.1 in
+    sym (take_at text p.0 (length text) refl) ∙ ap (take (length text)) (sym p.2 ∙ q.2) ∙ take_at other q.0 (length text) (sym long)
+
 pub message_told : {B : Type 0} (limits : Limits) (takes : B → Event → Place → B → Type 0) (before after : B) (h : Header) (a : Window) (s t : State)
-    → Begins limits.levels a s → a.count ≡ 0 → Tells h s → h.len ≤ limits.bytes → TookAny (Placed takes) (reading_at s.source, before) (reading_at t.source, after) s t → IsAtEnd t → ReadsTold limits takes a t.source before after h
+    → Begins limits.levels a s → a.count ≡ 0 → Tells h s → h.len ≤ limits.bytes → TookAny (PlacedAs (spells_due s.due) takes) (s.source, before) (t.source, after) s t → IsAtEnd t → ReadsTold limits takes a t.source before after h
 unfolding told_answers
 message_told limits takes before after h a s t begins fresh tells short k over =
     let n = limits.levels in
     let head = begins.took in
-    let body : ReadsBody n reads_ignored (λ (v : Unit {0}) c. Unit {0}) a t tt = record { begun = s; begins = begins; answers = told_answers (Placed takes) (reading_at s.source, before) (reading_at t.source, after) s t k } in
+    let body : ReadsBody n reads_ignored (λ (v : Unit {0}) c. Unit {0}) a t tt = record { begun = s; begins = begins; answers = told_answers (PlacedAs (spells_due s.due) takes) (s.source, before) (t.source, after) s t k } in
     let p = read_text n reads_ignored (λ (v : Unit {0}) c. Unit {0}) a t tt body over in
     let m = p.0.message in
     let small : length (head.text ++ k.text) < 2 ^ 63 = subst (λ l. length l < 2 ^ 63) p.1 m.message.short in
@@ -124,8 +126,10 @@ message_told limits takes before after h a s t begins fresh tells short k over =
     let len = head_size n a s h begins tells in
     let start = head_start n a s h begins fresh tells in
     let headed : s.source.count ≡ length head.text = omega (arith, fresh, head.took.count) in
-    let begun : reading_at s.source ≡ h.start = omega (arith, headed, start, head_length s.capabilities head.size head.text head.head) in
-    let read : t.source.count ≡ length head.text + length k.text = omega (arith, headed, k.took.count) in
+    let placed : TakesAll (Placed takes) (s.source, before) (events k.tree) (t.source, after) = subst (λ d. TakesAll (PlacedAs (spells_due d) takes) (s.source, before) (events k.tree) (t.source, after)) begins.due k.told in
+    let told : ToldIn takes s.source t.source before (events k.tree) after = takes_in takes (s.source, before) (t.source, after) (events k.tree) k.took.working placed in
+    let at : s.source.count ≡ h.start = omega (arith, headed, start) in
+    let long : length told.text ≡ length k.text = omega (arith, told.took.count, k.took.count) in
     record {
       text = head.text ++ k.text;
       took = subst (Took a (with_limit a.limit t.source)) p.1 p.0.took;
@@ -136,12 +140,13 @@ message_told limits takes before after h a s t begins fresh tells short k over =
         body = omega (arith, size.0, len);
         whole = omega (arith, size.1, len, start);
         keys = k.keys;
-        told = record {
-          end = reading_at t.source;
-          within = omega (arith, read, length-append head.text k.text);
-          told = subst (λ z. TakesAll (Placed takes) (z, before) (events k.tree) (reading_at t.source, after)) begun k.told;
-        };
+        head = head.text;
+        bytes = told.text;
+        start = start;
+        ends = omega (arith, length-append head.text k.text, long);
+        told = subst (λ z. TakesIn takes z told.text before (events k.tree) after) at told.told;
       };
+      same = λ x known. ap (λ l. head.text ++ l) (one_text a s t head.text k.text told.text x head.took k.took told.took (sym long) known);
     }
 
 -- ---- a message that was not told
@@ -172,12 +177,26 @@ body_untold limits h a s t begins tells (inr (short, refused)) =
     (value_refused_within limits.levels limits.bytes h.len reads_ignored (Some asking_ignored) owned t.refusal a s.state t.state begins (sym tells.len) short refused)
 
 pub end_untold : {B : Type 0} (limits : Limits) (takes : B → Event → Place → B → Type 0) (before after : B) (h : Header) (e : Error) (a : Window) (s t : State)
-    → Begins limits.levels a s → a.count ≡ 0 → Tells h s → h.len ≤ limits.bytes → TookAny (Placed takes) (reading_at s.source, before) (reading_at t.source, after) s t → (IsAtEnd t → IsTrue t.source.failed) → e ≡ not_at_end t
+    → Begins limits.levels a s → a.count ≡ 0 → Tells h s → h.len ≤ limits.bytes → TookAny (PlacedAs (spells_due s.due) takes) (s.source, before) (t.source, after) s t → (IsAtEnd t → IsTrue t.source.failed) → e ≡ not_at_end t
     → RefusesWithin limits.levels limits.bytes reads_ignored (Some asking_ignored) owned e a t.source
 end_untold limits takes before after h e a s t begins fresh tells short k failed name =
     end_refused_within limits.levels limits.bytes reads_ignored (Some asking_ignored) (λ (v : Unit {0}) c. Unit {0}) owned e a t tt fresh
-    (body_read limits.levels limits.bytes h.len reads_ignored (λ (v : Unit {0}) c. Unit {0}) a s t tt begins (sym tells.len) short (told_answers (Placed takes) (reading_at s.source, before) (reading_at t.source, after) s t k))
+    (body_read limits.levels limits.bytes h.len reads_ignored (λ (v : Unit {0}) c. Unit {0}) a s t tt begins (sym tells.len) short (told_answers (PlacedAs (spells_due s.due) takes) (s.source, before) (t.source, after) s t k))
     failed name
+
+-- ---- what the builder is
+
+-- a builder that was told the whole body
+pub all_told : {B : Type 0} (takes : B → Event → Place → B → Type 0) (stopped : Stop → B → Event → Place → B → Type 0) (before after : B) (s t : State) → s.due ≡ node_due
+    → TookAny (PlacedAs (spells_due s.due) takes) (s.source, before) (t.source, after) s t → Cut takes stopped (s.source, before) after
+all_told takes stopped before after s t due k =
+    cut_then takes stopped (s.source, before) (t.source, after) (events k.tree) after
+    (subst (λ d. TakesAll (PlacedAs (spells_due d) takes) (s.source, before) (events k.tree) (t.source, after)) due k.told) (nowhere t.source after)
+
+pub body_cut : {B : Type 0} (takes : B → Event → Place → B → Type 0) (stopped : Stop → B → Event → Place → B → Type 0) (before after : B) (n : ℕ) (h : Header) (a : Window) (s : State) → Begins n a s → a.count ≡ 0 → Tells h s
+    → Cut takes stopped (s.source, before) after → BodyCut takes stopped h a before after
+body_cut takes stopped before after n h a s begins fresh tells cut =
+    record { text = begins.took.text; body = s.source; took = begins.took.took; start = head_start n a s h begins fresh tells; cut = cut }
 
 -- ---- to one who holds the slice or the reader
 
@@ -186,61 +205,69 @@ pub slice_told : {B : Type 0} (limits : Limits) (takes : B → Event → Place �
 slice_told limits takes bytes before after h a t fresh r =
     let k = subst (λ w. ReadsTold limits takes w t before after h) fresh r in
     let p = left_took (slice_fresh bytes) (with_limit 0 t) k.text (bytes ++ []) k.took refl in
-    record { text = k.text; rest = p.0; front = sym (append-nil bytes) ∙ p.2; tells = k.tells }
+    record { text = k.text; rest = p.0; front = sym (append-nil bytes) ∙ p.2; tells = k.tells; same = k.same (bytes ++ []) refl }
 
 pub reader_told : {B : Type 0} (limits : Limits) (takes : B → Event → Place → B → Type 0) (old new : Option (List ℕ)) (before after : B) (h : Header) (a b t : Window)
-    → a.buffered ≡ [] → a.limit ≡ 0 → a.beyond ≡ old → t.beyond ≡ new → Grown 1 a b
+    → a.buffered ≡ [] → a.limit ≡ 0 → a.beyond ≡ old → t.beyond ≡ new → Grown 1 a b → ((x : List ℕ) → old ≡ Some x → left a ≡ Some x)
     → ReadsTold limits takes b t before after h → TookTold limits takes old new before after h
-reader_told limits takes old new before after h a b t empty unlimited p q grown r =
+reader_told limits takes old new before after h a b t empty unlimited p q grown known r =
     let some = some_message limits.levels h.capabilities r.tells.tree r.text r.tells.message in
     let took = before_took 1 a b t r.text grown some r.took in
-    rw (sym p, sym q) (record { text = r.text; bytes = reader_gave a t r.text empty unlimited took; tells = r.tells })
+    record {
+      text = r.text;
+      bytes = rw (sym p, sym q) (reader_gave a t r.text empty unlimited took);
+      tells = r.tells;
+      same = λ x is. r.same x (left_grown 1 a b x grown (known x is));
+    }
 
 -- what was told to a builder by way of another
-pub tells_through : {B W : Type 0} (limits : Limits) (takes : B → Event → Place → B → Type 0) (of : W → MutBor B) (a b : W) (h : Header) (text : List ℕ)
-    → TellsMessage limits (λ x e p y. ((of y).ghost_name ≡ (of x).ghost_name) × takes (of x).now e p (of y).now) a b h text
-    → ((of b).ghost_name ≡ (of a).ghost_name) × TellsMessage limits takes (of a).now (of b).now h text
-tells_through limits takes of a b h text k =
-    let p = told_through takes of (h.start, a) (k.told.end, b) (events k.tree) k.told.told in
-    (p.0, record { tree = k.tree; message = k.message; short = k.short; body = k.body; whole = k.whole; keys = k.keys; told = record { end = k.told.end; within = k.told.within; told = p.1 } })
+pub tells_through : {B W : Type 0} (limits : Limits) (takes : B → Event → Place → B → Type 0) (of : W → MutBor B) (asked : W → Option Place) (a b : W) (h : Header) (text : List ℕ)
+    → TellsMessage limits (Through of asked takes) a b h text → ((of b).ghost_name ≡ (of a).ghost_name) × TellsMessage limits takes (of a).now (of b).now h text
+tells_through limits takes of asked a b h text k =
+    let p = told_through takes of asked h.start k.bytes a b (events k.tree) k.told in
+    (p.0, record { tree = k.tree; message = k.message; short = k.short; body = k.body; whole = k.whole; keys = k.keys; head = k.head; bytes = k.bytes; start = k.start; ends = k.ends; told = p.1 })
 
-pub slice_through : {B W : Type 0} (limits : Limits) (takes : B → Event → Place → B → Type 0) (of : W → MutBor B) (bytes : List ℕ) (x y : W) (before after : B) (h : Header) (a t : Window) → a ≡ slice_fresh bytes
+pub slice_through : {B W : Type 0} (limits : Limits) (takes : B → Event → Place → B → Type 0) (of : W → MutBor B) (asked : W → Option Place) (bytes : List ℕ) (x y : W) (before after : B) (h : Header) (a t : Window) → a ≡ slice_fresh bytes
     → (of x).now ≡ before → ((of y).ghost_name ≡ (of x).ghost_name → (of y).now ≡ after)
-    → ReadsTold limits (λ b e p c. ((of c).ghost_name ≡ (of b).ghost_name) × takes (of b).now e p (of c).now) a t x y h → BeginsTold limits takes bytes before after h
-slice_through limits takes of bytes x y before after h a t fresh first last r =
-    let k = slice_told limits (λ b e p c. ((of c).ghost_name ≡ (of b).ghost_name) × takes (of b).now e p (of c).now) bytes x y h a t fresh r in
-    let p = tells_through limits takes of x y h k.text k.tells in
-    rw (sym first, sym (last p.0)) (record { text = k.text; rest = k.rest; front = k.front; tells = p.1 })
+    → ReadsTold limits (Through of asked takes) a t x y h → BeginsTold limits takes bytes before after h
+unfolding tells_through
+slice_through limits takes of asked bytes x y before after h a t fresh first last r =
+    let k = slice_told limits (Through of asked takes) bytes x y h a t fresh r in
+    let p = tells_through limits takes of asked x y h k.text k.tells in
+    rw (sym first, sym (last p.0)) (record { text = k.text; rest = k.rest; front = k.front; tells = p.1; same = k.same })
 
-pub reader_through : {B W : Type 0} (limits : Limits) (takes : B → Event → Place → B → Type 0) (of : W → MutBor B) (old new : Option (List ℕ)) (x y : W) (before after : B) (h : Header) (a b t : Window)
-    → a.buffered ≡ [] → a.limit ≡ 0 → a.beyond ≡ old → t.beyond ≡ new → Grown 1 a b → (of x).now ≡ before → ((of y).ghost_name ≡ (of x).ghost_name → (of y).now ≡ after)
-    → ReadsTold limits (λ d e p c. ((of c).ghost_name ≡ (of d).ghost_name) × takes (of d).now e p (of c).now) b t x y h → TookTold limits takes old new before after h
-reader_through limits takes of old new x y before after h a b t empty unlimited p q grown first last r =
-    let k = reader_told limits (λ d e p c. ((of c).ghost_name ≡ (of d).ghost_name) × takes (of d).now e p (of c).now) old new x y h a b t empty unlimited p q grown r in
-    let through = tells_through limits takes of x y h k.text k.tells in
-    rw (sym first, sym (last through.0)) (record { text = k.text; bytes = k.bytes; tells = through.1 })
+pub reader_through : {B W : Type 0} (limits : Limits) (takes : B → Event → Place → B → Type 0) (of : W → MutBor B) (asked : W → Option Place) (old new : Option (List ℕ)) (x y : W) (before after : B) (h : Header) (a b t : Window)
+    → a.buffered ≡ [] → a.limit ≡ 0 → a.beyond ≡ old → t.beyond ≡ new → Grown 1 a b → ((l : List ℕ) → old ≡ Some l → left a ≡ Some l) → (of x).now ≡ before → ((of y).ghost_name ≡ (of x).ghost_name → (of y).now ≡ after)
+    → ReadsTold limits (Through of asked takes) b t x y h → TookTold limits takes old new before after h
+unfolding tells_through
+reader_through limits takes of asked old new x y before after h a b t empty unlimited p q grown known first last r =
+    let k = reader_told limits (Through of asked takes) old new x y h a b t empty unlimited p q grown known r in
+    let through = tells_through limits takes of asked x y h k.text k.tells in
+    rw (sym first, sym (last through.0)) (record { text = k.text; bytes = k.bytes; tells = through.1; same = k.same })
 
 -- ---- what the error says
 
-pub next_reason : {S : Type 0} (limits : Limits) (asked asks : Bool) (cause : Error) (given : ℕ) (told : source.Ghosts S) (old new : S) (reason : Reason) → IsReasonOf asked cause given reason → (asked ≡ true → asks ≡ true)
+pub next_reason : {S : Type 0} (limits : Limits) (asked : Option Place) (asks : Bool) (cause : Error) (given : ℕ) (told : source.Ghosts S) (old new : S) (reason : Reason) → IsReasonOf asked cause given reason → (IsSome asked → asks ≡ true)
     → RefusesNextOf limits.levels limits.bytes reads_ignored (Some asking_ignored) told.remaining told.failures old new cause → NextUntold limits asks told old new reason
-next_reason limits asked asks cause given told old new (Stopped place) is may refused = may is.0
+next_reason limits asked asks cause given told old new (Stopped place) is may refused = may (subst IsSome (sym is.1) refl)
 next_reason limits asked asks cause given told old new (Failed d) is may refused =
-    subst (RefusesNextOf limits.levels limits.bytes reads_ignored (Some asking_ignored) told.remaining told.failures old new) (sym is.0) refused
+    subst (RefusesNextOf limits.levels limits.bytes reads_ignored (Some asking_ignored) told.remaining told.failures old new) (sym is.1) refused
 
-pub slice_reason : (limits : Limits) (asked asks : Bool) (cause : Error) (given : ℕ) (bytes : List ℕ) (reason : Reason) → IsReasonOf asked cause given reason → (asked ≡ true → asks ≡ true)
+pub slice_reason : (limits : Limits) (asked : Option Place) (asks : Bool) (cause : Error) (given : ℕ) (bytes : List ℕ) (reason : Reason) → IsReasonOf asked cause given reason → (IsSome asked → asks ≡ true)
     → RefusesSliceWithin limits.levels limits.bytes reads_ignored (Some asking_ignored) owned cause bytes → SliceUntold limits asks bytes reason
-slice_reason limits asked asks cause given bytes (Stopped place) is may refused = may is.0
-slice_reason limits asked asks cause given bytes (Failed d) is may refused = subst (λ e. RefusesSliceWithin limits.levels limits.bytes reads_ignored (Some asking_ignored) owned e bytes) (sym is.0) refused
+slice_reason limits asked asks cause given bytes (Stopped place) is may refused = may (subst IsSome (sym is.1) refl)
+slice_reason limits asked asks cause given bytes (Failed d) is may refused = subst (λ e. RefusesSliceWithin limits.levels limits.bytes reads_ignored (Some asking_ignored) owned e bytes) (sym is.1) refused
 
 -- the builder stopped, or memory ran out
-pub is_stop : (asked : Bool) (cause : Error) (given : ℕ) (reason : Reason) → IsReasonOf asked cause given reason → IsStop reason → cause ≡ OutOfMemory
-is_stop asked cause given (Stopped place) is stop = is.1
-is_stop asked cause given (Failed d) is stop = sym is.0 ∙ stop
+pub stops_late : (asked : Option Place) (cause : Error) (given : ℕ) (reason : Reason) (h : Option Header) → IsReasonOf asked cause given reason → (cause ≡ OutOfMemory → IsSome h) → (h ≡ None → asked ≡ None)
+    → IsStop reason → IsSome h
+stops_late asked cause given (Stopped place) None is late quiet stop = absurd (let e = sym is.1 ∙ quiet refl in cc)
+stops_late asked cause given (Stopped place) (Some h) is late quiet stop = refl
+stops_late asked cause given (Failed d) h is late quiet stop = late (sym is.1 ∙ stop)
 
-pub reason_within : (asked : Bool) (cause : Error) (given : ℕ) (reason : Reason) → IsReasonOf asked cause given reason → IsReasonWithin given reason
-reason_within asked cause given (Stopped place) is = is.2
-reason_within asked cause given (Failed d) is = is.1
+pub reason_within : (asked : Option Place) (cause : Error) (given : ℕ) (reason : Reason) → IsReasonOf asked cause given reason → IsReasonWithin given reason
+reason_within asked cause given (Stopped place) is = omega (arith, is.2)
+reason_within asked cause given (Failed d) is = is.2
 
 -- the header of what is left is that of what callers know to be left
 pub known_header : (seen left : Option (List ℕ)) (h : Option Header) → ((x : List ℕ) → left ≡ Some x → seen ≡ Some x) → IfSome h (BeginWithHeader seen) → IfSome h (BeginWithHeader left)
@@ -252,12 +279,3 @@ pub next_header : (old remaining : Option (List ℕ)) (failures : ℕ) (through 
     → IfSome h (BeginWithHeader (left b)) → IfSome h (BeginWithHeader old)
 next_header old remaining failures through a b h fresh same grown k =
     known_header (left b) old h (λ x known. left_grown 1 a b x grown (ap left fresh ∙ fresh_left remaining failures through x (same ∙ known))) k
-
--- a reader that has no first byte is at its end
-pub at_end : (old remaining : Option (List ℕ)) (failures : ℕ) (through : Option GName) (a b : Window) → a ≡ reader_fresh remaining failures through → remaining ≡ old → Refused Eof a b 1 → known_bytes.IsAtEnd old
-at_end old remaining failures through a b fresh same r = subst known_bytes.IsAtEnd same (go remaining (subst (λ w. Refused Eof w b 1) fresh r).excuse.0)
-  where
-    go : (x : Option (List ℕ)) → IfSome (left (reader_fresh x failures through)) (λ xs. length xs < 1) → known_bytes.IsAtEnd x
-    go None h = tt
-    go (Some []) h = refl
-    go (Some (x ∷ xs)) h = absurd (omega (arith, h))

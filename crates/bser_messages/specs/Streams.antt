@@ -1,6 +1,6 @@
 -- Messages that follow each other.
 use Rattle.std.specs.Prelude.{◌≡◌, ℕ, ◌+◌, ◌-◌, ◌^◌, drop, min, false, List, [], Option, Some, None}
-use Rattle.std.specs.Io.KnownBytes.{IsAtEnd}
+use Rattle.std.specs.Io.KnownBytes.{IsAtEnd, Keeps}
 use Rattle.bser_format.specs.Content.{Content, Meaning}
 use Rattle.bser_format.specs.declared.errors.Error.{Error}
 use Rattle.bser_source.specs.Window.{Window}
@@ -12,9 +12,13 @@ use Rattle.bser_messages.specs.Messages.{IsReaderFault}
 use Rattle.bser_messages.specs.Limited.{TookWithin, RefusesReaderWithin}
 use Rattle.bser_messages.specs.declared.limits.Limits.{Limits}
 
+-- nothing was left, and nothing is
+abbrev pub StaysAtEnd : Option (List ℕ) → Option (List ℕ) → Type 0
+StaysAtEnd old new = IsAtEnd old × Keeps old new × IsAtEnd new
+
 -- the next message was taken, or nothing was left
 abbrev pub IsNext : {A : Type 0} → ℕ → ℕ → Meaning → (A → Content → Type 0) → Option (List ℕ) → Option (List ℕ) → Option A → Type 0
-IsNext n m reads holds old new None = IsAtEnd old
+IsNext n m reads holds old new None = StaysAtEnd old new
 IsNext n m reads holds old new (Some v) = TookWithin n m reads holds old new v
 
 -- the error of the next message; where nothing is left, only that memory ran out or the reader

@@ -1,6 +1,6 @@
 -- What telling a message to a builder answers.
 use Rattle.std.specs.Prelude.{◌≡◌, ◌⊎◌, ◌≤◌, ◌<◌, ℕ, ◌+◌, ◌-◌, ◌^◌, min, nat_le, option_and_then, if◌then◌else◌, Bool, true, false, List, ◌++◌, length, Option, Some, None, IfSome, IsSome}
-use Rattle.std.specs.Io.KnownBytes.{Consumes, IsAtEnd}
+use Rattle.std.specs.Io.KnownBytes.{Consumes}
 use Rattle.bser_format.specs.Tree.{Tree}
 use Rattle.bser_format.specs.Message.{Head, IsMessage}
 use Rattle.bser_format.specs.NamedLaws.{HasTextKeys}
@@ -9,10 +9,12 @@ use Rattle.bser_format.specs.declared.errors.Error.{Error}
 use Rattle.bser_format.specs.declared.errors.Error.TheVariants.{DeReaderError, DeTooLong, OutOfMemory}
 use Rattle.bser_format.specs.declared.errors.ReadCause.TheVariants.{Eof, Reader}
 use Rattle.bser_source.specs.Device.{Blamed}
-use Rattle.bser_source.specs.Window.{Window, Took, with_limit}
+use Rattle.bser_source.specs.Window.{Window, Took, left, with_limit}
 use Rattle.bser_source.specs.declared.device.Source as source
 use Rattle.bser_events.specs.Events.{Event, events}
-use Rattle.bser_events.specs.Places.{TakesWithin}
+use Rattle.bser_events.specs.Cut.{Cut, CutIn}
+use Rattle.bser_events.specs.Places.{TakesIn}
+use Rattle.bser_events.specs.declared.builder.Stop.{Stop}
 use Rattle.bser_events.specs.declared.event.Place.{Place}
 use Rattle.bser_deserializer.specs.Askings.{asking_ignored}
 use Rattle.bser_deserializer.specs.Calls.{AnyTold, RefusesAny}
@@ -21,7 +23,7 @@ use Rattle.bser_deserializer.specs.Seen.{Seen}
 use Rattle.bser_deserializer.specs.State.{refused}
 use Rattle.bser_messages.specs.Descriptions.{LiesWithin, cause_of}
 use Rattle.bser_messages.specs.Limited.{RefusesSliceWithin, RefusesWithin}
-use Rattle.bser_messages.specs.Streams.{RefusesNextOf}
+use Rattle.bser_messages.specs.Streams.{StaysAtEnd, RefusesNextOf}
 use Rattle.bser_messages.specs.declared.limits.Limits.{Limits}
 use Rattle.bser_messages.specs.declared.told.Header.{Header}
 use Rattle.bser_messages.specs.declared.told.Reason.{Reason}
@@ -31,7 +33,8 @@ use Rattle.bser_messages.specs.declared.told.Untold.{Untold}
 -- ---- what is told
 
 -- the text is a message within the limits, of which h tells, and the builder took the events of the
--- tree that it spells, each once and in order, at places in order from the body's start to its end
+-- tree that it spells, each once and in order, at its place: the first stands behind the header, each
+-- right behind the one before it, and the last at the body's end
 pub record TellsMessage {B : Type 0} (limits : Limits) (takes : B → Event → Place → B → Type 0) (before after : B) (h : Header) (text : List ℕ) : Type 0 where
   pub tree : Tree
   pub message : IsMessage limits.levels h.capabilities tree text
@@ -39,7 +42,11 @@ pub record TellsMessage {B : Type 0} (limits : Limits) (takes : B → Event → 
   pub body : h.len ≡ length message.body
   pub whole : h.start + h.len ≡ length text
   pub keys : HasTextKeys tree
-  pub told : TakesWithin takes h.start (length text) before (events tree) after
+  pub head : List ℕ
+  pub bytes : List ℕ
+  pub start : h.start ≡ length head
+  pub ends : length text ≡ length head + length bytes
+  pub told : TakesIn takes h.start bytes before (events tree) after
 
 -- a prefix of the bytes is such a message
 pub record BeginsTold {B : Type 0} (limits : Limits) (takes : B → Event → Place → B → Type 0) (bytes : List ℕ) (before after : B) (h : Header) : Type 0 where
@@ -47,22 +54,27 @@ pub record BeginsTold {B : Type 0} (limits : Limits) (takes : B → Event → Pl
   pub rest : List ℕ
   pub front : bytes ≡ text ++ rest
   pub tells : TellsMessage limits takes before after h text
+  -- the bytes of the events are those of the message
+  pub same : text ≡ tells.head ++ tells.bytes
 
 -- exactly such a message was taken
 pub record TookTold {B : Type 0} (limits : Limits) (takes : B → Event → Place → B → Type 0) (old new : Option (List ℕ)) (before after : B) (h : Header) : Type 0 where
   pub text : List ℕ
   pub bytes : Consumes old new text
   pub tells : TellsMessage limits takes before after h text
+  -- where the bytes are known, those of the events are those of the message
+  pub same : (x : List ℕ) → old ≡ Some x → text ≡ tells.head ++ tells.bytes
 
 -- such a message was taken from a source, and no byte past it
 pub record ReadsTold {B : Type 0} (limits : Limits) (takes : B → Event → Place → B → Type 0) (old new : Window) (before after : B) (h : Header) : Type 0 where
   pub text : List ℕ
   pub took : Took old (with_limit old.limit new) text
   pub tells : TellsMessage limits takes before after h text
+  pub same : (x : List ℕ) → left old ≡ Some x → text ≡ tells.head ++ tells.bytes
 
 -- the next message was told, or nothing was left, and the builder took nothing
 abbrev pub IsNextTold : {B : Type 0} → Limits → (B → Event → Place → B → Type 0) → Option (List ℕ) → Option (List ℕ) → B → B → Option Header → Type 0
-IsNextTold limits takes old new before after None = IsAtEnd old × (after ≡ before)
+IsNextTold limits takes old new before after None = StaysAtEnd old new × (after ≡ before)
 IsNextTold limits takes old new before after (Some h) = TookTold limits takes old new before after h
 
 -- ---- what was not told
@@ -109,11 +121,36 @@ NextUntold limits asks told old new (Stopped place) = asks ≡ true
 NextUntold limits asks told old new (Failed d) =
     RefusesNextOf limits.levels limits.bytes reads_ignored (Some asking_ignored) told.remaining told.failures old new (cause_of d)
 
--- the reason of an error with this cause in an input of so many bytes: the builder asked to stop, and
--- the reader below was told so, or what the description says
-abbrev pub IsReasonOf : Bool → Error → ℕ → Reason → Type 0
-IsReasonOf asked cause given (Stopped place) = (asked ≡ true) × (cause ≡ OutOfMemory) × (place ≤ given)
-IsReasonOf asked cause given (Failed d) = (cause_of d ≡ cause) × LiesWithin given d
+-- the reason of an error with this cause in an input of so many bytes: the builder wanted no more at
+-- an event of this place, and that is the reason, or it never did, and what the description says
+abbrev pub IsReasonOf : Option Place → Error → ℕ → Reason → Type 0
+IsReasonOf asked cause given (Stopped place) = (p : Place) × (asked ≡ Some p) × (place ≡ min p.end given)
+IsReasonOf asked cause given (Failed d) = (asked ≡ None) × (cause_of d ≡ cause) × LiesWithin given d
+
+-- ---- the builder after an error
+
+-- the bytes left, where they are known, begin with a header of the length that h tells, and then with
+-- bytes that spell what the builder took, and the event at which it took no more
+pub record CutBehind {B : Type 0} (takes : B → Event → Place → B → Type 0) (stopped : Stop → B → Event → Place → B → Type 0) (left : Option (List ℕ)) (h : Header) (before after : B) (asked : Option Place) : Type 0 where
+  pub head : List ℕ
+  pub bytes : List ℕ
+  pub start : h.start ≡ length head
+  pub front : (x : List ℕ) → left ≡ Some x → (rest : List ℕ) × (x ≡ head ++ (bytes ++ rest))
+  pub cut : CutIn takes stopped h.start bytes before after asked
+
+-- Before the header it was told nothing. It wanted no more where the reason is that it stopped, at an
+-- event that ends there, and else it never asked to stop.
+abbrev pub IsCut : {B : Type 0} → (B → Event → Place → B → Type 0) → (Stop → B → Event → Place → B → Type 0) → Option (List ℕ) → B → B → ℕ → Option Header → Reason → Type 0
+IsCut takes stopped left before after given None (Stopped place) = ⊥
+IsCut takes stopped left before after given None (Failed d) = after ≡ before
+IsCut takes stopped left before after given (Some h) (Stopped place) =
+    (p : Place) × (place ≡ min p.end given) × CutBehind takes stopped left h before after (Some p)
+IsCut takes stopped left before after given (Some h) (Failed d) = CutBehind takes stopped left h before after None
+
+-- the builder took a beginning of the message's events, each once and in order, and then no more, or
+-- took no more at the next one
+abbrev pub LeavesBuilder : {B : Type 0} → (B → Event → Place → B → Type 0) → (Stop → B → Event → Place → B → Type 0) → Option (List ℕ) → B → B → Untold → Type 0
+LeavesBuilder takes stopped left before after e = IsCut takes stopped left before after e.given e.header e.reason
 
 -- ---- going on
 
@@ -145,6 +182,19 @@ SkipFails rest told old new e =
 abbrev pub MessageTold : {B : Type 0} → Limits → (B → Event → Place → B → Type 0) → B → B → Seen → Seen → Header → Type 0
 MessageTold limits takes before after old new h =
     ReadsTold limits takes old.state.source new.state.source before after h
+
+-- the builder after an error behind this header
+pub record BodyCut {B : Type 0} (takes : B → Event → Place → B → Type 0) (stopped : Stop → B → Event → Place → B → Type 0) (h : Header) (old : Window) (before after : B) : Type 0 where
+  pub text : List ℕ
+  pub body : Window
+  pub took : Took old (with_limit old.limit body) text
+  pub start : h.start ≡ length text
+  pub cut : Cut takes stopped (body, before) after
+
+-- the builder after an error, and what the header tells, where that was taken
+abbrev pub MessageCut : {B : Type 0} → (B → Event → Place → B → Type 0) → (Stop → B → Event → Place → B → Type 0) → B → B → Window → Option Header → Type 0
+MessageCut takes stopped before after old None = after ≡ before
+MessageCut takes stopped before after old (Some h) = BodyCut takes stopped h old before after
 
 -- a deserializer's message is refused as one that is passed over
 abbrev pub MessageUntold : Limits → Seen → Seen → Error → Type 0

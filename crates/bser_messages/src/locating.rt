@@ -242,6 +242,8 @@ impl Builder for Locating {
 
     ghost takes = { λ _ _ _ _. Unit {0} };
 
+    ghost stopped = { λ _ _ _ _ _. Unit {0} };
+
     ghost stops = { true };
 
     ghost asks = { true };

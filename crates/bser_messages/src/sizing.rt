@@ -1,6 +1,7 @@
 //! Adding up the size of what is told.
 ghost use Rattle.std.specs.Prelude.{◌≡◌, true, false, OnOk};
 ghost use Rattle.bser_events.specs.Told.{told};
+ghost use Rattle.bser_events.specs.declared.builder.Stop.TheVariants.{Memory};
 ghost use Rattle.bser_messages.specs.Tallies.{
   Counts,
   Shows,
@@ -143,6 +144,8 @@ impl Sizing {
 
 impl Builder for Sizing {
     ghost takes = { λ a e _ b. Takes a e b };
+
+    ghost stopped = { λ stop _ _ _ _. stop ≡ Memory };
 
     ghost stops = { true };
 

@@ -1,5 +1,5 @@
 //! Whole messages, told to a builder event by event.
-ghost use Rattle.std.specs.Prelude.{◌≡◌, ◌≤◌, false, length, Some, None, IfOk, IfErr, OnOk};
+ghost use Rattle.std.specs.Prelude.{◌≡◌, ◌≤◌, length, Some, None, IfOk, IfErr, OnOk};
 ghost use Rattle.bser_format.specs.Errors.{error_of};
 ghost use Rattle.bser_deserializer.specs.declared.deserializer.TheConstants.{MOST_LEVELS};
 ghost use Rattle.bser_messages.specs.Messages.{Same};
@@ -9,6 +9,7 @@ ghost use Rattle.bser_messages.specs.Told.{
   IsNextTold,
   IsReasonOf,
   KnowsHeader,
+  LeavesBuilder,
   NextUntold,
   SliceUntold,
   StopsLate,
@@ -34,11 +35,13 @@ use std::alloc::Global;
 /// answers what its header tells. What follows the message is ignored.
 ///
 /// The keys of its objects have to be UTF-8. Each event's place counts the bytes from the start of
-/// the message; places are in order, from the body's start to the message's end. The error is the
+/// the message: the first event stands behind the header, each right behind the one before it, and
+/// the last at the message's end. The error is the
 /// first one in the order of reading, as
 /// [`from_slice_limited`](crate::limited_slice::from_slice_limited) answers it for an `Ignored`; or
 /// out of memory, for the containers that are open or by the builder; or that the builder wanted no
-/// more. After an error no clause says what the builder is.
+/// more. After an error the builder took a beginning of the message's events, each once and in
+/// order, and then no more, or took no more at the next one.
 pub fn from_slice<B: Builder>(
     alloc: Global,
     limits: Limits,
@@ -52,11 +55,13 @@ pub fn from_slice<B: Builder>(
     ensures late { IfErr result StopsLate }
     ensures place { IfErr result HasPlace }
     ensures given { IfErr result (λ e. e.given ≡ length bytes.now) }
+    ensures cut { IfErr result
+        (LeavesBuilder B.takes B.stopped (Some bytes.now) builder.old builder.new) }
 {
     let mut from = Deserializer::unread(alloc, SliceRead::new(bytes));
     let mut watched = WatchedBuilder::new(builder);
     let answer = tell_message(limits, &mut from, &mut watched);
-    let asked = watched.has_asked();
+    let asked = watched.asked_place();
     let _builder = watched.into_inner();
     match answer {
         Ok(header) => Ok(header),
@@ -85,6 +90,8 @@ pub fn next_message<S: Source, B: Builder>(
     ensures header { IfErr result (KnowsHeader (S.remaining reader.old)) }
     ensures late { IfErr result StopsLate }
     ensures place { IfErr result HasPlace }
+    ensures cut { IfErr result (LeavesBuilder B.takes B.stopped
+        (S.remaining reader.old) builder.old builder.new) }
 {
     let mut read = IoRead::new(Counted::new(reader));
     match read.peek() {
@@ -92,7 +99,7 @@ pub fn next_message<S: Source, B: Builder>(
             let mut from = Deserializer::unread(alloc, read);
             let mut watched = WatchedBuilder::new(builder);
             let answer = tell_message(limits, &mut from, &mut watched);
-            let asked = watched.has_asked();
+            let asked = watched.asked_place();
             let _builder = watched.into_inner();
             let progress = Progress::of(&from);
             let counted = from.into_inner().into_inner();
@@ -117,7 +124,7 @@ pub fn next_message<S: Source, B: Builder>(
 #[cold]
 #[inline(never)]
 fn unread(cause: ReadCause) -> Untold
-    ensures reason { IsReasonOf false (error_of cause) 0 result.reason }
+    ensures reason { IsReasonOf None (error_of cause) 0 result.reason }
     ensures header { result.header ≡ None }
     ensures given { result.given ≡ 0 }
 {

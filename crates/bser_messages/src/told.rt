@@ -29,7 +29,7 @@ impl Header {
 pub enum Reason {
     /// The builder wanted no more.
     Stopped {
-        /// How many bytes of the message were taken then.
+        /// How many bytes of the message were taken then: where the event ends at which it did.
         place: usize,
     },
     /// The message, the memory or the reader failed.

@@ -1,13 +1,16 @@
 //! One message told to a builder, over any source.
-ghost use Rattle.std.specs.Prelude.{◌≡◌, ◌≤ℤ◌, true, pos, IfOk, IfErr, IfSome, IsSome, OnOk, OnErr};
+ghost use Rattle.std.specs.Prelude.{◌≡◌, ◌≤ℤ◌, pos, IfOk, IfErr, IfSome, IsSome, OnOk, OnErr};
 ghost use Rattle.bser_format.specs.declared.errors.Error.TheVariants.{OutOfMemory};
 ghost use Rattle.bser_source.specs.Window.{left};
+ghost use Rattle.bser_format.specs.Expected.{node_due};
+ghost use Rattle.bser_deserializer.specs.Calls.{ValueCut};
 ghost use Rattle.bser_deserializer.specs.State.{IsUnread};
 ghost use Rattle.bser_messages.specs.Told.{
   BeginWithHeader,
   BodyTold,
   BodyUntold,
   IsReasonOf,
+  MessageCut,
   MessageTold,
   MessageUntold,
 };
@@ -18,6 +21,7 @@ use crate::told::{Header, Reason, Untold};
 use bser_bunser::refusal::{Answer, Refused};
 use bser_deserializer::deserializer::Deserializer;
 use bser_events::builder::Builder;
+use bser_events::event::Place;
 use bser_format::errors::Error;
 use bser_source::read::DeRead;
 
@@ -28,40 +32,27 @@ pub(crate) struct Cut {
 }
 
 impl Cut {
-    /// Describes the error after so much progress in an input of `given` bytes: out of memory is
-    /// that the builder wanted no more, where it did.
+    /// Describes the error after so much progress in an input of `given` bytes: it is that the
+    /// builder wanted no more, where it did, at the event of this place.
     #[cold]
     #[inline(never)]
-    pub(crate) fn untold(self, progress: Progress, asked: bool, given: usize) -> Untold
+    pub(crate) fn untold(self, progress: Progress, asked: Option<Place>, given: usize) -> Untold
         ensures reason { IsReasonOf asked self.cause given result.reason }
         ensures header { result.header ≡ self.header }
         ensures given { result.given ≡ given }
     {
         let Cut { cause, header } = self;
-        let has_stopped = asked && is_memory(&cause);
-        let description = progress.describe(cause, given);
-        let reason = if has_stopped {
-            Reason::Stopped {
-                place: description.place(),
-            }
-        } else {
-            Reason::Failed(description)
+        let reason = match asked {
+            Some(place) => Reason::Stopped {
+                place: place.end.min(given),
+            },
+            None => Reason::Failed(progress.describe(cause, given)),
         };
         Untold {
             reason,
             header,
             given,
         }
-    }
-}
-
-/// Whether memory ran out.
-fn is_memory(cause: &Error) -> bool
-    ensures { result ≡ true → cause.now ≡ OutOfMemory }
-{
-    match cause {
-        Error::OutOfMemory => true,
-        _ => false,
     }
 }
 
@@ -79,6 +70,9 @@ pub(crate) fn tell_message<R: DeRead, B: Builder>(
     ensures header { IfErr result (λ cut.
         IfSome cut.header (BeginWithHeader (left from.old.state.source))) }
     ensures late { IfErr result (λ cut. cut.cause ≡ OutOfMemory → IsSome cut.header) }
+    ensures cut { IfErr result (λ cut.
+        MessageCut B.takes B.stopped builder.old builder.new from.old.state.source
+        cut.header) }
 {
     match from.read_head(limits.levels) {
         Ok(()) => {}
@@ -130,6 +124,8 @@ fn tell_body<R: DeRead, B: Builder>(
     ensures found { OnOk result
         (BodyTold most len B.takes builder.old builder.new from.old from.new) }
     ensures refused { OnErr result (BodyUntold most len from.old from.new) }
+    ensures cut { OnErr result (from.old.state.due ≡ node_due
+        → ValueCut B.takes B.stopped builder.old builder.new from.old) }
 {
     if len > most {
         return Err(from.refuse(Error::DeTooLong {

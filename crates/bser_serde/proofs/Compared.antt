@@ -9,8 +9,8 @@ use Rattle.bser_format.specs.Tree.{Tree, Items, Entries}
 use Rattle.bser_format.specs.Canonical.{canonical_body, canonical_items, canonical_entries, canonical_key}
 use Rattle.bser_format.specs.Expand.{IsTemplateFree, ItemsAreTemplateFree, EntriesAreTemplateFree}
 use Rattle.bser_format.specs.Message.{IsMessage}
-use Rattle.bser_events.specs.Events.{Event, TakesAll, events, item_events, entry_events, close, key, open_array, open_object, none, more}
-use Rattle.bser_events.specs.Places.{Placed}
+use Rattle.bser_events.specs.Events.{Event, events, item_events, entry_events, close, key, open_array, open_object}
+use Rattle.bser_events.specs.Places.{TakesIn, none, more}
 use Rattle.bser_deserializer.specs.declared.deserializer.TheConstants.{LEVELS}
 use Rattle.bser_messages.specs.declared.limits.Limits.{Limits}
 use Rattle.bser_messages.specs.declared.told.Header.{Header}
@@ -24,13 +24,13 @@ record PassesAll (a : Compared) (es : List Event) (b : Compared) : Type 0 where
   plain : AllByRecursion IsPlain es
   passed : rest_of a ≡ flat_map least_piece es ++ rest_of b
 
-passes_all : (a b : ℕ × Compared) (es : List Event) → TakesAll (Placed (λ x e p y. Passes x e y)) a es b → PassesAll a.1 es b.1
-passes_all a b es (none m) = record { plain = tt; passed = refl }
-passes_all a b es (more m n o e rest first after) =
-    let r = passes_all n o rest after in
+passes_all : (at : ℕ) (bytes : List ℕ) (a b : Compared) (es : List Event) → TakesIn (λ x e p y. Passes x e y) at bytes a es b → PassesAll a es b
+passes_all at bytes a b es (none n m) = record { plain = tt; passed = refl }
+passes_all at bytes a b es (more n own rest m k o e others spelled first after) =
+    let r = passes_all (n + length own) rest k o others after in
     record {
-      plain = (first.took.plain, r.plain);
-      passed = first.took.passed ∙ ap (λ xs. least_piece e ++ xs) r.passed ∙ sym (append_assoc (least_piece e) (flat_map least_piece rest) (rest_of o.1));
+      plain = (first.plain, r.plain);
+      passed = first.passed ∙ ap (λ xs. least_piece e ++ xs) r.passed ∙ sym (append_assoc (least_piece e) (flat_map least_piece others) (rest_of o));
     }
 
 -- ---- bytes in front
@@ -128,7 +128,7 @@ pub least_body : (limits : Limits) (bytes body : List ℕ) (before after : Compa
     → n ≡ min (h.start + h.len) (2 ^ 64 - 1) → n ≡ length bytes → h.capabilities ≡ 0 → IsLeastBody bytes body
 least_body limits bytes body before after h n levels fresh done t is same bare =
     let m = t.tells in
-    let r = passes_all (h.start, before) (m.told.end, after) (events m.tree) m.told.told in
+    let r = passes_all h.start m.bytes before after (events m.tree) m.told in
     let whole = m.whole in
     let short = m.message.short in
     let rest_none : length t.rest ≡ 0 = omega (arith, whole, short, is, same, ap length t.front, length-append t.text t.rest) in

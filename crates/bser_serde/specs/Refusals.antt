@@ -1,6 +1,5 @@
 -- Why no value was read.
 use Rattle.std.specs.Prelude.{◌≡◌, ◌≢◌, ℕ, List, length, Some}
-use Rattle.std.specs.Io.KnownBytes.{IsAtEnd}
 use Rattle.bser_format.specs.ReadsAny.{reads_ignored}
 use Rattle.bser_format.specs.declared.errors.Error.{Error}
 use Rattle.bser_format.specs.declared.errors.Error.TheVariants as errors
@@ -9,7 +8,7 @@ use Rattle.bser_deserializer.specs.Askings.{asking_ignored}
 use Rattle.bser_deserializer.specs.Reading.{owned}
 use Rattle.bser_messages.specs.Descriptions.{LiesWithin, cause_of}
 use Rattle.bser_messages.specs.Limited.{RefusesSliceWithin}
-use Rattle.bser_messages.specs.Streams.{RefusesNextOf}
+use Rattle.bser_messages.specs.Streams.{StaysAtEnd, RefusesNextOf}
 use Rattle.bser_messages.specs.declared.limits.Limits.{Limits}
 use Rattle.bser_messages.specs.declared.told.Reason.TheVariants as reasons
 use Rattle.bser_messages.specs.declared.told.Untold.{Untold}
@@ -52,7 +51,7 @@ abbrev pub NextUnread : {S : Type 0} → Limits → source.Ghosts S → S → S 
 NextUnread limits told old new (Malformed d) = PassesNoNext limits told old new (cause_of d) × IsFault (cause_of d)
 NextUnread limits told old new (Misfit m) = TookMessage limits (told.remaining old) (told.remaining new)
 NextUnread limits told old new (BytesLeft n) = ⊥
-NextUnread limits told old new Ended = IsAtEnd (told.remaining old)
+NextUnread limits told old new Ended = StaysAtEnd (told.remaining old) (told.remaining new)
 NextUnread limits told old new OutOfMemory = Unit {0}
 
 -- the message is well-formed: it is a misfit, or memory ran out

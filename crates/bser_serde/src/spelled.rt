@@ -224,6 +224,8 @@ fn is_within(limit: u64, v: i64) -> bool
 impl<'m> Builder for Compared<'m> {
     ghost takes = { λ a e _ b. Passes a e b };
 
+    ghost stopped = { λ _ _ _ _ _. Unit {0} };
+
     ghost stops = { true };
 
     ghost asks = { true };

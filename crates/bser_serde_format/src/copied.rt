@@ -80,6 +80,8 @@ impl Copied {
 impl Builder for Copied {
     ghost takes = { λ _ _ _ _. Unit {0} };
 
+    ghost stopped = { λ _ _ _ _ _. Unit {0} };
+
     ghost stops = { true };
 
     ghost asks = { false };

@@ -1,11 +1,12 @@
 -- Refusals of a source that copies.
-use Rattle.std.proofs.Common.{◌≡◌, ℕ, ◌<◌, false, List, Option, Some, None, length, length-append, refl, sym, ap, ◌∙◌, arith, inl, inr}
+use Rattle.std.proofs.Common.{◌≡◌, ℕ, ◌<◌, false, List, ◌++◌, Option, Some, None, length, length-append, append_assoc, refl, sym, ap, ◌∙◌, arith, inl, inr}
+use Rattle.std.proofs.KnownBytes.{Consumes-trans}
 use Rattle.std.specs.Prelude.{IfSome}
 use Rattle.bser_source.specs.Failures.{failures_after}
 use Rattle.bser_format.specs.declared.errors.ReadCause.{ReadCause}
 use Rattle.bser_format.specs.declared.errors.ReadCause.TheVariants.{Eof, Utf8, Reader, Memory, Failed}
 use Rattle.bser_source.specs.Window.{Window, left, Grown}
-use Rattle.bser_source.specs.Refusal.{Excuse, Refused}
+use Rattle.bser_source.specs.Refusal.{EndsShort, Excuse, Refused}
 use Rattle.bser_source.proofs.Windows.{left_grown}
 
 few_left : (x y : Option (List ℕ)) (n : ℕ) → ((all : List ℕ) → x ≡ Some all → y ≡ Some all)
@@ -34,4 +35,13 @@ refused_grown m n e a b c copies working grown r = record {
   unchanged = λ t. absurd cc;
   failed = λ f. r.failed (grown.lends ∙ f);
   before = λ f. absurd cc;
+}
+
+-- an end that came after some bytes came to be buffered
+pub short_grown : (m n : ℕ) (a b c : Window) → Grown m a b → EndsShort n b c → EndsShort n a c
+short_grown m n a b c grown s = record {
+  more = grown.more ++ s.more;
+  device = Consumes-trans a.beyond b.beyond c.beyond grown.more s.more grown.device s.device;
+  fewer = omega (arith, s.fewer, ap length (ap (λ l. l ++ s.more) grown.buffered ∙ append_assoc a.buffered grown.more s.more));
+  end = s.end;
 }

@@ -1,5 +1,6 @@
 -- When a byte source fails, and what state that leaves.
-use Rattle.std.specs.Prelude.{◌≡◌, ℕ, ◌+◌, ◌^◌, ◌<◌, ◌≤◌, true, false, length, ◌⊎◌, IfSome}
+use Rattle.std.specs.Prelude.{◌≡◌, ℕ, ◌+◌, ◌^◌, ◌<◌, ◌≤◌, true, false, List, ◌++◌, length, ◌⊎◌, IfSome}
+use Rattle.std.specs.Io.KnownBytes.{Consumes, IsAtEnd}
 use Rattle.bser_source.specs.Failures.{failures_after}
 use Rattle.bser_format.specs.declared.errors.ReadCause.{ReadCause}
 use Rattle.bser_format.specs.declared.errors.ReadCause.TheVariants.{Eof, Utf8, Reader, Memory, Failed}
@@ -23,3 +24,10 @@ pub record Refused (cause : ReadCause) (old new : Window) (n : ℕ) : Type 0 whe
   pub failed : old.lends ≡ false → new.failed ≡ true
   -- what has failed gives this error alone
   pub before : old.failed ≡ true → cause ≡ Failed
+
+-- where n bytes were wanted the device gave fewer with those buffered, and has no more
+pub record EndsShort (n : ℕ) (old new : Window) : Type 0 where
+  pub more : List ℕ
+  pub device : Consumes old.beyond new.beyond more
+  pub fewer : length (old.buffered ++ more) < n
+  pub end : IsAtEnd new.beyond

@@ -2,7 +2,7 @@
 ghost use Rattle.std.specs.Prelude.{refl, ◌≡◌, ◌≢◌, ◌≤◌, ◌<◌, ◌+◌, ◌-◌, ◌^◌, max, true, false, length, IfErr, OnOk};
 ghost use Rattle.bser_source.specs.declared.read.TheConstants.{WINDOW};
 ghost use Rattle.bser_source.specs.Window.{Grown, Filled, closed};
-ghost use Rattle.bser_source.specs.Refusal.{Refused};
+ghost use Rattle.bser_source.specs.Refusal.{EndsShort, Refused};
 
 use crate::device::Source;
 use crate::pull::{pull_at, pull_rest};
@@ -151,6 +151,9 @@ impl<S: Source> IoRead<S> {
         ensures err { IfErr result (λ e. Refused e
             (io_at S.remaining S.failures S.through self.old)
             (io_at S.remaining S.failures S.through self.new) n) }
+        ensures end { IfErr result (λ e. e ≡ ReadCause.Eof → EndsShort n
+            (io_at S.remaining S.failures S.through self.old)
+            (io_at S.remaining S.failures S.through self.new)) }
         ensures memory { IfErr result (λ e. e ≢ ReadCause.Memory) }
     {
         let want = self.ahead(n);
@@ -177,6 +180,9 @@ impl<S: Source> IoRead<S> {
         ensures err { IfErr result (λ e. Refused e
             (io_at S.remaining S.failures S.through self.old)
             (io_at S.remaining S.failures S.through self.new) n) }
+        ensures end { IfErr result (λ e. e ≡ ReadCause.Eof → EndsShort n
+            (io_at S.remaining S.failures S.through self.old)
+            (io_at S.remaining S.failures S.through self.new)) }
         ensures memory { IfErr result (λ e. e ≢ ReadCause.Memory) }
     {
         if self.failed || n > usize::MAX - self.read_count() {

@@ -4,7 +4,7 @@ ghost use Rattle.std.specs.Int.{w32, to_le_bytes};
 ghost use Rattle.bser_source.specs.Refs.{bytes_of, is_lent};
 ghost use Rattle.bser_source.specs.declared.read.TheConstants.{WINDOW};
 ghost use Rattle.bser_source.specs.Window.{Window, AreOctets, Filled, Peeks, Took, Expects, consumed, closed};
-ghost use Rattle.bser_source.specs.Refusal.{Refused};
+ghost use Rattle.bser_source.specs.Refusal.{EndsShort, Refused};
 
 use crate::reference::{Lending, Reference};
 use bser_format::errors::ReadCause;
@@ -56,6 +56,8 @@ pub trait DeRead {
         requires fits { n ≤ WINDOW }
         ensures ok { OnOk result (Filled n (window self.old) (window self.new)) }
         ensures err { IfErr result (λ e. Refused e (window self.old) (window self.new) n) }
+        ensures end { IfErr result (λ e. e ≡ ReadCause.Eof
+            → EndsShort n (window self.old) (window self.new)) }
         ensures memory { IfErr result (λ e. e ≢ ReadCause.Memory) };
 
     /// Takes the first `n` buffered bytes.
@@ -114,6 +116,8 @@ pub trait DeRead {
     final fn peek(&mut self) -> Result<u8, ReadCause>
         ensures ok { IfOk result (λ b. Peeks (window self.old) (window self.new) b) }
         ensures err { IfErr result (λ e. Refused e (window self.old) (window self.new) 1) }
+        ensures end { IfErr result (λ e. e ≡ ReadCause.Eof
+            → EndsShort 1 (window self.old) (window self.new)) }
         ensures memory { IfErr result (λ e. e ≢ ReadCause.Memory) }
     {
         self.fill(1)?;

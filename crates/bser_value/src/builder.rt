@@ -2,6 +2,7 @@
 ghost use Rattle.std.specs.Prelude.{◌≡◌, true, false, [], ◌∷◌, ◌++◌, Some, OnOk, option_map, string_bytes};
 ghost use Rattle.bser_format.specs.Tree.{Tree, bytes, text};
 ghost use Rattle.bser_events.specs.Told.{told};
+ghost use Rattle.bser_events.specs.declared.builder.Stop.TheVariants.{Memory};
 ghost use Rattle.bser_value.specs.Around.{around_of};
 ghost use Rattle.bser_value.specs.Made.{unread, read_as, in_array, in_object, in_keys};
 ghost use Rattle.bser_value.specs.Shows.{Shows, Takes, Gives, Names, Opens, Closes};
@@ -180,6 +181,8 @@ impl ValueBuilder {
 
 impl Builder for ValueBuilder {
     ghost takes = { λ a e _ b. Takes a e b };
+
+    ghost stopped = { λ stop _ _ _ _. stop ≡ Memory };
 
     ghost stops = { true };
 

@@ -97,6 +97,8 @@ fn is_tag(event: Event<'_>, is_text: bool, tag: u8) -> bool {
 impl Builder for Witness<'_> {
     ghost takes = { λ _ _ _ _. Unit {0} };
 
+    ghost stopped = { λ _ _ _ _ _. Unit {0} };
+
     ghost stops = { true };
 
     ghost asks = { true };

@@ -1,7 +1,7 @@
 -- Counts that are told one after the other.
-use Rattle.std.proofs.Common.{◌≡◌, ℕ, List, Option, refl, subst}
-use Rattle.bser_events.specs.Events.{Event, TakesAll, none, more, events}
-use Rattle.bser_events.specs.Places.{Placed}
+use Rattle.std.proofs.Common.{◌≡◌, ℕ, ◌+◌, List, length, Option, refl, subst}
+use Rattle.bser_events.specs.Events.{Event, events}
+use Rattle.bser_events.specs.Places.{TakesIn, none, more}
 use Rattle.bser_events.specs.declared.event.Place.{Place}
 use Rattle.bser_messages.specs.Told.{TookTold}
 use Rattle.bser_messages.specs.declared.limits.Limits.{Limits}
@@ -14,9 +14,9 @@ use Rattle.bser_views.specs.declared.tally.Tally.{Tally}
 abbrev pub counts_it : Tally → Event → Place → Tally → Type 0
 counts_it a e p b = b.counts ≡ counted e a.counts
 
-pub folded : (a b : ℕ × Tally) (es : List Event) → TakesAll (Placed counts_it) a es b → b.1.counts ≡ counted_all es a.1.counts
-folded a b es (none c) = refl
-folded a b es (more m n o e rest one others) = subst (λ z. o.1.counts ≡ counted_all rest z) one.took (folded n o rest others)
+pub folded : (at : ℕ) (bytes : List ℕ) (a b : Tally) (es : List Event) → TakesIn counts_it at bytes a es b → b.counts ≡ counted_all es a.counts
+folded at bytes a b es (none n c) = refl
+folded at bytes a b es (more n own rest m k o e others spelled one after) = subst (λ z. o.counts ≡ counted_all others z) one (folded (n + length own) rest k o others after)
 
 -- a message that was told was counted
 pub summed : (limits : Limits) (old new : Option (List ℕ)) (before after : Tally) (h : Header) → before.counts ≡ nothing_counted → TookTold limits counts_it old new before after h → TookSummed limits old new (record { header = h; tally = after })
@@ -26,5 +26,5 @@ summed limits old new before after h e t = record {
   tree = t.tells.tree;
   message = t.tells.message;
   long = t.tells.whole;
-  counts = subst (λ c. after.counts ≡ counted_all (events t.tells.tree) c) e (folded _ _ _ t.tells.told.told);
+  counts = subst (λ c. after.counts ≡ counted_all (events t.tells.tree) c) e (folded _ _ _ _ _ t.tells.told);
 }

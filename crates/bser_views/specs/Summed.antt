@@ -1,9 +1,10 @@
 -- What a message has, by what its bytes spell.
 use Rattle.std.specs.Prelude.{◌≡◌, ℕ, ◌+◌, List, length, Option, Some, None}
-use Rattle.std.specs.Io.KnownBytes.{Consumes, IsAtEnd}
+use Rattle.std.specs.Io.KnownBytes.{Consumes}
 use Rattle.bser_format.specs.Tree.{Tree}
 use Rattle.bser_format.specs.Message.{IsMessage}
 use Rattle.bser_events.specs.Events.{events}
+use Rattle.bser_messages.specs.Streams.{StaysAtEnd}
 use Rattle.bser_messages.specs.declared.limits.Limits.{Limits}
 use Rattle.bser_views.specs.Counting.{counted_all, nothing_counted}
 use Rattle.bser_views.specs.declared.tally.Summed.{Summed}
@@ -20,5 +21,5 @@ pub record TookSummed (limits : Limits) (old new : Option (List ℕ)) (s : Summe
 
 -- the next message was taken and counted, or nothing was left
 abbrev pub IsNextSummed : Limits → Option (List ℕ) → Option (List ℕ) → Option Summed → Type 0
-IsNextSummed limits old new None = IsAtEnd old
+IsNextSummed limits old new None = StaysAtEnd old new
 IsNextSummed limits old new (Some s) = TookSummed limits old new s

@@ -36,6 +36,8 @@ impl Builder for Tally {
 
     ghost takes = { λ a e p b. b.counts ≡ counted e a.counts };
 
+    ghost stopped = { λ _ _ _ _ _. ⊥ };
+
     ghost stops = { false };
 
     ghost asks = { false };

@@ -202,6 +202,8 @@ impl<W: Write> Builder for Tree<'_, '_, W> {
 
     ghost takes = { λ _ _ _ _. Unit {0} };
 
+    ghost stopped = { λ _ _ _ _ _. Unit {0} };
+
     ghost stops = { true };
 
     ghost asks = { true };
@@ -229,6 +231,7 @@ impl<W: Write> Builder for Tree<'_, '_, W> {
 }
 
 /// Prints the kind and the value of a part.
+#[inline(always)]
 fn put_full<W: Write>(out: &mut W, event: Event<'_>, place: Place) -> io::Result<()> {
     match event {
         Event::Int(number) => writeln!(out, "int{} {number}", int_bits(place)),

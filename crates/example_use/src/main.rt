@@ -9,8 +9,10 @@ mod derive;
 mod document;
 mod events;
 mod file;
+mod find;
 mod frames;
 mod lists;
+mod part;
 mod reals;
 mod replies;
 mod request;
@@ -23,6 +25,7 @@ use anyhow::{Result, bail};
 use serde_bser::bytestring::ByteString;
 use serde_bser::describe::Description;
 use serde_bser::device::Watched;
+use serde_bser::document::Document;
 use serde_bser::from_slice;
 use serde_bser::ser::to_vec;
 use serde_bser::value::Value;
@@ -56,11 +59,19 @@ fn print_values(rt: &HostRuntime, bytes: &[u8]) -> Result<()> {
     let (total, largest) = document::sizes(alloc, bytes)?;
     let small = document::small_value(alloc, bytes)?.is_some();
     let short = events::is_short(alloc, bytes);
+    let document: Document = from_slice(alloc, bytes)?;
+    let clock = part::part_message(alloc, &document, "clock")?;
     println!(rt; "-- values\nversion {version}, bytes in files: {sum}")?;
     println!(rt;
         "bytes in files: {total}, in the largest {largest}\na small value: {small}\n\
          at most 100 bytes: {short}"
     )?;
+    if let Some(clock) = clock {
+        println!(rt;
+            "the clock as a message: {}",
+            from_slice::<Value>(alloc, &clock)?
+        )?;
+    }
     Ok(())
 }
 
@@ -103,6 +114,10 @@ fn print_files(rt: &HostRuntime) -> Result<()> {
     match size::size_in(alloc, &shorter)? {
         Some(size) => println!(rt; "size {size}")?,
         None => println!(rt; "no size")?,
+    }
+    match find::first_size(alloc, &shorter) {
+        Some(size) => println!(rt; "found {size}")?,
+        None => println!(rt; "not found")?,
     }
     let File { name, size: _ } = file;
     print_change(rt, &Change::Renamed(name))?;

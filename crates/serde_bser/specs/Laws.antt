@@ -1,5 +1,5 @@
 -- The laws of the format, over the trees of values.
-use Rattle.std.specs.Prelude.{◌≡◌, ◌↔◌, ◌≤◌, ◌<◌, ◌^◌, ◌*◌, ◌-◌, ℕ, suc, List, ◌++◌, length, Some}
+use Rattle.std.specs.Prelude.{◌≡◌, ◌↔◌, ◌≤◌, ◌<◌, ◌^◌, ◌*◌, ◌-◌, ℕ, suc, List, ◌++◌, length, Option, Some, option_map}
 use Rattle.bser_format.specs.Tree.{Tree, Rows, template}
 use Rattle.bser_format.specs.Grammar.{Spells}
 use Rattle.bser_format.specs.Message.{IsMessage}
@@ -11,6 +11,9 @@ use Rattle.bser_format.specs.Canonical.{canonical_body, canonical_message, IsWri
 use Rattle.bser_format.specs.ValueTree.{IsValueTree}
 use Rattle.bser_format.specs.WrittenOut.{written_out, row_objects}
 use Rattle.bser_messages.specs.Sizes.{key_bytes}
+use Rattle.bser_document.specs.declared.item.Item.{Item}
+use Rattle.bser_document.specs.Holds.{HoldsItem, item_value}
+use Rattle.bser_document.specs.Pairs.{FindsItem}
 
 -- the body is at most i64::MAX bytes
 abbrev pub BodyFits : Tree → Type 0
@@ -116,3 +119,13 @@ WrittenOutIsOneTree = (n : ℕ) (ks : List (List ℕ)) (rs : Rows) (b : List ℕ
 -- a template and the array of its rows have one expansion, so every type reads both alike
 abbrev pub WrittenOutReadsAlike : Type 0
 WrittenOutReadsAlike = (ks : List (List ℕ)) (rs : Rows) → expand (row_objects ks rs) ≡ expand (template ks rs)
+
+-- ---- parts of a document
+
+-- an item that holds a value is written as that value
+abbrev pub HeldIsWritten : Type 0
+HeldIsWritten = (i : Item) (u : Tree) → HoldsItem i u → item_value i ≡ u
+
+-- where a value is found, it is what the item is written as, and where none is, there is no item
+abbrev pub FoundIsWritten : Type 0
+FoundIsWritten = (v : Option Tree) (found : Option Item) → FindsItem v found → option_map item_value found ≡ v

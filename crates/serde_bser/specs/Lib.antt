@@ -70,6 +70,7 @@ pub use Rattle.bser_messages.specs.Sizes
 pub use Rattle.bser_messages.specs.MessageSizes
 pub use Rattle.bser_events.specs.Events
 pub use Rattle.bser_events.specs.Places
+pub use Rattle.bser_events.specs.Cut
 pub use Rattle.bser_messages.specs.Told
 pub use Rattle.bser_frames.specs.Headers as FrameHeaders
 pub use Rattle.bser_frames.specs.Stops as FrameStops

@@ -1,9 +1,9 @@
-//! Laws of the format, over the trees of values. Each is a function that does nothing, and its
-//! contract is the law.
+//! Laws of the format, over the trees of values and the parts of documents. Each is a function that
+//! does nothing, and its contract is the law.
 
 ghost use Rattle.bser_format.specs.GrammarLaws.{OneFront};
 ghost use Rattle.serde_bser.specs.CompactLaws.{CompactIsMessage, CompactIsNoDeeper, CompactIsNoLonger, CompactIsTheFront, CompactIsWritable, CompactMeaningStays, CompactReadsAsItself, EqualCompactMessages, FoldedStandsForTheSame, LeastCompact, ShortCompactIsWritable};
-ghost use Rattle.serde_bser.specs.Laws.{BodyBound, CanonicalIsMessage, CanonicalIsTheFront, DepthBound, EqualMessages, LeastLength, MeaningStays, NodesBound, ReadIsValueTree, ShortBodiesFit, SizeBoundsValue, StandsForItself, TwiceIsOnce, ValueIsReturned, ValueReadsAsItself, WrittenIsMessage, WrittenIsTheFront, WrittenOutIsOneTree, WrittenOutIsSpelled, WrittenOutReadsAlike};
+ghost use Rattle.serde_bser.specs.Laws.{BodyBound, CanonicalIsMessage, CanonicalIsTheFront, DepthBound, EqualMessages, FoundIsWritten, HeldIsWritten, LeastLength, MeaningStays, NodesBound, ReadIsValueTree, ShortBodiesFit, SizeBoundsValue, StandsForItself, TwiceIsOnce, ValueIsReturned, ValueReadsAsItself, WrittenIsMessage, WrittenIsTheFront, WrittenOutIsOneTree, WrittenOutIsSpelled, WrittenOutReadsAlike};
 
 /// A byte list begins with at most one message, of one tree and one number of capabilities.
 pub fn one_front()
@@ -110,4 +110,11 @@ pub fn equal_compact_messages()
 pub fn least_compact()
     ensures least { LeastCompact }
     ensures canonical { CompactIsNoLonger }
+{}
+
+/// What is found in a document is written and printed as what it is found as: the value that an item
+/// holds, by whatever call it was found, is the item's own.
+pub fn found_is_written()
+    ensures held { HeldIsWritten }
+    ensures found { FoundIsWritten }
 {}

@@ -24,11 +24,8 @@ fn a_template(rt: HostRuntime) {
     check_written(&rt, whole, &out, expected);
     let mut small = [7u8; 24];
     check_wanted(&rt, bser_of_tape(alloc, &TAPE, TEMPLATE, &mut small), 25);
-    check_wanted(
-        &rt,
-        bser_of_tape(alloc, &TAPE, TEMPLATE, &mut small[..12]),
-        25,
-    );
+    let mut half = [7u8; 12];
+    check_wanted(&rt, bser_of_tape(alloc, &TAPE, TEMPLATE, &mut half), 25);
     check_wanted(&rt, bser_of_tape(alloc, &TAPE, TEMPLATE, &mut []), 25);
 }
 

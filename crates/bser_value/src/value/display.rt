@@ -1,6 +1,9 @@
 //! Printing a `Value`.
 ghost use Rattle.std.specs.Fmt.{DisplaysOnOk};
-ghost use Rattle.bser_value.specs.Displayed.{displayed, items_text, entries_text};
+ghost use Rattle.bser_format.specs.SomeText.{WritesSomeOnOk};
+ghost use Rattle.bser_value.specs.Displayed.{IsValueText, displayed};
+ghost use Rattle.bser_value.specs.TreeText.{IsTextOf};
+ghost use Rattle.bser_value.specs.ValueView.{items_tree, entries_tree};
 
 use crate::value::Value;
 use bser_format::bytes::write_bytes;
@@ -18,14 +21,17 @@ use std::fmt;
 impl fmt::Display for Value {
     ghost output = { displayed };
 
-    fn fmt<W: fmt::Write>(&self, f: &mut fmt::Formatter<W>) -> fmt::Result {
+    fn fmt<W: fmt::Write>(&self, f: &mut fmt::Formatter<W>) -> fmt::Result
+        ensures writes { DisplaysOnOk W.write_str_gives f.old result (displayed self.now) f.new }
+        ensures text { WritesSomeOnOk W.write_str_gives f.old result (IsValueText self.now) f.new }
+    {
         show(self, f)
     }
 }
 
 #[cycle(show)]
 fn show<W: fmt::Write>(value: &Value, f: &mut fmt::Formatter<W>) -> fmt::Result
-    ensures { DisplaysOnOk W.write_str_gives f.old result (displayed value.now) f.new }
+    ensures { WritesSomeOnOk W.write_str_gives f.old result (IsValueText value.now) f.new }
 {
     match value {
         Value::Array(items) => show_items(items, f),
@@ -41,7 +47,8 @@ fn show<W: fmt::Write>(value: &Value, f: &mut fmt::Formatter<W>) -> fmt::Result
 
 #[cycle(show)]
 fn show_items<W: fmt::Write>(items: &Vec<Value>, f: &mut fmt::Formatter<W>) -> fmt::Result
-    ensures { DisplaysOnOk W.write_str_gives f.old result (items_text items.now.items) f.new }
+    ensures { WritesSomeOnOk W.write_str_gives f.old result
+        (IsTextOf (items_tree items.now.items)) f.new }
 {
     f.write_str("[")?;
     let mut before = "";
@@ -58,7 +65,8 @@ fn show_entries<W: fmt::Write>(
     entries: &BTreeMap<String, Value>,
     f: &mut fmt::Formatter<W>,
 ) -> fmt::Result
-    ensures { DisplaysOnOk W.write_str_gives f.old result (entries_text entries.now.entries) f.new }
+    ensures { WritesSomeOnOk W.write_str_gives f.old result
+        (IsTextOf (entries_tree entries.now.entries)) f.new }
 {
     f.write_str("{")?;
     let mut before = "";

@@ -25,6 +25,8 @@ impl Builder for Full {
 
     ghost takes = { λ _ _ _ _. Unit {0} };
 
+    ghost stopped = { λ _ _ _ _ _. Unit {0} };
+
     ghost stops = { true };
 
     ghost asks = { false };

@@ -1,14 +1,14 @@
 -- A container is printed as its parts are.
-use Rattle.std.proofs.Common.{inl, Ok, Some, codes, rules, refl, ◌-◌}
-use Rattle.std.specs.Fmt.{◌++?◌}
+use Rattle.std.proofs.Common.{inl, codes, rules, refl, ◌-◌}
 use Rattle.std.proofs.lemmas.Result.{err_from_is_err_and}
 use Rattle.bser_format.specs.QuotedText.{quoted_key}
+use Rattle.bser_format.specs.SomeText.{Exactly, ◌followed_by◌}
 use Rattle.bser_format.specs.Tree.{array, object, entries_of}
-use Rattle.bser_value.specs.TreeText.{tree_text, entry_text}
-use Rattle.bser_value.proofs.Displays.{shows_then, shows_from}
+use Rattle.bser_value.specs.TreeText.{IsTextOf, IsEntryText}
+use Rattle.bser_value.proofs.Displays.{shows_exactly, shows_then, failed}
 use Rattle.bser_document.proofs.Places.{container_held, shows_there}
 use Rattle.bser_document.proofs.Puts.{plain_shown}
-use Rattle.bser_document.proofs.Shown.{displays, failed, array_shown, object_shown, spelled_shown, sorted_shown, items_begun, item_more, items_shown, spelled_begun, spelled_more, spelled_all, sorted_begun, sorted_more, sorted_all}
+use Rattle.bser_document.proofs.Shown.{array_shown, object_shown, spelled_shown, sorted_shown, items_begun, item_more, items_shown, spelled_begun, spelled_more, spelled_all, sorted_begun, sorted_more, sorted_all}
 use Rattle.bser_document.proofs.display.+show.Goals as goal
 
 pub show_container-returns-in-Some : goal.show_container-returns-in-Some
@@ -38,7 +38,7 @@ show_items-loop-item-preserved g t c =
       search rules,
       λ us h deep.
           item_more took us c.args.room l.item-iterator c.next.new.self c.in-Some.item l.before.now c.args.f.now l.f lead c.show.new.f c.in-Some.ensures.steps (λ p. c.in_ok-write_str-2.ensures.writes p refl)
-          (λ u holds less plain. shows_from took lead c.show.new.f (Ok c.in_ok-show.field-0) (tree_text u) (c.in_ok-show.ensures u (inl holds) less) plain refl) (l.invariant.1 us h deep),
+          (λ u holds less plain. c.in_ok-show.ensures u (inl holds) less plain refl) (l.invariant.1 us h deep),
     )
 
 pub show_items-returns : goal.show_items-returns
@@ -60,7 +60,7 @@ show_spelled-loop-entry-preserved g t c =
       search rules,
       λ m h deep.
           spelled_more took m c.args.room l.entry-iterator c.next.new.self c.in-Some.entry l.before.now c.args.f.now l.f lead c.show_entry.new.f c.in-Some.ensures.steps (λ p. c.in_ok-write_str-2.ensures.writes p refl)
-          (λ u holds less plain. shows_from took lead c.show_entry.new.f (Ok c.in_ok-show_entry.field-0) (entry_text c.in-Some.entry.key.now u) (c.in_ok-show_entry.ensures u holds less) plain refl) (l.invariant.1 m h deep),
+          (λ u holds less plain. c.in_ok-show_entry.ensures u holds less plain refl) (l.invariant.1 m h deep),
     )
 
 pub show_spelled-returns : goal.show_spelled-returns
@@ -82,7 +82,7 @@ show_sorted-loop-key-preserved g t c =
       search rules,
       λ es h deep.
           sorted_more took es c.args.room l.key-iterator c.next.new.self (c.in-Some.key.now, c.in-Some.item.now) l.before.now c.args.f.now l.f lead c.show_entry.new.f c.in-Some.ensures.steps (λ p. c.in_ok-write_str-2.ensures.writes p refl)
-          (λ u holds less plain. shows_from took lead c.show_entry.new.f (Ok c.in_ok-show_entry.field-0) (entry_text c.in-Some.key.now.now u) (c.in_ok-show_entry.ensures u holds less) plain refl) (l.invariant.1 es h deep),
+          (λ u holds less plain. c.in_ok-show_entry.ensures u holds less plain refl) (l.invariant.1 es h deep),
     )
 
 pub show_sorted-returns : goal.show_sorted-returns
@@ -91,14 +91,14 @@ show_sorted-returns g t c es h deep =
     sorted_all g.W.Write.write_str_gives es c.args.room l.key-iterator l.before.now c.args.f.now l.f c.write_str-2.new.self c.write_str-2.result (search rules) (λ p ok. c.write_str-2.ensures.writes p ok) (l.invariant.1 es h deep)
 
 pub show_entry-returns : goal.show_entry-returns
-show_entry-returns g t c u h deep =
+show_entry-returns g t c u h deep = λ plain ok.
     let took = g.W.Write.write_str_gives in
     let name = c.write_key.new.f in
     let colon = c.write_str.new.self in
-    displays took c.args.f.now c.show.new.f c.show.result (entry_text c.args.key.now u) λ plain ok.
-    shows_then took c.args.f.now name c.show.new.f (Some (quoted_key c.args.key.now)) (Some (codes ": ") ++? tree_text u) (c.in_ok-write_key.ensures plain refl) λ p.
-    shows_then took name colon c.show.new.f (Some (codes ": ")) (tree_text u) (c.in_ok-write_str.ensures.writes p refl) λ q.
-    shows_from took colon c.show.new.f c.show.result (tree_text u) (c.show.ensures u (inl h) deep) q ok
+    let key = quoted_key c.args.key.now in
+    shows_then took c.args.f.now name c.show.new.f (Exactly key) (Exactly (codes ": ") followed_by IsTextOf u) (shows_exactly took c.args.f.now name key (c.in_ok-write_key.ensures plain refl)) λ p.
+    shows_then took name colon c.show.new.f (Exactly (codes ": ")) (IsTextOf u) (shows_exactly took name colon (codes ": ") (c.in_ok-write_str.ensures.writes p refl)) λ q.
+    c.show.ensures u (inl h) deep q ok
 
 pub show-returns-in_default : goal.show-returns-in_default
 show-returns-in_default g t c u h deep =
@@ -107,30 +107,30 @@ show-returns-in_default g t c u h deep =
     c.show_plain.ensures u shows plain
 
 pub show_container-returns-in_default-entries : goal.show_container-returns-in_default-entries
-show_container-returns-in_default-entries g t c u h deep = failed g.W.Write.write_str_gives c.args.f.now c.args.f.now (record {}) (tree_text u)
+show_container-returns-in_default-entries g t c u h deep = failed g.W.Write.write_str_gives c.args.f.now c.args.f.now (record {}) (IsTextOf u)
 
 pub show_container-returns-in-Err : goal.show_container-returns-in-Err
-show_container-returns-in-Err g t c u h deep = failed g.W.Write.write_str_gives c.args.f.now c.args.f.now (record {}) (tree_text u)
+show_container-returns-in-Err g t c u h deep = failed g.W.Write.write_str_gives c.args.f.now c.args.f.now (record {}) (IsTextOf u)
 
 pub show_entry-returns-in_err-write_key : goal.show_entry-returns-in_err-write_key
 show_entry-returns-in_err-write_key g t c u h deep =
     let p = err_from_is_err_and c.from_residual.result c.from_residual.ensures.1 in
-    rw p.1 (failed g.W.Write.write_str_gives c.args.f.now c.write_key.new.f _ (entry_text c.args.key.now u))
+    rw p.1 (failed g.W.Write.write_str_gives c.args.f.now c.write_key.new.f _ (IsEntryText c.args.key.now u))
 
 pub show_entry-returns-in_err-write_str : goal.show_entry-returns-in_err-write_str
 show_entry-returns-in_err-write_str g t c u h deep =
     let p = err_from_is_err_and c.from_residual-in_err-write_str.result c.from_residual-in_err-write_str.ensures.1 in
-    rw p.1 (failed g.W.Write.write_str_gives c.args.f.now c.write_str.new.self _ (entry_text c.args.key.now u))
+    rw p.1 (failed g.W.Write.write_str_gives c.args.f.now c.write_str.new.self _ (IsEntryText c.args.key.now u))
 
 pub show_items-returns-in_err-write_str : goal.show_items-returns-in_err-write_str
 show_items-returns-in_err-write_str g t c us h deep =
     let p = err_from_is_err_and c.from_residual.result c.from_residual.ensures.1 in
-    rw p.1 (failed g.W.Write.write_str_gives c.args.f.now c.write_str.new.self _ (tree_text (array us)))
+    rw p.1 (failed g.W.Write.write_str_gives c.args.f.now c.write_str.new.self _ (IsTextOf (array us)))
 
 pub show_spelled-returns-in_err-write_str : goal.show_spelled-returns-in_err-write_str
 show_spelled-returns-in_err-write_str g t c m h deep =
     let p = err_from_is_err_and c.from_residual.result c.from_residual.ensures.1 in
-    rw p.1 (failed g.W.Write.write_str_gives c.args.f.now c.write_str.new.self _ (tree_text (object (entries_of m))))
+    rw p.1 (failed g.W.Write.write_str_gives c.args.f.now c.write_str.new.self _ (IsTextOf (object (entries_of m))))
 
 pub show-returns-in-Array : goal.show-returns-in-Array
 show-returns-in-Array g t c u h deep = c.show_container.ensures u (container_held c.args.item c.node.result u c.in-Array.is c.node.ensures.own h) deep

@@ -7,6 +7,7 @@ use Rattle.bser_events.specs.Events.{key}
 use Rattle.bser_events.specs.Places.{Placed}
 use Rattle.bser_events.proofs.Midways.{midway_begins, midway_found, midway_refused}
 use Rattle.bser_events.proofs.Tables.{KeysLeft, keys_begin, keys_due, keys_end}
+use Rattle.bser_events.proofs.Cuts.{in_any, cut_then}
 use Rattle.bser_events.proofs.parts.read_keys.Goals as goal
 
 pub loop-init : goal.loop-init
@@ -32,3 +33,6 @@ pub returns-clause-ok : goal.returns-clause-ok
 returns-clause-ok g c =
     let last : c.args.count - c.loop.counter ≡ 0 = omega (arith, c.loop-test.false) in
     keys_end (Placed g.B.Builder.takes) c.args.count _ _ _ _ _ last c.loop.invariant.midway
+
+pub returns-in_err-read_key-clause-cut : goal.returns-in_err-read_key-clause-cut
+returns-in_err-read_key-clause-cut g c = in_any _ _ (cut_then g.B.Builder.takes g.B.Builder.stopped _ _ _ _ c.loop.invariant.midway.told c.in_err-read_key.ensures.cut)

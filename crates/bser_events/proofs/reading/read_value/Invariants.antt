@@ -19,8 +19,8 @@ invariant-pieces g l = record {
   octets : AreOctets l.bytes;
   levels : l.frame.levels ≡ l.initial.frame.levels;
   run : (b : Window) → b.buffered ≡ l.bytes → l.begun ≡ reading_at b
-      → Midway (Placed g.B.Builder.takes) (with_text_keys l.fn.levels) (AwaitsNext events l.initial.due l.initial.frame.levels l.initial.frame.parts (reverse (around l.outermost l.frames.items))) l.fn.bunser.window b (reading_at l.fn.bunser.window, l.fn.builder) (reading_at b, l.initial.builder)
-      → Midway (Placed g.B.Builder.takes) (with_text_keys l.fn.levels) (AwaitsNext events l.due l.frame.levels l.frame.parts (reverse (around l.outermost l.frames.items))) l.fn.bunser.window (consumed l.at b) (reading_at l.fn.bunser.window, l.fn.builder) (reading_at (consumed l.at b), l.builder);
+      → Midway (Placed g.B.Builder.takes) (with_text_keys l.fn.levels) (AwaitsNext events l.initial.due l.initial.frame.levels l.initial.frame.parts (reverse (around l.outermost l.frames.items))) l.fn.bunser.window b (l.fn.bunser.window, l.fn.builder) (b, l.initial.builder)
+      → Midway (Placed g.B.Builder.takes) (with_text_keys l.fn.levels) (AwaitsNext events l.due l.frame.levels l.frame.parts (reverse (around l.outermost l.frames.items))) l.fn.bunser.window (consumed l.at b) (l.fn.bunser.window, l.fn.builder) (consumed l.at b, l.builder);
   small : IsSmall l.initial.frame.parts → IsSmall l.frame.parts;
   falls : (p : Remaining) → Falls l.initial.due p l.initial.frame.parts → Falls l.due p l.frame.parts;
 }
@@ -30,7 +30,7 @@ decreases-pieces g l = pieces_left l.due l.frame.parts
 
 abbrev pub invariant-parts : goal.invariant-parts
 invariant-parts g l = record {
-  midway : Midway (Placed g.B.Builder.takes) (with_text_keys l.fn.levels) (Leads events (l.frame ∷ reverse (around l.outermost l.frames.items))) l.fn.bunser.window l.bunser.window (reading_at l.fn.bunser.window, l.fn.builder) (reading_at l.bunser.window, l.builder);
+  midway : Midway (Placed g.B.Builder.takes) (with_text_keys l.fn.levels) (Leads events (l.frame ∷ reverse (around l.outermost l.frames.items))) l.fn.bunser.window l.bunser.window (l.fn.bunser.window, l.fn.builder) (l.bunser.window, l.builder);
   deep : Deep l.fn.levels (l.frame ∷ reverse (around l.outermost l.frames.items));
   room : vec_capacity l.fn.frames ≤ vec_capacity l.frames;
   kept : l.bunser.refusal ≡ l.fn.bunser.refusal;

@@ -2,7 +2,7 @@
 use Rattle.std.proofs.Common.{ap, arith}
 use Rattle.std.proofs.lemmas.Int.{ints}
 use Rattle.bser_deserializer.specs.State.{State}
-use Rattle.bser_messages.proofs.Tellings.{Tells, head_untold, body_untold, end_untold, header_there, message_told}
+use Rattle.bser_messages.proofs.Tellings.{Tells, head_untold, body_untold, end_untold, header_there, message_told, all_told, body_cut}
 use Rattle.bser_messages.proofs.told_message.tell_message.Goals as goal
 
 pub header_of-header-requires : goal.header_of-header-requires
@@ -46,3 +46,19 @@ returns-in-Err-tell_body-clause-header g c =
     let h = c.header_of-header.ensures in
     let tells : Tells c.header_of-header.result c.read_head.new.self.state = record { capabilities = h.capabilities; start = h.start; len = h.len } in
     header_there c.args.limits.levels _ c.read_head.new.self.state c.header_of-header.result c.in-Ok.ensures.ok c.requires.start tells
+
+pub returns-in-Err-end-clause-cut : goal.returns-in-Err-end-clause-cut
+returns-in-Err-end-clause-cut g c =
+    let h = c.header_of-header.ensures in
+    let tells : Tells c.header_of-header.result c.read_head.new.self.state = record { capabilities = h.capabilities; start = h.start; len = h.len } in
+    let begins = c.in-Ok.ensures.ok in
+    body_cut g.B.Builder.takes g.B.Builder.stopped _ _ c.args.limits.levels c.header_of-header.result _ c.read_head.new.self.state begins c.requires.start tells
+    (all_told g.B.Builder.takes g.B.Builder.stopped _ _ c.read_head.new.self.state c.tell_body.new.from.state begins.due c.in-Ok-tell_body.ensures.found.1)
+
+pub returns-in-Err-tell_body-clause-cut : goal.returns-in-Err-tell_body-clause-cut
+returns-in-Err-tell_body-clause-cut g c =
+    let h = c.header_of-header.ensures in
+    let tells : Tells c.header_of-header.result c.read_head.new.self.state = record { capabilities = h.capabilities; start = h.start; len = h.len } in
+    let begins = c.in-Ok.ensures.ok in
+    body_cut g.B.Builder.takes g.B.Builder.stopped _ _ c.args.limits.levels c.header_of-header.result _ c.read_head.new.self.state begins c.requires.start tells
+    (c.in-Err-tell_body.ensures.cut begins.due)

@@ -3,7 +3,7 @@ use super::checks::{check_found, check_text, spelled};
 use serde_bser::value::Value;
 
 /// Values in the notation, and how they are printed.
-static PRINTED: [(&str, &str); 25] = [
+static PRINTED: [(&str, &str); 26] = [
     // a value of each kind
     (
         "{61:[],62:b2fff27,66:f,69:i300,6e:r7ff8000000000001,72:rbff8000000000000,74:s61220a,79:t,7a:n}",
@@ -25,6 +25,7 @@ static PRINTED: [(&str, &str); 25] = [
     ("r8000000000000000", "-0.0"),
     ("r3fb999999999999a", "0.1"),
     ("r4415af1d78b58c40", "1e20"),
+    ("r3ee4f8b588e368f1", "1e-5"),
     ("r3e7ad7f29abcaf48", "1e-7"),
     ("r7ff0000000000000", "{\"$real\": \"7ff0000000000000\"}"),
     ("rfff0000000000000", "{\"$real\": \"fff0000000000000\"}"),
