@@ -147,8 +147,8 @@ IsCut takes stopped left before after given (Some h) (Stopped place) =
     (p : Place) × (place ≡ min p.end given) × CutBehind takes stopped left h before after (Some p)
 IsCut takes stopped left before after given (Some h) (Failed d) = CutBehind takes stopped left h before after None
 
--- the builder took a beginning of the message's events, each once and in order, and then no more, or
--- took no more at the next one
+-- the builder took events that the bytes behind the header spell, each once and in order, and then no
+-- more, or took no more at the next one
 abbrev pub LeavesBuilder : {B : Type 0} → (B → Event → Place → B → Type 0) → (Stop → B → Event → Place → B → Type 0) → Option (List ℕ) → B → B → Untold → Type 0
 LeavesBuilder takes stopped left before after e = IsCut takes stopped left before after e.given e.header e.reason
 

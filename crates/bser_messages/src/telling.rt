@@ -40,8 +40,8 @@ use std::alloc::Global;
 /// first one in the order of reading, as
 /// [`from_slice_limited`](crate::limited_slice::from_slice_limited) answers it for an `Ignored`; or
 /// out of memory, for the containers that are open or by the builder; or that the builder wanted no
-/// more. After an error the builder took a beginning of the message's events, each once and in
-/// order, and then no more, or took no more at the next one.
+/// more. After an error the builder took events that the bytes behind the header spell, each once
+/// and in order, and then no more, or took no more at the next one.
 pub fn from_slice<B: Builder>(
     alloc: Global,
     limits: Limits,
