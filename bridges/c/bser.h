@@ -9,7 +9,8 @@
  *     is initialised. Where the length is 0 the pointer may be null. Words are aligned as uint64_t is.
  *   - What a call writes overlaps nothing that it reads, and no other thread writes either meanwhile.
  *   - malloc, realloc and free are those of one allocator.
- * A call takes at most 48 bytes of memory for each byte that it reads, and bser_compact 128.
+ * A call takes at most 48 bytes of memory for each byte that it reads, or 16,384 for a short message,
+ * and bser_compact 128, or 512,000.
  * bser_canonical, bser_compact and bser_describe call themselves at most 128 levels deep.
  */
 #ifndef KUVTSADA_BSER_H
