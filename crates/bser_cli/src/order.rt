@@ -1,7 +1,7 @@
 //! What the program is asked for.
 
 use crate::lines::Json;
-use crate::pointer::{Form, Get, is_pointer};
+use crate::pointer::{Get, ValueForm, is_pointer};
 use bser_json::printing::Layout;
 use bser_json::reading::Strings;
 use bser_json::texts::Writing;
@@ -88,11 +88,11 @@ fn get_of<'a>(matches: &ArgMatches<'a>) -> Result<Get<'a>, Disorder<'a>> {
         None => None,
     };
     let form = if matches.get_flag("z") {
-        Form::Ended
+        ValueForm::Ended
     } else if matches.get_flag("raw") {
-        Form::Raw
+        ValueForm::Raw
     } else {
-        Form::Json
+        ValueForm::Json
     };
     Ok(Get {
         each,

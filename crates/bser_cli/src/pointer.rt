@@ -15,7 +15,7 @@ use std::io::Write;
 
 /// How a value is printed.
 #[derive(Debug, Clone, Copy, PartialEq, Eq)]
-pub enum Form {
+pub enum ValueForm {
     /// As a JSON text, and a newline.
     Json,
     /// A string as its bytes, and any other value as a JSON text; then a newline.
@@ -35,7 +35,7 @@ pub struct Get<'a> {
     /// The pointer from there.
     pub pointer: &'a str,
     /// How a value is printed.
-    pub form: Form,
+    pub form: ValueForm,
     /// How a JSON text is laid out.
     pub layout: Layout,
 }
@@ -111,11 +111,11 @@ impl Get<'_> {
     /// Prints a value.
     fn put<W: Write>(&self, alloc: Global, item: Item<'_>, out: &mut W) -> Result<(), ViewError> {
         let bytes = match self.form {
-            Form::Json => None,
-            Form::Raw | Form::Ended => item.as_bytes(),
+            ValueForm::Json => None,
+            ValueForm::Raw | ValueForm::Ended => item.as_bytes(),
         };
         match bytes {
-            Some(bytes) if self.form == Form::Ended && bytes.contains(&0) => {
+            Some(bytes) if self.form == ValueForm::Ended && bytes.contains(&0) => {
                 return Err(ViewError::Lacking(Lack::End));
             }
             Some(bytes) => out.write_all(bytes)?,
@@ -130,8 +130,8 @@ impl Get<'_> {
     /// What stands behind a value.
     fn end(&self) -> &'static [u8] {
         match self.form {
-            Form::Json | Form::Raw => b"\n",
-            Form::Ended => b"\0",
+            ValueForm::Json | ValueForm::Raw => b"\n",
+            ValueForm::Ended => b"\0",
         }
     }
 }

@@ -1,6 +1,6 @@
 //! What the words of a command ask for.
 
-use crate::printing::Form;
+use crate::printing::RecordForm;
 use crate::questions::Which;
 use crate::request::Asked;
 use crate::wish::Wish;
@@ -27,13 +27,13 @@ pub(crate) enum Question<'a> {
     /// The last clock.
     Clock,
     /// What changed after this clock.
-    Changes(&'a str, Form),
+    Changes(&'a str, RecordForm),
     /// Which files there are.
-    List(Which<'a>, Form),
+    List(Which<'a>, RecordForm),
     /// What is known of the file with this name.
-    Stat(&'a str, Form),
+    Stat(&'a str, RecordForm),
     /// What is known of the files whose names are on standard input.
-    StatNames(Form),
+    StatNames(RecordForm),
 }
 
 /// What the words of a command ask for. `None` for a name that is no command's.
@@ -90,12 +90,12 @@ fn which_of<'a>(matches: &ArgMatches<'a>) -> Which<'a> {
 }
 
 /// In which form the words ask for files.
-fn form_of(matches: &ArgMatches<'_>) -> Form {
+fn form_of(matches: &ArgMatches<'_>) -> RecordForm {
     if matches.get_flag("json") {
-        Form::Json
+        RecordForm::Json
     } else if matches.get_flag("z") {
-        Form::Names
+        RecordForm::Names
     } else {
-        Form::Lines
+        RecordForm::Lines
     }
 }

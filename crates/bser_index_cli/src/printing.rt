@@ -12,7 +12,7 @@ use watchman_sqlite::record::{Record, Visitor};
 
 /// How files are printed.
 #[derive(Debug, Clone, Copy, PartialEq, Eq)]
-pub(crate) enum Form {
+pub(crate) enum RecordForm {
     /// A line for each, for people.
     Lines,
     /// An object of JSON in a line for each.
@@ -25,14 +25,14 @@ pub(crate) enum Form {
 #[derive(Drop)]
 pub(crate) struct Printer<'w, W: Write> {
     alloc: Global,
-    form: Form,
+    form: RecordForm,
     out: &'w mut W,
     count: u64,
 }
 
 impl<'w, W: Write> Printer<'w, W> {
     /// Nothing is printed yet.
-    pub(crate) fn new(alloc: Global, form: Form, out: &'w mut W) -> Self {
+    pub(crate) fn new(alloc: Global, form: RecordForm, out: &'w mut W) -> Self {
         Printer {
             alloc,
             form,
@@ -50,9 +50,9 @@ impl<'w, W: Write> Printer<'w, W> {
 impl<W: Write> Visitor for Printer<'_, W> {
     fn visit(&mut self, record: Record) -> Result<(), IndexError> {
         match self.form {
-            Form::Lines => print_line(self.out, &record)?,
-            Form::Json => print_object(self.alloc, self.out, &record)?,
-            Form::Names => print_name(self.out, &record)?,
+            RecordForm::Lines => print_line(self.out, &record)?,
+            RecordForm::Json => print_object(self.alloc, self.out, &record)?,
+            RecordForm::Names => print_name(self.out, &record)?,
         }
         self.count = self.count.saturating_add(1);
         Ok(())
@@ -154,15 +154,15 @@ fn write_json<W: Write>(json: Writer, out: &mut W) -> Result<(), IndexError> {
 /// Prints the last clock, and whether the one that was asked for is not known.
 pub(crate) fn print_clock<W: Write>(
     alloc: Global,
-    form: Form,
+    form: RecordForm,
     clock: Option<&ByteString>,
     is_fresh_instance: bool,
     out: &mut W,
 ) -> Result<(), IndexError> {
     match form {
-        Form::Names => Ok(()),
-        Form::Lines => print_clock_line(alloc, clock, is_fresh_instance, out),
-        Form::Json => print_clock_object(alloc, clock, is_fresh_instance, out),
+        RecordForm::Names => Ok(()),
+        RecordForm::Lines => print_clock_line(alloc, clock, is_fresh_instance, out),
+        RecordForm::Json => print_clock_object(alloc, clock, is_fresh_instance, out),
     }
 }
 

@@ -2,7 +2,7 @@
 
 use crate::action::{Action, Question, action_of};
 use crate::command::command;
-use crate::printing::Form;
+use crate::printing::RecordForm;
 use crate::questions::{
     print_changes, print_last_clock, print_list, print_next_request, print_stat,
 };
@@ -146,7 +146,7 @@ fn run_action<R: Read, W: Write, E: Write>(
 
 /// An action that only reads the index.
 #[derive(Drop)]
-struct Reading<'r, R, W, E> {
+struct ReadingAction<'r, R, W, E> {
     rt: &'r HostRuntime,
     path: &'r str,
     action: Action<'r>,
@@ -156,7 +156,7 @@ struct Reading<'r, R, W, E> {
     errors: &'r mut E,
 }
 
-impl<R: Read, W: Write, E: Write> Inquiry for Reading<'_, R, W, E> {
+impl<R: Read, W: Write, E: Write> Inquiry for ReadingAction<'_, R, W, E> {
     fn ask<S: Alter>(&mut self, conn: &mut Connection<S>) -> Result<bool, IndexError> {
         let (rt, path, action, names) = (self.rt, self.path, self.action, self.names);
         let streams = Streams {
@@ -193,7 +193,7 @@ fn act<'r, R: Read, W: Write, E: Write>(
             add(rt, path, may_be_empty, names, streams)
         }
         Action::Verify | Action::Request(_) | Action::Ask(_) => {
-            let mut reading = Reading {
+            let mut inquiry = ReadingAction {
                 rt: &*rt,
                 path: &*path,
                 action,
@@ -202,7 +202,7 @@ fn act<'r, R: Read, W: Write, E: Write>(
                 out: &mut *out,
                 errors: &mut *errors,
             };
-            ask_snapshot(rt, path, &mut reading)
+            ask_snapshot(rt, path, &mut inquiry)
         }
     }
 }
@@ -246,7 +246,7 @@ fn answer<S: Alter, R: Read, W: Write, E: Write>(
         }
         Question::Changes(clock, form) => {
             let is_known = print_changes(rt.alloc(), conn, clock, form, out)?;
-            if !is_known && form == Form::Names {
+            if !is_known && form == RecordForm::Names {
                 let _written = writeln!(errors, "bser_index: {path}: fresh instance");
             }
             Ok(true)
@@ -273,7 +273,7 @@ fn stat_names<S: Alter, W: Write, E: Write>(
     path: &str,
     conn: &mut Connection<S>,
     names: &[u8],
-    form: Form,
+    form: RecordForm,
     out: &mut W,
     errors: &mut E,
 ) -> Result<bool, IndexError> {
@@ -297,7 +297,7 @@ fn stat<S: Alter, W: Write, E: Write>(
     path: &str,
     conn: &mut Connection<S>,
     name: &[u8],
-    form: Form,
+    form: RecordForm,
     out: &mut W,
     errors: &mut E,
 ) -> Result<bool, IndexError> {

@@ -1,13 +1,13 @@
 //! Answers what an index is asked.
 
-use crate::printing::{Form, Printer, print_clock};
+use crate::printing::{Printer, RecordForm, print_clock};
 use crate::request::{Asked, print_request};
 use sqlite::{Alter, Connection, params};
 use std::alloc::Global;
 use std::io::Write;
-use watchman_sqlite::connection::{Stored, number_of, read_stored, visit_all};
+use watchman_sqlite::connection::{Stored, number_of, read_stored, visit_all, visit_changes};
 use watchman_sqlite::error::IndexError;
-use watchman_sqlite::schema::{CHANGED, FILES, NAMED, PRESENT, SUFFIX};
+use watchman_sqlite::schema::{FILES, NAMED, PRESENT, SUFFIX};
 use watchman_sqlite::subject::read_subject;
 
 /// Prints the last clock as it is. False where there is none.
@@ -47,20 +47,14 @@ pub(crate) fn print_changes<S: Alter, W: Write>(
     alloc: Global,
     conn: &mut Connection<S>,
     clock: &str,
-    form: Form,
+    form: RecordForm,
     out: &mut W,
 ) -> Result<bool, IndexError> {
     let Stored { clock: last, .. } = read_stored(conn)?;
     let number = number_of(conn, clock.as_bytes())?;
     print_clock(alloc, form, last.as_ref(), number.is_none(), out)?;
     let mut printer = Printer::new(alloc, form, out);
-    match number {
-        Some(number) => {
-            let after = i64::try_from(number).unwrap_or(i64::MAX);
-            visit_all(conn, CHANGED, params![after], &mut printer)?;
-        }
-        None => visit_all(conn, PRESENT, params![], &mut printer)?,
-    }
+    visit_changes(conn, number, &mut printer)?;
     Ok(number.is_some())
 }
 
@@ -80,7 +74,7 @@ pub(crate) fn print_list<S: Alter, W: Write>(
     alloc: Global,
     conn: &mut Connection<S>,
     which: Which<'_>,
-    form: Form,
+    form: RecordForm,
     out: &mut W,
 ) -> Result<(), IndexError> {
     let mut printer = Printer::new(alloc, form, out);
@@ -100,7 +94,7 @@ pub(crate) fn print_stat<S: Alter, W: Write>(
     alloc: Global,
     conn: &mut Connection<S>,
     name: &[u8],
-    form: Form,
+    form: RecordForm,
     out: &mut W,
 ) -> Result<bool, IndexError> {
     let mut printer = Printer::new(alloc, form, out);

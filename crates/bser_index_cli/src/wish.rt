@@ -4,7 +4,7 @@ use crate::request::expression_of;
 use serde_bser::bytestring::ByteString;
 use std::alloc::Global;
 use watchman_sqlite::error::IndexError;
-use watchman_sqlite::subject::{FIELDS, Field, Subject};
+use watchman_sqlite::subject::{FIELDS, FileField, Subject};
 
 /// What an index is to be of, in the words of the command.
 #[derive(Debug, Clone, Copy)]
@@ -54,15 +54,17 @@ fn without_last_slashes(root: &str) -> &str {
 }
 
 /// The fields of these words, in the order in which an index has them, with those that it needs.
-fn fields_of(alloc: Global, words: &[&str]) -> Result<Vec<Field>, IndexError> {
+fn fields_of(alloc: Global, words: &[&str]) -> Result<Vec<FileField>, IndexError> {
     for word in words {
-        if Field::from_word(*word).is_none() {
+        if FileField::from_word(*word).is_none() {
             return Err(IndexError::NoField(String::from_str(alloc, *word)?));
         }
     }
     let mut fields = Vec::new(alloc);
     for field in FIELDS {
-        if words.is_empty() || field.is_needed() || words.contains(&field.word()) {
+        // without these two a row says nothing
+        let is_needed = matches!(field, FileField::Name | FileField::Exists);
+        if is_needed || words.is_empty() || words.contains(&field.word()) {
             fields.push(field)?;
         }
     }

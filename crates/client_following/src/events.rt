@@ -1,12 +1,19 @@
 //! The events of a client, told apart.
-use serde_bser::de::DeserializeOwned;
+ghost use Rattle.std.specs.Prelude.{◌≡◌, ◌^◌, ◌-◌, IfOk, IfErr};
+ghost use Rattle.client_following.specs.Events.{ReadsEvent, UnreadEvent, UnreadKind};
+ghost use Rattle.watchman_client.specs.Events.{EventsInTurn, EventsToTheEnd};
+ghost use Rattle.watchman_client.specs.Requests.{GivesEvent, NoEvent};
+ghost use Rattle.watchman_client.specs.Views.{StaysWithin};
+ghost use Rattle.watchman_types.specs.Messages.{IsEvent, kind_of_event};
+
+use serde_bser::de::{DeserializeOwned, Shape};
 use serde_bser::device::{Sink, Source};
 use std::marker::PhantomData;
 use watchman_client::client::Client;
 use watchman_client::errors::{ClientError, ends};
 use watchman_types::header::Header;
 use watchman_types::kind::EventKind;
-use watchman_types::message::Event;
+use watchman_types::message::{Event, EventShape};
 
 /// The events of a client, one after the other, with texts that are read as `T` and files as `F`.
 ///
@@ -27,6 +34,8 @@ where
     F: DeserializeOwned,
     S: Source,
     W: Sink,
+    ensures client { result.client.now ≡ client.old }
+    ensures most { result.left ≡ 2 ^ 64 - 1 }
 {
     TypedEvents {
         client,
@@ -43,8 +52,15 @@ where
     W: Sink,
 {
     ghost use Rattle.std.specs.Iterator.{at_most};
+    ghost use Rattle.client_following.specs.Events.{ReadsEvent, UnreadEvent};
+    ghost use Rattle.watchman_client.specs.Requests.{GivesItem};
 
     type Item = Result<Event<T, F>, ClientError>;
+
+    ghost next_gives = { λ s r t. GivesItem S.remaining
+        (ReadsEvent ⟦<Header as Shape>⟧ ⟦<T as EventShape<F>>⟧.events)
+        (UnreadEvent ⟦<Header as Shape>⟧ ⟦<T as EventShape<F>>⟧.events)
+        s.left t.left s.client.now t.client.now r };
 
     ghost remaining = { λ s. at_most s.left };
 
@@ -73,12 +89,22 @@ where
     F: DeserializeOwned,
     S: Source,
     W: Sink,
+    ensures given { IfOk result (GivesEvent S.remaining
+        (ReadsEvent ⟦<Header as Shape>⟧ ⟦<T as EventShape<F>>⟧.events)
+        (UnreadEvent ⟦<Header as Shape>⟧ ⟦<T as EventShape<F>>⟧.events) client.old client.new) }
+    ensures refused { IfErr result (NoEvent S.remaining
+        (ReadsEvent ⟦<Header as Shape>⟧ ⟦<T as EventShape<F>>⟧.events)
+        (UnreadEvent ⟦<Header as Shape>⟧ ⟦<T as EventShape<F>>⟧.events) client.old client.new) }
+    ensures writer { client.new.writer ≡ client.old.writer }
+    ensures within { StaysWithin client.old client.new }
 {
     if !client.next_unsolicited()? {
         return Ok(None);
     }
-    let event = read_event(client)?;
-    Ok(Some(event))
+    match read_event(client) {
+        Ok(event) => Ok(Some(event)),
+        Err(error) => Err(error),
+    }
 }
 
 /// Reads the message that was given last as the event that it is.
@@ -88,14 +114,58 @@ where
     F: DeserializeOwned,
     S: Source,
     W: Sink,
+    ensures found { IfOk result (ReadsEvent ⟦<Header as Shape>⟧ ⟦<T as EventShape<F>>⟧.events
+        client.now.message) }
+    ensures refused { IfErr result (UnreadEvent ⟦<Header as Shape>⟧ ⟦<T as EventShape<F>>⟧.events
+        client.now.message) }
 {
     let header: Header = client.read_owned()?;
-    match header.event_kind() {
-        EventKind::Log => Ok(Event::Log(client.read_owned()?)),
-        EventKind::StateEntered => Ok(Event::StateEntered(client.read_owned()?)),
-        EventKind::StateLeft => Ok(Event::StateLeft(client.read_owned()?)),
-        EventKind::Canceled => Ok(Event::Canceled(client.read_owned()?)),
-        EventKind::Files => Ok(Event::Files(client.read_owned()?)),
+    read_kind(client, header.event_kind())
+}
+
+/// Reads the message that was given last as an event of this kind.
+fn read_kind<T, F, S, W>(client: &Client<S, W>, kind: EventKind) -> Result<Event<T, F>, ClientError>
+where
+    T: DeserializeOwned,
+    F: DeserializeOwned,
+    S: Source,
+    W: Sink,
+    ensures kind { IfOk result (λ event. kind_of_event event ≡ kind) }
+    ensures found { IfOk result (IsEvent ⟦<T as EventShape<F>>⟧.events client.now.message) }
+    ensures refused { IfErr result (UnreadKind ⟦<T as EventShape<F>>⟧.events kind
+        client.now.message) }
+{
+    match kind {
+        EventKind::Log => {
+            let line = client.read_owned()?;
+            Ok(Event::Log(line))
+        }
+        EventKind::StateEntered => {
+            let state = client.read_owned()?;
+            Ok(Event::StateEntered(state))
+        }
+        EventKind::StateLeft => {
+            let state = client.read_owned()?;
+            Ok(Event::StateLeft(state))
+        }
+        EventKind::Canceled => {
+            let canceled = client.read_owned()?;
+            Ok(Event::Canceled(canceled))
+        }
+        EventKind::Files => {
+            let changed = client.read_owned()?;
+            Ok(Event::Files(changed))
+        }
         EventKind::Other => Ok(Event::Other),
     }
 }
+
+/// What [`events_in_turn`](watchman_client::laws::events_in_turn) says, of loops over [`events_of`].
+pub fn typed_events_in_turn<S: Source, W: Sink, T: DeserializeOwned, F: DeserializeOwned>()
+    ensures items { EventsInTurn W S.remaining
+        (ReadsEvent ⟦<Header as Shape>⟧ ⟦<T as EventShape<F>>⟧.events)
+        (UnreadEvent ⟦<Header as Shape>⟧ ⟦<T as EventShape<F>>⟧.events) }
+    ensures all { EventsToTheEnd W S.remaining
+        (ReadsEvent ⟦<Header as Shape>⟧ ⟦<T as EventShape<F>>⟧.events)
+        (UnreadEvent ⟦<Header as Shape>⟧ ⟦<T as EventShape<F>>⟧.events) }
+{}

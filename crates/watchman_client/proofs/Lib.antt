@@ -3,3 +3,4 @@ pub mod Moves
 pub mod Runs
 pub mod Hands
 pub mod Sizes
+pub mod Loops

@@ -5,3 +5,4 @@ pub mod Views
 pub mod Steps
 pub mod Failures
 pub mod Requests
+pub mod Events

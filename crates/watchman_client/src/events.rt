@@ -35,11 +35,11 @@ impl<S: Source, W: Sink> Client<S, W> {
 }
 
 impl<'c, S: Source, W: Sink, T: DeserializeOwned> Iterator for Events<'c, S, W, T> {
-    ghost use Rattle.watchman_client.specs.Requests.{GivesItem};
+    ghost use Rattle.watchman_client.specs.Requests.{GivesItem, ReadsOwned, UnreadOwned};
 
     type Item = Result<T, ClientError>;
 
-    ghost next_gives = { λ s r t. GivesItem S.remaining T.Shape
+    ghost next_gives = { λ s r t. GivesItem S.remaining (ReadsOwned T.Shape) (UnreadOwned T.Shape)
         s.left t.left s.client.now t.client.now r };
 
     ghost remaining = { λ s. at_most s.left };

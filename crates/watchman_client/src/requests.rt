@@ -1,6 +1,6 @@
 //! Requests with their answers, and events, each in one call.
 ghost use Rattle.std.specs.Prelude.{◌≡◌, IfOk, OnOk, IfErr};
-ghost use Rattle.watchman_client.specs.Requests.{Exchanges, GivesEvent, NoEvent, ReadsOwned, Unmet};
+ghost use Rattle.watchman_client.specs.Requests.{Exchanges, GivesEvent, NoEvent, ReadsOwned, Unmet, UnreadOwned};
 ghost use Rattle.watchman_client.specs.Views.{StaysWithin};
 
 use crate::client::Client;
@@ -41,8 +41,10 @@ impl<S: Source, W: Sink> Client<S, W> {
     /// The errors are those of [`next_unsolicited`](Self::next_unsolicited), and then of
     /// [`read_owned`](Self::read_owned): after one of the latter the message was taken.
     pub fn next_event<T: DeserializeOwned>(&mut self) -> Result<Option<T>, ClientError>
-        ensures given { IfOk result (GivesEvent S.remaining T.Shape self.old self.new) }
-        ensures refused { IfErr result (NoEvent S.remaining T.Shape self.old self.new) }
+        ensures given { IfOk result (GivesEvent S.remaining (ReadsOwned T.Shape)
+            (UnreadOwned T.Shape) self.old self.new) }
+        ensures refused { IfErr result (NoEvent S.remaining (ReadsOwned T.Shape)
+            (UnreadOwned T.Shape) self.old self.new) }
         ensures writer { self.new.writer ≡ self.old.writer }
         ensures within { StaysWithin self.old self.new }
     {

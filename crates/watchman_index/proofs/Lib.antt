@@ -4,3 +4,8 @@ pub mod Puts
 pub mod Forgets
 pub mod Instances
 pub mod Samples
+pub mod States
+pub mod Turns
+pub mod Runs
+pub mod Suffixes
+pub mod Refusals

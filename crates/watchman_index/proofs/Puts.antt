@@ -41,7 +41,7 @@ put_begin n l None was = refl
 true-false : true ≡ false → ⊥
 true-false e = absurd (grind (arith, e))
 
-false_from : {P : Type 0} {b : Bool} → Decides b P → (P → ⊥) → b ≡ false
+pub false_from : {P : Type 0} {b : Bool} → Decides b P → (P → ⊥) → b ≡ false
 false_from {b = true} d f = absurd (f (d.0 refl))
 false_from {b = false} d f = refl
 

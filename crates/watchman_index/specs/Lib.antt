@@ -3,5 +3,8 @@ pub mod Lists
 pub mod Listings
 pub mod Origins
 pub mod Rows
+pub mod Suffixes
 pub mod Tables
+pub mod Tells
 pub mod Told
+pub mod Turns

@@ -1,14 +1,13 @@
 //! An index of files.
-ghost use Rattle.std.specs.Prelude.{◌≡◌, ◌≢◌, not, map, Some, None, Err, IfOk, IfErr, OnOk, OnErr};
+ghost use Rattle.std.specs.Prelude.{◌≡◌, ◌≢◌, not, map, None, Err, IfOk, IfErr, OnOk, OnErr};
 ghost use Rattle.std.specs.Option.{is_some};
-ghost use Rattle.std.specs.Ordering.{nat_cmp};
-ghost use Rattle.std.specs.BTreeMap.{IsEmpty, Updates};
+ghost use Rattle.std.specs.BTreeMap.{IsEmpty};
 ghost use Rattle.std.specs.Map.Iter.{deref_pair};
-ghost use Rattle.std.specs.Cmp.Lexicographic.{slice_cmp};
 ghost use Rattle.watchman_index.specs.Listings.{listing_of};
-ghost use Rattle.watchman_index.specs.Origins.{Agrees, Learns};
-ghost use Rattle.watchman_index.specs.Tables.{of_name, since_entries, Applies, AppliesPartly};
+ghost use Rattle.watchman_index.specs.Origins.{Agrees};
+ghost use Rattle.watchman_index.specs.Tables.{of_name, since_entries, AppliesPartly};
 ghost use Rattle.watchman_index.specs.Tables.{Forgets, Puts, PutsPartly};
+ghost use Rattle.watchman_index.specs.Turns.{IsApplied, IsKept};
 
 use crate::changes::Changes;
 use crate::listing::Listing;
@@ -66,16 +65,7 @@ impl Index {
     /// A message of another root or subscription is refused, and nothing is changed. Where there is
     /// no memory, each file is as before or as after the message, which may be applied again.
     pub fn apply(&mut self, number: u64, changes: Changes) -> Result<(), Refusal>
-        ensures files { OnOk result (Applies number
-            (listing_of changes.is_fresh_instance self.old.last_clock changes.clock)
-            changes.files self.old.files self.new.files) }
-        ensures clocks { OnOk result (Updates (slice_cmp nat_cmp) self.old.clocks self.new.clocks
-            changes.clock (Some number)) }
-        ensures last { OnOk result (self.new.last_clock ≡ Some changes.clock) }
-        ensures origin { OnOk result (Learns self.old.origin changes.root changes.subscription
-            self.new.origin) }
-        ensures agrees { OnOk result (Agrees self.old.origin.root changes.root
-            × Agrees self.old.origin.subscription changes.subscription) }
+        ensures applied { OnOk result (IsApplied number changes self.old self.new) }
         ensures root { result ≡ Err Refusal.OtherRoot
             → ¬ Agrees self.old.origin.root changes.root }
         ensures subscription { result ≡ Err Refusal.OtherSubscription
@@ -110,8 +100,7 @@ impl Index {
     /// Keeps a clock that was told behind the message of this number, and before the next. The
     /// error is that there is no memory for it, and then nothing is changed.
     pub fn apply_clock(&mut self, number: u64, clock: ByteString) -> Result<(), AllocError>
-        ensures clocks { OnOk result (Updates (slice_cmp nat_cmp) self.old.clocks self.new.clocks
-            clock (Some number)) }
+        ensures kept { OnOk result (IsKept number clock self.old self.new) }
         ensures files { self.new.files ≡ self.old.files }
         ensures origin { self.new.origin ≡ self.old.origin }
         ensures last { self.new.last_clock ≡ self.old.last_clock }

@@ -2,12 +2,13 @@
 //!
 //! [`read_told`](told::read_told) reads what a message tells, [`Index::apply`](index::Index::apply)
 //! applies it, and [`Index::changes_since`](index::Index::changes_since) answers what changed after
-//! a clock.
+//! a clock. [`told_in_turn`](laws::told_in_turn) is what these do together.
 #![tactic(auto)]
 
 pub mod changes;
 pub mod clock;
 pub mod index;
+pub mod laws;
 pub mod listed;
 pub mod listing;
 pub mod origin;

@@ -1,8 +1,20 @@
 //! What a message tells that an index can use.
+ghost use Rattle.std.specs.Prelude.{◌≡◌, List, ℕ, Some, IfOk, IfErr, IfSome, IfNone};
+ghost use Rattle.watchman_index.specs.Tells.{
+  IsNone,
+  IsNoSubscribed,
+  IsSubscribed,
+  Tells,
+  Types,
+  Untold,
+};
+ghost use Rattle.watchman_index.specs.Tells.{IsUnreadOrFull, TellsChanged, TellsClock, TellsQuery};
+ghost use Rattle.watchman_types.specs.Messages.{IsReadAs};
 
 use crate::changes::Changes;
 use crate::listed::Listed;
 use serde_bser::bytestring::ByteString;
+use serde_bser::de::{self, Deserialize, Shape};
 use serde_bser::describe::{Description, from_slice};
 use serde_bser::errors::Error;
 use std::alloc::{AllocError, Global};
@@ -39,12 +51,20 @@ pub enum Unread {
 }
 
 impl From<Description> for Unread {
+    ghost use Rattle.watchman_index.specs.declared.told.Unread.TheVariants as unread;
+
+    ghost from_gives = { λ d e. e ≡ unread.Message d };
+
     fn from(error: Description) -> Self {
         Unread::Message(error)
     }
 }
 
 impl From<AllocError> for Unread {
+    ghost use Rattle.watchman_index.specs.declared.told.Unread.TheVariants as unread;
+
+    ghost from_gives = { λ _ e. e ≡ unread.OutOfMemory };
+
     fn from(_: AllocError) -> Self {
         Unread::OutOfMemory
     }
@@ -59,11 +79,34 @@ impl fmt::Display for Unread {
     }
 }
 
+/// What the messages that are told are read as.
+pub trait ToldTypes {
+    // what each message is read as
+    ghost types: { Types };
+}
+
+impl ToldTypes for Told {
+    ghost types = { record {
+      header = ⟦<Header as Shape>⟧;
+      query = ⟦<QueryResult<ByteString, Listed> as Shape>⟧;
+      changed = ⟦<FilesChanged<ByteString, Listed> as Shape>⟧;
+      error = ⟦<ErrorReply<ByteString> as Shape>⟧;
+      subscribed = ⟦<Subscribed<ByteString> as Shape>⟧;
+      clock = ⟦<Clock<ByteString> as Shape>⟧;
+    } };
+}
+
 /// Reads what the message at the start of `bytes` tells, of at most 128 levels.
+///
+/// An answer that has `files` and a message of a subscription tell these; an error of the server
+/// its text; and all else a clock, where it has one.
 ///
 /// Fails as [`from_slice`] does of a [`Header`]; where the message has `files`, as it does of a
 /// [`QueryResult`] or [`FilesChanged`] of [`Listed`] files; and where there is no memory.
-pub fn read_told(alloc: Global, bytes: &[u8]) -> Result<Told, Unread> {
+pub fn read_told(alloc: Global, bytes: &[u8]) -> Result<Told, Unread>
+    ensures told { IfOk result (Tells ⟦<Told as ToldTypes>⟧.types bytes.now) }
+    ensures refused { IfErr result (Untold ⟦<Told as ToldTypes>⟧.types bytes.now) }
+{
     let header: Header = from_slice(alloc, bytes)?;
     match header.kind() {
         Kind::Answer if header.files.is_some() => query_told(alloc, bytes),
@@ -77,33 +120,66 @@ pub fn read_told(alloc: Global, bytes: &[u8]) -> Result<Told, Unread> {
 }
 
 /// What the answer to a query tells.
-fn query_told(alloc: Global, bytes: &[u8]) -> Result<Told, Unread> {
+fn query_told(alloc: Global, bytes: &[u8]) -> Result<Told, Unread>
+    ensures told { IfOk result (TellsQuery ⟦<Told as ToldTypes>⟧.types bytes.now) }
+    ensures refused { IfErr result (IsUnreadOrFull
+        ⟦<QueryResult<ByteString, Listed> as Shape>⟧ bytes.now) }
+{
     let answer: QueryResult<ByteString, Listed> = from_slice(alloc, bytes)?;
-    Ok(Told::Files(Changes::of_query(alloc, answer)?))
+    let changes = Changes::of_query(alloc, answer)?;
+    Ok(Told::Files(changes))
 }
 
 /// What a message of a subscription tells.
-fn subscription_told(alloc: Global, bytes: &[u8]) -> Result<Told, Unread> {
+fn subscription_told(alloc: Global, bytes: &[u8]) -> Result<Told, Unread>
+    ensures told { IfOk result (TellsChanged ⟦<Told as ToldTypes>⟧.types bytes.now) }
+    ensures refused { IfErr result (IsUnreadOrFull
+        ⟦<FilesChanged<ByteString, Listed> as Shape>⟧ bytes.now) }
+{
     let changed: FilesChanged<ByteString, Listed> = from_slice(alloc, bytes)?;
-    Ok(Told::Files(Changes::of_subscription(alloc, changed)?))
+    let changes = Changes::of_subscription(alloc, changed)?;
+    Ok(Told::Files(changes))
 }
 
 /// The clock of a message without files, if it has one.
-fn clock_told(alloc: Global, bytes: &[u8]) -> Result<Told, Unread> {
-    if let Some(clock) = subscribed_clock(alloc, bytes) {
-        return Ok(Told::Subscribed(clock));
-    }
-    match from_slice::<Clock<ByteString>>(alloc, bytes) {
-        Ok(told) => Ok(Told::Clock(told.clock)),
-        Err(error) => match error.cause() {
-            Error::OutOfMemory => Err(Unread::OutOfMemory),
-            _ => Ok(Told::Nothing),
+fn clock_told(alloc: Global, bytes: &[u8]) -> Result<Told, Unread>
+    ensures told { IfOk result (TellsClock ⟦<Told as ToldTypes>⟧.types bytes.now) }
+    ensures memory { IfErr result (λ e. e ≡ Unread.OutOfMemory) }
+{
+    match subscribed_clock(alloc, bytes)? {
+        Some(clock) => Ok(Told::Subscribed(clock)),
+        None => match read_if::<Clock<ByteString>>(alloc, bytes)? {
+            Some(told) => Ok(Told::Clock(told.clock)),
+            None => Ok(Told::Nothing),
         },
     }
 }
 
 /// The clock of the answer to `subscribe`. `None` for another message, and one without a clock.
-fn subscribed_clock(alloc: Global, bytes: &[u8]) -> Option<ByteString> {
-    let answer: Subscribed<ByteString> = from_slice(alloc, bytes).ok()?;
-    answer.clock
+fn subscribed_clock(alloc: Global, bytes: &[u8]) -> Result<Option<ByteString>, AllocError>
+    ensures found { IfOk result (λ o. IfSome o (λ clock.
+        IsSubscribed ⟦<Told as ToldTypes>⟧.types bytes.now (Some clock))) }
+    ensures none { IfOk result (λ o. IfNone o
+        (IsNoSubscribed ⟦<Told as ToldTypes>⟧.types bytes.now)) }
+{
+    match read_if::<Subscribed<ByteString>>(alloc, bytes)? {
+        Some(answer) => Ok(answer.clock),
+        None => Ok(None),
+    }
+}
+
+/// Reads the message at the start of `bytes` as the type. `None` for another message. The error is
+/// that there is no memory for it.
+fn read_if<'de, T: Deserialize<&'de [u8]>>(
+    alloc: Global,
+    bytes: &'de [u8],
+) -> Result<Option<T>, AllocError>
+    ensures found { IfOk result (λ o. IfSome o (IsReadAs T.Shape bytes.now)) }
+    ensures none { IfOk result (λ o. IfNone o (IsNone T.Shape bytes.now)) }
+{
+    match de::from_slice::<T>(alloc, bytes) {
+        Ok(value) => Ok(Some(value)),
+        Err(Error::OutOfMemory) => Err(AllocError),
+        Err(_other) => Ok(None),
+    }
 }

@@ -1,7 +1,7 @@
 //! What a message has to be for an index that was made by `init`.
 
 use crate::error::IndexError;
-use crate::subject::{Field, Subject};
+use crate::subject::{FileField, Subject};
 use serde_bser::bytestring::ByteString;
 use watchman_index::changes::Changes;
 use watchman_index::clock::{are_of_one_instance, instance_of_clock};
@@ -45,7 +45,7 @@ impl Conditions {
 }
 
 /// Fails where a row lacks one of the fields.
-fn check_fields(changes: &Changes, fields: &[Field]) -> Result<(), IndexError> {
+fn check_fields(changes: &Changes, fields: &[FileField]) -> Result<(), IndexError> {
     for (name, state) in &changes.files {
         for field in fields {
             if !has_field(*state, *field) {
@@ -57,13 +57,13 @@ fn check_fields(changes: &Changes, fields: &[Field]) -> Result<(), IndexError> {
 }
 
 /// Whether a row has the field. It has a name and tells whether the file exists, or it is not read.
-fn has_field(state: FileState, field: Field) -> bool {
+fn has_field(state: FileState, field: FileField) -> bool {
     match field {
-        Field::Name | Field::Exists => true,
-        Field::Size => state.size.is_some(),
-        Field::Mode => state.mode.is_some(),
-        Field::Type => state.kind.is_some(),
-        Field::ModificationTime => state.mtime_ms.is_some(),
+        FileField::Name | FileField::Exists => true,
+        FileField::Size => state.size.is_some(),
+        FileField::Mode => state.mode.is_some(),
+        FileField::Type => state.kind.is_some(),
+        FileField::ModificationTime => state.mtime_ms.is_some(),
     }
 }
 

@@ -2,7 +2,7 @@
 
 use crate::error::IndexError;
 use crate::record::{Record, Visitor};
-use crate::schema::{CREATE, KEEP_LAYOUT, LAYOUT, OLD_TABLES, TABLES};
+use crate::schema::{CHANGED, CREATE, KEEP_LAYOUT, LAYOUT, OLD_TABLES, PRESENT, TABLES};
 use crate::subject::{CREATE_SUBJECT, Subject, write_subject};
 use serde_bser::bytestring::ByteString;
 use sqlite::types::ValueRef;
@@ -147,4 +147,20 @@ pub fn visit_all<S: Alter, V: Visitor>(
         }
     }
     Ok(())
+}
+
+/// Hands each record of a file that changed behind the message of this number to the visitor, and
+/// without a number each of a file that exists.
+pub fn visit_changes<S: Alter, V: Visitor>(
+    conn: &mut Connection<S>,
+    number: Option<u64>,
+    visitor: &mut V,
+) -> Result<(), IndexError> {
+    match number {
+        Some(number) => {
+            let after = i64::try_from(number).unwrap_or(i64::MAX);
+            visit_all(conn, CHANGED, params![after], visitor)
+        }
+        None => visit_all(conn, PRESENT, params![], visitor),
+    }
 }

@@ -147,7 +147,7 @@ fn take_reader<R: Read + Drop, T: Taker, E: Write>(
 ) {
     match BufReader::with_capacity(alloc, BUFFERED, reader) {
         Ok(buffered) => {
-            let mut input = Input {
+            let mut input = MessageInput {
                 may_wait,
                 frames: Frames::new(alloc, Watched::new(buffered)),
             };
@@ -159,13 +159,13 @@ fn take_reader<R: Read + Drop, T: Taker, E: Write>(
 
 /// A reader of messages.
 #[derive(Drop)]
-struct Input<R: Drop> {
+struct MessageInput<R: Drop> {
     // whether it is no file, whose bytes are there
     may_wait: bool,
     frames: Frames<Watched<BufReader<R>>>,
 }
 
-impl<R: Read + Drop> Input<R> {
+impl<R: Read + Drop> MessageInput<R> {
     /// Whether the next message may have to be waited for.
     fn is_at_rest(&self) -> bool {
         self.may_wait && self.frames.get_ref().get_ref().buffer().is_empty()
@@ -181,7 +181,7 @@ impl<R: Read + Drop> Input<R> {
 fn take_stream<R: Read + Drop, T: Taker, E: Write>(
     alloc: Global,
     name: &str,
-    input: &mut Input<R>,
+    input: &mut MessageInput<R>,
     taker: &mut T,
     totals: &mut Totals,
     errors: &mut E,
@@ -252,7 +252,7 @@ enum Next {
 /// Hands the next message to the taker.
 fn take_next<R: Read + Drop, T: Taker>(
     alloc: Global,
-    input: &mut Input<R>,
+    input: &mut MessageInput<R>,
     taker: &mut T,
     totals: &mut Totals,
 ) -> Result<Next, IndexError> {

@@ -92,7 +92,9 @@ fn read_files(
     let db = copy_of(rt, fs::read(rt, path))?;
     let log = copy_of(rt, unless_missing(rt, fs::read(rt, log_path)))?;
     let after = read_head(rt, log_path)?;
-    let is_whole = before == after && before.as_slice() == head_of(log.bytes());
+    let copied = log.bytes();
+    let head = &copied[..copied.len().min(LOG_HEAD)];
+    let is_whole = before == after && before.as_slice() == head;
     Ok(if is_whole {
         Some(Files { log, db })
     } else {
@@ -112,11 +114,6 @@ fn read_head(rt: &HostRuntime, log_path: &str) -> Result<Vec<u8>, IndexError> {
         Ok(_count) => Ok(head),
         Err(fault) => Err(unread(fault)),
     }
-}
-
-/// The first of these bytes of a log.
-fn head_of(bytes: &[u8]) -> &[u8] {
-    &bytes[..bytes.len().min(LOG_HEAD)]
 }
 
 /// What was read of a file, and nothing of one that is not there.

@@ -8,7 +8,7 @@ use std::alloc::{AllocError, Global};
 
 /// A field of a file that an index keeps.
 #[derive(Debug, Clone, Copy, PartialEq, Eq)]
-pub enum Field {
+pub enum FileField {
     /// The path, from the root or the relative root on.
     Name,
     /// Whether the file exists.
@@ -24,36 +24,31 @@ pub enum Field {
 }
 
 /// All fields that an index keeps.
-pub const FIELDS: [Field; 6] = [
-    Field::Name,
-    Field::Exists,
-    Field::Size,
-    Field::Mode,
-    Field::Type,
-    Field::ModificationTime,
+pub const FIELDS: [FileField; 6] = [
+    FileField::Name,
+    FileField::Exists,
+    FileField::Size,
+    FileField::Mode,
+    FileField::Type,
+    FileField::ModificationTime,
 ];
 
-impl Field {
+impl FileField {
     /// Watchman's word for it.
     pub fn word(self) -> &'static str {
         match self {
-            Field::Name => "name",
-            Field::Exists => "exists",
-            Field::Size => "size",
-            Field::Mode => "mode",
-            Field::Type => "type",
-            Field::ModificationTime => "mtime_ms",
+            FileField::Name => "name",
+            FileField::Exists => "exists",
+            FileField::Size => "size",
+            FileField::Mode => "mode",
+            FileField::Type => "type",
+            FileField::ModificationTime => "mtime_ms",
         }
     }
 
     /// The field of this word. `None` for one that an index does not keep.
-    pub fn from_word(word: &str) -> Option<Field> {
+    pub fn from_word(word: &str) -> Option<FileField> {
         FIELDS.iter().copied().find(|field| field.word() == word)
-    }
-
-    /// Whether each request asks for it, since without it a row says nothing.
-    pub fn is_needed(self) -> bool {
-        matches!(self, Field::Name | Field::Exists)
     }
 }
 
@@ -67,7 +62,7 @@ pub struct Subject {
     /// Which files are asked for, as a JSON text in one line. All, without it.
     pub expression: Option<String>,
     /// The fields that are asked for, `name` and `exists` among them.
-    pub fields: Vec<Field>,
+    pub fields: Vec<FileField>,
 }
 
 /// The table of what an index is of. It has one row where the index was made by `init`, and else
@@ -119,10 +114,10 @@ pub fn write_subject<S: Alter>(
 }
 
 /// The fields of words that are parted by commas.
-fn fields_of(alloc: Global, words: &str) -> Result<Vec<Field>, IndexError> {
+fn fields_of(alloc: Global, words: &str) -> Result<Vec<FileField>, IndexError> {
     let mut fields = Vec::new(alloc);
     for word in words.split(',') {
-        match Field::from_word(word) {
+        match FileField::from_word(word) {
             Some(field) => fields.push(field)?,
             None => return Err(IndexError::NoIndex),
         }
@@ -131,7 +126,7 @@ fn fields_of(alloc: Global, words: &str) -> Result<Vec<Field>, IndexError> {
 }
 
 /// The words of the fields, parted by commas.
-fn words_of(alloc: Global, fields: &[Field]) -> Result<String, AllocError> {
+fn words_of(alloc: Global, fields: &[FileField]) -> Result<String, AllocError> {
     let mut words = String::new(alloc);
     for field in fields {
         if !words.is_empty() {

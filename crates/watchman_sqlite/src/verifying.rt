@@ -2,10 +2,10 @@
 
 use crate::adding::lower_suffix;
 use crate::conditions::Conditions;
-use crate::connection::{Stored, read_stored};
+use crate::connection::{Stored, number_of, read_stored, visit_changes};
 use crate::error::IndexError;
 use crate::messages::Taker;
-use crate::record::Record;
+use crate::record::{Record, Visitor};
 use crate::schema::{CLOCKS, WHOLE};
 use crate::subject::{Subject, read_subject};
 use serde_bser::bytestring::ByteString;
@@ -14,6 +14,10 @@ use std::alloc::Global;
 use std::io::Write;
 use watchman_index::changes::Changes;
 use watchman_index::index::Index;
+use watchman_index::row::Row as FileRow;
+
+/// Of about how many clocks it is compared what changed since.
+const CLOCKS_COMPARED: usize = 16;
 
 /// Folds messages in memory.
 #[derive(Drop)]
@@ -138,14 +142,6 @@ impl<W: Write> Comparer<'_, W> {
         }
     }
 
-    /// Prints how many messages were folded and how many differences there are, and tells whether
-    /// there is none.
-    fn end(&mut self, messages: u64) -> Result<bool, IndexError> {
-        let differences = self.differences;
-        writeln!(self.out, "messages {messages}, differences {differences}")?;
-        Ok(differences == 0)
-    }
-
     /// Prints what was folded and was not compared.
     fn tell_rest(&mut self) -> Result<(), IndexError> {
         for (clock, _number) in &self.index.clocks {
@@ -158,6 +154,67 @@ impl<W: Write> Comparer<'_, W> {
         }
         Ok(())
     }
+}
+
+/// Compares the files that changed since a clock, one after the other, with those that were folded.
+#[derive(Drop)]
+struct ChangesComparer<'a> {
+    folded: &'a [(&'a ByteString, &'a FileRow)],
+    // how many came
+    compared: usize,
+    is_alike: bool,
+}
+
+impl Visitor for ChangesComparer<'_> {
+    fn visit(&mut self, record: Record) -> Result<(), IndexError> {
+        let is_next = match self.folded.get(self.compared) {
+            Some((name, row)) => **name == record.name && **row == record.row,
+            None => false,
+        };
+        self.is_alike = self.is_alike && is_next;
+        self.compared = self.compared.saturating_add(1);
+        Ok(())
+    }
+}
+
+/// Whether the answer what changed since a clock is that of the messages that were folded.
+fn is_told_alike<S: Alter>(
+    alloc: Global,
+    conn: &mut Connection<S>,
+    index: &Index,
+    clock: &ByteString,
+) -> Result<bool, IndexError> {
+    let since = index.changes_since(alloc, clock)?;
+    let number = number_of(conn, clock.as_bytes())?;
+    let mut comparer = ChangesComparer {
+        folded: since.files.as_slice(),
+        compared: 0,
+        is_alike: number.is_none() == since.is_fresh_instance,
+    };
+    visit_changes(conn, number, &mut comparer)?;
+    Ok(comparer.is_alike && comparer.compared == comparer.folded.len())
+}
+
+/// The first of some clocks since which the answer is not that of the messages that were folded. One
+/// that is not known is among them.
+fn first_told_otherwise<S: Alter>(
+    alloc: Global,
+    conn: &mut Connection<S>,
+    index: &Index,
+) -> Result<Option<ByteString>, IndexError> {
+    let unknown = ByteString::from_vec(Vec::new(alloc));
+    if !is_told_alike(alloc, conn, index, &unknown)? {
+        return Ok(Some(unknown));
+    }
+    let step = index.clocks.len() / CLOCKS_COMPARED + 1;
+    let mut passed = 0usize;
+    for (clock, _number) in &index.clocks {
+        if passed % step == 0 && !is_told_alike(alloc, conn, index, clock)? {
+            return Ok(Some(clock.clone()?));
+        }
+        passed = passed.saturating_add(1);
+    }
+    Ok(None)
 }
 
 /// Compares the number of messages, what they are of, and the last clock. How many differ.
@@ -206,7 +263,8 @@ fn differs<W: Write>(
 }
 
 /// Compares the index with the messages that were folded, prints each difference and how many there
-/// are, and tells whether there is none.
+/// are, and tells whether there is none. Where the tables are alike, the answers what changed since
+/// some clocks are compared with [`Index::changes_since`].
 pub fn print_differences<S: Alter, W: Write>(
     alloc: Global,
     conn: &mut Connection<S>,
@@ -215,6 +273,7 @@ pub fn print_differences<S: Alter, W: Write>(
 ) -> Result<bool, IndexError> {
     let messages = folded.messages;
     let differences = differing_source(&read_stored(conn)?, &folded, out)?;
+    let other = first_told_otherwise(alloc, conn, &folded.index)?;
     let mut comparer = Comparer {
         alloc,
         index: folded.index,
@@ -224,5 +283,13 @@ pub fn print_differences<S: Alter, W: Write>(
     comparer.compare_clocks(conn)?;
     comparer.compare_files(conn)?;
     comparer.tell_rest()?;
-    comparer.end(messages)
+    if let (0, Some(clock)) = (comparer.differences, &other) {
+        comparer.tell("other changes since clock", clock)?;
+    }
+    let differences = comparer.differences;
+    writeln!(
+        comparer.out,
+        "messages {messages}, differences {differences}"
+    )?;
+    Ok(differences == 0)
 }
