@@ -23,7 +23,7 @@ pub mod Depth
 mod Rising
 mod Alike
 mod PutPairs
-mod Orders
+pub mod Orders
 mod RowsPut
 mod Shown
 mod Messages

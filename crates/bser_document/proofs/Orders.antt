@@ -1,6 +1,7 @@
 -- The keys of a template in rising order, and the fields of a row by their places.
-use Rattle.std.proofs.Common.{◌≡◌, ◌≤◌, ◌<◌, ◌+◌, ℕ, zero, suc, List, [], ◌∷◌, ◌++◌, length, map, drop, get_or, fold, Option, Some, None, refl, sym, ap, subst, ◌∙◌, arith, append_assoc, append-nil, Ordering, Less, Equal, Greater, nat_cmp, Bor}
+use Rattle.std.proofs.Common.{◌≡◌, ◌≤◌, ◌<◌, ◌+◌, ℕ, zero, suc, List, [], ◌∷◌, ◌++◌, length, map, drop, get_or, fold, Option, Some, None, add-one, refl, sym, ap, subst, ◌∙◌, arith, append_assoc, append-nil, Ordering, Less, Equal, Greater, nat_cmp, Bor}
 use Rattle.std.proofs.lemmas.List.{drop_all}
+use Rattle.std.proofs.Math.Seq.{drop-cons}
 use Rattle.std.proofs.lemmas.Option.{same_Some}
 use Rattle.std.specs.Map.{keys_of}
 use Rattle.std.specs.Ordering.{match_ordering}
@@ -189,3 +190,14 @@ no_field_is d [] places n past h = refl
 no_field_is d (p ∷ m) [] n past h = absurd h
 no_field_is d (p ∷ m) (y ∷ places) zero past h = absurd (omega (arith, past))
 no_field_is d (p ∷ m) (y ∷ places) (suc n) past h = no_field_is d m places n (omega (arith, past)) h.1
+
+-- the key and the place that a loop over them comes to
+abbrev pub entry_at : List (Bor (List ℕ) × ℕ) → ℕ → Bor (List ℕ) × ℕ
+entry_at order i = get_or order i (record { ref_ptr = (0, 0); now = [] }, 0)
+
+pub entry_here : (order : List (Bor (List ℕ) × ℕ)) (i : ℕ) → i < length order → drop i order ≡ entry_at order i ∷ drop (i + 1) order
+entry_here order i h = rw add-one (drop-cons order i (record { ref_ptr = (0, 0); now = [] }, 0) h)
+
+-- the keys of a row are in order where those of its template are
+pub row_added : {P : Type 0} (r : Row) (ks : List (List ℕ)) (m : List Pair) (order : List (Bor (List ℕ) × ℕ)) → HoldsRow r ks m → shown order ≡ last_places ks → (shown order ≡ last_places (keys_of m) → P) → P
+row_added r ks m order row is then' = then' (is ∙ ap last_places (sym (keys_of_row r ks m row)))

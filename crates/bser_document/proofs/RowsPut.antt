@@ -1,6 +1,5 @@
 -- Putting the rows of a template.
-use Rattle.std.proofs.Common.{◌≡◌, ℕ, suc, ◌+◌, ◌-◌, ◌<◌, ◌≤◌, ◌^◌, List, [], ◌∷◌, length, drop, get_or, add-one, Some, None, Result, Ok, refl, sym, ap, subst, ◌∙◌, arith, Bor}
-use Rattle.std.proofs.Math.Seq.{drop-cons}
+use Rattle.std.proofs.Common.{◌≡◌, ℕ, suc, ◌+◌, ◌-◌, ◌<◌, ◌≤◌, ◌^◌, List, [], ◌∷◌, length, Some, None, Result, Ok, refl, sym, ap, subst, ◌∙◌, arith, Bor}
 use Rattle.std.specs.Map.{keys_of}
 use Rattle.bser_format.specs.Tree.{Tree, array, items}
 use Rattle.bser_format.specs.Canonical.{canonical_key, IsCount, IsWritable}
@@ -21,7 +20,7 @@ use Rattle.bser_document.specs.declared.rows.Row.{Row}
 use Rattle.bser_document.specs.Order.{shown, last_places, value_at}
 use Rattle.bser_document.specs.Put.{AddsItem}
 use Rattle.bser_document.specs.Rows.{Pair, HoldsRow, HoldsRows, FindsRows, GivesRow, row_object, row_objects}
-use Rattle.bser_document.proofs.Orders.{with_values, row_in_order, keys_of_row}
+use Rattle.bser_document.proofs.Orders.{with_values, row_in_order}
 use Rattle.bser_document.proofs.Puts.{whole, array_whole}
 use Rattle.bser_document.proofs.PutPairs.{PuttingPairs, pairs_begun, pair_more, pair_stops, pair_key_stops, pairs_all}
 
@@ -123,14 +122,3 @@ module _ {S : Type 0} (sink : Tells S) (both : Joins sink) (m : List Pair) (room
 module _ {S : Type 0} (sink : Tells S) (m : List Pair) (room : ℕ) where
   pub fields_all : (rest : List (Bor (List ℕ) × ℕ)) (a b : Serializer S) → rest ≡ [] → length (last_entries m) < 2 ^ 63 → PuttingFields sink m room rest a b → Ends sink (text_of (Ok (row_object m))) a b × IsWritable (row_object m)
   fields_all rest a b none few h = pairs_all sink (last_entries m) room a b few (subst (λ l. PuttingFields sink m room l a b) none h)
-
--- the key and the place that a loop over them comes to
-abbrev pub entry_at : List (Bor (List ℕ) × ℕ) → ℕ → Bor (List ℕ) × ℕ
-entry_at order i = get_or order i (record { ref_ptr = (0, 0); now = [] }, 0)
-
-pub entry_here : (order : List (Bor (List ℕ) × ℕ)) (i : ℕ) → i < length order → drop i order ≡ entry_at order i ∷ drop (i + 1) order
-entry_here order i h = rw add-one (drop-cons order i (record { ref_ptr = (0, 0); now = [] }, 0) h)
-
--- the keys of a row are in order where those of its template are
-pub row_added : {P : Type 0} (r : Row) (ks : List (List ℕ)) (m : List Pair) (order : List (Bor (List ℕ) × ℕ)) → HoldsRow r ks m → shown order ≡ last_places ks → (shown order ≡ last_places (keys_of m) → P) → P
-row_added r ks m order row is then' = then' (is ∙ ap last_places (sym (keys_of_row r ks m row)))

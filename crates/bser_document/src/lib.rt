@@ -8,7 +8,7 @@ pub mod entries;
 pub mod item;
 pub mod items;
 mod message;
-mod order;
+pub mod order;
 mod plain;
 mod pointer;
 mod put;

@@ -11,23 +11,23 @@ use std::collections::BTreeMap;
 
 /// The places at which the fields of a row begin. The list is used again for the next row.
 #[derive(Drop)]
-pub(crate) struct RowFields<'d> {
+pub struct RowFields<'d> {
     document: &'d Document,
     places: Vec<usize>,
 }
 
 impl<'d> RowFields<'d> {
-    /// No row is read.
-    pub(crate) fn new(alloc: Global, document: &'d Document) -> Self {
+    /// No row of these is read.
+    pub fn new(alloc: Global, rows: Rows<'d>) -> Self {
         RowFields {
-            document,
+            document: rows.document,
             places: Vec::new(alloc),
         }
     }
 
     /// Finds the fields of a row, in place of those of the row before. The error is that there is
     /// no memory for their places.
-    pub(crate) fn read(&mut self, row: Row<'d>) -> Result<(), AllocError>
+    pub fn read(&mut self, row: Row<'d>) -> Result<(), AllocError>
         ensures { (ks : List (List ℕ)) (m : List Pair) → HoldsRow row.entry ks m
             → OnOk result (HoldsFields self.new m) }
     {
@@ -43,7 +43,7 @@ impl<'d> RowFields<'d> {
 
     /// The field at this place. `None` where there is none.
     #[inline(always)]
-    pub(crate) fn get(&self, place: usize) -> Option<Item<'d>>
+    pub fn get(&self, place: usize) -> Option<Item<'d>>
         ensures { (m : List Pair) → HoldsFields self.now m
             → FindsField (value_at m place) result }
     {
@@ -58,22 +58,22 @@ impl<'d> RowFields<'d> {
     }
 }
 
-impl<'d> Rows<'d> {
-    /// The keys in rising byte order, each once, with the last of its places. The error is that
-    /// there is no memory for them.
-    pub(crate) fn order(self, alloc: Global) -> Result<Vec<(&'d str, usize)>, AllocError>
-        ensures { (ks : List (List ℕ)) (ms : List (List Pair)) → HoldsRows self.entry ks ms
-            → IfOk result (λ order. shown order.items ≡ last_places ks) }
-    {
-        let places = self.places(alloc)?;
-        let mut order = Vec::with_capacity(alloc, places.len())?;
-        for (key, place) in &places {
-            order.push((*key, *place))?;
-        }
-        Ok(order)
+/// The keys of a template in rising byte order, each once, with the last of its places. The error is
+/// that there is no memory for them.
+pub fn ordered_keys<'d>(alloc: Global, rows: Rows<'d>) -> Result<Vec<(&'d str, usize)>, AllocError>
+    ensures { (ks : List (List ℕ)) (ms : List (List Pair)) → HoldsRows rows.entry ks ms
+        → IfOk result (λ order. shown order.items ≡ last_places ks) }
+{
+    let places = rows.places(alloc)?;
+    let mut order = Vec::with_capacity(alloc, places.len())?;
+    for (key, place) in &places {
+        order.push((*key, *place))?;
     }
+    Ok(order)
+}
 
-    /// The same as a map.
+impl<'d> Rows<'d> {
+    /// The keys in rising byte order, each once, with the last of its places.
     fn places(self, alloc: Global) -> Result<BTreeMap<&'d str, usize>, AllocError>
         ensures { (ks : List (List ℕ)) (ms : List (List Pair)) → HoldsRows self.entry ks ms
             → IfOk result (λ places. shown places.entries ≡ last_places ks) }

@@ -19,7 +19,7 @@ use crate::document::{Document, DocumentNode};
 use crate::entries::Entries;
 use crate::item::Item;
 use crate::items::Items;
-use crate::order::RowFields;
+use crate::order::{RowFields, ordered_keys};
 use crate::rows::Rows;
 use bser_format::errors::{Error, Result};
 use bser_ser::{Parts, PutRefused, Serializer};
@@ -212,8 +212,8 @@ fn add_rows<W: Sink>(
     if count > isize::MAX as usize {
         return Err(AddError::OutOfMemory);
     }
-    let order = rows.order(alloc)?;
-    let mut fields = RowFields::new(alloc, rows.document);
+    let order = ordered_keys(alloc, rows)?;
+    let mut fields = RowFields::new(alloc, rows);
     out.add_seq(count)?;
     for row in rows {
         fields.read(row)?;

@@ -3,3 +3,4 @@ pub mod Spilling
 pub mod Indenting
 pub mod Saying
 pub mod Parts
+pub mod RowsSaid

@@ -1,5 +1,5 @@
 -- A string that is put in parts.
-use Rattle.std.proofs.Common.{◌≡◌, ℕ, List, [], ◌∷◌, ◌++◌, ◌/◌, ◌%◌, ◌+◌, ◌-◌, length, take, drop, min, Option, Result, Ok, Err, OnOk, Bool, true, false, cond, ◌&&◌, ◌==◌, refl, sym, ap, subst, ◌∙◌, append_assoc, append-nil, arith, length-append}
+use Rattle.std.proofs.Common.{◌≡◌, ℕ, List, [], ◌∷◌, ◌++◌, ◌/◌, ◌%◌, ◌-◌, length, take, drop, min, Option, Result, Ok, Err, OnOk, Bool, true, false, cond, ◌&&◌, ◌==◌, refl, sym, ap, subst, ◌∙◌, append_assoc, append-nil, arith, length-append}
 use Rattle.std.proofs.lemmas.List.{take_all, take-append-le}
 use Rattle.std.proofs.lemmas.Grind.{flat_map-append}
 use Rattle.std.specs.Prelude.{slice_index}
@@ -7,13 +7,13 @@ use Rattle.std.specs.Io.KnownBytes.{Appends}
 use Rattle.hex.specs.Hex.{encode_lower, encode_with, lower_digits}
 use Rattle.json.specs.Token as tokens
 use Rattle.json.specs.Print.{ends_value, escape, escape_byte, print, print_from, quoted}
-use Rattle.json.specs.Layout.{Last, nothing, value, piece, pretty, state_after, step}
+use Rattle.json.specs.Layout.{nothing, value, piece, pretty, step}
 use Rattle.json.proofs.Printed.Tokens.{print_from-append, ends_push, pretty_from_push, step_push}
 use Rattle.bser_source.specs.Sinks.{Appends-both}
-use Rattle.bser_json.specs.Pending.{IsPending, PrintsLine, lead_of}
-use Rattle.bser_json.specs.Indented.{IsIndented, PrintsLines, last_of}
-use Rattle.bser_json.specs.Printed.{Prints, PrintsText, Puts, laid_out}
-use Rattle.bser_json.specs.Strings.{IsInString, BeginsInLine, BeginsInLines, PrintsPart, BeginsString, AddsPart, EndsString, with_string}
+use Rattle.bser_json.specs.Pending.{PrintsLine, lead_of}
+use Rattle.bser_json.specs.Indented.{PrintsLines}
+use Rattle.bser_json.specs.Printed.{Prints, PrintsText, Puts}
+use Rattle.bser_json.specs.Strings.{BeginsInLine, BeginsInLines, PrintsPart, BeginsString, AddsPart, EndsString, with_string}
 use Rattle.bser_json.specs.declared.printing.Layout.{Layout}
 use Rattle.bser_json.specs.declared.printing.Layout.TheVariants as layouts
 use Rattle.bser_json.specs.declared.indented.Indented.{Indented}

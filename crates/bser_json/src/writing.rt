@@ -1,14 +1,19 @@
 //! A value as JSON.
-ghost use Rattle.std.specs.Prelude.{◌≡◌, ℕ, List, codes, IfOk, OnOk};
+ghost use Rattle.std.specs.Prelude.{◌≡◌, ◌∷◌, ◌++◌, ℕ, List, [], codes, IfOk, OnOk};
 ghost use Rattle.std.specs.Float.{float_is_finite};
+ghost use Rattle.std.specs.Map.{keys_of};
 ghost use Rattle.bser_format.specs.Tree.{Tree, integer, array, object, entries, entries_of};
 ghost use Rattle.bser_format.specs.Tree as trees;
 ghost use Rattle.bser_document.specs.Holds.{HoldsItem};
+ghost use Rattle.bser_document.specs.Order.{FindsField, HoldsFields, last_places, shown};
 ghost use Rattle.bser_document.specs.Pairs.{HoldsEntries};
 ghost use Rattle.bser_document.specs.Put.{IsPlain};
+ghost use Rattle.bser_document.specs.Rows.{HoldsRows, Pair, row_object, row_objects};
 ghost use Rattle.bser_document.specs.Sorted.{Lists};
 ghost use Rattle.bser_document.specs.Walks.{HoldsItems};
 ghost use Rattle.bser_format.specs.Normal.{last_entries};
+ghost use Rattle.json.specs.Token as tokens;
+ghost use Rattle.bser_json.specs.Printed.{Puts};
 ghost use Rattle.bser_json.specs.Said.{
   PutsSaid,
   Says,
@@ -25,6 +30,8 @@ use bser_deserializer::deserializer::MOST_LEVELS;
 use bser_document::entries::Entries;
 use bser_document::item::{Item, ItemKind};
 use bser_document::items::Items;
+use bser_document::order::{RowFields, ordered_keys};
+use bser_document::rows::Rows;
 use bser_format::real::float_of;
 use bser_views::trouble::Trouble;
 use json::Token;
@@ -89,12 +96,76 @@ fn put_container<W: Write>(
     if room == 0 {
         return Err(Trouble::Memory);
     }
-    if let Some(items) = item.items() {
-        return put_items(alloc, items, room - 1, out);
+    if let Some(entries) = item.entries() {
+        return put_entries(alloc, entries, room - 1, out);
     }
-    match item.entries() {
-        Some(entries) => put_entries(alloc, entries, room - 1, out),
+    if let Some(rows) = item.rows() {
+        return put_rows(alloc, rows, room - 1, out);
+    }
+    match item.items() {
+        Some(items) => put_items(alloc, items, room - 1, out),
         None => Err(Trouble::Memory),
+    }
+}
+
+/// Puts an array of the objects of these rows. The order of their keys is found once.
+#[cycle(put)]
+fn put_rows<W: Write>(
+    alloc: Global,
+    rows: Rows<'_>,
+    room: usize,
+    out: &mut Printing<W>,
+) -> Result<(), Trouble>
+    ensures { (ks : List (List ℕ)) (ms : List (List Pair)) → HoldsRows rows.entry ks ms
+        → OnOk result (PutsSaid W.contents (Says (array (row_objects ms))) out.old out.new) }
+{
+    let order = ordered_keys(alloc, rows)?;
+    let mut fields = RowFields::new(alloc, rows);
+    out.token(Token::BeginArray)?;
+    for row in rows {
+        fields.read(row)?;
+        put_row(alloc, &order, &fields, room.saturating_sub(1), out)?;
+    }
+    out.token(Token::EndArray)
+}
+
+/// Puts an object of the fields of a row, in the order of their keys.
+#[cycle(put)]
+fn put_row<W: Write>(
+    alloc: Global,
+    order: &[(&str, usize)],
+    fields: &RowFields<'_>,
+    room: usize,
+    out: &mut Printing<W>,
+) -> Result<(), Trouble>
+    ensures { (m : List Pair) → shown order.entry.now ≡ last_places (keys_of m)
+        → HoldsFields fields.entry.now m
+        → OnOk result (PutsSaid W.contents (Says (row_object m)) out.old out.new) }
+{
+    out.token(Token::BeginObject)?;
+    for entry in order.iter() {
+        let (key, place) = *entry;
+        put_key(alloc, key, out)?;
+        put_field(alloc, fields.get(place), room, out)?;
+    }
+    out.token(Token::EndObject)
+}
+
+/// Puts a field, and null where there is none.
+#[cycle(put)]
+#[inline(always)]
+fn put_field<W: Write>(
+    alloc: Global,
+    field: Option<Item<'_>>,
+    room: usize,
+    out: &mut Printing<W>,
+) -> Result<(), Trouble>
+    ensures { (u : Tree) → FindsField u field.entry
+        → OnOk result (PutsSaid W.contents (Says u) out.old out.new) }
+{
+    match field {
+        Some(item) => put_item(alloc, item, room, out),
+        None => out.token(Token::Null),
     }
 }
 
@@ -151,16 +222,25 @@ fn put_sorted<W: Write>(
 }
 
 /// Puts a key, and before one that begins with a dollar sign one more.
+#[inline(always)]
 fn put_key<W: Write>(alloc: Global, key: &str, out: &mut Printing<W>) -> Result<(), Trouble>
     ensures { OnOk result (PutsSaid W.contents (SaysKey key.now) out.old out.new) }
 {
     match key.as_bytes().first().copied() {
-        Some(b'$') => {
-            let marked = format!(in alloc; "${key}")?;
-            out.token(Token::Key(marked.as_str()))
-        }
+        Some(b'$') => put_dollar(alloc, key, out),
         _ => out.token(Token::Key(key)),
     }
+}
+
+/// Puts a key behind a dollar sign.
+#[cold]
+#[inline(never)]
+fn put_dollar<W: Write>(alloc: Global, key: &str, out: &mut Printing<W>) -> Result<(), Trouble>
+    ensures { OnOk result
+        (Puts W.contents (tokens.key (codes "$" ++ key.now) ∷ []) out.old out.new) }
+{
+    let marked = format!(in alloc; "${key}")?;
+    out.token(Token::Key(marked.as_str()))
 }
 
 /// Puts a value that is no container.

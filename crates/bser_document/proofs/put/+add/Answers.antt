@@ -8,7 +8,8 @@ use Rattle.bser_document.specs.Put.{error_of}
 use Rattle.bser_document.proofs.Places.{shows_there}
 use Rattle.bser_document.proofs.Puts.{plain_shown, none_put, array_added, object_added, spelled_added, sorted_added, items_begun, item_more, item_stops, items_all, entries_begun, entry_more, entry_stops, key_stops, entries_all, lists_length}
 use Rattle.bser_document.proofs.PutPairs.{spelled_begun, spelled_more, spelled_stops, spelled_key_stops, spelled_all}
-use Rattle.bser_document.proofs.RowsPut.{rows_added, row_added, rows_begun, row_more, row_stops, rows_all, fields_begun, field_more, field_stops, field_key_stops, fields_all, last_length, entry_at, entry_here}
+use Rattle.bser_document.proofs.Orders.{row_added, entry_at, entry_here}
+use Rattle.bser_document.proofs.RowsPut.{rows_added, rows_begun, row_more, row_stops, rows_all, fields_begun, field_more, field_stops, field_key_stops, fields_all, last_length}
 use Rattle.bser_document.specs.Order.{shown, value_at}
 use Rattle.bser_document.specs.Rows.{row_object, row_objects}
 use Rattle.bser_format.specs.Tree.{array}

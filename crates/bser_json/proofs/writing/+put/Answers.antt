@@ -1,6 +1,13 @@
 -- A container is put as its parts are.
-use Rattle.std.proofs.Common.{rules}
-use Rattle.bser_json.proofs.Saying.{array_said, object_said, sorted_said, items_begun, item_more, items_said, entries_begun, entry_more, entries_said}
+use Rattle.std.proofs.Common.{rules, ◌∷◌, [], ◌+◌, drop, refl, ap, ◌∙◌}
+use Rattle.std.proofs.lemmas.List.{drop_all}
+use Rattle.json.specs.Token as tokens
+use Rattle.bser_format.specs.Tree.{null}
+use Rattle.bser_document.specs.Order.{shown, value_at}
+use Rattle.bser_json.specs.Said.{Says}
+use Rattle.bser_document.proofs.Orders.{row_added, entry_at, entry_here}
+use Rattle.bser_json.proofs.RowsSaid.{template_said, rows_begun, row_more, rows_said, fields_begun, field_more, fields_said}
+use Rattle.bser_json.proofs.Saying.{one_said, same_said, array_said, object_said, sorted_said, items_begun, item_more, items_said, entries_begun, entry_more, entries_said}
 use Rattle.bser_json.proofs.Scalars.{plain_kind}
 use Rattle.bser_json.proofs.writing.+put.Goals as goal
 
@@ -8,10 +15,13 @@ pub put_item-returns-in_default : goal.put_item-returns-in_default
 put_item-returns-in_default g t c = search (rules, plain_kind)
 
 pub put_container-returns-in-Some : goal.put_container-returns-in-Some
-put_container-returns-in-Some g t c u h = array_said g.W.Write.contents c.in-Some.items c.put_items.result c.args.out.now c.put_items.new.out u (rw c.in-Some.is at c.items.ensures u h) c.put_items.ensures
+put_container-returns-in-Some g t c u h = object_said g.W.Write.contents c.in-Some.entries c.put_entries.result c.args.out.now c.put_entries.new.out u (rw c.in-Some.is at c.entries.ensures u h) c.put_entries.ensures
 
-pub put_container-returns-in-Some-entries : goal.put_container-returns-in-Some-entries
-put_container-returns-in-Some-entries g t c u h = object_said g.W.Write.contents c.in-Some-entries.entries c.put_entries.result c.args.out.now c.put_entries.new.out u (rw c.in-Some-entries.is at c.entries.ensures u h) c.put_entries.ensures
+pub put_container-returns-in-Some-rows : goal.put_container-returns-in-Some-rows
+put_container-returns-in-Some-rows g t c u h = template_said g.W.Write.contents c.args.item c.in-Some-rows.rows c.put_rows.result c.args.out.now c.put_rows.new.out u (rw c.in-Some-rows.is at c.rows.ensures u h) c.put_rows.ensures
+
+pub put_container-returns-in-Some-items : goal.put_container-returns-in-Some-items
+put_container-returns-in-Some-items g t c u h = array_said g.W.Write.contents c.in-Some-items.items c.put_items.result c.args.out.now c.put_items.new.out u (rw c.in-Some-items.is at c.items.ensures u h) c.put_items.ensures
 
 pub put_entries-returns : goal.put_entries-returns
 put_entries-returns g t c m h = sorted_said g.W.Write.contents c.in_ok-sorted.sorted.entries c.put_sorted.result c.args.out.now c.put_sorted.new.out m (c.in_ok-sorted.ensures m h) c.put_sorted.ensures
@@ -41,3 +51,39 @@ pub put_sorted-returns : goal.put_sorted-returns
 put_sorted-returns g t c es h =
     let l = c.loop-key in
     entries_said g.W.Write.contents es l.key-iterator c.args.out.now l.out c.token-2.new.self c.token-2.result (search rules) c.token-2.ensures (l.invariant es h)
+
+pub put_rows-loop-row-init : goal.put_rows-loop-row-init
+put_rows-loop-row-init g t c ks ms h = rows_begun g.W.Write.contents ks ms c.args.rows c.into_iter-row-iterator.result c.args.out.now c.token.new.self h (search rules) c.in_ok-token.ensures
+
+pub put_rows-loop-row-preserved : goal.put_rows-loop-row-preserved
+put_rows-loop-row-preserved g t c ks ms h =
+    let l = c.loop-row in
+    let order = ap shown c.deref.ensures.value ∙ c.in_ok-order.ensures ks ms h in
+    row_more g.W.Write.contents ks ms l.row-iterator c.next.new.self c.in-Some.row c.args.out.now l.out c.put_row.new.out c.in-Some.ensures.steps
+    (λ m row. row_added c.in-Some.row ks m c.deref.result.now row order λ is. c.in_ok-put_row.ensures m is (c.in_ok-read.ensures ks m row))
+    (l.invariant ks ms h)
+
+pub put_rows-returns : goal.put_rows-returns
+put_rows-returns g t c ks ms h =
+    let l = c.loop-row in
+    rows_said g.W.Write.contents ks ms l.row-iterator c.next.new.self c.args.out.now l.out c.token-2.new.self c.token-2.result c.in-None.ensures.steps c.token-2.ensures (l.invariant ks ms h)
+
+pub put_row-loop-entry-init : goal.put_row-loop-entry-init
+put_row-loop-entry-init g t c m is found = fields_begun g.W.Write.contents m c.args.order.now c.args.order.now c.args.out.now c.token.new.self is refl c.in_ok-token.ensures
+
+pub put_row-loop-entry-preserved : goal.put_row-loop-entry-preserved
+put_row-loop-entry-preserved g t c m is found =
+    let l = c.loop-entry in
+    let e = entry_at c.args.order.now l.entry-index in
+    field_more g.W.Write.contents m (drop l.entry-index c.args.order.now) (drop (l.entry-index + 1) c.args.order.now) e c.args.out.now l.out c.put_key.new.out c.put_field.new.out
+    (entry_here c.args.order.now l.entry-index c.loop-entry-test.true) c.in_ok-put_key.ensures (c.in_ok-put_field.ensures (value_at m e.1) (c.get.ensures m found)) (l.invariant m is found)
+
+pub put_row-returns : goal.put_row-returns
+put_row-returns g t c m is found =
+    let l = c.loop-entry in
+    fields_said g.W.Write.contents m (drop l.entry-index c.args.order.now) c.args.out.now l.out c.token-2.new.self c.token-2.result (drop_all l.entry-index c.args.order.now c.loop-entry-test.false) c.token-2.ensures (l.invariant m is found)
+
+pub put_field-returns-in-None : goal.put_field-returns-in-None
+put_field-returns-in-None g t c u h =
+    same_said g.W.Write.contents c.token.result u null c.args.out.now c.token.new.self (rw c.in-None.is at h)
+    (one_said g.W.Write.contents c.token.result (Says null) (tokens.null ∷ []) c.args.out.now c.token.new.self refl c.token.ensures)

@@ -1,5 +1,5 @@
 -- What is kept is written behind what was, and then the string's start.
-use Rattle.std.proofs.Common.{◌≡◌, ◌∷◌, ◌++◌, [], refl, ap, subst, ◌∙◌}
+use Rattle.std.proofs.Common.{◌≡◌, ◌++◌, [], refl, ap, subst, ◌∙◌}
 use Rattle.std.specs.Io.KnownBytes.{Appends}
 use Rattle.json.specs.Token as tokens
 use Rattle.bser_json.proofs.Indenting.{before, state_of}

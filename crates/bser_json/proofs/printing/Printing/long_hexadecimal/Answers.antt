@@ -1,5 +1,5 @@
 -- A string of digits is put piece by piece.
-use Rattle.std.proofs.Common.{◌≡◌, [], refl, arith, rules}
+use Rattle.std.proofs.Common.{◌≡◌, [], refl, rules}
 use Rattle.hex.specs.Hex.{encode_lower}
 use Rattle.bser_json.proofs.Parts.{hexadecimal_splits, no_digits, up_to_none, up_to_next, up_to_end, none_left}
 use Rattle.bser_json.proofs.printing.Printing.long_hexadecimal.Goals as goal

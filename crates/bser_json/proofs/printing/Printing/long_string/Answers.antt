@@ -1,5 +1,5 @@
 -- A string is put piece by piece.
-use Rattle.std.proofs.Common.{◌≡◌, ◌++◌, [], refl, sym, ap, ◌∙◌, arith, rules, take-append-drop}
+use Rattle.std.proofs.Common.{◌≡◌, ◌++◌, [], refl, sym, ◌∙◌, arith, rules, take-append-drop}
 use Rattle.bser_json.proofs.Parts.{up_to_none, up_to_next, up_to_end, none_left}
 use Rattle.bser_json.proofs.printing.Printing.long_string.Goals as goal
 
