@@ -12,6 +12,7 @@ mod frame;
 pub mod lack;
 pub mod messages;
 mod open;
+mod parts;
 pub mod quoted;
 pub mod reports;
 pub mod screen;

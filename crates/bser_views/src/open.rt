@@ -1,7 +1,10 @@
 //! The containers that are open, and what names their parts.
 
+use crate::parts::put_digits;
+use itoa::Buffer;
 use std::alloc::{AllocError, Global};
-use std::fmt;
+use std::io;
+use std::io::Write;
 
 /// A container that is open.
 #[derive(Drop)]
@@ -12,18 +15,28 @@ pub(crate) enum Open {
     },
     /// An object.
     Object,
-    /// A template: its keys, and which field of which row comes next, once the rows are told.
+    /// A template: its keys as they are printed, and which field of which row comes next, once the
+    /// rows are told.
     Template {
         keys: Vec<String>,
         next: Option<Field>,
     },
 }
 
+/// What stands before the number of a row.
+const ROW: &[u8; 4] = b"row ";
+
+/// How many bytes the name of a row has at most, with a number of 20 digits and a space.
+const LABEL: usize = 25;
+
 /// A field of a template's rows, by its row and its column.
 #[derive(Clone, Copy)]
 pub(crate) struct Field {
     row: usize,
     column: usize,
+    // the name of the row, which begins at `start`
+    label: [u8; LABEL],
+    start: usize,
 }
 
 impl Open {
@@ -40,10 +53,29 @@ impl Open {
         }
     }
 
+    /// Puts what stands before the next part: its place in an array, its row and its key in a
+    /// template.
+    #[inline(always)]
+    pub(crate) fn put_name<W: Write>(&self, out: &mut W) -> io::Result<()> {
+        match self {
+            Open::Array { begun } => {
+                let mut buffer = Buffer::new();
+                out.write_all(b"[")?;
+                out.write_all(buffer.format(*begun).as_bytes())?;
+                out.write_all(b"] ")
+            }
+            Open::Object => Ok(()),
+            Open::Template { keys, next } => match next {
+                Some(field) => field.put_name(keys, out),
+                None => Ok(()),
+            },
+        }
+    }
+
     /// Notes a key of a template. The error is that there is no memory for it.
     pub(crate) fn put_key(&mut self, alloc: Global, key: &str) -> Result<(), AllocError> {
         if let Open::Template { keys, next: _ } = self {
-            keys.push(String::from_str(alloc, key)?)?;
+            keys.push(format!(in alloc; "{key:?}: ")?)?;
         }
         Ok(())
     }
@@ -51,7 +83,7 @@ impl Open {
     /// Notes that the keys of a template are told, and its rows come.
     pub(crate) fn begin_rows(&mut self) {
         if let Open::Template { keys: _, next } = self {
-            *next = Some(Field { row: 0, column: 0 });
+            *next = Some(Field::first_of(0));
         }
     }
 }
@@ -61,32 +93,34 @@ impl Field {
     fn behind(&self, width: usize) -> Field {
         let column = self.column.saturating_add(1);
         if column < width {
-            return Field {
-                row: self.row,
-                column,
-            };
+            let mut field = *self;
+            field.column = column;
+            return field;
         }
+        Field::first_of(self.row.saturating_add(1))
+    }
+
+    /// The first field of this row.
+    fn first_of(row: usize) -> Field {
+        let mut label = [b' '; LABEL];
+        let digits = put_digits(&mut label, row as u64, LABEL - 1);
+        let start = digits - ROW.len();
+        label[start..digits].copy_from_slice(ROW);
         Field {
-            row: self.row.saturating_add(1),
+            row,
             column: 0,
+            label,
+            start,
         }
     }
-}
 
-/// What stands before the next part of a container: its place in an array, its row and its key in a
-/// template.
-impl fmt::Display for Open {
-    fn fmt<W: fmt::Write>(&self, f: &mut fmt::Formatter<W>) -> fmt::Result {
-        match self {
-            Open::Array { begun } => write!(f, "[{begun}] "),
-            Open::Object => Ok(()),
-            Open::Template { keys, next } => match next {
-                Some(field) => match keys.get(field.column) {
-                    Some(key) => write!(f, "row {} {:?}: ", field.row, key.as_str()),
-                    None => Ok(()),
-                },
-                None => Ok(()),
-            },
-        }
+    /// Puts its row and its key, which is among these.
+    #[inline(always)]
+    fn put_name<W: Write>(&self, keys: &[String], out: &mut W) -> io::Result<()> {
+        let Some(key) = keys.get(self.column) else {
+            return Ok(());
+        };
+        out.write_all(&self.label[self.start.min(LABEL)..])?;
+        out.write_all(key.as_bytes())
     }
 }

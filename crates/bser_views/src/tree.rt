@@ -3,7 +3,8 @@
 use crate::flushing::Flushing;
 use crate::messages::{View, ViewError};
 use crate::open::Open;
-use crate::quoted::{Quoted, Real};
+use crate::parts::{put_columns, put_levels, put_number, put_quoted};
+use crate::quoted::Real;
 use crate::trouble::Trouble;
 use bser_events::builder::{Builder, Stop};
 use bser_events::event::{Event, Place};
@@ -138,32 +139,31 @@ impl<'o, 'w, W: Write> Tree<'o, 'w, W> {
     fn put_header(&self, out: &mut W, len: usize) -> io::Result<()> {
         match self.style {
             Style::Values => Ok(()),
-            _ => writeln!(out, "{:>8}    {len:>6}  message", self.start),
+            _ => {
+                put_columns(out, self.start, None, len, 0)?;
+                out.write_all(b"message\n")
+            }
         }
     }
 
     /// Prints where a part stands, and its indentation.
     fn put_columns(&self, out: &mut W, event: &Event<'_>, place: Place) -> io::Result<()> {
-        let indent = self.around.len().saturating_mul(2);
+        let levels = self.around.len();
         if self.style == Style::Values {
-            return write!(out, "{:indent$}", "");
+            return put_levels(out, levels);
         }
         let offset = self.start.saturating_add(place.start as u64);
-        let width = place.size();
-        match event.tag(place) {
-            Some(tag) => write!(out, "{offset:>8} {tag:02x} {width:>6}  {:indent$}", ""),
-            None => write!(out, "{offset:>8}    {width:>6}  {:indent$}", ""),
-        }
+        put_columns(out, offset, event.tag(place), place.size(), levels)
     }
 
     /// Prints what names a part in its container.
     fn put_label(&mut self, out: &mut W, event: &Event<'_>) -> io::Result<()> {
         match event {
-            Event::Key(_) => write!(out, "key "),
+            Event::Key(_) => out.write_all(b"key "),
             Event::Rows { .. } => Ok(()),
             _ => match self.around.last_mut() {
                 Some(open) => {
-                    write!(out, "{open}")?;
+                    open.put_name(out)?;
                     open.step();
                     Ok(())
                 }
@@ -233,23 +233,27 @@ impl<W: Write> Builder for Tree<'_, '_, W> {
 /// Prints the kind and the value of a part.
 #[inline(always)]
 fn put_full<W: Write>(out: &mut W, event: Event<'_>, place: Place) -> io::Result<()> {
-    match event {
-        Event::Int(number) => writeln!(out, "int{} {number}", int_bits(place)),
-        Event::Real(bits) => writeln!(out, "real {}", Real(bits)),
-        Event::Bytes(bytes) => writeln!(out, "bytes {}", Quoted(bytes)),
-        Event::Text(text) => writeln!(out, "text {text:?}"),
-        Event::Key(key) => writeln!(out, "{} {key:?}", string_name(place)),
-        other => put_kind(out, other, place),
-    }
+    let name = match event {
+        Event::Int(_) => int_name(place),
+        Event::Real(_) => "real",
+        Event::Bytes(_) => "bytes",
+        Event::Text(_) => "text",
+        Event::Key(_) => string_name(place),
+        other => return put_kind(out, other, place),
+    };
+    out.write_all(name.as_bytes())?;
+    out.write_all(b" ")?;
+    put_value(out, event, place)
 }
 
 /// Prints the kind of a part, and of a container how much is in it.
 fn put_kind<W: Write>(out: &mut W, event: Event<'_>, place: Place) -> io::Result<()> {
     match event {
-        Event::Null => writeln!(out, "null"),
-        Event::Bool(truth) => writeln!(out, "{truth}"),
-        Event::Int(_) => writeln!(out, "int{}", int_bits(place)),
-        Event::Real(_) => writeln!(out, "real"),
+        Event::Null => out.write_all(b"null\n"),
+        Event::Bool(true) => out.write_all(b"true\n"),
+        Event::Bool(false) => out.write_all(b"false\n"),
+        Event::Int(_) => writeln!(out, "{}", int_name(place)),
+        Event::Real(_) => out.write_all(b"real\n"),
         Event::Bytes(bytes) => writeln!(out, "bytes of {}", bytes.len()),
         Event::Text(text) => writeln!(out, "text of {}", text.len()),
         Event::Key(key) => writeln!(out, "{} of {}", string_name(place), key.len()),
@@ -257,26 +261,32 @@ fn put_kind<W: Write>(out: &mut W, event: Event<'_>, place: Place) -> io::Result
         Event::Object { len } => writeln!(out, "object of {len}"),
         Event::Template { len } => writeln!(out, "template of {len} keys"),
         Event::Rows { len } => writeln!(out, "{len} rows"),
-        Event::Skip => writeln!(out, "skip"),
+        Event::Skip => out.write_all(b"skip\n"),
         Event::Close => Ok(()),
     }
 }
 
 /// Prints the value of a part, and of a container how much is in it.
+#[inline(always)]
 fn put_value<W: Write>(out: &mut W, event: Event<'_>, place: Place) -> io::Result<()> {
     match event {
-        Event::Int(number) => writeln!(out, "{number}"),
+        Event::Int(number) => put_number(out, number),
         Event::Real(bits) => writeln!(out, "{}", Real(bits)),
-        Event::Bytes(bytes) => writeln!(out, "{}", Quoted(bytes)),
-        Event::Text(text) => writeln!(out, "{text:?}"),
-        Event::Key(key) => writeln!(out, "{key:?}"),
+        Event::Bytes(bytes) => put_quoted(out, bytes),
+        Event::Text(text) => put_quoted(out, text.as_bytes()),
+        Event::Key(key) => put_quoted(out, key.as_bytes()),
         other => put_kind(out, other, place),
     }
 }
 
-/// How many bits an integer has.
-fn int_bits(place: Place) -> usize {
-    place.size().saturating_sub(1).saturating_mul(8)
+/// What an integer is by its width.
+fn int_name(place: Place) -> &'static str {
+    match place.size() {
+        2 => "int8",
+        3 => "int16",
+        5 => "int32",
+        _ => "int64",
+    }
 }
 
 /// What a string is by its tag.
