@@ -21,9 +21,9 @@ use bser_source::reference::Lending;
 use bser_source::text::as_text;
 
 impl<R: DeRead> Deserializer<R> {
-    /// Reads what is expected, whatever it is, and reports to the builder what it finds: a value as
-    /// it is spelled, a skipped field as null, a key as a text where it is UTF-8 and else as bytes,
-    /// and a row as the object of its keys and fields.
+    /// Reads what is expected, whatever it is, and reports to the builder what it finds. That is a
+    /// value as it is spelled, a skipped field as null, a key as a text where it is UTF-8 and else as
+    /// bytes, and a row as the object of its keys and fields.
     ///
     /// The keys of objects have to be UTF-8; a key that is expected by itself need not be. The
     /// error is the first one in the order of reading, as the plain reader answers it. A builder

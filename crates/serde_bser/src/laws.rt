@@ -36,9 +36,9 @@ pub fn read_values_are_value_trees()
     ensures { ReadIsValueTree }
 {}
 
-/// The canonical message of a tree without templates is a message, whatever follows it, spells that
-/// tree alone, and means to every type what the tree does: for trees that can be written, of at
-/// most as many levels as are read, whose message is at most `i64::MAX` bytes. So a value of any
+/// The canonical message of a tree without templates is a message, whatever follows it. It spells that
+/// tree alone, and means to every type what the tree does. So it is for trees that can be written, of
+/// at most as many levels as are read, whose message is at most `i64::MAX` bytes. So a value of any
 /// type that reads its own tree as what it holds is read back from what was written for it. The
 /// trees of values are among them.
 pub fn round_trip()
@@ -88,9 +88,9 @@ pub fn compact_tree()
     ensures short { ShortCompactIsWritable }
 {}
 
-/// The compact message of a value is a message, whatever follows it, reads as that value, and means to
-/// every type what the value does: for values of at most as many levels as are read, whose compact
-/// message is at most `i64::MAX` bytes. The canonical message may be longer than that.
+/// The compact message of a value is a message, whatever follows it. It reads as that value, and means
+/// to every type what the value does. So it is for values of at most as many levels as are read, whose
+/// compact message is at most `i64::MAX` bytes. The canonical message may be longer than that.
 pub fn compact_reads_back()
     ensures message { CompactIsMessage }
     ensures front { CompactIsTheFront }
