@@ -3,6 +3,7 @@ pub mod Readers
 pub mod Refusals
 pub mod Names
 pub mod Looks
+pub mod Faults
 pub mod Ints
 pub mod Tokens
 pub mod Values

@@ -7,6 +7,7 @@ use Rattle.bser_source.specs.Window.{Filled, Took, closed}
 use Rattle.bser_source.specs.Refs.{bytes_of}
 use Rattle.bser_source.specs.declared.reference.Reference.{Reference}
 use Rattle.bser_bunser.specs.Names.{Names, NamesOrMemory, CutsInteger, RefusesShort, RefusesBy}
+use Rattle.bser_bunser.specs.Faults.{StopsInPlace}
 use Rattle.bser_bunser.specs.Refusal.{Fails, ShortOf, CopyRefused}
 use Rattle.bser_bunser.specs.Seen.{Seen}
 use Rattle.bser_bunser.specs.Tagged.{TookNumber, TookBits, TookInt, LooksForInt, TookToken, TookSome, TookCounted, TookHead}
@@ -114,7 +115,14 @@ FailsShort n old new = RefusesShort n new.refusal old.window new.window
 abbrev pub FailsBy : {X : Type 0} → Reader X → Seen → Seen → Type 0
 FailsBy r old new = RefusesBy r new.refusal old.window new.window
 
+-- the place of a byte that may not be there is before it, and of an integer below 0 behind it
+abbrev pub FailsInPlace : Seen → Seen → Type 0
+FailsInPlace old new = StopsInPlace new.refusal old.window new.window
+
 -- ---- what failed, with the error that is answered
+
+abbrev pub AnswersInPlace : Seen → Seen → Error → Type 0
+AnswersInPlace old new e = StopsInPlace e old.window new.window
 
 -- n bytes are not there, and it is never out of memory
 abbrev pub AnswersShort : ℕ → Seen → Seen → Error → Type 0

@@ -1,6 +1,7 @@
 pub mod Prefixes
 pub mod Refusal
 pub mod Names
+pub mod Faults
 pub mod Tokens
 pub mod Tagged
 pub mod Seen

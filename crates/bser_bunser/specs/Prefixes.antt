@@ -1,4 +1,4 @@
--- Integers and lengths at the start of bytes, as far as these tell.
+-- Integers and lengths at the start of bytes, as far as these go.
 use Rattle.std.specs.Prelude.{◌≡◌, ℕ, ◌+◌, ◌^◌, ℤ, negsuc, ◌≤◌, ◌<◌, List, ◌∷◌, length, take, drop, ◌⊎◌, FitsSigned}
 use Rattle.std.specs.Int.{Width, w64, to_le_bytes, cast_unsigned, byte_len}
 use Rattle.bser_format.specs.Grammar.{IntSize, tag_of, width_of, SpellsInteger, SpellsCount}

@@ -15,6 +15,7 @@ use Rattle.bser_bunser.specs.declared.prefix.Unexpected.TheVariants as unexpecte
 use Rattle.bser_bunser.specs.declared.prefix.Token.{Token}
 use Rattle.bser_bunser.specs.declared.prefix.Token.TheVariants as tokens
 use Rattle.bser_bunser.specs.Refusal.{unexpected_refusal}
+use Rattle.bser_bunser.specs.Faults.{Stands}
 
 -- ---- which bytes are a token
 
@@ -91,7 +92,7 @@ TokensBeginValues =
 
 -- ---- a token at the start of bytes
 
--- too few bytes to tell: r finds an early end in them, and in fewer than n that begin so
+-- too few bytes: r finds an early end in them, and in fewer than n that begin so
 pub record TooShort {X : Type 0} (r : Reader X) (held : List ℕ) (n : ℕ) : Type 0 where
   pub some : length held < n
   pub most : n ≤ 10
@@ -102,11 +103,11 @@ pub record Rejects {X : Type 0} (r : Reader X) (held : List ℕ) (e : Error) : T
   pub some : 0 < length held
   pub name : (more : List ℕ) → r (held ++ more) ≡ refuses e
 
--- a token is at the start, or one is cut short, or none begins so
+-- a token is at the start, or one is cut short, or none begins so and this is why
 abbrev pub IsTokenPrefix : List ℕ → Prefix Token → Type 0
 IsTokenPrefix held (Found t len) = (len ≤ length held) × SpellsToken t (take len held)
 IsTokenPrefix held (Short need) = TooShort token held need
-IsTokenPrefix held (prefixes.Unexpected why) = Rejects token held (unexpected_refusal NextItem why)
+IsTokenPrefix held (prefixes.Unexpected why) = Rejects token held (unexpected_refusal NextItem why) × Stands why held
 
 -- no integer has this tag
 abbrev pub IsNoIntTag : ℕ → Type 0

@@ -5,7 +5,8 @@ ghost use Rattle.bser_format.specs.Named.{next, front};
 ghost use Rattle.bser_source.specs.declared.read.TheConstants.{WINDOW};
 ghost use Rattle.bser_source.specs.Refusal.{EndsShort};
 ghost use Rattle.bser_source.specs.Window.{Peeks, consumed};
-ghost use Rattle.bser_bunser.specs.Calls.{bytes_taken, Buffers, Takes, TakesToken, Keeps, Closes, FailsShort, FailsBy};
+ghost use Rattle.bser_bunser.specs.Calls.{bytes_taken, Buffers, Takes, TakesToken, Keeps, Closes, FailsShort, FailsBy, FailsInPlace};
+ghost use Rattle.bser_bunser.specs.Faults.{Stands, ClosesAt};
 ghost use Rattle.bser_bunser.specs.Names.{Names};
 ghost use Rattle.bser_bunser.specs.Refusal.{ShortOf, unexpected_refusal};
 ghost use Rattle.bser_bunser.specs.Tokens.{token, LengthFits};
@@ -16,7 +17,7 @@ mod pdu;
 mod strings;
 
 pub use crate::bunser::pdu::PduInfo;
-use crate::prefix::{Look, Prefix, Token, Unexpected, int_prefix, token_prefix};
+use crate::prefix::{Look, Prefix, Token, Unexpected, before_fault, int_prefix, token_prefix};
 use crate::refusal::{Answer, Refused};
 use bser_format::errors::{Complaint, Error, Kind, ReadCause, Result};
 use bser_source::read::{DeRead, count_octets};
@@ -76,7 +77,7 @@ impl<R: DeRead> Bunser<R> {
         read
     }
 
-    /// Whether a call failed before, so that each later one does.
+    /// Returns whether a call failed before, so that each later one does.
     pub fn is_failed(&self) -> bool
         ensures value { result ≡ self.now.window.failed }
         ensures lends { self.now.window.lends ≡ R.Lent.lends }
@@ -84,14 +85,15 @@ impl<R: DeRead> Bunser<R> {
         self.read.is_failed()
     }
 
-    /// How many bytes were taken, at most `i64::MAX`. Bytes that are only buffered are not counted.
+    /// Returns how many bytes were taken, at most `i64::MAX`. Bytes that are only buffered are not
+    /// counted.
     pub fn read_count(&self) -> i64
         ensures { result ≡ bytes_taken self.now }
     {
         i64::try_from(self.read.read_count()).unwrap_or(i64::MAX)
     }
 
-    /// How many bytes were taken. Bytes that are only buffered are not counted.
+    /// Returns how many bytes were taken. Bytes that are only buffered are not counted.
     #[inline(always)]
     pub fn taken(&self) -> usize
         ensures { result ≡ self.now.window.count }
@@ -156,6 +158,20 @@ impl<R: DeRead> Bunser<R> {
             Unexpected::NegativeLength => Error::de_custom(Complaint::NegativeLength),
             Unexpected::NegativeCount => Error::de_custom(Complaint::NegativeCount),
         })
+    }
+
+    /// Fails, for what is buffered where a token is wanted, and takes the bytes before it.
+    #[cold]
+    #[inline(never)]
+    fn refuse_token(&mut self, why: Unexpected) -> Refused
+        requires { Stands why self.old.window.buffered }
+        ensures reason { self.new.refusal ≡ unexpected_refusal Kind.NextItem why }
+        ensures memory { self.new.refusal ≢ Error.OutOfMemory }
+        ensures state { ClosesAt why self.old.window self.new.window }
+    {
+        let before = before_fault(why, self.read.buffered());
+        self.read.consume(before);
+        self.refuse_unexpected(Kind::NextItem, why)
     }
 
     /// Buffers `n` bytes, from 1 to 4096, and takes none.
@@ -225,8 +241,8 @@ impl<R: DeRead> Bunser<R> {
         self.read.consume(1);
     }
 
-    /// The buffered bytes: the first of those left, which are taken without an error. None after an
-    /// error.
+    /// Returns the buffered bytes: the first of those left, which are taken without an error. None
+    /// after an error.
     #[inline(always)]
     pub fn buffered<'s>(&'s self) -> &'s [u8]
         ensures { result.now ≡ self.now.window.buffered }
@@ -251,7 +267,8 @@ impl<R: DeRead> Bunser<R> {
     /// integer's tag is [`Error::DeInvalidStartByte`] of kind [`Kind::Integer`], a length below 0
     /// the message [`Complaint::NegativeLength`], and a count below 0 the message
     /// [`Complaint::NegativeCount`]. A token that is cut short, or none at all, fails as
-    /// [`Self::fill`] does.
+    /// [`Self::fill`] does. A byte that may not be there is not taken then, and a length or a count
+    /// below 0 is.
     ///
     /// A count is read with its tag. Where containers nest no deeper, the tag is to be looked at
     /// first, by [`Self::fill`] and [`Self::buffered`].
@@ -261,6 +278,7 @@ impl<R: DeRead> Bunser<R> {
         ensures fits { IfOk result (λ t. LengthFits t) }
         ensures kept { OnOk result (Keeps self.old self.new) }
         ensures refused { OnErr result (FailsBy token self.old self.new) }
+        ensures place { OnErr result (FailsInPlace self.old self.new) }
     {
         loop {
             match token_prefix(self.read.buffered()) {
@@ -269,9 +287,7 @@ impl<R: DeRead> Bunser<R> {
                     return Ok(value);
                 }
                 Prefix::Short { need } => self.fill_slowly(need)?,
-                Prefix::Unexpected(why) => {
-                    return Err(self.refuse_unexpected(Kind::NextItem, why));
-                }
+                Prefix::Unexpected(why) => return Err(self.refuse_token(why)),
             }
         }
     }

@@ -1,8 +1,10 @@
-//! What bytes begin with, as far as they tell: an integer, a length or a token.
-ghost use Rattle.std.specs.Prelude.{◌≡◌, ◌<◌, ◌^◌, length, slice_index, MatchOption, IfSome};
-ghost use Rattle.std.specs.Int.{w8, w16, w32, w64};
+//! What bytes begin with, as far as they go: an integer, a length or a token.
+ghost use Rattle.std.specs.Prelude.{◌≡◌, ◌≤◌, ◌<◌, ◌+◌, ◌^◌, length, take, drop, slice_index, MatchOption, IfSome};
+ghost use Rattle.std.specs.Int.{w8, w16, w32, w64, byte_len};
+ghost use Rattle.bser_format.specs.Grammar.{IntSize, tag_of, width_of};
 ghost use Rattle.bser_format.specs.DueReaders as due_readers;
 ghost use Rattle.bser_bunser.specs.Prefixes.{NumberPrefix, BitsPrefix, IsIntPrefix, IsLengthPrefix};
+ghost use Rattle.bser_bunser.specs.Faults.{Stands, IsFault};
 ghost use Rattle.bser_bunser.specs.Tokens.{IsTokenPrefix, IsNoIntTag, IsCounted, IsTokenOf, fault_after};
 
 use bser_format::header::{
@@ -34,7 +36,7 @@ pub enum Prefix<T: Copy> {
         /// How many bytes spell it.
         len: usize,
     },
-    /// Too few bytes to tell.
+    /// There are too few bytes.
     Short {
         /// As many are needed at least.
         need: usize,
@@ -107,7 +109,8 @@ fn u64_prefix(rest: &[u8]) -> Option<u64>
     Some(LittleEndian::read_u64(&rest[..8]))
 }
 
-/// The integer at the start of these bytes: its tag, and 1, 2, 4 or 8 bytes, the lowest first.
+/// Returns the integer at the start of these bytes: its tag, and 1, 2, 4 or 8 bytes, the lowest
+/// first.
 ///
 /// Another first byte is [`Unexpected::Tag`].
 #[inline(always)]
@@ -148,7 +151,7 @@ pub fn int_prefix(bytes: &[u8]) -> Prefix<i64>
     }
 }
 
-/// The length at the start of these bytes: an integer of 0 or more.
+/// Returns the length at the start of these bytes: an integer of 0 or more.
 ///
 /// Another first byte than an integer's tag is [`Unexpected::Length`], and an integer below 0
 /// [`Unexpected::NegativeLength`].
@@ -189,7 +192,7 @@ pub(crate) fn short_length(bytes: &[u8]) -> Option<usize>
     }
 }
 
-/// Whether a key may have this tag: a string's, of bytes or of a text.
+/// Returns whether a key may have this tag: a string's, of bytes or of a text.
 #[inline(always)]
 pub fn is_key_tag(tag: u8) -> bool
     ensures { result ≡ due_readers.is_key_tag tag }
@@ -231,7 +234,7 @@ pub enum Token {
     Template,
 }
 
-/// The token at the start of these bytes.
+/// Returns the token at the start of these bytes.
 ///
 /// A first byte that no token begins with is [`Unexpected::Tag`]. After the tag of a string, an
 /// array or an object it is as for a length, but that a count below 0 is
@@ -331,5 +334,34 @@ fn counted_prefix(bytes: &[u8]) -> Prefix<Token>
         },
         Prefix::Short { need } => Prefix::Short { need: 1 + need },
         Prefix::Unexpected(why) => Prefix::Unexpected(fault(bytes[0], why)),
+    }
+}
+
+/// How many bytes an integer with this tag has.
+fn int_len(tag: u8) -> usize
+    ensures len { (s : IntSize) → tag_of s ≡ tag → result ≡ 1 + byte_len (width_of s) }
+    ensures short { result ≤ 9 }
+{
+    match tag {
+        BSER_INT8 => 2,
+        BSER_INT16 => 3,
+        BSER_INT32 => 5,
+        _ => 9,
+    }
+}
+
+/// How many of these bytes, which begin no token, are before what is wrong: the place of a byte
+/// that may not be there is before it, and of an integer below 0 behind it.
+#[cold]
+#[inline(never)]
+pub(crate) fn before_fault(why: Unexpected, bytes: &[u8]) -> usize
+    requires { Stands why bytes.now }
+    ensures within { result ≤ length bytes.now }
+    ensures fault { IsFault why (take result bytes.now) (drop result bytes.now) }
+{
+    match why {
+        Unexpected::Tag(_) => 0,
+        Unexpected::Length(_) => 1,
+        _ => 1 + int_len(bytes[1]),
     }
 }

@@ -4,7 +4,7 @@
 #[derive(Debug, Clone, Copy)]
 pub struct Refused;
 
-/// What was asked for, or a failure.
+/// The result of a call: what was asked for, or a failure.
 ///
 /// A `Result` with an error in it is as great as the error, and is copied at each call, also where
 /// all goes well. A [`Refused`] has no content.

@@ -16,7 +16,7 @@ use Rattle.bser_messages.specs.Told.{IsReasonWithin, SliceUntold}
 use Rattle.bser_messages.specs.declared.told.Reason.{Reason}
 use Rattle.bser_messages.specs.declared.told.Reason.TheVariants.{Stopped, Failed}
 
--- of what stands where another byte is wanted
+-- of what is found where another byte is wanted
 abbrev pub code_of_kind : Kind → ℕ
 code_of_kind kinds.NextItem = 16
 code_of_kind kinds.Integer = 17
@@ -94,7 +94,7 @@ abbrev pub place_of_reason : Reason → ℕ
 place_of_reason (Stopped place) = place
 place_of_reason (Failed d) = place_of d
 
--- a number, a byte and a place that tell why a message at the start of the bytes has no tape
+-- a number, a byte and a place that say why a message at the start of the bytes has no tape
 pub record TellsWhy (bytes : List ℕ) (code byte place : ℕ) : Type 0 where
   pub reason : Reason
   pub refused : SliceUntold usual_limits true bytes reason

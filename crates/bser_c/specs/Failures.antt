@@ -26,7 +26,7 @@ pub record TellsWhyNoLength (bytes : List ℕ) (code byte place : ℕ) : Type 0 
   pub are : AreOf error code byte
   pub within : place ≤ length bytes
 
--- they tell why a message was not rewritten, and 2 that there is no room
+-- they say why a message was not rewritten, and 2 that there is no room
 abbrev pub Tells : Unwritten → ℕ → ℕ → ℕ → Type 0
 Tells (Refused d) code byte place = AreOf (cause_of d) code byte × (place ≡ place_of d)
 Tells (Failed e) code byte place = AreOf e code byte × (place ≡ 0)

@@ -6,7 +6,7 @@ use Rattle.bser_c.specs.declared.front.Front.{Front}
 abbrev pub bytes_in : Front → List ℕ
 bytes_in f = take f.len f.out.now
 
--- these bytes were put behind those that stood there
+-- these bytes were put behind those that were there
 pub record Put (old new : Front) (bytes : List ℕ) : Type 0 where
   pub through : new.out.ghost_name ≡ old.out.ghost_name
   pub room : length new.out.now ≡ length old.out.now

@@ -1,4 +1,4 @@
--- What a tape tells in a message: the bytes of each part, by its two words alone.
+-- What a tape means in a message: the bytes of each part, by its two words alone.
 use Rattle.std.specs.Prelude.{◌≡◌, ℕ, ◌+◌, ◌-◌, ◌/◌, ◌%◌, ◌^◌, min, nat_le, List, [], ◌∷◌, ◌++◌, length, take, drop, Option, Some, None, option_map, ◌==◌, if◌then◌else◌}
 use Rattle.std.specs.Int.{w32, w64, to_le_bytes, cast_signed}
 use Rattle.bser_format.specs.Canonical.{least_integer, least_count}
@@ -29,7 +29,7 @@ part_of strings second count tag =
     else if tag == 0x11 then Some []
     else None
 
--- the bytes of the part that two words tell, or none where they tell nothing
+-- the bytes of the part that two words mean, or none where they mean nothing
 abbrev pub part : List ℕ → ℕ → ℕ → Option (List ℕ)
 part strings first second = part_of strings second (first / 256) (first % 256)
 
@@ -38,14 +38,14 @@ abbrev pub joined : Option (List ℕ) → Option (List ℕ) → Option (List ℕ
 joined None b = None
 joined (Some a) b = option_map (λ x. a ++ x) b
 
--- the bytes of the parts that the words tell, one after the other, or none where two words tell
+-- the bytes of the parts that the words mean, one after the other, or none where two words mean
 -- nothing
 abbrev pub parts : List ℕ → List ℕ → Option (List ℕ)
 parts strings [] = Some []
 parts strings (first ∷ []) = Some []
 parts strings (first ∷ second ∷ words) = joined (part strings first second) (parts strings words)
 
--- the words tell so many bytes, counted up to the greatest usize
+-- the words mean so many bytes, counted up to the greatest usize
 abbrev pub TellSize : List ℕ → List ℕ → ℕ → Type 0
 TellSize strings words size = (body : List ℕ) × (parts strings words ≡ Some body) × (size ≡ min (length body) (2 ^ 64 - 1))
 

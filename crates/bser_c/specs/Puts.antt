@@ -10,8 +10,8 @@ PutsPart (Some bytes) old new answer = Puts old new bytes answer
 PutsPart None old new (Some done) = ⊥
 PutsPart None old new None = Unit {0}
 
--- the header of a body of this length and the bytes of the words were put; or the words tell
--- nothing, or what they tell has no room
+-- the header of a body of this length and the bytes of the words were put; or the words mean
+-- nothing, or what they mean has no room
 abbrev pub PutsAll : {A E : Type 0} → ℕ → List ℕ → List ℕ → Front → Front → Result A E → Type 0
 PutsAll body words strings old new (Ok done) = (bytes : List ℕ) × (parts strings words ≡ Some bytes) × Put old new (header_of body ++ bytes)
 PutsAll body words strings old new (Err at) =

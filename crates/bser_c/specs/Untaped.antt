@@ -39,13 +39,13 @@ RefusesTape strings words Memory = Unit {0}
 
 -- ---- the words alone
 
--- the bytes are the message that the words tell
+-- the bytes are the message that the words mean
 pub record AreToldBy (strings words text : List ℕ) : Type 0 where
   pub body : List ℕ
   pub told : parts strings words ≡ Some body
   pub whole : text ≡ with_header body
 
--- the words tell nothing, or a message of so many bytes
+-- the words mean nothing, or a message of so many bytes
 abbrev pub RefusesWords : List ℕ → List ℕ → Untaped → Type 0
 RefusesWords strings words (Invalid at) = parts strings words ≡ None
 RefusesWords strings words (TooLong size) = (body : List ℕ) × (parts strings words ≡ Some body) × (size ≡ size_with_header body)
@@ -58,7 +58,8 @@ abbrev pub untaped_by : Error → ℕ → Untaped
 untaped_by OutOfMemory at = Memory
 untaped_by _ at = Invalid at
 
--- a message of so many bytes was told whole, without capabilities, and all of so many words agreed
+-- a message of so many bytes was reported whole, without capabilities, and all of so many words
+-- agreed
 pub record IsSame (h : Header) (size at words : ℕ) : Type 0 where
   pub whole : min (h.start + h.len) (2 ^ 64 - 1) ≡ size
   pub capabilities : h.capabilities ≡ 0

@@ -19,7 +19,7 @@ pub const TAPE_INVALID: u32 = 4;
 /// The library contradicts itself. No call is known to answer this.
 pub const CONTRADICTION: u32 = 5;
 
-/// The number of an error.
+/// Returns the number of an error.
 pub fn code(error: &Error) -> u32
     ensures { result ≡ code_of error.now }
 {
@@ -45,7 +45,7 @@ pub fn code(error: &Error) -> u32
     }
 }
 
-/// The byte that an error is about, and 0 where it is about none.
+/// Returns the byte that an error is about, and 0 where it is about none.
 pub fn byte(error: &Error) -> u8
     ensures { result ≡ byte_of error.now }
 {
@@ -55,7 +55,7 @@ pub fn byte(error: &Error) -> u8
     }
 }
 
-/// The number of what stands where another byte is wanted.
+/// The number of what was found where another byte is wanted.
 fn kind_code(kind: &Kind) -> u32
     ensures { result ≡ code_of_kind kind.now }
 {

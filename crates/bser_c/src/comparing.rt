@@ -1,4 +1,4 @@
-//! A tape, compared with a message as it is told.
+//! Comparing a tape with a message, event by event.
 ghost use Rattle.std.specs.Prelude.{◌≡◌, ◌-◌, ◌^◌, true, false, length};
 ghost use Rattle.bser_events.specs.Told.{told};
 ghost use Rattle.bser_c.specs.Builders.{Agreed, Compares, StandNext};
@@ -11,12 +11,12 @@ use bser_events::event::{Event, Place};
 use bser_messages::told::Header;
 
 /// The words of a tape, over the bytes of its strings, and how many of them agreed with the events
-/// that were told. It takes all events, also behind one whose words are others.
+/// up to now. It takes all events, also behind one whose words are others.
 #[derive(Drop)]
 pub struct Compared<'w, 's> {
     words: &'w [u64],
     strings: &'s [u8],
-    /// How many words agreed, or `usize::MAX` where others stood next.
+    /// How many words agreed, or `usize::MAX` where others came next.
     at: usize,
     /// How many words agreed then.
     parted: usize,
@@ -48,7 +48,7 @@ fn is_second(strings: &[u8], event: Event<'_>, word: u64) -> bool
 }
 
 impl<'w, 's> Compared<'w, 's> {
-    /// No event was told.
+    /// Begins with no event reported.
     pub fn new(words: &'w [u64], strings: &'s [u8]) -> Self
         ensures words { result.words ≡ words.entry }
         ensures strings { result.strings ≡ strings.entry }
@@ -62,8 +62,8 @@ impl<'w, 's> Compared<'w, 's> {
         }
     }
 
-    /// Whether a message of so many bytes, of which `header` tells, was told whole, and all words
-    /// agreed.
+    /// Returns whether a message of so many bytes, which has this header, was reported whole, and
+    /// all words agreed.
     pub fn is_same(&self, header: Header, size: usize) -> bool
         ensures found { result ≡ true
             → IsSame header size self.now.at (length self.now.words.now) }
@@ -73,7 +73,7 @@ impl<'w, 's> Compared<'w, 's> {
         header.message_length() == size && header.capabilities == 0 && self.at == self.words.len()
     }
 
-    /// How many words agreed before any others, and so lie before those that are wrong.
+    /// Returns how many words agreed before any others, and so lie before those that are wrong.
     pub fn place(&self) -> usize {
         if self.at == usize::MAX {
             self.parted
@@ -103,7 +103,7 @@ impl<'w, 's> Compared<'w, 's> {
         true
     }
 
-    /// Notes that other words stand next.
+    /// Notes that other words come next.
     #[cold]
     #[inline(never)]
     fn part(&mut self)

@@ -15,7 +15,7 @@ pub(crate) struct Front<'o> {
 
 /// Each put appends its bytes, or answers none where they have no room.
 impl<'o> Front<'o> {
-    /// Nothing stands in `out` yet.
+    /// Begins with no byte put.
     pub(crate) fn new(out: &'o mut [u8]) -> Self
         ensures out { result.out ≡ out.entry }
         ensures len { result.len ≡ 0 }
@@ -23,7 +23,7 @@ impl<'o> Front<'o> {
         Front { out, len: 0 }
     }
 
-    /// How many bytes stand there.
+    /// How many bytes were put.
     pub(crate) fn len(&self) -> usize
         ensures { result ≡ self.now.len }
     {

@@ -44,7 +44,7 @@ pub(crate) fn head(event: Event<'_>, is_text: bool) -> u64
     }
 }
 
-/// Whether these bytes stand there.
+/// Whether these bytes are at this place.
 #[inline(always)]
 pub(crate) fn stands_at(input: &[u8], at: usize, string: &[u8]) -> bool
     ensures found { result ≡ true → StandsAt input.now at string.now }

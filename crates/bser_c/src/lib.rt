@@ -111,7 +111,7 @@ pub extern "C" fn bser_tape(alloc: Global, bytes: &[u8], words: &mut [u64]) -> B
     }
 }
 
-/// Writes the message of a tape whose strings stand in `strings` to the front of `out`. The place of
+/// Writes the message of a tape whose strings are in `strings` to the front of `out`. The place of
 /// an error counts words.
 #[unsafe(no_mangle)]
 #[tactic(auto, using(crate::proofs::Exports::no_tape, crate::proofs::Exports::no_memory))]

@@ -10,7 +10,7 @@ use bser_format::header::{
 };
 
 /// How many bytes the words have in a message, beside its header, at most `usize::MAX`; or how many
-/// words lie before two that tell nothing.
+/// words lie before two that mean nothing.
 pub(crate) fn size_of(words: &[u64], strings: &[u8]) -> Result<usize, usize>
     ensures told { IfOk result (TellSize strings.now words.now) }
     ensures none { IfErr result (λ _. parts strings.now words.now ≡ None) }
@@ -27,7 +27,7 @@ pub(crate) fn size_of(words: &[u64], strings: &[u8]) -> Result<usize, usize>
     Ok(size)
 }
 
-/// How many bytes the part has that two words tell, or none where they tell nothing, or a string
+/// How many bytes the part has that two words mean, or none where they mean nothing, or a string
 /// that ends behind the strings.
 #[inline(always)]
 fn size_of_part(first: u64, second: u64, strings: &[u8]) -> Option<usize>

@@ -22,7 +22,7 @@ pub struct BserOutcome {
     pub length: usize,
 }
 
-/// So many bytes were written.
+/// Makes the outcome of a call that wrote so many bytes.
 pub fn done(length: usize) -> BserOutcome
     ensures { result ≡ record { code = DONE; detail = 0; place = 0; length = length } }
 {
@@ -34,7 +34,7 @@ pub fn done(length: usize) -> BserOutcome
     }
 }
 
-/// So many bytes or words are wanted.
+/// Makes the outcome of a call that wants so many bytes or words.
 pub fn too_small(length: usize) -> BserOutcome
     ensures { result ≡ record { code = TOO_SMALL; detail = 0; place = 0; length = length } }
 {
@@ -46,7 +46,7 @@ pub fn too_small(length: usize) -> BserOutcome
     }
 }
 
-/// A number of the call itself, and a place.
+/// Makes the outcome of a number of the call itself, and a place.
 pub fn stopped(code: u32, place: usize) -> BserOutcome
     ensures { result ≡ record { code = code; detail = 0; place = place; length = 0 } }
 {
@@ -58,7 +58,7 @@ pub fn stopped(code: u32, place: usize) -> BserOutcome
     }
 }
 
-/// The number of an error, and its place.
+/// Makes the outcome of an error: its number, and its place.
 pub fn refused(error: &Error, place: usize) -> BserOutcome
     ensures { result ≡ record {
       code = code_of error.now;

@@ -11,7 +11,7 @@ use bser_messages::telling;
 use bser_messages::told::Untold;
 use std::alloc::Global;
 
-/// What is told of a message beside its tape.
+/// What is known of a message beside its tape.
 #[derive(Debug, Clone, Copy, PartialEq, Eq)]
 pub struct Taped {
     /// The capabilities that the message asks for, one bit each.

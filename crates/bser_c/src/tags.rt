@@ -12,5 +12,5 @@ pub const ROWS: u8 = 0x10;
 /// The tag of a container's end.
 pub const CLOSE: u8 = 0x11;
 
-/// The greatest count in a word. A greater one is told as this.
+/// The greatest count in a word. A greater one is written as this.
 pub const MOST_COUNT: u64 = (1 << 56) - 1;

@@ -39,11 +39,11 @@ pub enum Untaped {
     Memory,
 }
 
-/// Writes the message of a tape whose strings stand in `strings` to the front of `out`, and answers
+/// Writes the message of a tape whose strings are in `strings` to the front of `out`, and returns
 /// how many bytes it has. It has no capabilities. Integers and counts are in their least width, and
 /// all else as the tape spells it, templates too.
 ///
-/// A tape nests at most 128 levels, and has no words after its value. The message is told again and
+/// A tape nests at most 128 levels, and has no words after its value. The message is read again and
 /// compared with the tape before this answers. After an error `out` holds nothing of use.
 #[tactic(auto, using(crate::proofs::Untapes::refused_words, crate::proofs::Untapes::refused_compared))]
 pub fn message_of(
@@ -62,7 +62,7 @@ pub fn message_of(
     Ok(size)
 }
 
-/// Writes what the words tell, and answers how many bytes that are. It may be no message.
+/// Writes what the words mean, and returns how many bytes that are. It may be no message.
 #[tactic(auto, using(crate::proofs::Untapes::told_size, crate::proofs::Untapes::written))]
 fn write(words: &[u64], strings: &[u8], out: &mut [u8]) -> Result<usize, Untaped>
     ensures told { IfOk result (λ n. AreToldBy strings.now words.now (take n out.new)) }
@@ -85,7 +85,7 @@ fn write(words: &[u64], strings: &[u8], out: &mut [u8]) -> Result<usize, Untaped
     }
 }
 
-/// Puts the header of a body of this length, and what the words tell. The error is how many words
+/// Puts the header of a body of this length, and what the words mean. The error is how many words
 /// lie before those that are wrong.
 fn put_all(body: usize, words: &[u64], strings: &[u8], front: &mut Front<'_>) -> Result<(), usize>
     requires { body < 2 ^ 63 }
@@ -114,7 +114,7 @@ fn put_header(body: usize, front: &mut Front<'_>) -> Option<()>
     front.put_count(body)
 }
 
-/// Puts what two words tell, or answers none where they tell nothing.
+/// Puts what two words mean, or answers none where they mean nothing.
 #[inline(always)]
 #[tactic(auto, using(crate::proofs::Puts::puts_both, crate::proofs::Puts::full_first))]
 fn put_part(first: u64, second: u64, strings: &[u8], front: &mut Front<'_>) -> Option<()>
@@ -178,7 +178,7 @@ fn compare(alloc: Global, words: &[u64], strings: &[u8], message: &[u8]) -> Resu
     }
 }
 
-/// Why a message that the words told was not told, before whose error so many words agreed.
+/// Why the message that the words gave was not read back, before whose error so many words agreed.
 fn of_error(error: &Error, at: usize) -> Untaped
     ensures { result ≡ untaped_by error.now at }
 {

@@ -1,4 +1,4 @@
-//! A tape, as a message is told.
+//! Writing a tape, event by event.
 ghost use Rattle.std.specs.Prelude.{◌≡◌, ◌≤◌, ◌+◌, ◌-◌, ◌^◌, min, true, false, [], ◌∷◌, ◌++◌, length, IfSome};
 ghost use Rattle.bser_events.specs.Told.{told};
 ghost use Rattle.bser_c.specs.Builders.{Grew, words_in};
@@ -8,7 +8,7 @@ use crate::heads::{head, stands_at};
 use bser_events::builder::{Builder, Stop};
 use bser_events::event::{Event, Place};
 
-/// The words of the events that were told, and a count of them where they have no room.
+/// The words of the events up to now, and a count of them where they have no room.
 #[derive(Drop)]
 pub struct Tape<'i, 't> {
     pub input: &'i [u8],
@@ -50,8 +50,7 @@ impl<'i, 't> Tape<'i, 't> {
     }
 }
 
-/// The second word of an event, or none where the place is not in the input or another string stands
-/// there.
+/// The second word of an event, or none where the place is not in the input or has another string.
 #[inline(always)]
 fn second(input: &[u8], event: Event<'_>, place: Place) -> Option<u64>
     ensures { IfSome result (IsSecond input.now (told event.entry)) }
@@ -67,7 +66,7 @@ fn second(input: &[u8], event: Event<'_>, place: Place) -> Option<u64>
     }
 }
 
-/// Where a string stands that ends where its place does.
+/// Where a string begins that ends where its place does.
 #[inline(always)]
 fn string_at(input: &[u8], string: &[u8], place: Place) -> Option<u64>
     ensures { IfSome result (λ at. StandsAt input.now at string.now) }

@@ -1,4 +1,5 @@
--- One message read as any value, and the tree of that value written in a form: as it is, or as another tree that stands for the same.
+-- One message read as any value, and the tree of that value written in a form: as it is, or as
+-- another tree that means the same.
 use Rattle.std.specs.Prelude.{◌≡◌, ◌<◌, ◌^◌, length, Some, Ok, ◌⊎◌}
 use Rattle.bser_format.specs.Tree.{Tree}
 use Rattle.bser_format.specs.Canonical.{canonical_body, canonical_message}
@@ -18,7 +19,7 @@ use Rattle.bser_value.specs.declared.value.Value.{Value}
 abbrev pub canonical : Tree → Tree
 canonical t = t
 
--- what a reader tells: the bytes left and its count of failures
+-- what a reader shows: the bytes left and its count of failures
 abbrev pub Gives : Type 0 → Type 1
 Gives R = Source.Ghosts R
 

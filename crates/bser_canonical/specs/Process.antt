@@ -13,7 +13,8 @@ use Rattle.bser_canonical.specs.declared.program.Form.{Form}
 
 -- ---- arguments
 
--- the answer to a word: it stands at the front of the bytes, or it is longer than they are; and to no word, that there is none
+-- the answer to a word: it is at the front of the bytes, or it is longer than they are; and to no
+-- word, that there is none
 abbrev pub Answers : Option (List ℕ) → Result ℕ FillError → List ℕ → Type 0
 Answers (Some word) (Ok n) bytes = word ≡ take n bytes
 Answers (Some word) (Err TooLong) bytes = length bytes < length word

@@ -45,24 +45,25 @@ const MOST_FOR_EACH: u64 = 128;
 
 const MOST_FOR_FEW: u64 = 512_000;
 
-/// What was told up to now of the memory of a value.
+/// What the events up to now say of the memory of a value.
 #[derive(Drop)]
 pub struct Footprint {
-    /// What the values take that were told.
+    /// What the values take that were reported.
     bytes: u64,
-    /// How many lists were told that are read in pieces.
+    /// How many lists were reported that are read in pieces.
     long_lists: u64,
     /// How many containers are open, and how many were at most.
     open: u64,
     most_open: u64,
-    /// Whether the keys of a template are told, how many they are, and what those take that were.
+    /// Whether the keys of a template are being reported, how many they are, and what those take
+    /// that were.
     in_keys: bool,
     width: u64,
     keys: u64,
 }
 
 impl Footprint {
-    /// Nothing was told.
+    /// Nothing was reported.
     fn new() -> Self {
         Footprint {
             bytes: 0,
@@ -75,8 +76,8 @@ impl Footprint {
         }
     }
 
-    /// How many bytes a value takes at most while it is read and written, of which all was told of a
-    /// message of `len` bytes.
+    /// How many bytes a value takes at most while it is read and written, once all of its message
+    /// of `len` bytes was reported.
     fn total(&self, len: u64) -> u64 {
         let open = self.most_open.saturating_mul(2).min(MOST_OPEN);
         self.bytes
@@ -197,8 +198,9 @@ impl Builder for Footprint {
     }
 }
 
-/// Whether the `Value` of the message at the start of `bytes` takes at most 128 bytes for each byte of
-/// it, or at most 512,000, while it is read and written. A message that cannot be read has none.
+/// Returns whether the `Value` of the message at the start of `bytes` takes at most 128 bytes for
+/// each byte of it, or at most 512,000, while it is read and written. A message that cannot be read
+/// has none.
 pub fn is_affordable(alloc: Global, bytes: &[u8]) -> bool {
     let mut told = Footprint::new();
     match telling::from_slice(alloc, Limits::new(), bytes, &mut told) {

@@ -20,7 +20,7 @@ use std::process::ExitCode;
 /// Arguments longer than this many bytes count as the empty text.
 const LONGEST: usize = 64;
 
-/// What tells a program its arguments, without the program's name.
+/// Gives a program its arguments, without the program's name.
 pub trait Arguments {
     // the arguments, where they are known
     ghost given: { Self → Option (List (List ℕ)) };
@@ -40,7 +40,7 @@ pub struct ProcessArguments<'a, R> {
 }
 
 impl<'a, R> ProcessArguments<'a, R> {
-    /// The arguments that the runtime tells.
+    /// Takes the arguments from the runtime.
     pub fn new(rt: &'a R) -> Self {
         ProcessArguments { rt }
     }

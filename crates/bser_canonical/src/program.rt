@@ -31,7 +31,7 @@ enum Form {
 /// 1 where it refuses, with the error's text on a line of `errors`. With any other argument, or a
 /// second one, it is 2, there is a line on `errors`, and nothing is read or written.
 ///
-/// The status stands also where its line cannot be written.
+/// The status does not change where its line cannot be written.
 pub fn run<R: Source, W: Sink, E: Sink>(
     alloc: Global,
     args: &[String],

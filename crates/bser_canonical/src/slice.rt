@@ -31,8 +31,8 @@ pub enum Unwritten {
     },
 }
 
-/// The canonical message of the value of the message at the start of `bytes`, of at most 128 levels.
-/// What follows the message is ignored.
+/// Returns the canonical message of the value of the message at the start of `bytes`, of at most
+/// 128 levels. What follows the message is ignored.
 ///
 /// It is measured first, and made only where it has at most `most` bytes. Beside it this takes memory
 /// that is linear in the length of the message that is read, since no `Value` is made.

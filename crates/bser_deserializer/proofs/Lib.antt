@@ -12,6 +12,7 @@ pub mod Containers
 pub mod WholeRows
 pub mod Told
 pub mod Rows
+pub mod Buffered
 pub mod Refusals
 pub mod Clean
 pub mod FieldNames

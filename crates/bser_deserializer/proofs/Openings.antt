@@ -41,7 +41,7 @@ if_err P Q (Err e) f h = f h
 -- ---- after a look
 
 -- what is refused after others came to be buffered
-refused_grown : (needs : Needs) (W : Format) (N M : Type 0) (e : Error) (n : ℕ) (a b c : Window) → Grown n a b → (N → M) → RefusesFront needs W N e b c → RefusesFront needs W M e a c
+pub refused_grown : (needs : Needs) (W : Format) (N M : Type 0) (e : Error) (n : ℕ) (a b c : Window) → Grown n a b → (N → M) → RefusesFront needs W N e b c → RefusesFront needs W M e a c
 refused_grown needs W N M e n a b c grown name u = record {
   fails = fails_before n e a b c grown u.fails;
   may = may u.may;

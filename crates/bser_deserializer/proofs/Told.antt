@@ -76,7 +76,7 @@ value_told takes n a b before after f =
 then_some : (t : ℕ) (G : Format) (b : List ℕ) → (Bytes (t ∷ []) then G) b → 1 ≤ length b
 then_some t G b h = omega (arith, ap length h.whole, ap length h.first, length-append h.front h.rest)
 
-spelled_some : (n : ℕ) (t : Tree) (b : List ℕ) → Spells n t b → 1 ≤ length b
+pub spelled_some : (n : ℕ) (t : Tree) (b : List ℕ) → Spells n t b → 1 ≤ length b
 spelled_some n trees.null b h = omega (arith, ap length h)
 spelled_some n (trees.boolean v) b h = omega (arith, ap length h)
 spelled_some n (trees.integer v) b h = omega (arith, ap length h.spelled)

@@ -163,8 +163,8 @@ KeysGivenBack h old new = (k : ℕ) → KeysOutside (wanted_items old.state.keys
 
 -- ---- whatever is expected
 
--- the bytes of an event are its own where a value is expected. A skipped field is told as null, a row
--- and its keys have no bytes, and a key alone has either tag.
+-- the bytes of an event are its own where a value is expected. A skipped field is reported as null,
+-- a row and its keys have no bytes, and a key alone has either tag.
 abbrev pub spells_due : Due → Event → Format
 spells_due node_due = SpellsEvent
 spells_due _ = AnyBytes
@@ -200,8 +200,8 @@ abbrev pub NameTold : {B : Type 0} → (B → Event → Place → B → Type 0) 
 NameTold takes place before after old new =
     TellsName (PlacedAs AnyBytes takes) place old.state.keys (old.state.source, before) (new.state.source, after)
 
--- the builder was told some events of a value, each once and in order, and then took no more, or was
--- told no more
+-- some events of a value were reported to the builder, each once and in order, and then it took no
+-- more, or no more were reported
 abbrev pub ValueCut : {B : Type 0} → (B → Event → Place → B → Type 0) → (Stop → B → Event → Place → B → Type 0) → B → B → Seen → Type 0
 ValueCut takes stopped before after old = Cut takes stopped (old.state.source, before) after
 

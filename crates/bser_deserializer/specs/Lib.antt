@@ -19,3 +19,4 @@ pub mod Holds
 pub mod Required
 pub mod Seen
 pub mod Kept
+pub mod Buffered

@@ -107,7 +107,7 @@ MayRefuse needs e s = IsRefusal e ⊎ ExcusedBy (refusing needs) 0 e s
 abbrev pub NamesBy : {X : Type 0} → Needs → named.Reader X → Error → Window → Type 0
 NamesBy needs r e s = ((b : List ℕ) × MayBeLeft s b × (r b ≡ refuses e)) ⊎ OutsideBy (refusing needs) (RefusedAs r) e s
 
--- a call that wants bytes of this form fails, with an error of which this tells
+-- a call that wants bytes of this form fails, with an error of which this holds
 pub record RefusesFront (needs : Needs) (Wanted : Format) (Named : Type 0) (e : Error) (old new : Window) : Type 0 where
   pub fails : Fails e old new
   pub may : MayRefuse needs e old

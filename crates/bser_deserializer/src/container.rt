@@ -20,8 +20,7 @@ use bser_source::read::DeRead;
 use bser_source::reference::Lending;
 use std::mem;
 
-/// What the crates above call, and users do not: a [`Deserializer`] opens and closes containers by
-/// their heads.
+/// Opens and closes containers by their heads, for the crates above; users do not call it.
 pub trait Containers {
     /// Opens the array or template that is expected.
     fn open_items(&mut self) -> Answer<SeqHead>;

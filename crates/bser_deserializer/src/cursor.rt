@@ -19,18 +19,18 @@ use bser_format::header::{BSER_SKIP, BSER_UTF8STRING};
 use bser_source::read::DeRead;
 use bser_source::reference::Lending;
 
-/// What the crates above call, and users do not: what is expected of a [`Deserializer`].
+/// Looks at what a [`Deserializer`] expects, for the crates above; users do not call it.
 pub trait Cursor {
-    /// Whether a call failed before, so that each later one does.
+    /// Returns whether a call failed before, so that each later one does.
     fn is_failed(&self) -> bool;
 
-    /// What is expected.
+    /// Returns what is expected.
     fn due(&self) -> Due;
 
-    /// How many levels are left.
+    /// Returns how many levels are left.
     fn levels(&self) -> usize;
 
-    /// The tag of the value that is expected. It is not taken.
+    /// Returns the tag of the value that is expected. It is not taken.
     fn value_tag(&mut self) -> Answer<u8>;
 
     /// Makes a value expected.
@@ -225,7 +225,7 @@ impl<R: DeRead> Deserializer<R> {
     }
 }
 
-/// The keys of the innermost open template.
+/// Returns the keys of the innermost open template.
 #[inline(always)]
 pub fn keys_of<R: DeRead>(from: &Deserializer<R>) -> &Vec<<R::Lent as Lending>::Kept>
     ensures { kept_keys R.Lent.Lending result.now ≡ from.now.state.keys }
@@ -233,7 +233,7 @@ pub fn keys_of<R: DeRead>(from: &Deserializer<R>) -> &Vec<<R::Lent as Lending>::
     &from.keys
 }
 
-/// The key of a row's field, where it is expected and no call failed.
+/// Returns the key of a row's field, where it is expected and no call failed.
 #[inline(always)]
 pub fn name_of<R: DeRead>(from: &Deserializer<R>) -> Option<&<R::Lent as Lending>::Kept>
     ensures some { IfSome result (λ k.

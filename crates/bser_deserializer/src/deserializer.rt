@@ -214,7 +214,7 @@ impl<R: DeRead> Deserializer<R> {
         self.bunser.end(&self.info)
     }
 
-    /// The allocator that its constructor was given.
+    /// Returns the allocator that its constructor was given.
     #[inline(always)]
     pub fn allocator(&self) -> Global {
         self.alloc
@@ -232,39 +232,39 @@ impl<R: DeRead> Deserializer<R> {
         }
     }
 
-    /// The capabilities that the message's header gives.
+    /// Returns the capabilities that the message's header gives.
     pub fn capabilities(&self) -> u32
         ensures { result ≡ self.now.state.capabilities }
     {
         self.info.bser_capabilities
     }
 
-    /// The length of the message's body in bytes, as its header announces it, or 0 before the
-    /// header is read.
+    /// Returns the length of the message's body in bytes, as its header announces it, or 0 before
+    /// the header is read.
     pub fn body_length(&self) -> i64
         ensures { result ≡ self.now.state.len }
     {
         self.info.len
     }
 
-    /// How many bytes were taken, at most `i64::MAX`. Bytes that are only buffered are not counted.
-    /// After an error it stays as it was then.
+    /// Returns how many bytes were taken, at most `i64::MAX`. Bytes that are only buffered are not
+    /// counted. After an error it stays as it was then.
     pub fn read_count(&self) -> i64
         ensures { result ≡ pos (min self.now.state.source.count (2 ^ 63 - 1)) }
     {
         self.bunser.read_count()
     }
 
-    /// Where the body of the message began, by the count of bytes taken; 0 before the header is
-    /// read.
+    /// Returns where the body of the message began, by the count of bytes taken; 0 before the
+    /// header is read.
     pub fn start(&self) -> i64
         ensures { result ≡ self.now.state.start }
     {
         self.info.start
     }
 
-    /// How many containers are open. A template that is read as an array of objects counts as that
-    /// array, and its row as an object.
+    /// Returns how many containers are open. A template that is read as an array of objects counts
+    /// as that array, and its row as an object.
     pub fn opened(&self) -> usize
         ensures { result ≡ self.now.state.opened }
     {

@@ -12,7 +12,7 @@ pub enum Field {
     Unknown,
 }
 
-/// The first place of the name.
+/// Returns the first place of the name.
 #[inline(always)]
 pub fn find_field(names: &[&str], name: &[u8]) -> Field
     ensures { result ≡ field_of (map (λ r. r.now) names.now) name.now }
@@ -25,8 +25,8 @@ pub fn find_field(names: &[&str], name: &[u8]) -> Field
     Field::Unknown
 }
 
-/// Whether these are the same bytes. Each is compared, also after one that differs, so that a name
-/// that is constant is compared by whole words.
+/// Returns whether these are the same bytes. Each is compared, also after one that differs, so that
+/// a name that is constant is compared by whole words.
 #[inline(always)]
 pub fn is_same(known: &[u8], name: &[u8]) -> bool
     ensures { result ≡ bytes_eq known.now name.now }

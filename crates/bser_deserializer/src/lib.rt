@@ -9,6 +9,7 @@ pub mod deserializer;
 mod due;
 pub mod field;
 pub mod frames;
+pub mod front;
 pub mod node;
 pub mod note;
 mod scalar;

@@ -34,8 +34,8 @@ pub enum Node {
 }
 
 impl Node {
-    /// The kind of what has this tag where this is expected. None where such a tag may not be
-    /// there.
+    /// Returns the kind of what has this tag where this is expected. None where such a tag may not
+    /// be there.
     #[inline(always)]
     pub fn at(due: Due, byte: u8) -> Option<Node>
         ensures { (ks : List (List ℕ)) (place : ℕ) → result ≡ node_at (due_of ks place due)

@@ -1,4 +1,4 @@
-//! What people are told beside an error.
+//! What a description adds to an error.
 ghost use Rattle.std.specs.Prelude.{◌≡◌, ◌≢◌, false, Some};
 ghost use Rattle.bser_deserializer.specs.Calls.{complained};
 ghost use Rattle.bser_deserializer.specs.State.{refused};
@@ -56,7 +56,7 @@ pub struct Note {
 }
 
 impl Note {
-    /// Tells nothing.
+    /// Notes nothing.
     pub const NONE: Note = Note {
         finding: None,
         field: None,
@@ -64,7 +64,7 @@ impl Note {
 }
 
 impl<R: DeRead> Deserializer<R> {
-    /// What is noted beside the first error.
+    /// Returns what is noted beside the first error.
     #[cold]
     #[inline(never)]
     pub fn note(&self) -> Note

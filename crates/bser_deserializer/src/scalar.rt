@@ -30,8 +30,8 @@ fn is_something(tag: u8) -> bool
 }
 
 impl<R: DeRead> Deserializer<R> {
-    /// What kind of value is expected. It is not taken: what is read next begins with the tag that
-    /// was seen.
+    /// Returns what kind of value is expected. It is not taken: what is read next begins with the
+    /// tag that was seen.
     ///
     /// A template is an array, its row an object, and a skipped field null. The key of an object or
     /// of a row's field is [`Node::Key`]. The error is [`Complaint::TooFewItems`] or
@@ -79,8 +79,8 @@ impl<R: DeRead> Deserializer<R> {
         }
     }
 
-    /// Whether a null or a skipped field is next, which is taken then. Another kind of value is
-    /// not: what is read next is no null.
+    /// Returns whether a null or a skipped field is next, which is taken then. Another kind of
+    /// value is not: what is read next is no null.
     ///
     /// Fails as [`Deserializer::node`] does.
     #[inline(always)]

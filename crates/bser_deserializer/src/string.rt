@@ -52,8 +52,8 @@ impl<R: DeRead> Deserializer<R> {
         self.refuse(Error::de_reader_error(ReadCause::Utf8))
     }
 
-    /// Takes the bytes of the string or key that is expected, UTF-8 or not, and tells whether they
-    /// were under the text's tag.
+    /// Takes the bytes of the string or key that is expected, UTF-8 or not, and returns whether
+    /// they were under the text's tag.
     #[inline(always)]
     fn take_bytes<'s>(&mut self, scratch: &'s mut Vec<u8>) -> Answer<(Reference<'s, R::Lent>, bool)>
         ensures found { IfOk result (TakesBytes (bytes_of R.Lent.bytes) self.old self.new) }
@@ -78,7 +78,7 @@ impl<R: DeRead> Deserializer<R> {
         }
     }
 
-    /// Takes the bytes of the string or key that is expected as a copy, UTF-8 or not, and tells
+    /// Takes the bytes of the string or key that is expected as a copy, UTF-8 or not, and returns
     /// whether they were under the text's tag.
     #[inline(always)]
     fn take_copy(&mut self, alloc: Global) -> Answer<(Vec<u8>, bool)>

@@ -5,7 +5,7 @@ use Rattle.std.proofs.lemmas.List.{length-append, append_assoc, append-nil}
 use Rattle.bser_format.specs.Tree.{Tree, null, boolean, integer, real, bytes, text, array, object, template, Items, no_items, item, Entries, no_entries, entry, Rows, no_rows, row, Fields, no_fields, skip, field, rows, items, entries}
 use Rattle.bser_events.specs.Events as told
 use Rattle.bser_events.specs.Events.{Event, events, item_events, entry_events, row_events, field_events, key_events}
-use Rattle.bser_document.specs.DocumentView.{Marks, change, closed, noted, begun, mark, marks, unmarked}
+use Rattle.bser_document.specs.DocumentView.{Marks, change, closed, noted, innermost, begun, mark, marks, unmarked}
 use Rattle.bser_document.specs.Spans.{around, tree_ends, items_ends, entries_ends, keys_ends, rows_ends, fields_ends}
 
 marks_append : (a b : List Event) (m : Marks) → marks (a ++ b) m ≡ marks b (marks a m)
@@ -37,14 +37,15 @@ contained : (e : Event) (es : List Event) (f : ℕ → List (Option ℕ)) → ((
 contained e es f opens inside m =
     let p : List (Option ℕ) = m.ends in
     let n : ℕ = length p in
-    let long : length (p ++ Some 0 ∷ []) ≡ n + 1 = length-append p (Some 0 ∷ []) in
+    let outer : ℕ = innermost m.around in
+    let long : length (p ++ Some outer ∷ []) ≡ n + 1 = length-append p (Some outer ∷ []) in
     let xs : List (Option ℕ) = f (n + 1) in
-    let whole : (p ++ Some 0 ∷ []) ++ xs ≡ p ++ Some 0 ∷ xs = append_assoc p (Some 0 ∷ []) xs in
-    let total : length (p ++ Some 0 ∷ xs) + 1 ≡ n + 1 + length xs + 1 = omega (arith, length-append p (Some 0 ∷ xs)) in
+    let whole : (p ++ Some outer ∷ []) ++ xs ≡ p ++ Some outer ∷ xs = append_assoc p (Some outer ∷ []) xs in
+    let total : length (p ++ Some outer ∷ xs) + 1 ≡ n + 1 + length xs + 1 = omega (arith, length-append p (Some outer ∷ xs)) in
     ap (marks (es ++ told.close ∷ [])) (opens m) ∙ marks_append es (told.close ∷ []) (begun m) ∙ ap (mark told.close) (inside (begun m))
-    ∙ ap (λ k. closed ((p ++ Some 0 ∷ []) ++ f k) (n ∷ m.around)) long ∙ ap (λ l. closed l (n ∷ m.around)) whole
-    ∙ ap (λ l. record { ends = change l n (length (p ++ Some 0 ∷ xs) + 1); around = m.around }) (append_assoc p (Some 0 ∷ xs) (None ∷ []))
-    ∙ ap (λ l. record { ends = l; around = m.around }) (change_at p (xs ++ None ∷ []) 0 (length (p ++ Some 0 ∷ xs) + 1) ∙ ap (λ k. p ++ Some k ∷ (xs ++ None ∷ [])) total)
+    ∙ ap (λ k. closed ((p ++ Some outer ∷ []) ++ f k) (n ∷ m.around)) long ∙ ap (λ l. closed l (n ∷ m.around)) whole
+    ∙ ap (λ l. record { ends = change l n (length (p ++ Some outer ∷ xs) + 1); around = m.around }) (append_assoc p (Some outer ∷ xs) (None ∷ []))
+    ∙ ap (λ l. record { ends = l; around = m.around }) (change_at p (xs ++ None ∷ []) outer (length (p ++ Some outer ∷ xs) + 1) ∙ ap (λ k. p ++ Some k ∷ (xs ++ None ∷ [])) total)
 
 pub single : (e : Event) → ((m : Marks) → mark e m ≡ noted m) → Adds (e ∷ []) (λ n. None ∷ [])
 single e is m = is m

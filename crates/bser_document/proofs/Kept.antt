@@ -1,16 +1,17 @@
 -- What is kept as more is told.
-use Rattle.std.proofs.Common.{◌≡◌, ◌≤◌, ◌+◌, ℕ, List, [], ◌∷◌, ◌++◌, length, map, take, drop, get_or, set, zero, suc, reverse, Option, Some, None, refl, sym, ap, subst, ◌∙◌, arith}
-use Rattle.std.proofs.lemmas.List.{append_assoc, append-nil, map_push, length-append, length-drop, drop-append-le, take-append-le, drop_at, take_all, length-map, reverse-append}
+use Rattle.std.proofs.Common.{◌≡◌, ◌≤◌, ◌+◌, ℕ, List, [], ◌∷◌, ◌++◌, length, map, take, drop, get_or, set, zero, suc, ◌<◌, ◌-◌, ◌^◌, Some, None, refl, sym, ap, subst, ◌∙◌, arith}
+use Rattle.std.proofs.lemmas.List.{append_assoc, append-nil, map_push, length-append, length-drop, drop-append-le, take-append-le, drop_at, take_all, length-map, get_or-map, get_or_append_left}
 use Rattle.std.specs.Prelude.{Result, Ok, Err, OnOk, IsUtf8}
 use Rattle.std.specs.List.{AllByRecursion}
 use Rattle.bser_events.proofs.Outcomes.{both_ok}
 use Rattle.bser_events.specs.Events as told
 use Rattle.bser_events.specs.Events.{Event, TakesAll, none as no_more, more}
+use Rattle.bser_document.proofs.Links.{marks_linked}
 use Rattle.bser_document.specs.declared.document.DocumentNode.{DocumentNode}
 use Rattle.bser_document.specs.declared.document.DocumentNode.TheVariants.{Null, Bool, Int, Real, Bytes, Text, Key, Array, Object, Template, Rows, Skip, Close}
 use Rattle.bser_document.specs.declared.document.Document.{Document}
 use Rattle.bser_document.specs.declared.builder.DocumentBuilder.{DocumentBuilder}
-use Rattle.bser_document.specs.DocumentView.{piece, event_of, IsInside, IsText, Within, string_len, string_lens, Shows, Views, ViewsDocument, Takes, SameEvents, end_of, Marks, with_end, change, closed, noted, begun, mark, marks, unmarked, Marked, ClosesNodes, Closes}
+use Rattle.bser_document.specs.DocumentView.{piece, event_of, IsInside, IsText, Within, string_len, string_lens, Shows, Views, ViewsDocument, Takes, SameEvents, end_of, Marks, with_end, change, closed, noted, innermost, begun, mark, marks, unmarked, Marked, Linked, ClosesNodes, Closes}
 
 both_same : {X Y Z : Type 0} (f : X → Y → Z) {a b : X} {c d : Y} → a ≡ b → c ≡ d → f a c ≡ f b d
 both_same f {a} {b} {c} {d} p q = ap (λ x. f x c) p ∙ ap (f b) q
@@ -87,7 +88,7 @@ abbrev TakesShown : DocumentBuilder → Event → DocumentBuilder → Type 0
 TakesShown old e new = (es : List Event) → Shows old.nodes.items old.strings.items es → Shows new.nodes.items new.strings.items (es ++ e ∷ [])
 
 abbrev TakesMarked : DocumentBuilder → Event → DocumentBuilder → Type 0
-TakesMarked old e new = (es : List Event) → Marked old.nodes.items old.begun.items es → Marked new.nodes.items new.begun.items (es ++ e ∷ [])
+TakesMarked old e new = (es : List Event) → Marked old.nodes.items old.innermost es → Marked new.nodes.items new.innermost (es ++ e ∷ [])
 
 both_taken : (old new : DocumentBuilder) (e f : Event) → e ≡ f → TakesShown old f new → TakesMarked old f new → Takes old e new
 both_taken old new e f is shown marked es views =
@@ -98,32 +99,35 @@ marks_snoc [] e m = refl
 marks_snoc (x ∷ es) e m = marks_snoc es e (mark x m)
 
 -- a node that is no container
-noted_taken : (old new : DocumentBuilder) (n : DocumentNode) (e : Event) → new.nodes.items ≡ old.nodes.items ++ n ∷ [] → new.begun ≡ old.begun → end_of n ≡ None → ((m : Marks) → mark e m ≡ noted m) → TakesMarked old e new
-noted_taken old new n e nodes begun none makes es h =
+noted_taken : (old new : DocumentBuilder) (n : DocumentNode) (e : Event) → new.nodes.items ≡ old.nodes.items ++ n ∷ [] → new.innermost ≡ old.innermost → end_of n ≡ None → ((m : Marks) → mark e m ≡ noted m) → TakesMarked old e new
+noted_taken old new n e nodes same none makes es h =
     let made = marks_snoc es e unmarked ∙ makes (marks es unmarked) in
     record {
       ends = ap (map end_of) nodes ∙ map_push end_of old.nodes.items n ∙ both_same (λ l x. l ++ x ∷ []) h.ends none ∙ sym (ap (λ m. m.ends) made);
-      around = ap (λ v. reverse v.items) begun ∙ h.around ∙ sym (ap (λ m. m.around) made);
+      here = same ∙ h.here ∙ sym (ap (λ m. innermost m.around) made);
     }
 
 -- a container's node
-begun_taken : (old new : DocumentBuilder) (n : DocumentNode) (e : Event) → new.nodes.items ≡ old.nodes.items ++ n ∷ [] → new.begun.items ≡ old.begun.items ++ length old.nodes.items ∷ []
-    → end_of n ≡ Some 0 → ((m : Marks) → mark e m ≡ begun m) → TakesMarked old e new
+begun_taken : (old new : DocumentBuilder) (n : DocumentNode) (e : Event) → new.nodes.items ≡ old.nodes.items ++ n ∷ [] → new.innermost ≡ length old.nodes.items
+    → end_of n ≡ Some old.innermost → ((m : Marks) → mark e m ≡ begun m) → TakesMarked old e new
 begun_taken old new n e nodes opened some makes es h =
     let made = marks_snoc es e unmarked ∙ makes (marks es unmarked) in
     let long : length old.nodes.items ≡ length (marks es unmarked).ends = sym (length-map old.nodes.items end_of) ∙ ap length h.ends in
     record {
-      ends = ap (map end_of) nodes ∙ map_push end_of old.nodes.items n ∙ both_same (λ l x. l ++ x ∷ []) h.ends some ∙ sym (ap (λ m. m.ends) made);
-      around = ap reverse opened ∙ reverse-append old.begun.items (length old.nodes.items ∷ []) ∙ both_same (λ x l. x ∷ l) long h.around ∙ sym (ap (λ m. m.around) made);
+      ends = ap (map end_of) nodes ∙ map_push end_of old.nodes.items n ∙ both_same (λ l x. l ++ x ∷ []) h.ends (some ∙ ap Some h.here) ∙ sym (ap (λ m. m.ends) made);
+      here = opened ∙ long ∙ sym (ap (λ m. innermost m.around) made);
     }
 
 closed_taken : (old new : DocumentBuilder) → Closes old new → TakesMarked old told.close new
 closed_taken old new c es h =
     let made = marks_snoc es told.close unmarked in
-    let same : closed (map end_of old.nodes.items) (reverse old.begun.items) ≡ closed (marks es unmarked).ends (marks es unmarked).around = both_same closed h.ends h.around in
+    let around : List ℕ = (marks es unmarked).around in
+    let long : length (marks es unmarked).ends ≡ length old.nodes.items = sym (ap length h.ends) ∙ length-map old.nodes.items end_of in
+    let k = c around h.here (subst (λ n. Linked n (map end_of old.nodes.items) around) long
+    (subst (λ l. Linked (length (marks es unmarked).ends) l around) (sym h.ends) (marks_linked es unmarked tt))) in
     record {
-      ends = c.ends ∙ ap (λ m. m.ends) same ∙ sym (ap (λ m. m.ends) made);
-      around = c.around ∙ ap (λ m. m.around) same ∙ sym (ap (λ m. m.around) made);
+      ends = k.ends ∙ ap (λ l. (closed l around).ends) h.ends ∙ sym (ap (λ m. m.ends) made);
+      here = k.here ∙ ap (λ l. innermost (closed l around).around) h.ends ∙ sym (ap (λ m. innermost m.around) made);
     }
 
 -- a node was put behind the others, over more strings
@@ -191,22 +195,22 @@ pair_ok P Q (Err e) p q = tt
 
 -- a node without a string was put, where that is the event
 pub plain_ok : {X E : Type 0} (old new : DocumentBuilder) (n : DocumentNode) (e f : Event) (r : Result X E) → e ≡ f
-    → OnOk r (new.nodes.items ≡ old.nodes.items ++ n ∷ []) → OnOk r (new.strings ≡ old.strings) → OnOk r (new.begun ≡ old.begun)
+    → OnOk r (new.nodes.items ≡ old.nodes.items ++ n ∷ []) → OnOk r (new.strings ≡ old.strings) → OnOk r (new.innermost ≡ old.innermost)
     → event_of old.strings.items n ≡ f → Within old.strings.items n → string_len f ≡ 0 → end_of n ≡ None → ((m : Marks) → mark f m ≡ noted m) → OnOk r (Takes old e new)
 plain_ok old new n e f r is nodes strings begun' tells within len none makes =
     both_ok _ _ _ r nodes (pair_ok _ _ r strings begun') λ a b. both_taken old new e f is (put_plain old new n f a b.0 tells within len) (noted_taken old new n f a b.1 none makes)
 
 -- a container's node was put
 pub begun_ok : {X E : Type 0} (old new : DocumentBuilder) (n : DocumentNode) (e f : Event) (r : Result X E) → e ≡ f
-    → OnOk r (new.nodes.items ≡ old.nodes.items ++ n ∷ []) → OnOk r (new.strings ≡ old.strings) → OnOk r (new.begun.items ≡ old.begun.items ++ length old.nodes.items ∷ [])
-    → event_of old.strings.items n ≡ f → Within old.strings.items n → string_len f ≡ 0 → end_of n ≡ Some 0 → ((m : Marks) → mark f m ≡ begun m) → OnOk r (Takes old e new)
+    → OnOk r (new.nodes.items ≡ old.nodes.items ++ n ∷ []) → OnOk r (new.strings ≡ old.strings) → OnOk r (new.innermost ≡ length old.nodes.items)
+    → event_of old.strings.items n ≡ f → Within old.strings.items n → string_len f ≡ 0 → end_of n ≡ Some old.innermost → ((m : Marks) → mark f m ≡ begun m) → OnOk r (Takes old e new)
 begun_ok old new n e f r is nodes strings opened tells within len some makes =
     both_ok _ _ _ r nodes (pair_ok _ _ r strings opened) λ a b. both_taken old new e f is (put_plain old new n f a b.0 tells within len) (begun_taken old new n f a b.1 some makes)
 
 -- a string was kept, and then its node was put
 pub string_ok : {X E : Type 0} (old mid new : DocumentBuilder) (node : ℕ → ℕ → DocumentNode) (tell : List ℕ → Event) (x : List ℕ) (len at : ℕ) (e : Event) (r : Result X E) → e ≡ tell x
-    → at ≡ length old.strings.items → len ≡ length x → mid.strings.items ≡ old.strings.items ++ x → mid.nodes ≡ old.nodes → mid.begun ≡ old.begun
-    → OnOk r (new.nodes.items ≡ mid.nodes.items ++ node len at ∷ []) → OnOk r (new.strings ≡ mid.strings) → OnOk r (new.begun ≡ mid.begun)
+    → at ≡ length old.strings.items → len ≡ length x → mid.strings.items ≡ old.strings.items ++ x → mid.nodes ≡ old.nodes → mid.innermost ≡ old.innermost
+    → OnOk r (new.nodes.items ≡ mid.nodes.items ++ node len at ∷ []) → OnOk r (new.strings ≡ mid.strings) → OnOk r (new.innermost ≡ mid.innermost)
     → ((s : List ℕ) (l a : ℕ) → event_of s (node l a) ≡ tell (piece s l a)) → ((s : List ℕ) (l a : ℕ) → IsInside s l a → piece s l a ≡ x → Within s (node l a)) → string_len (tell x) ≡ length x
     → ((l a : ℕ) → end_of (node l a) ≡ None) → ((m : Marks) → mark (tell x) m ≡ noted m) → OnOk r (Takes old e new)
 string_ok old mid new node tell x len at e r is place long strings nodes begun' nodes' strings' begun'' tells within count none makes =
@@ -223,37 +227,32 @@ string_ok old mid new node tell x len at e r is place long strings nodes begun' 
 
 -- ---- ends
 
-change_past : (xs : List (Option ℕ)) (at n : ℕ) → length xs ≤ at → change xs at n ≡ xs
-change_past [] at n h = refl
-change_past (x ∷ xs) zero n h = absurd (omega (arith, h))
-change_past (x ∷ xs) (suc at) n h = ap (λ l. x ∷ l) (change_past xs at n (omega (arith, h)))
-
 change_set : (ns : List DocumentNode) (at n : ℕ) (m : DocumentNode) → ((d : DocumentNode) → end_of m ≡ with_end n (end_of (get_or ns at d))) → map end_of (set ns at m) ≡ change (map end_of ns) at n
 change_set [] at n m h = refl
 change_set (x ∷ ns) zero n m h = ap (λ e. e ∷ map end_of ns) (h x)
 change_set (x ∷ ns) (suc at) n m h = ap (λ l. end_of x ∷ l) (change_set ns at n m h)
 
-top : (ns ms : List DocumentNode) (bs cs : List ℕ) (at : ℕ) → bs ≡ cs ++ at ∷ [] → map end_of ms ≡ change (map end_of ns ++ None ∷ []) at (length (map end_of ns) + 1) → ClosesNodes ns ms bs cs
-top ns ms bs cs at is ends =
-    let e : reverse bs ≡ at ∷ reverse cs = ap reverse is ∙ reverse-append cs (at ∷ []) in
-    record {
-      ends = ends ∙ sym (ap (λ l. (closed (map end_of ns) l).ends) e);
-      around = sym (ap (λ l. (closed (map end_of ns) l).around) e);
-    }
-
 -- the ends of the nodes with one that closes
 with_close : (ns : List DocumentNode) (at : ℕ) → change (map end_of (ns ++ Close ∷ [])) at (length ns + 1) ≡ change (map end_of ns ++ None ∷ []) at (length (map end_of ns) + 1)
 with_close ns at = both_same (λ l n. change l at (n + 1)) (map_push end_of ns Close) (sym (length-map ns end_of))
 
-pub close_at : (ns : List DocumentNode) (bs : List ℕ) (ms : List DocumentNode) (cs : List ℕ) (at n : ℕ) (m : DocumentNode) → ms ≡ ns ++ Close ∷ [] → bs ≡ cs ++ at ∷ [] → n ≡ length ms
-    → ((d : DocumentNode) → end_of m ≡ with_end n (end_of (get_or ms at d))) → ClosesNodes ns (set ms at m) bs cs
-close_at ns bs ms cs at n m pushed is last h =
+pub close_at : (ns ms : List DocumentNode) (at outer n : ℕ) (m : DocumentNode) → ms ≡ ns ++ Close ∷ [] → n ≡ length ms → at < 2 ^ 64 - 1
+    → ((d : DocumentNode) → end_of m ≡ with_end n (end_of (get_or ms at d))) → ((d : DocumentNode) (k : ℕ) → end_of (get_or ms at d) ≡ Some k → outer ≡ k) → ClosesNodes ns (set ms at m) at outer
+close_at ns ms at outer n m pushed last below h gives [] is linked = absurd (omega (arith, below, is))
+close_at ns ms at outer n m pushed last below h gives (x ∷ around) is linked =
     let long : n ≡ length ns + 1 = last ∙ ap length pushed ∙ length-append ns (Close ∷ []) in
-    top ns (set ms at m) bs cs at is (change_set ms at n m h ∙ both_same (λ l k. change (map end_of l) at k) pushed long ∙ with_close ns at)
+    let inside : at < length ns = omega (arith, is, linked.0) in
+    let there : end_of (get_or ms at Close) ≡ Some (innermost around) =
+    ap (λ l. end_of (get_or l at Close)) pushed ∙ ap end_of (get_or_append_left ns (Close ∷ []) Close at inside) ∙ sym (get_or-map end_of ns at Close None inside)
+    ∙ ap (λ k. get_or (map end_of ns) k None) is ∙ linked.1 in
+    record {
+      ends = change_set ms at n m h ∙ both_same (λ l k. change (map end_of l) at k) pushed long ∙ with_close ns at ∙ ap (λ k. change (map end_of ns ++ None ∷ []) k (length (map end_of ns) + 1)) is;
+      here = gives Close (innermost around) there;
+    }
 
-pub close_past : (ns : List DocumentNode) (bs : List ℕ) (ms : List DocumentNode) (cs : List ℕ) (at : ℕ) → ms ≡ ns ++ Close ∷ [] → bs ≡ cs ++ at ∷ [] → length ms ≤ at → ClosesNodes ns ms bs cs
-close_past ns bs ms cs at pushed is past =
-    top ns ms bs cs at is (sym (change_past (map end_of ms) at (length ns + 1) (subst (λ k. k ≤ at) (sym (length-map ms end_of)) past)) ∙ ap (λ l. change (map end_of l) at (length ns + 1)) pushed ∙ with_close ns at)
+pub close_past : (ns ms : List DocumentNode) (at : ℕ) → ms ≡ ns ++ Close ∷ [] → length ms ≤ at → ClosesNodes ns ms at at
+close_past ns ms at pushed past [] is linked = record { ends = ap (map end_of) pushed ∙ map_push end_of ns Close; here = is }
+close_past ns ms at pushed past (x ∷ around) is linked = absurd (omega (arith, past, is, linked.0, ap length pushed, length-append ns (Close ∷ [])))
 
 -- the answer of a close
 pub close_ok : {X E : Type 0} (old new : DocumentBuilder) (e : Event) (r : Result X E) → e ≡ told.close

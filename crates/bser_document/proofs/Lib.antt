@@ -4,6 +4,7 @@ pub mod Found
 mod Places
 mod Facts
 pub mod Whole
+mod Links
 mod Kept
 mod Lengths
 mod Ends

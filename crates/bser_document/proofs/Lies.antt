@@ -5,16 +5,12 @@ use Rattle.bser_events.specs.Events as told
 use Rattle.bser_events.specs.Events.{Event}
 use Rattle.bser_document.specs.declared.document.Document.{Document}
 use Rattle.bser_document.specs.declared.document.DocumentNode.{DocumentNode}
-use Rattle.bser_document.specs.DocumentView.{event_of, end_of, Marks, change, closed, mark, marks}
+use Rattle.bser_document.specs.DocumentView.{event_of, end_of, Marks, closed, innermost, mark, marks}
 use Rattle.bser_document.specs.Spans.{around, Lies}
 use Rattle.bser_document.proofs.Ends.{Adds}
+use Rattle.bser_document.proofs.Links.{change_length}
 
 -- ---- an end for each event
-
-change_length : (xs : List (Option ℕ)) (at n : ℕ) → length (change xs at n) ≡ length xs
-change_length [] at n = refl
-change_length (x ∷ xs) zero n = refl
-change_length (x ∷ xs) (suc at) n = ap suc (change_length xs at n)
 
 one_more : (xs : List (Option ℕ)) (x : Option ℕ) → length (xs ++ x ∷ []) ≡ length xs + 1
 one_more xs x = length-append xs (x ∷ [])
@@ -30,10 +26,10 @@ mark_length (told.integer v) m = one_more m.ends None
 mark_length (told.real v) m = one_more m.ends None
 mark_length (told.bytes s) m = one_more m.ends None
 mark_length (told.text s) m = one_more m.ends None
-mark_length (told.open_array n) m = one_more m.ends (Some 0)
-mark_length (told.open_object n) m = one_more m.ends (Some 0)
+mark_length (told.open_array n) m = one_more m.ends (Some (innermost m.around))
+mark_length (told.open_object n) m = one_more m.ends (Some (innermost m.around))
 mark_length (told.key s) m = one_more m.ends None
-mark_length (told.open_template n) m = one_more m.ends (Some 0)
+mark_length (told.open_template n) m = one_more m.ends (Some (innermost m.around))
 mark_length (told.open_rows n) m = one_more m.ends None
 mark_length told.skip m = one_more m.ends None
 mark_length told.close m = closed_length m.ends m.around

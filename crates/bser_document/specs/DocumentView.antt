@@ -10,18 +10,18 @@ use Rattle.bser_deserializer.specs.WholeRows.{HasWholeRows}
 use Rattle.bser_document.specs.Whole.{value_in}
 use Rattle.bser_document.specs.declared.document.Document.{Document}
 use Rattle.bser_document.specs.declared.builder.DocumentBuilder.{DocumentBuilder}
-pub use Rattle.bser_document.specs.Nodes.{piece, event_of, IsInside, IsText, Within, string_len, string_lens, weight, Shows, end_of, Marks, with_end, change, closed, noted, begun, mark, marks, unmarked, Marked, ClosesNodes, SameEvents}
+pub use Rattle.bser_document.specs.Nodes.{piece, event_of, IsInside, IsText, Within, string_len, string_lens, weight, Shows, end_of, Marks, with_end, change, closed, noted, innermost, begun, mark, marks, unmarked, Marked, Linked, ClosesTo, ClosesNodes, SameEvents}
 
 -- the same of a builder
 abbrev pub Closes : DocumentBuilder → DocumentBuilder → Type 0
-Closes old new = ClosesNodes old.nodes.items new.nodes.items old.begun.items new.begun.items
+Closes old new = ClosesNodes old.nodes.items new.nodes.items old.innermost new.innermost
 
--- what was told up to now
+-- what was reported up to now
 pub record Views (b : DocumentBuilder) (es : List Event) : Type 0 where
   pub shows : Shows b.nodes.items b.strings.items es
-  pub marked : Marked b.nodes.items b.begun.items es
+  pub marked : Marked b.nodes.items b.innermost es
 
--- all that was told is the events of one tree, of which a value is read
+-- all that was reported is the events of one tree, of which a value is read
 pub record ViewsValue (b : DocumentBuilder) : Type 0 where
   pub tree : Tree
   pub read : Tree
@@ -30,7 +30,7 @@ pub record ViewsValue (b : DocumentBuilder) : Type 0 where
   pub rows : HasWholeRows tree
   pub views : Views b (events tree)
 
--- the nodes of a document tell these events, and have their ends
+-- the nodes of a document mean these events, and have their ends
 pub record ViewsDocument (d : Document) (es : List Event) : Type 0 where
   pub shows : Shows d.nodes.items d.strings.items es
   pub ends : map end_of d.nodes.items ≡ (marks es unmarked).ends

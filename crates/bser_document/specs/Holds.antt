@@ -43,7 +43,7 @@ as_real_bits _ = None
 
 -- ---- nodes
 
--- the node at this place tells the first of these events
+-- the node at this place means the first of these events
 abbrev pub TellsFirst : Document → ℕ → DocumentNode → Type 0
 TellsFirst d at n = (e : Event) (es : List Event) (ends : List (Option ℕ)) → Lies d at (e ∷ es) ends → event_of d.strings.items n ≡ e
 
@@ -59,7 +59,7 @@ IsOwnNode i n = i.keys ≡ None → IsNodeAt i.document.now i.at n
 abbrev pub HasTemplateNode : Item → ℕ → Type 0
 HasTemplateNode i len = (end : ℕ) × (i.keys ≡ None) × IsNodeAt i.document.now i.at (nodes.Template len end)
 
--- the value that a node tells, a container being empty
+-- the value that a node means, a container being empty
 abbrev pub event_tree : Event → Tree
 event_tree (told.boolean v) = boolean v
 event_tree (told.integer v) = integer v

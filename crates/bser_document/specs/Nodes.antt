@@ -1,5 +1,6 @@
--- The nodes of a document, and the bytes of its strings: which events they tell, and where containers end.
-use Rattle.std.specs.Prelude.{◌≡◌, ◌≤◌, ℕ, ◌+◌, List, [], ◌∷◌, ◌++◌, length, map, take, drop, reverse, zero, suc, Option, Some, None, IsUtf8}
+-- The nodes of a document, and the bytes of its strings: which events they mean, and where
+-- containers end.
+use Rattle.std.specs.Prelude.{◌≡◌, ◌≤◌, ◌<◌, ℕ, ◌+◌, ◌-◌, ◌^◌, List, [], ◌∷◌, ◌++◌, length, map, take, drop, get_or, zero, suc, Option, Some, None, IsUtf8, ⊤}
 use Rattle.std.specs.List.{AllByRecursion}
 use Rattle.bser_events.specs.Events as told
 use Rattle.bser_events.specs.Events.{Event}
@@ -10,7 +11,7 @@ use Rattle.bser_document.specs.declared.document.DocumentNode.TheVariants.{Null,
 abbrev pub piece : List ℕ → ℕ → ℕ → List ℕ
 piece s len at = take len (drop at s)
 
--- what a node tells
+-- the event that a node means
 abbrev pub event_of : List ℕ → DocumentNode → Event
 event_of s Null = told.null
 event_of s (Bool v) = told.boolean v
@@ -57,7 +58,7 @@ string_lens (e ∷ es) = string_len e + string_lens es
 abbrev pub weight : List Event → ℕ
 weight es = length es + string_lens es
 
--- these nodes over these strings tell these events, and no byte is kept beside
+-- these nodes over these strings mean these events, and no byte is kept beside
 pub record Shows (ns : List DocumentNode) (s : List ℕ) (es : List Event) : Type 0 where
   pub same : map (event_of s) ns ≡ es
   pub within : AllByRecursion (Within s) ns
@@ -97,9 +98,14 @@ closed ends (at ∷ around) = record { ends = change (ends ++ None ∷ []) at (l
 abbrev pub noted : Marks → Marks
 noted m = record { ends = m.ends ++ None ∷ []; around = m.around }
 
--- one more container, which is the innermost then
+-- the place of the innermost of these containers, and no node's where there is none
+abbrev pub innermost : List ℕ → ℕ
+innermost [] = 2 ^ 64 - 1
+innermost (at ∷ around) = at
+
+-- one more container, which is the innermost then: it has the one around it in the place of its end
 abbrev pub begun : Marks → Marks
-begun m = record { ends = m.ends ++ Some 0 ∷ []; around = length m.ends ∷ m.around }
+begun m = record { ends = m.ends ++ Some (innermost m.around) ∷ []; around = length m.ends ∷ m.around }
 
 -- what an event makes of the ends
 abbrev pub mark : Event → Marks → Marks
@@ -114,21 +120,31 @@ abbrev pub marks : List Event → Marks → Marks
 marks [] m = m
 marks (e ∷ es) m = marks es (mark e m)
 
--- nothing was told
+-- nothing was reported
 abbrev pub unmarked : Marks
 unmarked = record { ends = []; around = [] }
 
--- these nodes have the ends that the events give
-pub record Marked (ns : List DocumentNode) (bs : List ℕ) (es : List Event) : Type 0 where
+-- these nodes have the ends that the events give, and this is the innermost container
+pub record Marked (ns : List DocumentNode) (at : ℕ) (es : List Event) : Type 0 where
   pub ends : map end_of ns ≡ (marks es unmarked).ends
-  pub around : reverse bs ≡ (marks es unmarked).around
+  pub here : at ≡ innermost (marks es unmarked).around
+
+-- containers before the n-th node, each behind the one around it, which it has in the place of its end
+abbrev pub Linked : ℕ → List (Option ℕ) → List ℕ → Type 0
+Linked n ends [] = ⊤
+Linked n ends (at ∷ around) = (at < n) × (get_or ends at None ≡ Some (innermost around)) × Linked at ends around
+
+-- the innermost of these containers was closed
+pub record ClosesTo (ns ms : List DocumentNode) (around : List ℕ) (at : ℕ) : Type 0 where
+  pub ends : map end_of ms ≡ (closed (map end_of ns) around).ends
+  pub here : at ≡ innermost (closed (map end_of ns) around).around
 
 -- the innermost container was closed
-pub record ClosesNodes (ns ms : List DocumentNode) (bs cs : List ℕ) : Type 0 where
-  pub ends : map end_of ms ≡ (closed (map end_of ns) (reverse bs)).ends
-  pub around : reverse cs ≡ (closed (map end_of ns) (reverse bs)).around
+abbrev pub ClosesNodes : List DocumentNode → List DocumentNode → ℕ → ℕ → Type 0
+ClosesNodes ns ms at outer =
+    (around : List ℕ) → at ≡ innermost around → Linked (length ns) (map end_of ns) around → ClosesTo ns ms around outer
 
--- nodes that tell the same
+-- nodes that mean equal events
 pub record SameEvents (old new : List DocumentNode) : Type 0 where
   pub same : (s : List ℕ) → map (event_of s) new ≡ map (event_of s) old
   pub within : (s : List ℕ) → AllByRecursion (Within s) old → AllByRecursion (Within s) new

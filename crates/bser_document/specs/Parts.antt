@@ -117,7 +117,7 @@ AreRowsIfKeyed d (Some k) at left = (us : trees.Items) × AreParts d (Some k) at
 
 -- ---- the value of a part
 
--- what stands from this place on in the innermost container
+-- what is from this place on in the innermost container
 abbrev pub members_at : Document → ℕ → List Member
 members_at d at = (tell_back (map (event_of d.strings.items) (drop at d.nodes.items)) untold).inner
 

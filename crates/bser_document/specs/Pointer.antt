@@ -60,7 +60,7 @@ abbrev pub BeginsText : List ℕ → Option (ℕ × Bor (List ℕ)) → Type 0
 BeginsText s None = token_text s ≡ []
 BeginsText s (Some r) = token_text s ≡ r.0 ∷ token_text r.1.now
 
--- no plus stands first, and no zero before other bytes
+-- no plus comes first, and no zero before other bytes
 abbrev pub is_plain : List ℕ → Bool
 is_plain [] = true
 is_plain (b ∷ []) = not (b == 43)

@@ -14,7 +14,7 @@ use Rattle.bser_deserializer.specs.WholeRows.{HasWholeRows}
 use Rattle.bser_document.specs.declared.document.Document.{Document}
 use Rattle.bser_document.specs.DocumentView.{ViewsDocument}
 
--- what was expected was taken, and the document keeps the events of the tree that it stands for
+-- what was expected was taken, and the document keeps the events of its tree
 pub record TookDocument (old new : State) (d : Document) : Type 0 where
   pub tree : Tree
   pub read : Tree

@@ -42,7 +42,7 @@ abbrev mutual
 
 -- ---- where they lie
 
--- from this place on a document's nodes tell these events, and have these ends
+-- from this place on a document's nodes mean these events, and have these ends
 pub record Lies (d : Document) (at : ℕ) (es : List Event) (xs : List (Option ℕ)) : Type 0 where
   pub after : List Event
   pub here : map (event_of d.strings.items) (drop at d.nodes.items) ≡ es ++ after

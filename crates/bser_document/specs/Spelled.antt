@@ -1,10 +1,10 @@
--- The tree that events tell, as it is spelled. They are gone through from the last to the first.
+-- The tree of events, as it is spelled. They are gone through from the last to the first.
 use Rattle.std.specs.Prelude.{ℕ, zero, suc, List, [], ◌∷◌, drop}
 use Rattle.bser_format.specs.Tree.{Tree, null, boolean, integer, real, bytes, text, array, object, template, Items, no_items, item, Entries, no_entries, entry, Rows, no_rows, row, Fields, no_fields, skip, field}
 use Rattle.bser_events.specs.Events as told
 use Rattle.bser_events.specs.Events.{Event}
 
--- what stands inside a container: a value, a key, a skip, or the count of a template's rows
+-- what is inside a container: a value, a key, a skip, or the count of a template's rows
 pub data Member : Type 0 where
   a_value : Tree → Member
   a_key : List ℕ → Member
@@ -52,7 +52,7 @@ rows_among k _ = no_rows
 
 -- ---- events
 
--- one more member stands before the others
+-- one more member is before the others
 abbrev pub before : Member → Frames → Frames
 before m s = record { inner = m ∷ s.inner; around = s.around }
 
@@ -91,6 +91,6 @@ abbrev pub first_value : List Member → Tree
 first_value (a_value t ∷ ms) = t
 first_value _ = null
 
--- the tree that these events tell, and null where they tell none
+-- the tree of these events, and null where they have none
 abbrev pub tree_told : List Event → Tree
 tree_told es = first_value (tell_back es untold).inner

@@ -1,4 +1,4 @@
--- A document that is told to a builder.
+-- A document that is reported to a builder.
 use Rattle.std.specs.Prelude.{Bool, true, false}
 use Rattle.bser_events.specs.Events as told
 use Rattle.bser_events.specs.Events.{Event, events, TakesAll}
@@ -17,6 +17,6 @@ is_text_value _ = false
 abbrev pub TakesNowhere : {B : Type 0} → (B → Event → Place → B → Type 0) → B → Event → B → Type 0
 TakesNowhere takes before e after = takes before e (place_at 0 0 (is_text_value e)) after
 
--- what was told when it was read is told again, each event at no place
+-- what was reported when it was read is reported again, each event at no place
 abbrev pub Told : {B : Type 0} → (B → Event → Place → B → Type 0) → Document → B → B → Type 0
 Told takes d before after = (t : Tree) → ViewsDocument d (events t) → TakesAll (TakesNowhere takes) before (events t) after

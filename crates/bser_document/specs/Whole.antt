@@ -11,7 +11,7 @@ use Rattle.bser_document.specs.declared.document.DocumentNode.{DocumentNode}
 use Rattle.bser_document.specs.Nodes.{event_of, Within, string_lens, end_of, marks, unmarked}
 use Rattle.bser_document.specs.Spelled.{tree_told}
 
--- the tree that these nodes over these strings tell, as it is spelled
+-- the tree of these nodes over these strings, as it is spelled
 abbrev pub tree_in : List DocumentNode → List ℕ → Tree
 tree_in ns s = tree_told (map (event_of s) ns)
 
@@ -21,7 +21,7 @@ value_in ns s = unwrap_or (normal (expand (tree_in ns s))) null
 
 -- ---- what is known
 
--- the nodes tell the events of their tree, and no others
+-- the nodes mean the events of their tree, and no others
 abbrev pub TellsTree : List DocumentNode → List ℕ → Type 0
 TellsTree ns s = map (event_of s) ns ≡ events (tree_in ns s)
 

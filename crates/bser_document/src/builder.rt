@@ -1,5 +1,5 @@
 //! What is made of the events of a value.
-ghost use Rattle.std.specs.Prelude.{◌≡◌, true, false, [], ◌∷◌, ◌++◌, length, string_bytes, OnOk, IfOk};
+ghost use Rattle.std.specs.Prelude.{◌≡◌, ℕ, true, false, [], ◌∷◌, ◌++◌, length, string_bytes, Some, OnOk, IfOk};
 ghost use Rattle.bser_events.specs.Events as events;
 ghost use Rattle.bser_events.specs.Told.{told};
 ghost use Rattle.bser_events.specs.declared.builder.Stop.TheVariants.{Memory};
@@ -16,23 +16,27 @@ use std::alloc::{AllocError, Global};
 pub struct DocumentBuilder {
     nodes: Vec<DocumentNode>,
     strings: Vec<u8>,
-    /// The nodes of the containers that are open.
-    begun: Vec<usize>,
+    /// The node of the innermost open container. Where its end will be it has the node of the
+    /// container around it, so that no list of them is kept.
+    innermost: usize,
 }
 
+/// The node of no container.
+const NO_NODE: usize = usize::MAX;
+
 impl DocumentBuilder {
-    /// Nothing was read.
+    /// Begins with nothing read.
     pub fn new(alloc: Global) -> Self
         ensures { Views result [] }
     {
         DocumentBuilder {
             nodes: Vec::new(alloc),
             strings: Vec::new(alloc),
-            begun: Vec::new(alloc),
+            innermost: NO_NODE,
         }
     }
 
-    /// What was told, which is the whole of a value.
+    /// What was reported, which is the whole of a value.
     pub(crate) fn into_document(self) -> Document
         requires { ViewsValue self }
         ensures nodes { result.nodes ≡ self.nodes }
@@ -41,7 +45,7 @@ impl DocumentBuilder {
         let DocumentBuilder {
             nodes,
             strings,
-            begun: _,
+            innermost: _,
         } = self;
         Document { nodes, strings }
     }
@@ -51,7 +55,7 @@ impl DocumentBuilder {
     fn put(&mut self, node: DocumentNode) -> Result<(), AllocError>
         ensures nodes { OnOk result (self.new.nodes.items ≡ self.old.nodes.items ++ node ∷ []) }
         ensures strings { OnOk result (self.new.strings ≡ self.old.strings) }
-        ensures begun { OnOk result (self.new.begun ≡ self.old.begun) }
+        ensures innermost { OnOk result (self.new.innermost ≡ self.old.innermost) }
     {
         self.nodes.push(node)?;
         Ok(())
@@ -64,7 +68,7 @@ impl DocumentBuilder {
         ensures strings { OnOk result
             (self.new.strings.items ≡ self.old.strings.items ++ string.now) }
         ensures nodes { OnOk result (self.new.nodes ≡ self.old.nodes) }
-        ensures begun { OnOk result (self.new.begun ≡ self.old.begun) }
+        ensures innermost { OnOk result (self.new.innermost ≡ self.old.innermost) }
     {
         let at = self.strings.len();
         self.strings.extend_from_slice(string)?;
@@ -78,7 +82,7 @@ impl DocumentBuilder {
         ensures strings { OnOk result
             (self.new.strings.items ≡ self.old.strings.items ++ string.items) }
         ensures nodes { OnOk result (self.new.nodes ≡ self.old.nodes) }
-        ensures begun { OnOk result (self.new.begun ≡ self.old.begun) }
+        ensures innermost { OnOk result (self.new.innermost ≡ self.old.innermost) }
     {
         let at = self.strings.len();
         if string.len() <= at {
@@ -96,11 +100,11 @@ impl DocumentBuilder {
     fn begin(&mut self, node: DocumentNode) -> Result<(), AllocError>
         ensures nodes { OnOk result (self.new.nodes.items ≡ self.old.nodes.items ++ node ∷ []) }
         ensures strings { OnOk result (self.new.strings ≡ self.old.strings) }
-        ensures begun { OnOk result (self.new.begun.items
-            ≡ self.old.begun.items ++ length self.old.nodes.items ∷ []) }
+        ensures innermost { OnOk result (self.new.innermost ≡ length self.old.nodes.items) }
     {
-        self.begun.push(self.nodes.len())?;
+        let at = self.nodes.len();
         self.nodes.push(node)?;
+        self.innermost = at;
         Ok(())
     }
 
@@ -113,28 +117,28 @@ impl DocumentBuilder {
         ensures ends { OnOk result (Closes self.old self.new) }
     {
         self.nodes.push(DocumentNode::Close)?;
-        let Some(at) = self.begun.pop() else {
-            return Ok(());
-        };
         let last = self.nodes.len();
-        if let Some(node) = self.nodes.get_mut(at) {
-            *node = ended(*node, last);
+        if let Some(node) = self.nodes.get_mut(self.innermost) {
+            let (closed, outer) = ended(*node, last);
+            *node = closed;
+            self.innermost = outer;
         }
         Ok(())
     }
 }
 
-/// A container's node, with its end.
+/// A container's node with its end, and the node that it had in its place.
 #[inline(always)]
-fn ended(node: DocumentNode, last: usize) -> DocumentNode
-    ensures same { SameEvents (node ∷ []) (result ∷ []) }
-    ensures ends { end_of result ≡ with_end last (end_of node) }
+fn ended(node: DocumentNode, last: usize) -> (DocumentNode, usize)
+    ensures same { SameEvents (node ∷ []) (result.0 ∷ []) }
+    ensures ends { end_of result.0 ≡ with_end last (end_of node) }
+    ensures outer { (at : ℕ) → end_of node ≡ Some at → result.1 ≡ at }
 {
     match node {
-        DocumentNode::Array { len, end: _ } => DocumentNode::Array { len, end: last },
-        DocumentNode::Object { len, end: _ } => DocumentNode::Object { len, end: last },
-        DocumentNode::Template { len, end: _ } => DocumentNode::Template { len, end: last },
-        _ => node,
+        DocumentNode::Array { len, end } => (DocumentNode::Array { len, end: last }, end),
+        DocumentNode::Object { len, end } => (DocumentNode::Object { len, end: last }, end),
+        DocumentNode::Template { len, end } => (DocumentNode::Template { len, end: last }, end),
+        _ => (node, NO_NODE),
     }
 }
 
@@ -164,13 +168,22 @@ impl DocumentBuilder {
                     at,
                 })
             }
-            Event::Array { len } => self.begin(DocumentNode::Array { len, end: 0 }),
-            Event::Object { len } => self.begin(DocumentNode::Object { len, end: 0 }),
+            Event::Array { len } => self.begin(DocumentNode::Array {
+                len,
+                end: self.innermost,
+            }),
+            Event::Object { len } => self.begin(DocumentNode::Object {
+                len,
+                end: self.innermost,
+            }),
             Event::Key(key) => {
                 let at = self.keep(key.as_bytes())?;
                 self.put(DocumentNode::Key { len: key.len(), at })
             }
-            Event::Template { len } => self.begin(DocumentNode::Template { len, end: 0 }),
+            Event::Template { len } => self.begin(DocumentNode::Template {
+                len,
+                end: self.innermost,
+            }),
             Event::Rows { len } => self.put(DocumentNode::Rows { len }),
             Event::Close => self.close(),
         }

@@ -16,21 +16,21 @@ pub enum DocumentNode {
     Bytes {
         /// How many bytes it has.
         len: usize,
-        /// How many bytes stand before it.
+        /// How many bytes are before it.
         at: usize,
     },
     /// A text.
     Text {
         /// How many bytes it has.
         len: usize,
-        /// How many bytes stand before it.
+        /// How many bytes are before it.
         at: usize,
     },
     /// A key of an object or of a template.
     Key {
         /// How many bytes it has.
         len: usize,
-        /// How many bytes stand before it.
+        /// How many bytes are before it.
         at: usize,
     },
     /// An array.

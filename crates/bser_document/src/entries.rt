@@ -74,7 +74,7 @@ impl<'d> Iterator for Entries<'d> {
 }
 
 impl<'d> Entries<'d> {
-    /// How many entries are still to come.
+    /// Returns how many entries are still to come.
     pub fn len(&self) -> usize
         ensures { (m : List (List ℕ × Tree)) → HoldsEntries self.now m → result ≡ length m }
     {
@@ -99,8 +99,8 @@ impl<'d> Entries<'d> {
 }
 
 impl<'d> Item<'d> {
-    /// The entries of an object, of a row its keys and fields, and `None` for all else. They come
-    /// as they are spelled: keys that are there twice come twice.
+    /// Returns the entries of an object, of a row its keys and fields, and `None` for all else.
+    /// They come as they are spelled: keys that are there twice come twice.
     pub fn entries(self) -> Option<Entries<'d>>
         ensures { (u : Tree) → HoldsItem self.entry u → FindsEntries (as_object u) result }
     {
@@ -123,8 +123,8 @@ impl<'d> Item<'d> {
         }
     }
 
-    /// The value at this key of an object, of equal keys the last. `None` where the object has no
-    /// such key, and for every value that is no object.
+    /// Returns the value at this key of an object, of equal keys the last. `None` where the object
+    /// has no such key, and for every value that is no object.
     pub fn get(self, key: &str) -> Option<Item<'d>>
         ensures { (u : Tree) → HoldsItem self.entry u → FindsItem (get key.now u) result }
     {

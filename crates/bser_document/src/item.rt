@@ -31,7 +31,7 @@ pub(crate) struct Keys {
     pub(crate) len: usize,
 }
 
-/// A value inside a document, as it is read: a template is the array of its rows, a row is the
+/// A value inside a document, as it is read. A template is the array of its rows, a row is the
 /// object of its keys and fields, and a skipped field is null.
 #[derive(Clone, Copy)]
 pub struct Item<'d> {

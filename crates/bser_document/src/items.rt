@@ -51,7 +51,7 @@ impl<'d> Iterator for Items<'d> {
 impl<'d> Items<'d> {
     ghost use Rattle.bser_document.specs.Walks.{HoldsItems, length_of};
 
-    /// How many items are still to come.
+    /// Returns how many items are still to come.
     pub fn len(&self) -> usize
         ensures { (us : trees.Items) → HoldsItems self.now us → result ≡ length_of us }
     {
@@ -62,7 +62,7 @@ impl<'d> Items<'d> {
 impl<'d> Item<'d> {
     ghost use Rattle.bser_document.specs.Walks.{FindsItems, HasKeys, RowsBegin, length_of};
 
-    /// The items of an array, of a template its rows, and `None` for all else.
+    /// Returns the items of an array, of a template its rows, and `None` for all else.
     pub fn items(self) -> Option<Items<'d>>
         ensures { (u : Tree) → HoldsItem self.entry u → FindsItems (as_array u) result }
     {
@@ -78,7 +78,7 @@ impl<'d> Item<'d> {
         }
     }
 
-    /// How many items an array has, of a template how many rows, and `None` for all else.
+    /// Returns how many items an array has, of a template how many rows, and `None` for all else.
     pub fn len(self) -> Option<usize>
         ensures { (u : Tree) → HoldsItem self.entry u
             → result ≡ option_map length_of (as_array u) }

@@ -17,7 +17,7 @@ pub struct RowFields<'d> {
 }
 
 impl<'d> RowFields<'d> {
-    /// No row of these is read.
+    /// Begins with none of these rows read.
     pub fn new(alloc: Global, rows: Rows<'d>) -> Self {
         RowFields {
             document: rows.document,
@@ -41,7 +41,7 @@ impl<'d> RowFields<'d> {
         Ok(())
     }
 
-    /// The field at this place. `None` where there is none.
+    /// Returns the field at this place. `None` where there is none.
     #[inline(always)]
     pub fn get(&self, place: usize) -> Option<Item<'d>>
         ensures { (m : List Pair) → HoldsFields self.now m
@@ -58,8 +58,8 @@ impl<'d> RowFields<'d> {
     }
 }
 
-/// The keys of a template in rising byte order, each once, with the last of its places. The error is
-/// that there is no memory for them.
+/// Returns the keys of a template in rising byte order, each once, with the last of its places. The
+/// error is that there is no memory for them.
 pub fn ordered_keys<'d>(alloc: Global, rows: Rows<'d>) -> Result<Vec<(&'d str, usize)>, AllocError>
     ensures { (ks : List (List ℕ)) (ms : List (List Pair)) → HoldsRows rows.entry ks ms
         → IfOk result (λ order. shown order.items ≡ last_places ks) }

@@ -13,7 +13,7 @@ use bser_source::text::as_text;
 use std::num::nearest_i64_to_f64;
 
 impl Document {
-    /// The whole value.
+    /// Returns the whole value.
     pub fn root(&self) -> Item<'_>
         ensures whole { HoldsItem result (value_of self.now) }
         ensures read { item_value result ≡ value_of self.now }
@@ -71,7 +71,7 @@ impl<'d> Item<'d> {
         }
     }
 
-    /// What kind the value is of.
+    /// Returns what kind the value is of.
     pub fn kind(self) -> ItemKind
         ensures { (u : Tree) → HoldsItem self.entry u → result ≡ kind_of u }
     {
@@ -88,14 +88,14 @@ impl<'d> Item<'d> {
         }
     }
 
-    /// Whether the value is null.
+    /// Returns whether the value is null.
     pub fn is_null(self) -> bool
         ensures { (u : Tree) → HoldsItem self.entry u → result ≡ is_null u }
     {
         matches!(self.kind(), ItemKind::Null)
     }
 
-    /// The truth value, and `None` for all else.
+    /// Returns the truth value, and `None` for all else.
     pub fn as_bool(self) -> Option<bool>
         ensures { (u : Tree) → HoldsItem self.entry u → result ≡ as_bool u }
     {
@@ -105,7 +105,7 @@ impl<'d> Item<'d> {
         }
     }
 
-    /// The integer, and `None` for all else, reals included.
+    /// Returns the integer, and `None` for all else, reals included.
     pub fn as_i64(self) -> Option<i64>
         ensures { (u : Tree) → HoldsItem self.entry u → result ≡ as_i64 u }
     {
@@ -115,7 +115,7 @@ impl<'d> Item<'d> {
         }
     }
 
-    /// The bits of the real, and `None` for all else.
+    /// Returns the bits of the real, and `None` for all else.
     pub fn as_real_bits(self) -> Option<u64>
         ensures { (u : Tree) → HoldsItem self.entry u → result ≡ as_real_bits u }
     {
@@ -125,8 +125,8 @@ impl<'d> Item<'d> {
         }
     }
 
-    /// The real, or the `f64` nearest to the integer. `None` for a NaN, of which `f64::from_bits`
-    /// makes no float, and for all that is no number.
+    /// Returns the real, or the `f64` nearest to the integer. `None` for a NaN, of which
+    /// `f64::from_bits` makes no float, and for all that is no number.
     pub fn as_f64(self) -> Option<f64>
         ensures { (u : Tree) → HoldsItem self.entry u → result ≡ as_f64 u }
     {
@@ -137,7 +137,7 @@ impl<'d> Item<'d> {
         }
     }
 
-    /// The bytes of a byte string or of a text, and `None` for all else.
+    /// Returns the bytes of a byte string or of a text, and `None` for all else.
     pub fn as_bytes(self) -> Option<&'d [u8]>
         ensures { (u : Tree) → HoldsItem self.entry u
             → option_map (λ bytes. bytes.now) result ≡ as_bytes u }
@@ -149,7 +149,7 @@ impl<'d> Item<'d> {
         }
     }
 
-    /// The text, and `None` for all else, a byte string that is UTF-8 included.
+    /// Returns the text, and `None` for all else, a byte string that is UTF-8 included.
     pub fn as_str(self) -> Option<&'d str>
         ensures { (u : Tree) → HoldsItem self.entry u
             → option_map (λ text. text.now) result ≡ as_str u }

@@ -10,11 +10,11 @@ use crate::entries::{Entries, Entry};
 use crate::item::Item;
 
 impl<'d> Item<'d> {
-    /// The value that a JSON pointer (RFC 6901) leads to from here. The empty path leads to the
-    /// value itself. Any other has a token behind each `/`: in an object a key, of equal keys the
-    /// last, and in an array an index, in decimal digits with no zero before others. In a key `~1`
-    /// stands for `/`, and `~0` for `~`. `None` where no value is there, and where the path does
-    /// not begin with `/`.
+    /// Returns the value that a JSON pointer (RFC 6901) leads to from here. The empty path leads to
+    /// the value itself. Any other has a token behind each `/`: in an object a key, of equal keys
+    /// the last, and in an array an index, in decimal digits with no zero before others. In a key
+    /// `~1` stands for `/`, and `~0` for `~`. `None` where no value is there, and where the path
+    /// does not begin with `/`.
     ///
     /// It takes no memory. An index is found by walking over the items before it.
     pub fn pointer(self, path: &str) -> Option<Item<'d>>
@@ -27,8 +27,8 @@ impl<'d> Item<'d> {
         }
     }
 
-    /// The item at this place of an array, of a template the row. `None` where the array has fewer
-    /// items, and for every value that is no array. The items before it are walked over.
+    /// Returns the item at this place of an array, of a template the row. `None` where the array
+    /// has fewer items, and for every value that is no array. The items before it are walked over.
     pub fn at(self, index: usize) -> Option<Item<'d>>
         ensures { (u : Tree) → HoldsItem self.entry u → FindsItem (item_there index u) result }
     {
@@ -39,7 +39,7 @@ impl<'d> Item<'d> {
         rest.next()
     }
 
-    /// The value that tokens lead to, which stand between slashes.
+    /// The value that tokens lead to, which slashes separate.
     fn descendant(self, tokens: &str) -> Option<Item<'d>>
         ensures { (u : Tree) → HoldsItem self.entry u
             → FindsItem (descendant (between_slashes tokens.now) u) result }
@@ -135,7 +135,7 @@ fn index_of(token: &str, len: usize) -> Option<usize>
     }
 }
 
-/// Whether no plus stands first, and no zero before other bytes.
+/// Whether no plus comes first, and no zero before other bytes.
 fn is_plain(text: &[u8]) -> bool
     ensures { result ≡ is_plain text.now }
 {

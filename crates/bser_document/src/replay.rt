@@ -1,4 +1,4 @@
-//! A document told to a builder again, and made a `Value`.
+//! Reporting a document to a builder, and making a `Value` of it.
 ghost use Rattle.std.specs.Prelude.{◌≡◌, ℕ, List, true, IfOk, IfErr, OnOk, OnErr, IsUtf8};
 ghost use Rattle.bser_format.specs.Content.{Content, value};
 ghost use Rattle.bser_events.specs.Places.{place_at};
@@ -17,8 +17,8 @@ use bser_value::value::Value;
 use std::alloc::{AllocError, Global};
 
 impl Document {
-    /// The `Value` that the document holds: each template as the array of its rows, and of equal
-    /// keys the last. The only error is that there is no memory for it.
+    /// Returns the `Value` that the document holds: each template as the array of its rows, and of
+    /// equal keys the last. The only error is that there is no memory for it.
     pub fn to_value(&self, alloc: Global) -> Result<Value, AllocError>
         ensures whole { IfOk result (λ v. HoldsValue v (value (value_of self.now))) }
         ensures held { (c : Content) → HoldsDocument self.now c
@@ -35,10 +35,11 @@ impl Document {
         }
     }
 
-    /// Tells a builder all that was told when the document was read, and in the same order.
+    /// Reports to a builder all events that were reported when the document was read, in their
+    /// order.
     ///
     /// A document keeps no places: each starts and ends at 0. Nor does it keep the tags of keys,
-    /// which are told as if under no text's tag. The error is that of the builder.
+    /// which are reported as if under no text's tag. The error is that of the builder.
     pub fn tell<B: Builder>(&self, builder: &mut B) -> Result<(), Stop>
         ensures told { OnOk result (Told B.takes self.now builder.old builder.new) }
         ensures stops { OnErr result (B.stops ≡ true) }
@@ -50,7 +51,7 @@ impl Document {
         Ok(())
     }
 
-    /// What a node tells.
+    /// The event of a node.
     #[inline(always)]
     fn event(&self, node: DocumentNode) -> Event<'_>
         ensures { Within self.now.strings.items node

@@ -53,7 +53,7 @@ impl<'d> Iterator for Rows<'d> {
 }
 
 impl<'d> Rows<'d> {
-    /// How many rows are still to come.
+    /// Returns how many rows are still to come.
     pub fn len(&self) -> usize
         ensures { (ks : List (List ℕ)) (ms : List (List Pair)) → HoldsRows self.now ks ms
             → result ≡ length ms }
@@ -61,8 +61,8 @@ impl<'d> Rows<'d> {
         self.left
     }
 
-    /// The place of a key among those of the template, of equal keys the last. It is the place of
-    /// the key's field in each row.
+    /// Returns the place of a key among those of the template, of equal keys the last. It is the
+    /// place of the key's field in each row.
     pub fn place(&self, key: &str) -> Option<usize>
         ensures place { (ks : List (List ℕ)) (ms : List (List Pair)) → HoldsRows self.now ks ms
             → result ≡ place_of key.now ks }
@@ -79,8 +79,8 @@ impl<'d> Rows<'d> {
 }
 
 impl<'d> Row<'d> {
-    /// The field at this place, which is null where it is skipped. `None` where the template has
-    /// no such key. The fields before it are walked over.
+    /// Returns the field at this place, which is null where it is skipped. `None` where the
+    /// template has no such key. The fields before it are walked over.
     pub fn field(self, place: usize) -> Option<Item<'d>>
         ensures { (ks : List (List ℕ)) (m : List Pair) → HoldsRow self.entry ks m
             → FindsItem (field_there place m) result }
@@ -97,8 +97,8 @@ impl<'d> Row<'d> {
 }
 
 impl<'d> Item<'d> {
-    /// The rows of a template, and `None` for all else, an array of objects included: each of its
-    /// objects is spelled with its own keys.
+    /// Returns the rows of a template, and `None` for all else, an array of objects included. Each
+    /// object of such an array is spelled with its own keys.
     pub fn rows(self) -> Option<Rows<'d>>
         ensures { (u : Tree) → HoldsItem self.entry u → FindsRows self.entry u result }
     {

@@ -19,7 +19,7 @@ use std::alloc::{AllocError, Global};
 use std::collections::BTreeMap;
 
 impl Document {
-    /// Whether both documents hold the same value, as [`Item::same_content`] says it.
+    /// Returns whether both documents hold the same value, as [`Item::same_content`] says it.
     pub fn same_content(&self, alloc: Global, other: &Document) -> Result<bool, AllocError>
         ensures whole { IfOk result
             (λ same. Decides same (value_of self.now ≡ value_of other.now)) }
@@ -31,10 +31,10 @@ impl Document {
 }
 
 impl Item<'_> {
-    /// Whether both are read as the same value. It does not matter whether an array is spelled as
-    /// a template, in which order the keys of an object come, and in how many bytes a number is
-    /// spelled; of equal keys the last counts. Reals are compared by their bits. An integer and a
-    /// real differ, and so do a text and a byte string.
+    /// Returns whether both are read as the same value. It does not matter whether an array is
+    /// spelled as a template, in which order the keys of an object come, and in how many bytes a
+    /// number is spelled; of equal keys the last counts. Reals are compared by their bits. An
+    /// integer and a real differ, and so do a text and a byte string.
     ///
     /// The error is that there is no memory for the order of an object's keys. It calls itself once
     /// for each level.

@@ -30,8 +30,8 @@ impl<'d> Item<'d> {
 }
 
 impl<'d> Entries<'d> {
-    /// The entries in rising byte order of their keys, each key once with its last value. The error
-    /// is that there is no memory for them.
+    /// Returns the entries in rising byte order of their keys, each key once with its last value.
+    /// The error is that there is no memory for them.
     pub fn sorted(self, alloc: Global) -> Result<BTreeMap<&'d str, Item<'d>>, AllocError>
         ensures { (m : List (List ℕ × Tree)) → HoldsEntries self.entry m
             → IfOk result (λ map. Lists (last_entries m) map.entries) }

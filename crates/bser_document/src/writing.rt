@@ -33,8 +33,8 @@ impl Serialize for Item<'_> {
 }
 
 impl Document {
-    /// How many nodes it has, and how many bytes of strings, counted together. A message has no fewer
-    /// bytes than the document that is read of it.
+    /// Returns how many nodes it has, and how many bytes of strings, counted together. A message
+    /// has no fewer bytes than the document that is read of it.
     pub fn weight(&self) -> usize
         ensures { result ≡ weight_of self.now }
     {

@@ -11,3 +11,5 @@ pub mod InFront
 pub mod Runs
 pub mod Cuts
 pub mod Asked
+pub mod Binds
+pub mod AtStart

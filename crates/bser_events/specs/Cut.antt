@@ -1,4 +1,4 @@
--- A builder that was told some events, and then no more.
+-- A builder to which some events were reported, and then no more.
 use Rattle.std.specs.Prelude.{◌≡◌, ◌⊎◌, ℕ, ◌+◌, List, ◌++◌, length, Option, Some, None}
 use Rattle.bser_source.specs.Window.{Window, Took}
 use Rattle.bser_bunser.specs.declared.prefix.Token.{Token}
@@ -32,8 +32,8 @@ noted Asked place before = Some place
 
 -- ---- by the bytes
 
--- `at` bytes being before these, it took the events that they begin with, each at its place, and took
--- no more at the next one, which the rest of them spell, and stands at this place
+-- `at` bytes being before these, it took the events that they begin with, each at its place, and
+-- took no more at the next one, which the rest of them spell, and is at this place
 pub record StoppedIn {B : Type 0} (takes : B → Event → Place → B → Type 0) (stopped : Stop → B → Event → Place → B → Type 0) (why : Stop) (at : ℕ) (bytes : List ℕ) (before : B) (place : Place) (after : B) : Type 0 where
   pub took : List Event
   pub next : Event

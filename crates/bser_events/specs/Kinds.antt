@@ -43,7 +43,7 @@ abbrev pub key_tag : Bool → ℕ
 key_tag true = 0x0d
 key_tag false = 0x02
 
--- the tag that an event begins with where it stands at this place
+-- the tag that an event begins with, if it is at this place
 abbrev pub tag_of : Event → Place → Option ℕ
 tag_of null p = Some 0x0a
 tag_of (boolean true) p = Some 0x08

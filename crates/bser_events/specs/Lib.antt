@@ -9,3 +9,4 @@ pub mod Pieces
 pub mod Refusal
 pub mod Around
 pub mod Watched
+pub mod Takes

@@ -1,4 +1,4 @@
--- Events that are told with their places.
+-- Events that are reported with their places.
 use Rattle.std.specs.Prelude.{◌≡◌, ℕ, ◌+◌, ◌-◌, ◌^◌, ◌<◌, min, Bool, true, false, List, [], ◌∷◌, ◌++◌, length, ◌==◌}
 use Rattle.std.specs.Int.{w64, to_le_bytes}
 use Rattle.bser_format.specs.Grammar.{Format, Bytes, Given, Bool_tag, SpellsInteger, SpellsCount, SpellsBytes, SpellsText, SpellsKey}
@@ -56,7 +56,7 @@ abbrev pub Marked : Bool → Event → List ℕ → Type 0
 Marked is_text e text = (is_text ≡ mark_of e text) × SpellsEvent e text
 
 -- of a builder, and what was read when the last event that it took ended: it took an event, which
--- has the bytes that were read since then, spelled so, and stands at their place
+-- has the bytes that were read since then, spelled so, and is at their place
 pub record PlacedAs {B : Type 0} (spells : Event → Format) (takes : B → Event → Place → B → Type 0) (before : Window × B) (e : Event) (after : Window × B) : Type 0 where
   pub text : List ℕ
   pub took : Took before.0 after.0 text

@@ -1,4 +1,4 @@
-//! What makes something of a value, each event of which is reported to it.
+//! Receiving the events of a value.
 ghost use Rattle.std.specs.Prelude.{◌≡◌, ◌≤◌, ℕ, Bool, true, false, List, length, string_bytes, OnOk, OnErr, IfErr};
 ghost use Rattle.bser_format.specs.declared.errors.Error.TheVariants.{OutOfMemory};
 ghost use Rattle.bser_bunser.specs.Calls.{Closes};
@@ -23,15 +23,15 @@ pub enum Stop {
     Asked,
 }
 
-/// What makes something of the events of a value, as they are read.
+/// Receives the events of a value, as they are read.
 pub trait Builder {
     ghost use Rattle.bser_events.specs.declared.event.Place.{Place};
     ghost use Rattle.bser_events.specs.declared.builder.Stop.{Stop};
 
-    // it took this event, which stands at this place
+    // it took this event, which is at this place
     ghost takes: { Self → events.Event → Place → Self → Type 0 };
 
-    // it took no more at this event, which stands at this place, for this reason
+    // it took no more at this event, which is at this place, for this reason
     ghost stopped: { Stop → Self → events.Event → Place → Self → Type 0 };
 
     // whether it may take no more, for either reason
@@ -43,13 +43,13 @@ pub trait Builder {
     // whether the bytes of byte strings are wanted
     ghost bytes: { Bool };
 
-    /// Whether the bytes of byte strings are wanted, at any time. Where they are not,
+    /// Returns whether the bytes of byte strings are wanted, at any time. Where they are not,
     /// [`Builder::bytes_passed`] takes the place of those that are not buffered whole.
     fn wants_bytes(&self) -> bool
         ensures { result ≡ Self.bytes };
 
-    /// Takes an event, which stands at this place, whose end is not before its start. An error
-    /// ends the reading: there is no memory, or the builder wants no more.
+    /// Takes an event at this place, whose end is not before its start. An error ends the reading:
+    /// there is no memory, or the builder wants no more.
     fn take(&mut self, event: Event<'_>, place: Place) -> Result<(), Stop>
         requires forwards { place.start ≤ place.end }
         ensures ok { OnOk result (Self.takes self.old (told event.entry) place self.new) }
@@ -58,8 +58,8 @@ pub trait Builder {
             Self.stopped stop self.old (told event.entry) place self.new) }
         ensures asked { IfErr result (λ stop. stop ≡ Asked → Self.asks ≡ true) };
 
-    /// Takes a text, which is the builder's now, as [`Self::take`] does: one that was copied from
-    /// a reader, since it is longer than what is buffered of one.
+    /// Takes a text, which is the builder's now, as [`Self::take`] does. The text was copied from a
+    /// reader, since it is longer than what is buffered of one.
     fn take_text(&mut self, text: String, place: Place) -> Result<(), Stop>
         requires forwards { place.start ≤ place.end }
         ensures ok { OnOk result
@@ -86,7 +86,7 @@ pub trait Builder {
     }
 
     /// Takes a byte string of `len` bytes, which were passed over: the bytes of byte strings are
-    /// not wanted. It stands at this place, with its head. The errors are those of [`Self::take`].
+    /// not wanted. This place covers its head too. The errors are those of [`Self::take`].
     fn bytes_passed(&mut self, len: usize, place: Place) -> Result<(), Stop>
         requires forwards { place.start ≤ place.end }
         ensures ok { OnOk result (bytes ≡ false
@@ -97,7 +97,7 @@ pub trait Builder {
         ensures asked { IfErr result (λ stop. stop ≡ Asked → asks ≡ true) };
 }
 
-/// How many bytes were taken.
+/// Returns how many bytes were taken.
 #[inline(always)]
 pub fn taken<R: DeRead>(bunser: &Bunser<R>) -> usize
     ensures { result ≡ reading_at bunser.now.window }

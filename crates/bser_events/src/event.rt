@@ -8,13 +8,13 @@ use bser_format::header::{
     BSER_TEMPLATE, BSER_TRUE, BSER_UTF8STRING, integer_tag,
 };
 
-/// Where an event stands, by how many bytes of the source were taken before it.
+/// The place of an event: how many bytes of the source were taken before it, and up to its end.
 ///
-/// What is reported of a value stands in order, each right behind the one before it: the first
-/// begins where reading was, and the last ends where reading is.
+/// The events of a value follow each other with no gap: the first begins where reading was, and the
+/// last ends where reading is.
 ///
-/// A container stands where its head does. The head of a template is its tag, the tag of its keys
-/// and their count; that of its rows is their count. The end of a container has no bytes.
+/// The place of a container is that of its head. The head of a template is its tag, the tag of its
+/// keys and their count; that of its rows is their count. The end of a container has no bytes.
 #[derive(Debug, Clone, Copy, PartialEq, Eq)]
 pub struct Place {
     /// How many bytes were taken before its first byte.
@@ -26,7 +26,7 @@ pub struct Place {
 }
 
 impl Place {
-    /// How many bytes stand there.
+    /// Returns how many bytes the event has.
     #[inline]
     pub fn size(self) -> usize
         ensures { result ≡ self.end - self.start }
@@ -78,7 +78,7 @@ pub enum Event<'s> {
     Close,
 }
 
-/// What an [`Event`] is, without its content.
+/// The kind of an [`Event`], without its content.
 #[derive(Debug, Clone, Copy, PartialEq, Eq)]
 pub enum EventKind {
     /// Null.
@@ -130,7 +130,7 @@ impl EventKind {
         EventKind::Close,
     ];
 
-    /// The place among [`Self::ALL`].
+    /// Returns the kind's place in [`Self::ALL`].
     #[inline]
     pub fn index(self) -> usize
         ensures place { result ≡ index_of self }
@@ -142,7 +142,7 @@ impl EventKind {
 }
 
 impl Event<'_> {
-    /// What it is, without its content.
+    /// Returns the event's kind, without its content.
     #[inline]
     pub fn kind(&self) -> EventKind
         ensures { result ≡ kind_of (told self.now) }
@@ -164,9 +164,9 @@ impl Event<'_> {
         }
     }
 
-    /// The tag that it begins with where it stands at this place. An integer's tag is that of the
-    /// place's size, and a key's that of a text or of a byte string. The rows of a template and the
-    /// end of a container have none.
+    /// Returns the tag that the event begins with, if it is at this place. An integer's tag is that
+    /// of the place's size, and a key's that of a text or of a byte string. The rows of a template
+    /// and the end of a container have none.
     #[inline]
     pub fn tag(&self, place: Place) -> Option<u8>
         ensures { result ≡ tag_of (told self.now) place }
@@ -189,8 +189,8 @@ impl Event<'_> {
         }
     }
 
-    /// How many bytes a string or a key has, or how many items, entries, keys or rows follow, and 0
-    /// for all else.
+    /// Returns how many bytes a string or a key has, or how many items, entries, keys or rows
+    /// follow, and 0 for all else.
     #[inline]
     pub fn count(&self) -> usize
         ensures { result ≡ count_of (told self.now) }

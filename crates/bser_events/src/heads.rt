@@ -15,8 +15,8 @@ use bser_format::errors::{Error, Kind, ReadCause};
 use bser_format::header::{BSER_ARRAY, BSER_OBJECT, BSER_TEMPLATE};
 use bser_source::read::DeRead;
 
-/// Takes a token, and tells how many bytes were taken before it. A container where no level is left
-/// is an error before its count is looked at.
+/// Takes a token, and returns how many bytes were taken before it. A container where no level is
+/// left is an error before its count is looked at.
 #[inline(always)]
 pub fn token_within<R: DeRead>(bunser: &mut Bunser<R>, levels: usize) -> Answer<(Token, usize)>
     ensures ok { IfOk result (λ p. TakesToken p.0 bunser.old bunser.new) }

@@ -5,6 +5,7 @@ mod around;
 pub mod builder;
 pub mod event;
 pub mod frame;
+pub mod fronts;
 mod gathered;
 mod heads;
 mod outermost;

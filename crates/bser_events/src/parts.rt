@@ -30,7 +30,7 @@ use bser_format::errors::Kind;
 use bser_format::header::{BSER_ARRAY, BSER_SKIP};
 use bser_source::read::DeRead;
 
-/// Reads what follows a token that began at `start`, where a value begins, and tells it. Answers
+/// Reads what follows a token that began at `start`, where a value begins, and reports it. Answers
 /// the container that it opens, of which the parts are left.
 #[inline(never)]
 pub fn read_after<R: DeRead, B: Builder>(
@@ -89,7 +89,7 @@ pub fn read_after<R: DeRead, B: Builder>(
     }
 }
 
-/// Reads the list of keys and the count of rows of a template that began at `start`, and tells
+/// Reads the list of keys and the count of rows of a template that began at `start`, and reports
 /// them.
 #[inline(never)]
 fn read_table<R: DeRead, B: Builder>(
@@ -147,7 +147,7 @@ fn lacks_keys(width: usize, rows: usize) -> bool
     width == 0 && rows != 0
 }
 
-/// Reads so many keys of a template, and tells each.
+/// Reads so many keys of a template, and reports each.
 #[inline(always)]
 fn read_keys<R: DeRead, B: Builder>(
     bunser: &mut Bunser<R>,

@@ -41,7 +41,7 @@ impl Piece<'_> {
     }
 }
 
-/// The piece that is expected, at the start of these bytes.
+/// Returns the piece that is expected, at the start of these bytes.
 ///
 /// None where it is not there whole, or another thing is: a container, or an error.
 #[inline(always)]
@@ -102,7 +102,7 @@ fn due_scalar(due: Part, token: Token) -> Option<Event<'static>>
     }
 }
 
-/// Whether a field is expected, and is missing.
+/// Returns whether a field is expected, and is missing.
 #[inline(always)]
 pub fn is_skipped(due: Part, token: Token) -> bool
     ensures { MatchBool result ((due ≡ Part.Field) × (token ≡ Token.Skip))
@@ -128,7 +128,7 @@ fn first(bytes: &[u8], n: usize) -> Option<&[u8]>
     Some(&bytes[..n])
 }
 
-/// What is reported of a scalar. None for another token.
+/// Returns what is reported of a scalar. None for another token.
 #[inline(always)]
 pub fn scalar(token: Token) -> Option<Event<'static>>
     ensures { MatchOption result (IsNoScalar token) (λ e. IsScalar token (told e)) }

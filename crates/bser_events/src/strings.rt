@@ -19,7 +19,7 @@ use bser_format::header::BSER_UTF8STRING;
 use bser_source::read::{DeRead, WINDOW, count_octets};
 use bser_source::text::as_text;
 
-/// Reads the bytes of a text that began at `start`, and tells it.
+/// Reads the bytes of a text that began at `start`, and reports it.
 #[inline(always)]
 pub fn read_text<R: DeRead, B: Builder>(
     bunser: &mut Bunser<R>,
@@ -49,7 +49,7 @@ pub fn read_text<R: DeRead, B: Builder>(
 }
 
 /// Reads the bytes of a byte string that began at `start`, or passes them over where they are not
-/// wanted, and tells it.
+/// wanted, and reports it.
 #[inline(always)]
 pub fn read_bytes<R: DeRead, B: Builder>(
     bunser: &mut Bunser<R>,
@@ -83,7 +83,7 @@ pub fn read_bytes<R: DeRead, B: Builder>(
     }
 }
 
-/// Reads a key, and tells it.
+/// Reads a key, and reports it.
 ///
 /// Under either tag it has to be UTF-8. Another tag is `Error::DeInvalidStartByte` of this kind.
 #[inline(always)]

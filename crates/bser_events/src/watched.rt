@@ -27,7 +27,7 @@ impl<B: Builder> WatchedBuilder<B> {
         }
     }
 
-    /// The place of the event at which the builder wanted no more, if it did.
+    /// Returns the place of the event at which the builder wanted no more, if it did.
     pub fn asked_place(&self) -> Option<Place>
         ensures place { result ≡ asked_at self.now }
         ensures asks { IsSome result → B.asks ≡ true }

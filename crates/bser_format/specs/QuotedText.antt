@@ -33,7 +33,7 @@ abbrev pub mark_before : Option ℕ → List ℕ
 mark_before (Some c) = if c == 0x24 then codes "$" else []
 mark_before None = []
 
--- what stands before a key: a dollar sign where the key begins with one
+-- what is put before a key: a dollar sign where the key begins with one
 abbrev pub key_mark : List ℕ → List ℕ
 key_mark bs = mark_before (slice_get bs 0)
 

@@ -66,14 +66,14 @@ impl ByteString {
         })
     }
 
-    /// The bytes.
+    /// Returns the bytes.
     pub fn as_bytes(&self) -> &[u8]
         ensures { result.now ≡ self.now }
     {
         self.bytes.as_slice()
     }
 
-    /// The bytes, to be changed in place. Their number stays.
+    /// Returns the bytes, to be changed in place. Their number stays.
     pub fn as_mut_bytes(&mut self) -> &mut [u8]
         ensures* writes_back { sem 𝓛 (Lends the_row (Array u8 0) self.entry result
             (overwritten self.old)) }
@@ -82,7 +82,7 @@ impl ByteString {
         self.bytes.as_mut_slice()
     }
 
-    /// The bytes, which are not copied.
+    /// Returns the bytes without copying them.
     pub fn into_bytes(self) -> Vec<u8>
         ensures { result.items ≡ self }
     {
@@ -90,8 +90,8 @@ impl ByteString {
         bytes
     }
 
-    /// The bytes as a text, which are not copied. The error, where they are not UTF-8, is the byte
-    /// string unchanged.
+    /// Returns the bytes as a text without copying them. The error, where they are not UTF-8, is
+    /// the byte string unchanged.
     pub fn into_string(self) -> Result<String, ByteString>
         ensures ok { IfOk result (λ text. string_bytes text ≡ self) }
         ensures err { IfErr result (λ same. same ≡ self) }
@@ -103,9 +103,9 @@ impl ByteString {
         }
     }
 
-    /// The bytes as a text for people to read: a character in UTF-8 stays, and each other byte is
-    /// `\x` and two lowercase hexadecimal digits, also each byte of an incomplete character at the
-    /// end. The error is that there is no memory for the text.
+    /// Returns the bytes as a text for people to read. A character in UTF-8 stays, and each other
+    /// byte is `\x` and two lowercase hexadecimal digits, also each byte of an incomplete character
+    /// at the end. The error is that there is no memory for the text.
     pub fn as_escaped_string(&self, alloc: Global) -> Result<String, AllocError>
         ensures text { IfOk result (λ text. string_bytes text ≡ escaped self.now) }
         ensures cut { IfOk result (λ text. IsEscaped self.now (string_bytes text)) }

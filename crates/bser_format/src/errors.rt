@@ -11,7 +11,7 @@ use std::alloc::{AllocError, AllocFailed};
 use std::{fmt, io};
 use thiserror::Error;
 
-/// An answer, or why there is none.
+/// The result of reading or of writing.
 pub type Result<T> = std::result::Result<T, Error>;
 
 /// What was found where another byte was wanted, or what nests too deep.
@@ -237,8 +237,8 @@ impl From<ReadCause> for Error {
 }
 
 impl Error {
-    /// The error for a byte source's cause: out of memory is [`Error::OutOfMemory`], and each other
-    /// cause is inside [`Error::DeReaderError`].
+    /// Returns the error for a byte source's cause: out of memory is [`Error::OutOfMemory`], and
+    /// each other cause is inside [`Error::DeReaderError`].
     pub fn de_reader_error(cause: ReadCause) -> Self
         ensures { result ≡ error_of cause }
     {
@@ -248,7 +248,7 @@ impl Error {
         }
     }
 
-    /// The error of reading with a fixed message.
+    /// Returns the error of reading with a fixed message.
     pub fn de_custom(complaint: Complaint) -> Self
         ensures { result ≡ Error.DeCustom (Message.Fixed complaint) }
     {
@@ -257,7 +257,7 @@ impl Error {
         }
     }
 
-    /// The error of writing with a fixed message.
+    /// Returns the error of writing with a fixed message.
     pub fn ser_custom(complaint: Complaint) -> Self
         ensures { result ≡ Error.SerCustom (Message.Fixed complaint) }
     {

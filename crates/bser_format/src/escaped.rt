@@ -5,8 +5,8 @@ ghost use Rattle.bser_format.specs.Escaped.{escaped, IsEscaped};
 use crate::bytestring::ByteString;
 use std::alloc::{AllocError, Global};
 
-/// Bytes as a text for people, as `ByteString::as_escaped_string` writes those of a byte string: a
-/// character in UTF-8 stays, and each other byte is `\x` and two lowercase hexadecimal digits.
+/// Returns bytes as a text for people, as `ByteString::as_escaped_string` does. A character in
+/// UTF-8 stays, and each other byte is `\x` and two lowercase hexadecimal digits.
 ///
 /// It is the call for bytes that are lent, as a name that was read as a `&[u8]`. They are copied on
 /// the way. The error is that there is no memory for the copy or the text.

@@ -49,8 +49,8 @@ pub const BSER_CAP_DISABLE_UNICODE: u8 = 1;
 /// The capability that turns texts into byte strings in errors.
 pub const BSER_CAP_DISABLE_UNICODE_FOR_ERRORS: u8 = 2;
 
-/// What the constants are that no call cites: the two capabilities, and the empty
-/// header. The function does nothing, and its contract is the law.
+/// States the constants that no call cites: the two capabilities, and the empty header. The
+/// function does nothing, and its contract is the law.
 pub fn constants()
     ensures disable_unicode { BSER_CAP_DISABLE_UNICODE ≡ 1 }
     ensures disable_unicode_for_errors { BSER_CAP_DISABLE_UNICODE_FOR_ERRORS ≡ 2 }
@@ -58,7 +58,7 @@ pub fn constants()
         ≡ 0x00 ∷ 0x02 ∷ replicate 4 0x00 ++ (0x05 ∷ replicate 4 0x00) }
 {}
 
-/// The tag of an integer of so many bytes: 1, 2, 4 or 8.
+/// Returns the tag of an integer of so many bytes: 1, 2, 4 or 8.
 #[inline]
 pub fn integer_tag(width: usize) -> u8
     ensures { result ≡ integer_tag width }
@@ -113,7 +113,7 @@ impl fmt::Display for HeaderByte {
     }
 }
 
-/// The name of the tag that the byte is, or `unknown byte 'N'` with the byte in decimal.
+/// Returns the name of the tag that the byte is, or `unknown byte 'N'` with the byte in decimal.
 ///
 /// The only error is that there is no memory.
 pub fn header_byte_desc(alloc: Global, byte: u8) -> std::result::Result<String, AllocError>

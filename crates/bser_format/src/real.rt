@@ -16,7 +16,8 @@ const INFINITY: u64 = 0x7ff0_0000_0000_0000;
 /// an exponent take 24 bytes.
 const ROOM: usize = 32;
 
-/// The number with these bits, or `None` for a NaN, of which `f64::from_bits` makes no float.
+/// Returns the number with these bits, or `None` for a NaN, of which `f64::from_bits` makes no
+/// float.
 pub fn float_of(bits: u64) -> Option<f64>
     ensures { result ≡ float_of bits }
 {
@@ -27,7 +28,7 @@ pub fn float_of(bits: u64) -> Option<f64>
     }
 }
 
-/// The bits of this number, or `None` for a NaN, whose bits are not known.
+/// Returns the bits of this number, or `None` for a NaN, whose bits are not known.
 pub fn bits_of(number: f64) -> Option<u64>
     ensures { result ≡ bits_of number }
 {

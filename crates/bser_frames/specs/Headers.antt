@@ -1,4 +1,4 @@
--- What the first bytes of a message tell of how long its header is.
+-- What the first bytes of a message show of how long its header is.
 use Rattle.std.specs.Prelude.{◌≡◌, ◌≤◌, ◌<◌, ℕ, List, [], ◌++◌, length}
 use Rattle.bser_format.specs.Message.{Head}
 use Rattle.bser_format.specs.Named.{head, refuses, eof}
@@ -17,7 +17,7 @@ abbrev pub HeaderAtLeast : List ℕ → ℕ → Type 0
 HeaderAtLeast bytes n =
     (c k : ℕ) (text more rest : List ℕ) → Head c k text → bytes ++ more ≡ text ++ rest → n ≤ length text
 
--- how long the header is, as far as the bytes tell
+-- how long the header is, as far as the bytes show
 pub record IsHeaderLength (bytes : List ℕ) (n : ℕ) : Type 0 where
   pub least : HeaderAtLeast bytes n
   pub whole : (c k : ℕ) (text rest : List ℕ) → Head c k text → bytes ≡ text ++ rest → n ≡ length text

@@ -87,7 +87,7 @@ impl Buffer {
         }
     }
 
-    /// Adds what one read of at most `want` bytes gives, and tells how many came.
+    /// Adds what one read of at most `want` bytes gives, and returns how many came.
     pub(crate) fn pull<S: Source>(
         &mut self,
         reader: &mut S,

@@ -150,17 +150,17 @@ impl<S: Source> Frames<S> {
         }
     }
 
-    /// The bytes of the message that was taken last; after an error, what came of the one that is
-    /// due.
+    /// Returns the bytes of the message that was taken last; after an error, what came of the one
+    /// that is due.
     pub fn frame(&self) -> &[u8]
         ensures { result.now ≡ self.now.frame }
     {
         self.buffer.as_slice()
     }
 
-    /// How many bytes of the reader lie before [`Self::frame`], at most `u64::MAX`.
+    /// Returns how many bytes of the reader lie before [`Self::frame`], at most `u64::MAX`.
     ///
-    /// With the place of a [`Description`] it tells where in the stream an error is.
+    /// Its sum with the place of a [`Description`] is where in the stream the error is.
     pub fn position(&self) -> u64
         ensures { result ≡ self.now.position }
     {
@@ -207,14 +207,14 @@ impl<S: Source> Frames<S> {
         }
     }
 
-    /// The limits of each message.
+    /// Returns the limits of each message.
     pub fn limits(&self) -> Limits
         ensures { result ≡ self.now.limits }
     {
         self.limits
     }
 
-    /// The reader.
+    /// Returns the reader.
     pub fn get_ref(&self) -> &S
         ensures { result.now ≡ self.now.reader }
     {

@@ -1,4 +1,4 @@
-//! What the first bytes of a message tell.
+//! What the first bytes of a message announce.
 ghost use Rattle.std.specs.Prelude.{◌≡◌};
 ghost use Rattle.bser_frames.specs.Headers.{IsHeaderLength};
 
@@ -10,7 +10,7 @@ const BEFORE_LENGTH: usize = 6;
 /// How many bytes a header has at least.
 const LEAST_HEADER: usize = 8;
 
-/// How many bytes the header has, as far as its first bytes tell: its length, where it is whole,
+/// How many bytes the header has, as far as its first bytes show: its length, where it is whole,
 /// and else as many as it has at least.
 #[tactic(auto, using(crate::proofs::HeaderLengths::few_bytes, crate::proofs::HeaderLengths::short_length))]
 pub(crate) fn header_length(bytes: &[u8]) -> usize

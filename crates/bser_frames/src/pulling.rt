@@ -15,7 +15,7 @@ use bser_messages::length::message_length;
 use bser_source::device::Source;
 use std::alloc::Global;
 
-/// Pulls until the buffer holds `len` bytes, or the reader ends, and tells whether it holds them.
+/// Pulls until the buffer holds `len` bytes, or the reader ends, and returns whether it holds them.
 #[tactic(auto, using(crate::proofs::Additions::reads_then, crate::proofs::Additions::reads_nothing))]
 fn pull_until<S: Source>(
     reader: &mut S,
@@ -43,7 +43,7 @@ fn pull_until<S: Source>(
     Ok(true)
 }
 
-/// Pulls until the message's header is whole, and tells the message's length, or `None` where the
+/// Pulls until the message's header is whole, and returns the message's length, or `None` where the
 /// reader ends before the first byte.
 #[tactic(auto, using(crate::proofs::Additions::reads_then, crate::proofs::Additions::reads_nothing))]
 fn pull_header<S: Source>(
@@ -84,7 +84,7 @@ fn pull_header<S: Source>(
     }
 }
 
-/// Pulls until the message is whole, or tells that the reader ended before its first byte.
+/// Pulls until the message is whole, or returns false where the reader ended before its first byte.
 pub(crate) fn pull_frame<S: Source>(
     alloc: Global,
     most: usize,

@@ -1,8 +1,9 @@
 -- What callers see of a description.
-use Rattle.std.specs.Prelude.{◌≡◌, ◌≤◌, ℕ, ℤ, pos, negsuc, min, List, Bool, true, false, Option, None, Result, Ok, Err, option_map, if◌then◌else◌}
+use Rattle.std.specs.Prelude.{◌≡◌, ◌≤◌, ◌-◌, ◌==◌, ◌&&◌, ℕ, ℤ, pos, negsuc, min, List, Bool, true, false, Option, None, Result, Ok, Err, is_none, option_map, if◌then◌else◌}
 use Rattle.bser_format.specs.EnumName.{kept}
 use Rattle.bser_format.specs.declared.errors.Error.{Error}
 use Rattle.bser_format.specs.declared.errors.Error.TheVariants.{DeCustom, DeInvalidStartByte, DeReaderError, DeRecursionLimitExceeded}
+use Rattle.bser_format.specs.declared.errors.Kind.TheVariants.{NextItem}
 use Rattle.bser_format.specs.declared.errors.ReadCause.TheVariants.{Eof, Utf8}
 use Rattle.bser_deserializer.specs.declared.note.Note.{Note}
 use Rattle.bser_messages.specs.declared.counted.Counted.{Counted}
@@ -51,10 +52,18 @@ abbrev pub at_most : ℤ → ℕ → ℕ
 at_most (pos n) len = min n len
 at_most (negsuc n) len = len
 
--- the place of an error with this cause, after count bytes of an input of len bytes: that of an
--- early end is the end of the input, and nothing is behind it
-abbrev pub place_in : Error → ℤ → ℕ → ℕ
-place_in cause count len = if is_early_end cause then len else at_most count len
+-- the last byte taken is wrong: a skip where any value is read, which notes nothing
+abbrev pub is_taken : Error → Note → Bool
+is_taken (DeInvalidStartByte NextItem b) n = (b == 0x0c) && is_none n.finding
+is_taken _ n = false
+
+-- the place of an error with this cause and note, after count bytes of an input of len bytes: that
+-- of an early end is the end of the input, and nothing is behind it
+abbrev pub place_in : Error → Note → ℤ → ℕ → ℕ
+place_in cause note count len =
+    if is_early_end cause then len
+    else if is_taken cause note then at_most count len - 1
+    else at_most count len
 
 -- the place is one of len bytes or right behind them, which is that of an early end
 pub record LiesWithin (len : ℕ) (d : Description) : Type 0 where

@@ -137,7 +137,7 @@ abbrev pub RefusesReaderWithin : ℕ → ℕ → (reads : Meaning) → Option (A
 RefusesReaderWithin n m reads asks e old new before after =
     TooLongReader m e old new before after ⊎ RefusesShortReader n m reads asks e old before after
 
--- the same of a reader before and after the call, by what its contract tells
+-- the same of a reader before and after the call, by what its contract shows
 abbrev pub RefusesReadingWithin : {S : Type 0} → ℕ → ℕ → (reads : Meaning) → Option (Asking reads) → (S → Option (List ℕ)) → (S → ℕ) → S → S → Error → Type 0
 RefusesReadingWithin n m reads asks remaining failures old new e =
     RefusesReaderWithin n m reads asks e (remaining old) (remaining new) (failures old) (failures new)

@@ -93,7 +93,7 @@ pub record RefusesMessage (n : ℕ) (reads : Meaning) (asks : Option (Asking rea
   pub names : NamesMessage n needs asks e old
   pub excuse : (text rest : List ℕ) → IsReadableMessage n reads text → left old ≡ Some (text ++ rest) → ExcusedBy needs (length text) e old
 
--- what its contract tells stays as it was
+-- what its contract shows stays as it was
 abbrev pub Same : {S X : Type 0} → (S → X) → S → S → Type 0
 Same told old new = told new ≡ told old
 
@@ -166,7 +166,7 @@ pub record RefusesReader (n : ℕ) (reads : Meaning) (asks : Option (Asking read
   pub names : NamesReader n asks e left before after
   pub excuse : (text rest : List ℕ) (c : Content) → ReadsMessageAs n reads text c → left ≡ Some (text ++ rest) → IsReaderFault before after e
 
--- the same of a reader before and after the call, by what its contract tells
+-- the same of a reader before and after the call, by what its contract shows
 abbrev pub RefusesReading : {S : Type 0} → ℕ → (reads : Meaning) → Option (Asking reads) → (S → Option (List ℕ)) → (S → ℕ) → S → S → Error → Type 0
 RefusesReading n reads asks remaining failures old new e =
     RefusesReader n reads asks e (remaining old) (failures old) (failures new)

@@ -1,4 +1,4 @@
--- How much a value stands for, its templates written out.
+-- The size of a value with its templates written out.
 use Rattle.std.specs.Prelude.{◌≡◌, ℕ, ◌+◌, ◌-◌, ◌^◌, min, length, Some, None, if◌then◌else◌}
 use Rattle.bser_format.specs.Tree.{Tree, array, object, Items, no_items, item, Entries, no_entries, entry}
 use Rattle.bser_format.specs.Measures.{nodes, depth}

@@ -27,7 +27,7 @@ pub record RefusesNext (n m : ℕ) (reads : Meaning) (asks : Option (Asking read
   pub refused : RefusesReaderWithin n m reads asks e old new before after
   pub some : old ≡ Some [] → IsReaderFault before after e
 
--- the same of a reader before and after the call, by what its contract tells
+-- the same of a reader before and after the call, by what its contract shows
 abbrev pub RefusesNextOf : {S : Type 0} → ℕ → ℕ → (reads : Meaning) → Option (Asking reads) → (S → Option (List ℕ)) → (S → ℕ) → S → S → Error → Type 0
 RefusesNextOf n m reads asks remaining failures old new e =
     RefusesNext n m reads asks e (remaining old) (remaining new) (failures old) (failures new)

@@ -5,7 +5,7 @@ use Rattle.bser_messages.specs.Sizes.{capped}
 use Rattle.bser_messages.specs.declared.sizing.Sizing.{Sizing}
 
 -- what was counted: the values, the bytes of keys, those of a template's keys until its rows are
--- told, how deep the innermost open container is, how deep any was, and how deep it was outside
+-- reported, how deep the innermost open container is, how deep any was, and how deep it was outside
 -- each open container, the innermost first
 pub record Tally : Type 0 where
   pub values : ℕ
@@ -15,7 +15,7 @@ pub record Tally : Type 0 where
   pub depth : ℕ
   pub around : List ℕ
 
--- nothing was told
+-- nothing was reported
 abbrev pub nothing_told : Tally
 nothing_told = record { values = 0; keys = 0; template = None; level = 0; depth = 0; around = [] }
 
@@ -35,7 +35,7 @@ opened m = entered 1 (more_values 1 (record m { around = m.level ∷ m.around })
 abbrev pub opened_template : Tally → Tally
 opened_template m = record (opened m) { template = Some 0 }
 
--- a key of n bytes was told, of an object, or of a template whose keys had so many before
+-- a key of n bytes was reported, of an object, or of a template whose keys had so many before
 abbrev pub keyed_after : ℕ → Option ℕ → Tally → Tally
 keyed_after n None m = record m { keys = m.keys + n }
 keyed_after n (Some k) m = record m { template = Some (k + n) }

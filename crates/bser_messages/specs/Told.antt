@@ -1,4 +1,4 @@
--- What telling a message to a builder answers.
+-- What reporting a message to a builder answers.
 use Rattle.std.specs.Prelude.{◌≡◌, ◌⊎◌, ◌≤◌, ◌<◌, ℕ, ◌+◌, ◌-◌, ◌^◌, min, nat_le, option_and_then, if◌then◌else◌, Bool, true, false, List, ◌++◌, length, Option, Some, None, IfSome, IsSome}
 use Rattle.std.specs.Io.KnownBytes.{Consumes}
 use Rattle.bser_format.specs.Tree.{Tree}
@@ -30,11 +30,11 @@ use Rattle.bser_messages.specs.declared.told.Reason.{Reason}
 use Rattle.bser_messages.specs.declared.told.Reason.TheVariants.{Stopped, Failed}
 use Rattle.bser_messages.specs.declared.told.Untold.{Untold}
 
--- ---- what is told
+-- ---- what is reported
 
--- the text is a message within the limits, of which h tells, and the builder took the events of the
--- tree that it spells, each once and in order, at its place: the first stands behind the header, each
--- right behind the one before it, and the last at the body's end
+-- the text is a message within the limits, which has the header h, and the builder took the events
+-- of the tree that it spells, each once and in order, at its place: the first is right behind the
+-- header, each right behind the one before it, and the last at the body's end
 pub record TellsMessage {B : Type 0} (limits : Limits) (takes : B → Event → Place → B → Type 0) (before after : B) (h : Header) (text : List ℕ) : Type 0 where
   pub tree : Tree
   pub message : IsMessage limits.levels h.capabilities tree text
@@ -72,14 +72,14 @@ pub record ReadsTold {B : Type 0} (limits : Limits) (takes : B → Event → Pla
   pub tells : TellsMessage limits takes before after h text
   pub same : (x : List ℕ) → left old ≡ Some x → text ≡ tells.head ++ tells.bytes
 
--- the next message was told, or nothing was left, and the builder took nothing
+-- the next message was reported, or nothing was left, and the builder took nothing
 abbrev pub IsNextTold : {B : Type 0} → Limits → (B → Event → Place → B → Type 0) → Option (List ℕ) → Option (List ℕ) → B → B → Option Header → Type 0
 IsNextTold limits takes old new before after None = StaysAtEnd old new × (after ≡ before)
 IsNextTold limits takes old new before after (Some h) = TookTold limits takes old new before after h
 
--- ---- what was not told
+-- ---- what was not reported
 
--- where the bytes left are known, they begin with the header that h tells of
+-- where the bytes left are known, they begin with the header h
 pub record BeginWithHeader (left : Option (List ℕ)) (h : Header) : Type 0 where
   pub text : List ℕ
   pub head : Head h.capabilities h.len text
@@ -129,8 +129,8 @@ IsReasonOf asked cause given (Failed d) = (asked ≡ None) × (cause_of d ≡ ca
 
 -- ---- the builder after an error
 
--- the bytes left, where they are known, begin with a header of the length that h tells, and then with
--- bytes that spell what the builder took, and the event at which it took no more
+-- the bytes left, where they are known, begin with a header of the length that h gives, and then
+-- with bytes that spell what the builder took, and the event at which it took no more
 pub record CutBehind {B : Type 0} (takes : B → Event → Place → B → Type 0) (stopped : Stop → B → Event → Place → B → Type 0) (left : Option (List ℕ)) (h : Header) (before after : B) (asked : Option Place) : Type 0 where
   pub head : List ℕ
   pub bytes : List ℕ
@@ -138,8 +138,8 @@ pub record CutBehind {B : Type 0} (takes : B → Event → Place → B → Type 
   pub front : (x : List ℕ) → left ≡ Some x → (rest : List ℕ) × (x ≡ head ++ (bytes ++ rest))
   pub cut : CutIn takes stopped h.start bytes before after asked
 
--- Before the header it was told nothing. It wanted no more where the reason is that it stopped, at an
--- event that ends there, and else it never asked to stop.
+-- Before the header nothing was reported to it. It wanted no more where the reason is that it
+-- stopped, at an event that ends there, and else it never asked to stop.
 abbrev pub IsCut : {B : Type 0} → (B → Event → Place → B → Type 0) → (Stop → B → Event → Place → B → Type 0) → Option (List ℕ) → B → B → ℕ → Option Header → Reason → Type 0
 IsCut takes stopped left before after given None (Stopped place) = ⊥
 IsCut takes stopped left before after given None (Failed d) = after ≡ before
@@ -178,7 +178,7 @@ SkipFails rest told old new e =
 
 -- ---- over a deserializer
 
--- exactly one message of a deserializer was told
+-- exactly one message of a deserializer was reported
 abbrev pub MessageTold : {B : Type 0} → Limits → (B → Event → Place → B → Type 0) → B → B → Seen → Seen → Header → Type 0
 MessageTold limits takes before after old new h =
     ReadsTold limits takes old.state.source new.state.source before after h
@@ -191,7 +191,7 @@ pub record BodyCut {B : Type 0} (takes : B → Event → Place → B → Type 0)
   pub start : h.start ≡ length text
   pub cut : Cut takes stopped (body, before) after
 
--- the builder after an error, and what the header tells, where that was taken
+-- the builder after an error, and the header, where that was taken
 abbrev pub MessageCut : {B : Type 0} → (B → Event → Place → B → Type 0) → (Stop → B → Event → Place → B → Type 0) → B → B → Window → Option Header → Type 0
 MessageCut takes stopped before after old None = after ≡ before
 MessageCut takes stopped before after old (Some h) = BodyCut takes stopped h old before after
@@ -201,7 +201,7 @@ abbrev pub MessageUntold : Limits → Seen → Seen → Error → Type 0
 MessageUntold limits old new e =
     RefusesWithin limits.levels limits.bytes reads_ignored (Some asking_ignored) owned e old.state.source new.state.source
 
--- a body of at most m bytes was told
+-- a body of at most m bytes was reported
 abbrev pub BodyTold : {B : Type 0} → ℕ → ℕ → (B → Event → Place → B → Type 0) → B → B → Seen → Seen → Type 0
 BodyTold m len takes before after old new = (len ≤ m) × AnyTold takes before after old new
 

@@ -1,4 +1,4 @@
-//! A reader that tells how many bytes it gave.
+//! A reader with a count of the bytes that it gave.
 ghost use Rattle.std.specs.Prelude.{◌≡◌};
 ghost use Rattle.bser_messages.specs.Descriptions.{inner_of};
 

@@ -1,6 +1,6 @@
 //! The description of an error.
 ghost use Rattle.std.specs.Prelude.{◌≡◌, option_map};
-ghost use Rattle.bser_messages.specs.Descriptions.{at_most, cause_of, field_of, is_early_end, note_of, place_in, place_of};
+ghost use Rattle.bser_messages.specs.Descriptions.{at_most, cause_of, field_of, is_early_end, is_taken, note_of, place_in, place_of};
 
 use crate::locating::Target;
 use crate::progress::Progress;
@@ -27,16 +27,18 @@ pub struct Description {
 }
 
 /// Describes an error with this cause, after so much progress in an input of `len` bytes. An early
-/// end is at the end of the input, and nothing is behind it.
+/// end is at the end of the input, and nothing is behind it. A byte that may not be there is behind
+/// the place, and of what else is wrong the end is at it.
 pub(crate) fn description_of(cause: Error, progress: Progress, len: usize) -> Description
     ensures cause { cause_of result ≡ cause }
-    ensures place { place_of result ≡ place_in cause progress.count len }
+    ensures place { place_of result ≡ place_in cause progress.note progress.count len }
     ensures note { note_of result ≡ progress.note }
 {
     let place = if ends_early(&cause) {
         len
     } else {
-        place_within(progress.count, len)
+        let behind = place_within(progress.count, len);
+        behind.saturating_sub(usize::from(is_taken(&cause, &progress.note)))
     };
     Description {
         cause,
@@ -59,6 +61,19 @@ fn ends_early(cause: &Error) -> bool
     }
 }
 
+/// Whether the last byte taken is wrong: a skip where any value is read, of which nothing is noted.
+fn is_taken(cause: &Error, note: &Note) -> bool
+    ensures { result ≡ is_taken cause.now note.now }
+{
+    match cause {
+        Error::DeInvalidStartByte {
+            kind: Kind::NextItem,
+            byte: BSER_SKIP,
+        } => note.finding.is_none(),
+        _ => false,
+    }
+}
+
 /// So many bytes, and no more than `len`.
 fn place_within(count: i64, len: usize) -> usize
     ensures { result ≡ at_most count len }
@@ -67,7 +82,7 @@ fn place_within(count: i64, len: usize) -> usize
 }
 
 impl Description {
-    /// The error itself: what a call without a description answers.
+    /// Returns the error itself: what a call without a description answers.
     pub fn cause(&self) -> &Error
         ensures { result.now ≡ cause_of self.now }
     {
@@ -82,8 +97,9 @@ impl Description {
         cause
     }
 
-    /// The place, as the number of bytes before it, counted from the start of the message. It is in
-    /// what is wrong or right behind it; that of an early end is the end of the input.
+    /// Returns the place of the error, as a number of bytes from the start of the message. These
+    /// are the bytes before a byte that may not be there, and for other errors those up to the end
+    /// of what is wrong. The place of an early end is the end of the input.
     pub fn place(&self) -> usize
         ensures { result ≡ place_of self.now }
     {
@@ -106,15 +122,15 @@ impl Description {
         }
     }
 
-    /// What was found, where more is known than the cause says.
+    /// Returns what was found, where more is known than the cause says.
     pub fn finding(&self) -> Option<Finding>
         ensures { result ≡ (note_of self.now).finding }
     {
         self.note.finding
     }
 
-    /// The innermost field of a struct whose value is wrong, or that is missing or repeated. None
-    /// where no field is to blame, as for an early end.
+    /// Returns the innermost field of a struct whose value is wrong, or that is missing or
+    /// repeated. None where no field is to blame, as for an early end.
     pub fn field(&self) -> Option<&str>
         ensures { option_map (λ name. name.now) result ≡ field_of self.now }
     {

@@ -8,8 +8,9 @@ use bser_format::errors::{Complaint, Error, ReadCause, Result};
 use bser_source::slice_read::SliceRead;
 use std::alloc::Global;
 
-/// The length in bytes of the message that begins with `bytes`, its header and its body, at most
-/// `i64::MAX`; or `None` where its header is not whole yet. What follows the message is ignored.
+/// Returns the length in bytes of the message that begins with `bytes`, its header and its body. It
+/// is at most `i64::MAX`, and `None` where the header is not whole yet. What follows the message is
+/// ignored.
 ///
 /// A header has at most 15 bytes. The errors are those of [`Bunser::read_pdu`], and the message
 /// [`Complaint::CountTooGreat`] where header and body together have more than `i64::MAX` bytes.

@@ -33,7 +33,7 @@ pub fn from_slice_limited<'de, T: Deserialize<&'de [u8]>>(
     Ok(value)
 }
 
-/// Reads a value from the message at the start of `bytes`, and tells the message's length.
+/// Reads a value from the message at the start of `bytes`, and returns the message's length.
 pub(crate) fn front_message<'de, T: Deserialize<&'de [u8]>>(
     alloc: Global,
     limits: Limits,

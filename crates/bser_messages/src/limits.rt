@@ -15,7 +15,7 @@ pub struct Limits {
 }
 
 impl Limits {
-    /// 128 levels, and bodies of any length.
+    /// Allows 128 levels, and bodies of any length.
     pub const fn new() -> Self
         ensures levels { result.levels ≡ LEVELS }
         ensures bytes { result.bytes ≡ any_length }

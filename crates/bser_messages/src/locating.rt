@@ -14,6 +14,10 @@ pub(crate) enum Target<'n> {
     Next,
     /// The last part of it that was begun.
     Last,
+    /// The next row of the innermost container.
+    NextWhole,
+    /// The innermost container that the type reads, or its last row.
+    LastWhole,
     /// Its field of this name.
     Field(&'n str),
 }
@@ -30,7 +34,7 @@ enum Open {
         key: Option<String>,
         begun: bool,
     },
-    /// A template's keys, and how many fields of its rows were begun, once the rows are told.
+    /// A template's keys, and how many fields of its rows were begun, once the rows are reported.
     Template {
         keys: Vec<String>,
         begun: Option<usize>,
@@ -117,7 +121,7 @@ fn put_field(
     Ok(())
 }
 
-/// What was told of a message up to an error.
+/// What was reported of a message up to an error.
 #[derive(Drop)]
 pub(crate) struct Locating {
     alloc: Global,
@@ -130,7 +134,7 @@ pub(crate) struct Locating {
 }
 
 impl Locating {
-    /// Nothing was told.
+    /// Nothing was reported.
     pub(crate) fn new(alloc: Global, place: usize, opened: usize) -> Self {
         Locating {
             alloc,
@@ -149,13 +153,20 @@ impl Locating {
         }
         if let Some(open) = self.around.last() {
             match target {
-                Target::Innermost | Target::Next => open.put_next(self.alloc, &mut steps)?,
-                Target::Last | Target::Field(_) => open.put_last(self.alloc, &mut steps)?,
+                Target::Innermost | Target::Next | Target::NextWhole => {
+                    open.put_next(self.alloc, &mut steps)?
+                }
+                Target::Last | Target::LastWhole | Target::Field(_) => {
+                    open.put_last(self.alloc, &mut steps)?
+                }
             }
         }
         match target {
             Target::Innermost => {}
             Target::Next | Target::Last => steps.truncate(self.opened),
+            Target::NextWhole | Target::LastWhole => {
+                steps.truncate(self.opened.saturating_sub(1))
+            }
             Target::Field(name) => {
                 steps.truncate(self.opened.saturating_sub(1));
                 steps.push(Step::Key(String::from_str(self.alloc, name)?))?;
@@ -164,8 +175,8 @@ impl Locating {
         Ok(Path { steps })
     }
 
-    /// Whether what stands at this place is behind the error. The end of a container that is inside
-    /// the one which the type reads is before it.
+    /// Whether what is at this place is behind the error. The end of a container that is inside the
+    /// one which the type reads is before it.
     fn is_behind(&self, event: &Event<'_>, place: Place) -> bool {
         if place.start < self.place {
             return false;
@@ -204,7 +215,7 @@ impl Locating {
         Ok(())
     }
 
-    /// Notes what an event tells.
+    /// Notes an event.
     fn note(&mut self, event: Event<'_>) -> Result<(), AllocError> {
         match event {
             Event::Array { len: _ } => self.open(Open::Array { begun: 0 })?,

@@ -4,7 +4,7 @@ ghost use Rattle.bser_messages.specs.Paths.{steps_of};
 
 use crate::description::Description;
 use crate::limits::Limits;
-use crate::locating::Locating;
+use crate::locating::{Locating, Target};
 use crate::telling;
 use crate::told::Reason;
 use bser_deserializer::deserializer::MOST_LEVELS;
@@ -34,7 +34,7 @@ pub struct Path {
 }
 
 impl Path {
-    /// The steps, the outermost first.
+    /// Returns the steps, the outermost first.
     pub fn steps(&self) -> &[Step]
         ensures { result.now ≡ steps_of self.now }
     {
@@ -97,9 +97,51 @@ fn place_of_failure(reason: Reason) -> Result<Option<usize>, AllocError> {
     }
 }
 
+/// Which part of a message is meant.
+#[derive(Clone, Copy, Drop)]
+pub enum Whole {
+    /// What begins at a place.
+    No,
+    /// The row that begins there.
+    Next,
+    /// The container that ends there, or its last row.
+    Last,
+}
+
+/// A place of a message that is well-formed.
+#[derive(Clone, Copy, Drop)]
+pub struct Spot {
+    /// How many bytes of the message are before it.
+    pub place: usize,
+    /// How many levels are open there. A template has two.
+    pub depth: usize,
+    /// Which part is meant.
+    pub whole: Whole,
+}
+
+/// Returns the steps to a part of a message, which `bytes` begin with. The error is that there is
+/// no memory.
+pub fn path_to(alloc: Global, bytes: &[u8], spot: Spot) -> Result<Path, AllocError> {
+    let mut locating = Locating::new(alloc, spot.place, spot.depth);
+    if let Err(untold) = telling::from_slice(alloc, MOST, bytes, &mut locating) {
+        let _place = place_of_failure(untold.reason)?;
+    }
+    locating.path(match spot.whole {
+        Whole::No => Target::Innermost,
+        Whole::Next => Target::NextWhole,
+        Whole::Last => Target::LastWhole,
+    })
+}
+
+/// The most that a message is gone through for.
+const MOST: Limits = Limits {
+    levels: MOST_LEVELS,
+    bytes: usize::MAX,
+};
+
 impl Description {
-    /// Which part of the message the error is in. `bytes` are those that were read, from the start
-    /// of the message on: the slice, or the bytes of a frame.
+    /// Returns which part of the message the error is in. `bytes` are those that were read, from
+    /// the start of the message on: the slice, or the bytes of a frame.
     ///
     /// It is the innermost value that is wrong. For a field that is missing it is where the field
     /// would be, and for an early end where reading was. An error of the message as a whole, as of
@@ -110,11 +152,7 @@ impl Description {
     /// that there is none.
     pub fn path(&self, alloc: Global, bytes: &[u8]) -> Result<Path, AllocError> {
         let mut locating = Locating::new(alloc, self.place(), self.opened);
-        let limits = Limits {
-            levels: MOST_LEVELS,
-            bytes: usize::MAX,
-        };
-        let failed = match telling::from_slice(alloc, limits, bytes, &mut locating) {
+        let failed = match telling::from_slice(alloc, MOST, bytes, &mut locating) {
             Ok(_) => None,
             Err(untold) => place_of_failure(untold.reason)?,
         };

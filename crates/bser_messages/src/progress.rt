@@ -48,7 +48,7 @@ impl Progress {
     #[inline(never)]
     pub(crate) fn describe(self, cause: Error, len: usize) -> Description
         ensures cause { cause_of result ≡ cause }
-        ensures place { place_of result ≡ place_in cause self.count len }
+        ensures place { place_of result ≡ place_in cause self.note self.count len }
         ensures note { note_of result ≡ self.note }
     {
         description_of(cause, self, len)

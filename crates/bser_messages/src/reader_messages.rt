@@ -93,21 +93,21 @@ impl<S: Source> ReaderMessages<S> {
         }
     }
 
-    /// How many messages were taken, up to `u64::MAX`.
+    /// Returns how many messages were taken, up to `u64::MAX`.
     pub fn taken(&self) -> u64
         ensures { result ≡ reader_taken self.now }
     {
         self.taken
     }
 
-    /// Whether a call failed, so that each later one does.
+    /// Returns whether a call failed, so that each later one does.
     pub fn is_failed(&self) -> bool
         ensures { result ≡ reader_failed self.now }
     {
         self.failed
     }
 
-    /// The reader.
+    /// Returns the reader.
     pub fn get_ref(&self) -> &S
         ensures { result.now ≡ reader_of self.now }
     {

@@ -1,4 +1,4 @@
-//! What a message stands for, without making it.
+//! The size of a message with its templates written out, without making its value.
 ghost use Rattle.std.specs.Prelude.{refl, Some, None, IfOk, IfErr, OnErr, ◌≤◌};
 ghost use Rattle.bser_deserializer.specs.Reading.{owned};
 ghost use Rattle.bser_deserializer.specs.declared.deserializer.TheConstants.{LEVELS, MOST_LEVELS};
@@ -24,7 +24,7 @@ use bser_source::reference::LendsText;
 use bser_types::deserialize::{Deserialize, OwnedShape, Shape};
 use std::alloc::Global;
 
-/// How much a value stands for, once each template in it is written out as an array of objects.
+/// The size of a value with each template in it written out as an array of objects.
 ///
 /// It is read in place of the value, at the price of skipping it, and nothing of the value is kept.
 /// A `Value` has at most as many values, bytes of keys and levels: equal keys of an object are one
@@ -67,8 +67,8 @@ impl OwnedShape for Size {
     ghost owned = { refl };
 }
 
-/// The size of the message at the start of `bytes`, of at most 128 levels. What follows the message
-/// is ignored.
+/// Returns the size of the message at the start of `bytes`, of at most 128 levels. What follows the
+/// message is ignored.
 ///
 /// Fails where no prefix of `bytes` is a message whose keys are all UTF-8. The error is that of
 /// skipping the message: the first one in the order of reading, or [`Error::OutOfMemory`], which
@@ -83,7 +83,7 @@ pub fn size_of(alloc: Global, bytes: &[u8]) -> Result<Size>
     from_slice(alloc, bytes)
 }
 
-/// The size of the message at the start of `bytes`, within these limits.
+/// Returns the size of the message at the start of `bytes`, within these limits.
 ///
 /// As [`size_of`], with `limits.levels` for 128, and with one error more: a header that announces a
 /// body of more than `limits.bytes` bytes is [`Error::DeTooLong`].

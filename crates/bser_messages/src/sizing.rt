@@ -1,4 +1,4 @@
-//! Adding up the size of what is told.
+//! Adding up the size of what is reported.
 ghost use Rattle.std.specs.Prelude.{◌≡◌, true, false, OnOk};
 ghost use Rattle.bser_events.specs.Told.{told};
 ghost use Rattle.bser_events.specs.declared.builder.Stop.TheVariants.{Memory};
@@ -20,11 +20,11 @@ use bser_events::builder::{Builder, Stop};
 use bser_events::event::{Event, Place};
 use std::alloc::{AllocError, Global};
 
-/// The size of what was told up to now.
+/// The size of what was reported up to now.
 #[derive(Drop)]
 pub(crate) struct Sizing {
     size: Size,
-    /// How many bytes the keys of a template have that were told up to now, until its rows are.
+    /// How many bytes the keys of a template have that were reported up to now, until its rows are.
     template_keys: Option<u64>,
     /// How deep the innermost open container is.
     level: usize,
@@ -33,7 +33,7 @@ pub(crate) struct Sizing {
 }
 
 impl Sizing {
-    /// Nothing was told.
+    /// Nothing was reported.
     pub(crate) fn new(alloc: Global) -> Self
         ensures { Shows result nothing_told }
     {
@@ -49,7 +49,7 @@ impl Sizing {
         }
     }
 
-    /// The size of what was told.
+    /// The size of what was reported.
     pub(crate) fn into_size(self) -> Size
         ensures { result ≡ self.size }
     {
@@ -90,7 +90,7 @@ impl Sizing {
         Ok(())
     }
 
-    /// Counts a key of so many bytes, of an object or of the template whose keys are told.
+    /// Counts a key of so many bytes, of an object or of the template whose keys are reported.
     #[inline(always)]
     fn add_key(&mut self, len: usize)
         ensures { Counts (keyed len) self.old self.new }

@@ -1,4 +1,4 @@
-//! Going on after a message that was not told whole.
+//! Going on after a message that was not reported whole.
 ghost use Rattle.std.specs.Prelude.{◌≡◌, IfOk, IfErr};
 ghost use Rattle.bser_messages.specs.Told.{SkipFails, Skips, rest_after};
 
@@ -12,7 +12,7 @@ use std::alloc::Global;
 
 impl Untold {
     /// Passes over what is left of the message in the reader that gave it, up to the end that the
-    /// header announces, and tells whether the reader is there now.
+    /// header announces. Returns whether the reader is there now.
     ///
     /// False where that end is not known, since the header was not taken, or where the reader had
     /// given bytes past it. Then nothing is read. A reader that ends before is

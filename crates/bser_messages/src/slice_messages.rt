@@ -81,14 +81,15 @@ impl<'de> SliceMessages<'de> {
         Ok(Some(value))
     }
 
-    /// The bytes after the messages that were taken.
+    /// Returns the bytes after the messages that were taken.
     pub fn rest(&self) -> &'de [u8]
         ensures { result.now ≡ rest_of self.now }
     {
         &self.bytes[self.taken..]
     }
 
-    /// How many bytes the messages have that were taken: the place of the next one in the slice.
+    /// Returns how many bytes the messages have that were taken: the place of the next one in the
+    /// slice.
     pub fn taken(&self) -> usize
         ensures value { result ≡ self.now.taken }
         ensures within { result + length (rest_of self.now) ≡ length self.now.whole }

@@ -1,4 +1,4 @@
-//! Whole messages, told to a builder event by event.
+//! Reporting whole messages to a builder, event by event.
 ghost use Rattle.std.specs.Prelude.{◌≡◌, ◌≤◌, length, Some, None, IfOk, IfErr, OnOk};
 ghost use Rattle.bser_format.specs.Errors.{error_of};
 ghost use Rattle.bser_deserializer.specs.declared.deserializer.TheConstants.{MOST_LEVELS};
@@ -31,17 +31,16 @@ use bser_source::read::DeRead;
 use bser_source::slice_read::SliceRead;
 use std::alloc::Global;
 
-/// Tells the builder the message at the start of `bytes`, within these limits, event by event, and
-/// answers what its header tells. What follows the message is ignored.
+/// Reports the message at the start of `bytes` to the builder, event by event, within these limits,
+/// and returns its header. What follows the message is ignored.
 ///
 /// The keys of its objects have to be UTF-8. Each event's place counts the bytes from the start of
-/// the message: the first event stands behind the header, each right behind the one before it, and
-/// the last at the message's end. The error is the
-/// first one in the order of reading, as
-/// [`from_slice_limited`](crate::limited_slice::from_slice_limited) answers it for an `Ignored`; or
-/// out of memory, for the containers that are open or by the builder; or that the builder wanted no
-/// more. After an error the builder took events that the bytes behind the header spell, each once
-/// and in order, and then no more, or took no more at the next one.
+/// the message: the first event is right behind the header, each other one right behind the one
+/// before it, and the last at the message's end. The error is the first one in the order of
+/// reading, as [`from_slice_limited`](crate::limited_slice::from_slice_limited) answers it for an
+/// `Ignored`; or out of memory, for the containers that are open or by the builder; or that the
+/// builder wanted no more. After an error the builder took events that the bytes behind the header
+/// spell, each once and in order, and then no more, or took no more at the next one.
 pub fn from_slice<B: Builder>(
     alloc: Global,
     limits: Limits,
@@ -69,8 +68,8 @@ pub fn from_slice<B: Builder>(
     }
 }
 
-/// Tells the builder the reader's next message, within these limits, event by event, and answers
-/// what its header tells, or `None` where no byte is left.
+/// Reports the reader's next message to the builder, event by event, within these limits, and
+/// returns its header, or `None` where no byte is left.
 ///
 /// As [`from_slice`], with the errors of
 /// [`next_message_limited`](crate::next::next_message_limited) for an `Ignored`. What follows the

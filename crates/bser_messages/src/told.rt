@@ -1,10 +1,10 @@
-//! What is told of a message beside its events, and why one was not told whole.
+//! A message's header, and why a message was not reported whole.
 ghost use Rattle.std.specs.Prelude.{◌≡◌, ◌+◌, ◌-◌, ◌^◌, min};
 
 use crate::description::Description;
 use std::fmt;
 
-/// What the header of a message tells.
+/// The content of a message's header.
 #[derive(Debug, Clone, Copy, PartialEq, Eq)]
 pub struct Header {
     /// The capabilities that the message asks for, one bit each.
@@ -16,7 +16,7 @@ pub struct Header {
 }
 
 impl Header {
-    /// How many bytes the message has, its header and its body, at most `usize::MAX`.
+    /// Returns how many bytes the message has, its header and its body, at most `usize::MAX`.
     pub fn message_length(&self) -> usize
         ensures { result ≡ min (self.now.start + self.now.len) (2 ^ 64 - 1) }
     {
@@ -24,7 +24,7 @@ impl Header {
     }
 }
 
-/// Why a message was not told whole.
+/// Why a message was not reported whole.
 #[derive(Debug, Drop)]
 pub enum Reason {
     /// The builder wanted no more.
@@ -36,14 +36,14 @@ pub enum Reason {
     Failed(Description),
 }
 
-/// An error of telling a message, and what its caller needs to go on after it.
+/// An error of reporting a message to a builder, and what its caller needs to go on after it.
 ///
 /// It prints as one line without an end.
 #[derive(Debug, Drop)]
 pub struct Untold {
-    /// Why the message was not told whole.
+    /// Why the message was not reported whole.
     pub reason: Reason,
-    /// What the message's header tells, where that was taken.
+    /// The message's header, where it was taken.
     pub header: Option<Header>,
     /// How many bytes the reader gave from the start of the message on, at most `usize::MAX`; the
     /// bytes of a slice.

@@ -1,4 +1,4 @@
-//! One message told to a builder, over any source.
+//! Reporting one message to a builder, over any source.
 ghost use Rattle.std.specs.Prelude.{◌≡◌, ◌≤ℤ◌, pos, IfOk, IfErr, IfSome, IsSome, OnOk, OnErr};
 ghost use Rattle.bser_format.specs.declared.errors.Error.TheVariants.{OutOfMemory};
 ghost use Rattle.bser_source.specs.Window.{left};
@@ -25,7 +25,7 @@ use bser_events::event::Place;
 use bser_format::errors::Error;
 use bser_source::read::DeRead;
 
-/// The error of a message, and what its header tells, where that was taken.
+/// The error of a message, and its header, where that was taken.
 pub(crate) struct Cut {
     pub(crate) cause: Error,
     pub(crate) header: Option<Header>,
@@ -99,7 +99,7 @@ pub(crate) fn tell_message<R: DeRead, B: Builder>(
     }
 }
 
-/// What the header tells that was taken.
+/// The header that was taken.
 fn header_of<R: DeRead>(from: &Deserializer<R>) -> Header
     requires start { pos 0 ≤ℤ from.now.state.start }
     requires len { pos 0 ≤ℤ from.now.state.len }

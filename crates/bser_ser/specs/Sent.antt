@@ -70,7 +70,7 @@ IsFlushed s = pending_of s ≡ []
 abbrev pub Finishes : {S : Type 0} → Tells S → Serializer S → S → Type 0
 Finishes sink s writer = Takes sink (writer_of s) writer (pending_of s)
 
--- what stands for a field that a template's row does not have
+-- what is put for a field that a template's row does not have
 abbrev pub skip_piece : List ℕ
 skip_piece = 0x0c ∷ []
 

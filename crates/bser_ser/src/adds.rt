@@ -16,14 +16,15 @@ use bser_source::device::Sink;
 use byteorder::{ByteOrder, LittleEndian};
 use std::result::Result;
 
-/// What puts a value of many parts, and passes no error from part to part: a [`Serializer`]. It is
-/// a trait only so that the crates above can call what users do not get.
+/// Puts a value of many parts without passing an error from part to part, as a [`Serializer`] does.
+/// It is a trait only so that the crates above can call what users do not get.
 ///
 /// Each call does what the put of its name does. Where it fails it answers [`PutRefused`], and
 /// [`refusal`](Self::refusal) gives the error: the writer's own at this call (`Io`), or
 /// `OutOfMemory`. Every other call keeps that error.
 pub trait Parts {
-    /// The error of the last call that answered [`PutRefused`], and `OutOfMemory` before the first.
+    /// Returns the error of the last call that answered [`PutRefused`], and `OutOfMemory` before
+    /// the first.
     fn refusal(&self) -> Error;
 
     /// Puts null.

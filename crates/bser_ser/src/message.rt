@@ -23,7 +23,7 @@ const START: usize = HEADER_START.len();
 const LONGEST_HEADER: usize = START + LONGEST;
 
 /// The bytes of the shortest header.
-const SHORTEST_HEADER: usize = 8;
+pub const SHORTEST_HEADER: usize = 8;
 
 /// The bytes for which a new vector has room.
 const FIRST_ROOM: usize = 128;
@@ -31,7 +31,7 @@ const FIRST_ROOM: usize = 128;
 /// Writes one message with the value as its body, to a borrowed writer.
 ///
 /// The value is gone through twice: once to measure its body, and once to write it; the body is not
-/// kept. In between the writer is told how long the message is. Where measuring fails, the writer
+/// kept. In between the writer learns how long the message is. Where measuring fails, the writer
 /// has taken nothing. Then the value has no tree, and the error is the one that its type's
 /// `meaning` gives, as `SerU64TooBig` for a `u64` above `i64::MAX`; its body is longer than
 /// `i64::MAX` bytes (`SerCustom` `CountTooGreat`); or memory runs out (`OutOfMemory`). Writing
@@ -72,7 +72,7 @@ pub fn serialize<W: Sink, T: Serialize>(
     }
 }
 
-/// The value's message in a new vector.
+/// Returns the value's message in a new vector.
 ///
 /// The value is gone through once. It fails where the value has no tree, with the error that its
 /// type's `meaning` gives, as `SerU64TooBig` for a `u64` above `i64::MAX`; where its body is longer
@@ -83,9 +83,7 @@ pub fn to_vec<T: Serialize>(alloc: Global, value: &T) -> Result<Vec<u8>>
     ensures writable { OnOk result (CanBeWritten (T.meaning value.now)) }
     ensures err { IfErr result (IsUnmeasured (T.meaning value.now)) }
 {
-    let mut gap = Vec::with_capacity(alloc, FIRST_ROOM)?;
-    gap.extend_from_slice(&[0; SHORTEST_HEADER])?;
-    let mut message = with_body(alloc, gap, value)?;
+    let mut message = with_body(alloc, gap(alloc)?, value)?;
     match i64::try_from(message.len() - SHORTEST_HEADER) {
         Ok(body) => {
             put_in_gap(&mut message, body)?;
@@ -93,6 +91,15 @@ pub fn to_vec<T: Serialize>(alloc: Global, value: &T) -> Result<Vec<u8>>
         }
         Err(_) => Err(Error::ser_custom(Complaint::CountTooGreat)),
     }
+}
+
+/// Returns a gap for the shortest header, behind which a body is put.
+pub fn gap(alloc: Global) -> std::result::Result<Vec<u8>, AllocError>
+    ensures { IfOk result (λ gap. length gap.items ≡ SHORTEST_HEADER) }
+{
+    let mut gap = Vec::with_capacity(alloc, FIRST_ROOM)?;
+    gap.extend_from_slice(&[0; SHORTEST_HEADER])?;
+    Ok(gap)
 }
 
 /// These bytes and then the value's body.
@@ -114,9 +121,9 @@ fn with_body<T: Serialize>(alloc: Global, bytes: Vec<u8>, value: &T) -> Result<V
     }
 }
 
-/// Puts the header of a body of this length where the gap before it is. Where the header is longer
+/// Puts the header of a body of this length where the [`gap`] before it is. Where the header is longer
 /// than the gap, the body is moved up.
-fn put_in_gap(message: &mut Vec<u8>, body: i64) -> std::result::Result<(), AllocError>
+pub fn put_in_gap(message: &mut Vec<u8>, body: i64) -> std::result::Result<(), AllocError>
     requires { SHORTEST_HEADER ≤ length message.old.items }
     ensures ok { OnOk result (message.new.items ≡ front_of body
         ++ drop SHORTEST_HEADER message.old.items) }

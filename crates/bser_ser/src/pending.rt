@@ -1,5 +1,5 @@
 //! The bytes that a writer has still to take.
-ghost use Rattle.std.specs.Prelude.{◌≡◌, ◌≤◌, [], ◌∷◌, ◌++◌, length, drop, OnOk, IfErr};
+ghost use Rattle.std.specs.Prelude.{◌≡◌, ◌≤◌, [], ◌∷◌, ◌++◌, length, OnOk, IfErr};
 ghost use Rattle.bser_format.specs.Canonical.{least_integer};
 ghost use Rattle.bser_format.specs.declared.errors.Error.TheVariants.{Io};
 ghost use Rattle.bser_ser.specs.Sent.{Appends, payload_head};
@@ -83,30 +83,17 @@ pub fn send<W: Sink>(writer: &mut W, pending: &mut Vec<u8>) -> io::Result<()>
 {
     let mut done = 0;
     while done < pending.len() {
-        match writer.push(&pending[done..]) {
+        let fault = match writer.push(&pending[done..]) {
+            Ok(0) => io::Error::new(ErrorKind::WriteZero, "nothing taken"),
             Ok(n) => {
-                if n == 0 {
-                    cut_front(pending, done);
-                    return Err(io::Error::new(ErrorKind::WriteZero, "nothing taken"));
-                }
                 done += n;
+                continue;
             }
-            Err(fault) => {
-                cut_front(pending, done);
-                return Err(fault);
-            }
-        }
+            Err(fault) => fault,
+        };
+        pending.drain(..done);
+        return Err(fault);
     }
     pending.clear();
     Ok(())
-}
-
-/// Takes the first n bytes away.
-fn cut_front(pending: &mut Vec<u8>, n: usize)
-    requires { n ≤ length pending.old.items }
-    ensures { pending.new.items ≡ drop n pending.old.items }
-{
-    let rest = pending.len() - n;
-    pending.rotate_left(n);
-    pending.truncate(rest);
 }

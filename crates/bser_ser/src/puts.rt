@@ -163,7 +163,8 @@ impl<W: Sink> Serializer<W> {
         }
     }
 
-    /// Puts what stands in a template's row in the place of a field that the row does not have.
+    /// Puts a skip, which is in a template's row in the place of a field that the row does not
+    /// have.
     ///
     /// Nothing checks that a row's field is due.
     pub fn put_skip(&mut self) -> Result<()>

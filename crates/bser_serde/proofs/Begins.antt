@@ -13,8 +13,8 @@ use Rattle.bser_format.proofs.Frames.{parts}
 use Rattle.bser_format.proofs.TextLaws.{reads_text_key_messages}
 use Rattle.bser_bunser.proofs.Readers.{after_four, head_after_magic, head_there}
 use Rattle.bser_serde.specs.HasMessage.{HasMessage}
-use Rattle.bser_serde.specs.Takes.{Takes, counting}
-use Rattle.bser_serde.proofs.Pieces.{behind, front_cut}
+use Rattle.bser_events.specs.Takes.{Takes, counting}
+use Rattle.bser_events.proofs.AtStart.{behind, front_cut}
 
 -- a slice's bytes are bytes
 pub octets : (b : List ℕ) → ((i : ℕ) → Fits w8 (get_or b i 0)) → IsBytes b

@@ -1,7 +1,7 @@
 pub mod Told
 pub mod Compared
 pub mod Checked
-pub mod Binds
+pub mod Rows
 pub mod Pieces
 pub mod Tags
 pub mod Begins

@@ -1,63 +1,27 @@
--- Counts, strings, keys and values are taken piece by piece.
-use Rattle.std.proofs.Common.{◌≡◌, ◌⊎◌, ℕ, ℤ, zero, suc, ◌<◌, ◌≤◌, ◌-◌, ◌*◌, Bool, true, false, List, [], ◌∷◌, ◌++◌, length, take, drop, length-take-le, get_or, refl, sym, ap, subst, ◌∙◌, arith, inl, inr}
+-- Strings and values are taken piece by piece.
+use Rattle.std.proofs.Common.{◌≡◌, ◌⊎◌, ℕ, ℤ, zero, suc, ◌<◌, ◌-◌, ◌*◌, Bool, true, false, List, [], ◌∷◌, length, take, drop, get_or, refl, sym, ap, subst, ◌∙◌, arith, inl, inr}
 use Rattle.std.proofs.lemmas.List.{take-append-drop, take_rest}
 use Rattle.bser_format.specs.Tree as trees
 use Rattle.bser_format.specs.Tree.{Tree, array, object, template, items_of, entries_of, rows_of}
-use Rattle.bser_format.specs.Grammar.{SpellsCount}
 use Rattle.bser_format.specs.DueReaders.{less_one}
 use Rattle.bser_format.specs.declared.errors.Complaint.{Complaint}
 use Rattle.bser_format.specs.declared.errors.Complaint.TheVariants.{NegativeLength, NegativeCount}
-use Rattle.bser_format.specs.declared.errors.Kind.{Kind}
 use Rattle.bser_format.specs.declared.errors.Kind.TheVariants.{MapKey, TemplateKey}
 use Rattle.bser_format.specs.Named as named
 use Rattle.bser_format.specs.Named.{Reader, reads, give, and_then, ◌>>=◌, front, utf8, many, text_of, entry_of, field_of, with_text_keys, rows_body, template_body}
 use Rattle.bser_bunser.specs.declared.prefix.Token.{Token}
 use Rattle.bser_bunser.specs.declared.prefix.Token.TheVariants as tokens
-use Rattle.bser_bunser.specs.Tokens.{SpellsToken, Headed, tag_of_string}
-use Rattle.bser_bunser.proofs.Readers.{front_there, counted_there}
 use Rattle.bser_events.specs.Found.{value_rest, table_at, IsContainer}
 use Rattle.bser_events.proofs.Begins.{value_begins}
-use Rattle.bser_events.proofs.Texts.{utf8_reads, after_tag, IsStringTag}
-use Rattle.bser_serde.specs.Takes.{Takes, Cut, CutString, counting}
-use Rattle.bser_serde.proofs.Binds.{bound, mapped, rows_taken}
-
--- a token is in front of these bytes, as their first n
-abbrev pub Fronts : Token → ℕ → List ℕ → Type 0
-Fronts t n held = (n ≤ length held) × SpellsToken t (take n held)
-
--- what follows the first n bytes
-abbrev pub behind : ℕ → List ℕ → List ℕ
-behind n held = take (length held - n) (drop n held)
-
-pub counted : (c : Complaint) (n len : ℕ) (held : List ℕ) → (len ≤ length held) × SpellsCount n (take len held) → counting c held ≡ reads n (behind len held)
-counted c n len held h =
-    ap (counting c) (sym (take-append-drop len held)) ∙ counted_there c n (take len held) h.1 (drop len held) ∙ ap (reads n) (sym (take_rest held len))
-
-pub front_cut : (n : ℕ) (b : List ℕ) → n ≤ length b → front n b ≡ reads (take n b) (behind n b)
-front_cut n b within =
-    ap (front n) (sym (take-append-drop n b)) ∙ front_there n (take n b) (length-take-le n b within) (drop n b) ∙ ap (reads (take n b)) (sym (take_rest b n))
+use Rattle.bser_events.proofs.Texts.{utf8_reads}
+use Rattle.bser_events.specs.Takes.{Takes, counting}
+use Rattle.bser_events.proofs.Binds.{bound, mapped}
+use Rattle.bser_events.proofs.AtStart.{Fronts, behind}
+use Rattle.bser_serde.specs.Takes.{Cut, CutString}
+use Rattle.bser_serde.proofs.Rows.{rows_taken}
 
 pub string_cut : (is_text : Bool) (n : ℕ) (b mid rest : List ℕ) → counting NegativeLength b ≡ reads n mid → Cut is_text n mid rest → CutString is_text b rest
 string_cut is_text n b mid rest len cut = record { string = cut.string; read = ap (and_then front) len ∙ cut.front; text = cut.text }
-
-string_tag : (b : Bool) → IsStringTag (tag_of_string b)
-string_tag true = inr refl
-string_tag false = inl refl
-
-pub key_taken : (b : Bool) (t : Token) (n m : ℕ) (held rest : List ℕ) → t ≡ tokens.Str b m → Fronts t n held → Cut true m (behind n held) rest
-    → (kind : Kind) → Takes (text_of kind) held rest
-key_taken b t n m held rest is h cut kind =
-    let head : Headed (tag_of_string b) (SpellsCount m) (take n held) = subst (λ z. SpellsToken z (take n held)) is h.1 in
-    let mid = behind n held in
-    let whole : held ≡ tag_of_string b ∷ (head.rest ++ mid) =
-    sym (take-append-drop n held) ∙ ap (λ l. l ++ drop n held) head.whole ∙ ap (λ l. tag_of_string b ∷ (head.rest ++ l)) (sym (take_rest held n)) in
-    let read : named.string (head.rest ++ mid) ≡ reads cut.string rest = ap (and_then front) (counted_there NegativeLength m head.rest head.body mid) ∙ cut.front in
-    let once : and_then utf8 (named.string (head.rest ++ mid)) ≡ reads cut.string rest = ap (and_then utf8) read ∙ utf8_reads cut.string rest (cut.text refl) in (
-      cut.string,
-      ap (text_of kind) whole
-          ∙ after_tag kind (tag_of_string b) (λ o. o ≡ reads cut.string rest) (head.rest ++ mid) (string_tag b) once
-          (ap (and_then utf8) once ∙ utf8_reads cut.string rest (cut.text refl)),
-    )
 
 pub entry_taken : (levels : ℕ) (b mid z : List ℕ) → Takes (text_of MapKey) b mid → Takes (with_text_keys levels) mid z
     → Takes (entry_of (text_of MapKey) (with_text_keys levels)) b z

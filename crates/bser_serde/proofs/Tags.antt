@@ -12,8 +12,9 @@ use Rattle.bser_format.specs.Named as named
 use Rattle.bser_format.specs.Named.{reads, give, and_then, front, utf8, field_of, value, with_text_keys}
 use Rattle.bser_events.proofs.Begins.{value_field}
 use Rattle.bser_events.proofs.Texts.{utf8_reads}
-use Rattle.bser_serde.specs.Takes.{Takes, CutString, size_of_scalar}
-use Rattle.bser_serde.proofs.Pieces.{behind, front_cut}
+use Rattle.bser_events.specs.Takes.{Takes}
+use Rattle.bser_events.proofs.AtStart.{behind, front_cut}
+use Rattle.bser_serde.specs.Takes.{CutString, size_of_scalar}
 
 -- a tag of a scalar or of a skip, and its size
 data Scalar (c n : ℕ) : Type 0 where

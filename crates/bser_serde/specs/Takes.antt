@@ -1,16 +1,7 @@
--- What a plain reader leaves of the bytes that it begins with.
+-- Strings and scalars at the start of bytes.
 use Rattle.std.specs.Prelude.{◌≡◌, ℕ, Bool, true, List, IsUtf8, ◌==◌, ◌||◌, if◌then◌else◌}
 use Rattle.bser_format.specs.Named as named
-use Rattle.bser_format.specs.Named.{Reader, reads, front, ◌>>=◌}
-use Rattle.bser_format.specs.declared.errors.Complaint.{Complaint}
-
--- r reads what stands before the rest
-abbrev pub Takes : {X : Type 0} → Reader X → List ℕ → List ℕ → Type 0
-Takes {X} r b rest = (x : X) × (r b ≡ reads x rest)
-
--- an integer of at least 0, with this complaint of another
-abbrev pub counting : Complaint → Reader ℕ
-counting c = named.int >>= named.natural c
+use Rattle.bser_format.specs.Named.{reads, front}
 
 -- n bytes stand before the rest, and are UTF-8 where they are a text
 pub record Cut (is_text : Bool) (n : ℕ) (b rest : List ℕ) : Type 0 where

@@ -1,12 +1,8 @@
-//! Counts, strings and keys at the start of bytes, and what follows them.
+//! Scalars and strings at the start of bytes, and what follows them.
 ghost use Rattle.std.specs.Prelude.{◌≡◌, IfSome};
-ghost use Rattle.bser_format.specs.Named.{reads, many, text_of};
-ghost use Rattle.bser_format.specs.declared.errors.Complaint.{Complaint};
-ghost use Rattle.bser_format.specs.declared.errors.Kind.{Kind};
-ghost use Rattle.bser_format.specs.declared.errors.Kind.TheVariants.{TemplateKey};
-ghost use Rattle.bser_serde.specs.Takes.{Takes, Cut, CutString, counting, size_of_scalar};
+ghost use Rattle.bser_serde.specs.Takes.{Cut, CutString, size_of_scalar};
 
-use bser_bunser::prefix::{Prefix, Token, length_prefix, token_prefix};
+use bser_events::fronts::{Counted, count};
 use bser_format::header::BSER_UTF8STRING;
 use bser_source::text::as_text;
 
@@ -25,28 +21,6 @@ pub(crate) fn scalar_size(tag: u8) -> usize
         return 0;
     }
     usize::from(SIZES[usize::from(tag)])
-}
-
-/// A count, and what follows it.
-#[derive(Clone, Copy)]
-pub(crate) struct Counted<'b> {
-    pub(crate) count: usize,
-    pub(crate) rest: &'b [u8],
-}
-
-/// The count that these bytes begin with, and what follows it. None where no count is there.
-#[inline(always)]
-pub(crate) fn count(bytes: &[u8]) -> Option<Counted<'_>>
-    ensures { IfSome result (λ n. (c : Complaint)
-        → counting c bytes.now ≡ reads n.count n.rest.now) }
-{
-    match length_prefix(bytes) {
-        Prefix::Found { value, len } => Some(Counted {
-            count: value,
-            rest: &bytes[len..],
-        }),
-        _ => None,
-    }
 }
 
 /// What follows so many bytes, which are a string's. None where there are fewer, or a text is no
@@ -71,32 +45,4 @@ pub(crate) fn counted_string(bytes: &[u8], is_text: bool) -> Option<&[u8]>
 {
     let Counted { count: len, rest } = count(bytes)?;
     string(rest, is_text, len)
-}
-
-/// What follows the key that these bytes begin with, which is UTF-8 under either tag.
-#[inline(always)]
-pub(crate) fn key(bytes: &[u8]) -> Option<&[u8]>
-    ensures { IfSome result (λ rest. (kind : Kind) → Takes (text_of kind) bytes.now rest.now) }
-{
-    match token_prefix(bytes) {
-        Prefix::Found {
-            value: Token::Str {
-                is_text: _,
-                len: size,
-            },
-            len,
-        } => string(&bytes[len..], true, size),
-        _ => None,
-    }
-}
-
-/// What follows so many keys of a template.
-pub(crate) fn keys(bytes: &[u8], count: usize) -> Option<&[u8]>
-    ensures { IfSome result (λ rest. Takes (many (text_of TemplateKey) count) bytes.now rest.now) }
-{
-    let mut rest = bytes;
-    for _ in 0..count {
-        rest = key(rest)?;
-    }
-    Some(rest)
 }

@@ -2,8 +2,8 @@
 ghost use Rattle.std.specs.Prelude.{IfSome};
 ghost use Rattle.bser_serde.specs.HasMessage.{HasMessage};
 
-use crate::heads::{Counted, count};
 use crate::values::value;
+use bser_events::fronts::{Counted, count};
 use bser_format::header::HEADER_START;
 
 /// Where the body of a message stands.

@@ -3,12 +3,11 @@ ghost use Rattle.std.specs.Prelude.{◌<◌, IfSome};
 ghost use Rattle.bser_format.specs.Named.{many, text_of, entry_of, field_of, with_text_keys};
 ghost use Rattle.bser_format.specs.declared.errors.Kind.TheVariants.{MapKey};
 ghost use Rattle.bser_events.specs.Found.{value_rest, table_at};
-ghost use Rattle.bser_serde.specs.Takes.{Takes};
+ghost use Rattle.bser_events.specs.Takes.{Takes};
 
-use crate::heads::{
-    Counted, LONGEST_SCALAR, count, counted_string, key, keys, scalar_size, string,
-};
+use crate::heads::{LONGEST_SCALAR, counted_string, scalar_size, string};
 use bser_bunser::prefix::{Prefix, Token, is_key_tag, token_prefix};
+use bser_events::fronts::{Counted, count, key, keys};
 use bser_format::header::{BSER_ARRAY, BSER_BYTESTRING, BSER_INT8, BSER_SKIP, BSER_UTF8STRING};
 
 /// What follows the value that these bytes begin with. None where they begin with no well-formed
@@ -80,8 +79,8 @@ fn entry(bytes: &[u8], levels: usize) -> Option<&[u8]>
     ensures { IfSome result (λ rest.
         Takes (entry_of (text_of MapKey) (with_text_keys levels)) bytes.now rest.now) }
 {
-    let rest = key(bytes)?;
-    value(rest, levels)
+    let key = key(bytes)?;
+    value(key.rest, levels)
 }
 
 /// What follows a template behind its token.

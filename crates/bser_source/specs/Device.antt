@@ -1,4 +1,5 @@
--- What a device tells of itself: what it took, and a count of failures, which stays at the greatest u64.
+-- What a device shows of itself: what it took, and a count of failures, which stays at the greatest
+-- u64.
 use Rattle.std.specs.Prelude.{◌≡◌, ℕ, ◌+◌, ◌-◌, ◌^◌, ◌<◌, ◌≤◌, max, min, nat_lt, ◌&&◌, ◌⊎◌, Bool, true, if◌then◌else◌, MatchResult, Result, Ok, Err, List, length}
 
 -- one failure more, where the count is below the greatest u64

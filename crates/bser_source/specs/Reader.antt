@@ -18,7 +18,7 @@ io_of remaining failures through block start end arrived limit failed = record {
   through = through;
 }
 
--- its window, by what its reader tells of itself
+-- its window, by what its reader shows of itself
 abbrev pub io_at : {S : Type 0} → (S → Option (List ℕ)) → (S → ℕ) → (S → Option GName) → IoRead S → Window
 io_at remaining failures through r =
     io_of (remaining r.reader) (failures r.reader) (through r.reader) r.block r.start r.end r.arrived r.limit r.failed

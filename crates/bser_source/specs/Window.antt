@@ -4,7 +4,7 @@ use Rattle.std.specs.Borrow.{GName}
 use Rattle.std.specs.List.{AllByRecursion}
 use Rattle.std.specs.Io.KnownBytes.{Consumes, prepend_known}
 
--- what a source tells of itself
+-- what a source shows of itself
 pub record Window : Type 0 where
   -- the bytes buffered, which are the first of those left
   pub buffered : List ℕ

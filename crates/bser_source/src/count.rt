@@ -15,14 +15,14 @@ pub struct CountWrite {
 }
 
 impl CountWrite {
-    /// Has counted nothing.
+    /// Begins with a count of 0.
     pub fn new() -> Self
         ensures { count_of result ≡ 0 }
     {
         CountWrite { count: 0 }
     }
 
-    /// The number of bytes taken, `usize::MAX` at most.
+    /// Returns the number of bytes taken, `usize::MAX` at most.
     pub fn count(&self) -> usize
         ensures { result ≡ count_of self.now }
     {

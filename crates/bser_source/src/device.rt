@@ -1,4 +1,4 @@
-//! Readers and writers that tell what they give and take, and count their failures.
+//! Readers and writers that count their failures, and whose contracts show what they give and take.
 ghost use Rattle.std.specs.Prelude.{◌≡◌, ◌≤◌, ℕ, List, [], ◌++◌, length, take, Option, Some, None, IfOk, MatchResult, Result, if◌then◌else◌};
 ghost use Rattle.std.specs.declared.io.Error as io_error;
 ghost use Rattle.std.specs.Borrow.{GName};
@@ -11,7 +11,7 @@ ghost use Rattle.bser_source.specs.Sinks.{Appends-none, Appends-both};
 use std::io;
 use std::io::{Read, Write};
 
-/// A reader that tells its count of failures, and the bytes left where it knows them.
+/// A reader that counts its failures, and whose contract shows the bytes left where they are known.
 ///
 /// [`Watched`] makes a source of any reader by std's `Read`, and a `&mut` to a source is one.
 pub trait Source {
@@ -35,7 +35,7 @@ pub trait Source {
         ensures through { through self.new ≡ through self.old };
 }
 
-/// A writer that tells what it takes, and its count of failures.
+/// A writer that counts its failures, and whose contract shows what it takes.
 ///
 /// [`Watched`] makes a sink of any writer by std's `Write`, and a `&mut` to a sink is one.
 pub trait Sink {
@@ -73,7 +73,7 @@ pub trait Sink {
         false
     }
 
-    /// Is told that at most so many bytes will follow, and takes nothing.
+    /// Announces that at most so many bytes will follow, and takes nothing.
     ///
     /// A sink may make room for them. Every other one does nothing, as here.
     fn expect(&mut self, most: usize)
@@ -105,7 +105,7 @@ impl<T> Watched<T> {
         Watched { inner, failures: 0 }
     }
 
-    /// The reader or writer.
+    /// Returns the reader or writer.
     pub fn get_ref(&self) -> &T
         ensures { result.now ≡ inner_of self.now }
     {

@@ -76,7 +76,7 @@ impl<S: Source> IoRead<S> {
         self.failed = false;
     }
 
-    /// The reader.
+    /// Returns the reader.
     pub fn get_ref(&self) -> &S
         ensures { result.now ≡ io_reader self.now }
     {

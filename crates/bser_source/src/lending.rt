@@ -14,7 +14,7 @@ use std::alloc::Global;
 pub trait LendingText: Copy {
     ghost text: { Self → List ℕ };
 
-    /// The text.
+    /// Returns the text.
     fn as_text<'a>(&'a self) -> &'a str
         ensures { result.now ≡ text self.now };
 }
@@ -31,11 +31,11 @@ pub trait Lending: Copy {
 
     ghost kept: { Self.Kept → List ℕ };
 
-    /// The bytes.
+    /// Returns the bytes.
     fn as_bytes<'a>(&'a self) -> &'a [u8]
         ensures { result.now ≡ bytes self.now };
 
-    /// The text that was kept.
+    /// Returns the text that was kept.
     fn kept_text<'k>(key: &'k Self::Kept) -> &'k str
         ensures { result.now ≡ kept key.now };
 
@@ -60,7 +60,7 @@ pub trait LendsText: Lending {
     /// The borrowed text.
     type Text: LendingText;
 
-    /// The bytes as a text. Bytes that are not UTF-8 are [`ReadCause::Utf8`].
+    /// Returns the bytes as a text. Bytes that are not UTF-8 are [`ReadCause::Utf8`].
     fn to_text(self) -> std::result::Result<Self::Text, ReadCause>
         ensures ok { IfOk result (λ t. (Self.Text.text t ≡ Self.bytes self) × IsUtf8
             (Self.bytes self)) }
@@ -70,13 +70,15 @@ pub trait LendsText: Lending {
 
 /// What a source lends, where that may be bytes of an input of this lifetime.
 pub trait LendsFrom<'de>: LendsText {
-    /// The borrowed bytes, for as long as the input lives. None where the source lends nothing.
+    /// Returns the borrowed bytes, for as long as the input lives. None where the source lends
+    /// nothing.
     fn lent_bytes(given: Reference<'_, Self>) -> Option<&'de [u8]>
         requires { is_lent given ≡ Self.lends }
         ensures { MatchOption result (Self.lends ≡ false)
             (λ s. s.now ≡ bytes_of Self.bytes given.entry) };
 
-    /// The borrowed text, for as long as the input lives. None where the source lends nothing.
+    /// Returns the borrowed text, for as long as the input lives. None where the source lends
+    /// nothing.
     fn lent_text(given: TextReference<'_, Self::Text>) -> Option<&'de str>
         requires { is_lent_text given ≡ Self.lends }
         ensures { MatchOption result (Self.lends ≡ false)

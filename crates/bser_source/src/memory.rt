@@ -25,7 +25,7 @@ impl InMemory {
         InMemory { bytes, failures: 0 }
     }
 
-    /// The bytes so far, those that it began with among them.
+    /// Returns the bytes so far, those that it began with among them.
     pub fn get_ref(&self) -> &Vec<u8>
         ensures { result.now.items ≡ bytes_in self.now }
     {

@@ -18,7 +18,7 @@ fn little_u32(bytes: &[u8]) -> u32
     LittleEndian::read_u32(bytes)
 }
 
-/// How many bytes these are.
+/// Returns how many bytes these are.
 #[inline(always)]
 pub fn count_octets(bytes: &[u8]) -> usize
     ensures len { result ≡ length bytes.now }
@@ -30,8 +30,7 @@ pub fn count_octets(bytes: &[u8]) -> usize
 /// How many bytes [`DeRead::fill`] buffers at most.
 pub const WINDOW: usize = 4096;
 
-/// A source of the bytes of a message: a window on the bytes left, as std's `BufRead` is one on
-/// those of a reader.
+/// A source of a message's bytes, with a window on those left, as std's `BufRead` has.
 ///
 /// What is buffered is taken without an error. An error of a source that lends changes nothing. A
 /// source that copies answers [`ReadCause::Failed`] to each call after an error. No call here
@@ -42,7 +41,7 @@ pub trait DeRead {
 
     ghost window: { Self → Window };
 
-    /// The buffered bytes: the first of those left.
+    /// Returns the buffered bytes: the first of those left.
     fn buffered<'s>(&'s self) -> &'s [u8]
         ensures { result.now ≡ (window self.now).buffered };
 
@@ -96,11 +95,11 @@ pub trait DeRead {
     fn close(&mut self)
         ensures { window self.new ≡ closed (window self.old) };
 
-    /// How many bytes were taken. Buffered bytes are not counted.
+    /// Returns how many bytes were taken. Buffered bytes are not counted.
     fn read_count(&self) -> usize
         ensures { result ≡ (window self.now).count };
 
-    /// Whether each later call that can fail does.
+    /// Returns whether each later call that can fail does.
     fn is_failed(&self) -> bool
         ensures { result ≡ (window self.now).failed };
 

@@ -28,7 +28,7 @@ pub enum TextReference<'s, T> {
 }
 
 impl<'s, L: Lending> Reference<'s, L> {
-    /// The bytes.
+    /// Returns the bytes.
     pub fn get_ref<'a>(&'a self) -> &'a [u8]
         ensures { result.now ≡ bytes_of L.bytes self.now }
     {
@@ -40,7 +40,7 @@ impl<'s, L: Lending> Reference<'s, L> {
 }
 
 impl<'s, L: LendsText> Reference<'s, L> {
-    /// The bytes as a text, borrowed or copied as they are.
+    /// Returns the bytes as a text, borrowed or copied as they are.
     ///
     /// Bytes that are not UTF-8 are [`ReadCause::Utf8`].
     pub fn to_text(self) -> Result<TextReference<'s, L::Text>, ReadCause>
@@ -61,7 +61,7 @@ impl<'s, L: LendsText> Reference<'s, L> {
 }
 
 impl<'s, T: LendingText> TextReference<'s, T> {
-    /// The text.
+    /// Returns the text.
     pub fn get_ref<'a>(&'a self) -> &'a str
         ensures { result.now ≡ text_bytes T.text self.now }
     {

@@ -2,7 +2,7 @@
 ghost use Rattle.std.specs.Prelude.{◌≡◌, ◌≤◌, length, IsUtf8, IsAscii, MatchBool, MatchOption};
 ghost use Rattle.std.specs.Str.{IsNotAscii};
 
-/// The bytes as a text, where they are UTF-8.
+/// Returns the bytes as a text, where they are UTF-8.
 ///
 /// A few bytes of ASCII are a text without the search that [`str::from_utf8`] begins with.
 #[inline(always)]

@@ -9,40 +9,20 @@ use Rattle.bser_deserializer.specs.Reading.{Answers, Refuses, Needs}
 use Rattle.bser_deserializer.specs.State.{State, awaiting}
 use Rattle.bser_deserializer.specs.declared.frames.MapHead.{MapHead}
 use Rattle.bser_types.specs.Slots.{any_lent, struct_needs}
-use Rattle.bser_variants.specs.Askings.{PayloadAsking, VariantAskings, asking_enum}
-use Rattle.bser_variants.specs.EnumAccess.{enum_head}
-use Rattle.bser_variants.specs.Variants.{OpenEnum, name_alone, with_payload, OpensVariant, RefusesVariant, payload_due}
-use Rattle.bser_variants.proofs.Askings.{AskedPayload, asking, asked_at, place_asked}
-use Rattle.bser_variants.proofs.VariantNames.{payload_at, names_of}
-use Rattle.bser_variants.proofs.Variants.{place_there, enum_refused, unit_found, unit_refused, payload_found, payload_refused}
+use Rattle.bser_structs.specs.VariantAskings.{PayloadAsking, VariantAskings, asking_enum}
+use Rattle.bser_structs.specs.EnumAccess.{enum_head}
+use Rattle.bser_structs.specs.ReadVariants.{OpenEnum, name_alone, with_payload, OpensVariant, RefusesVariant, IsPayload, payload_due}
+use Rattle.bser_structs.proofs.VariantAskings.{AskedPayload, asking, asked_at, place_asked}
+use Rattle.bser_structs.proofs.VariantNames.{payload_at, names_of}
+use Rattle.bser_structs.proofs.ReadVariants.{place_there, enum_refused, unit_found, unit_refused, payload_found, payload_refused}
 use Rattle.bser_structs.specs.Payloads.{IsPayloadOf, RefusesPayloadOf, IsPayloadAt, PayloadAskings, RefusesPayloadAt, labelled, labelled_askings, asking_labelled}
 
 -- ---- one payload
 
--- a payload that has to be there was read, and the object closed
-pub held_read : {A : Type 0} (T : Meaning) (held : A → Content → Type 0) (h : MapHead) (o m b z : State) (x : A) → m ≡ awaiting (payload_due h.row) o → Answers T held m b x → z ≡ after_closing h.levels h.opened b → IsPayloadOf (holds T) (held x) (enum_head (Some h) o) z
-held_read T held h o m b z x due a closed =
-    let at : Answers T held (awaiting (payload_due h.row) o) b x = subst (λ (s : State). Answers T held s b x) due a in
-    record {
-      inside = b;
-      answers = record {
-        tree = at.tree;
-        content = at.content;
-        text = at.text;
-        filled = at.filled;
-        read = at.read;
-        held = at.held;
-        took = at.took;
-        state = at.state;
-      };
-      state = closed;
-    }
-
--- what is kept of a payload may be told in other words
-kept_as : (p : Payload) (K L : Content → Type 0) (v : OpenEnum) (z : State) → ((c : Content) → K c → L c) → IsPayloadOf p K v z → IsPayloadOf p L v z
-kept_as unit K L v z tells r = (r.0, tells _ r.1)
-kept_as (holds T) K L (name_alone s) z tells r = absurd r
-kept_as (holds T) K L (with_payload u) z tells r =
+-- a payload that was read holds what is told of its value
+pub told_as : {A : Type 0} (T : Meaning) (held : A → Content → Type 0) (L : Content → Type 0) (v : OpenEnum) (z : State) (x : A) → ((c : Content) → held x c → L c) → IsPayload T held v z x → IsPayloadOf (holds T) L v z
+told_as T held L (name_alone s) z x tells r = absurd r
+told_as T held L (with_payload u) z x tells r =
     record {
       inside = r.inside;
       answers = record {
@@ -57,6 +37,17 @@ kept_as (holds T) K L (with_payload u) z tells r =
       };
       state = r.state;
     }
+
+-- a payload that has to be there was read, and the object closed
+pub held_read : {A : Type 0} (T : Meaning) (held : A → Content → Type 0) (h : MapHead) (o m b z : State) (x : A) → m ≡ awaiting (payload_due h.row) o → Answers T held m b x → z ≡ after_closing h.levels h.opened b → IsPayloadOf (holds T) (held x) (enum_head (Some h) o) z
+held_read T held h o m b z x due a closed =
+    told_as T held (held x) (enum_head (Some h) o) z x (λ c k. k)
+    (record { inside = b; answers = subst (λ (s : State). Answers T held s b x) due a; state = closed })
+
+-- what is kept of a payload may be told in other words
+kept_as : (p : Payload) (K L : Content → Type 0) (v : OpenEnum) (z : State) → ((c : Content) → K c → L c) → IsPayloadOf p K v z → IsPayloadOf p L v z
+kept_as unit K L v z tells r = (r.0, tells _ r.1)
+kept_as (holds T) K L v z tells r = told_as T (λ _. K) L v z (tt {0}) tells r
 
 -- the same of the payload at a place
 place_kept_as : (ps : List Payload) (place : ℕ) (K L : Content → Type 0) (v : OpenEnum) (z : State) → ((c : Content) → K c → L c) → IsPayloadAt ps place K v z → IsPayloadAt ps place L v z

@@ -11,3 +11,10 @@ pub mod Fields
 pub mod Objects
 pub mod Payloads
 pub mod Variants
+pub mod VariantNames
+pub mod ReadVariants
+pub mod EnumAccess
+pub mod VariantCalls
+pub mod VariantRests
+pub mod EnumNames
+pub mod VariantAskings

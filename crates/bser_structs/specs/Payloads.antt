@@ -7,12 +7,12 @@ use Rattle.bser_deserializer.specs.declared.frames.MapHead.{MapHead}
 use Rattle.bser_types.specs.Accesses.{texts, RefusesDue}
 use Rattle.bser_types.specs.Slots.{struct_needs}
 use Rattle.bser_structs.specs.Structs.{Names}
-use Rattle.bser_variants.specs.EnumAccess.{enum_head}
+use Rattle.bser_structs.specs.EnumAccess.{enum_head}
 use Rattle.bser_format.specs.Enums.{Payload, unit, holds, reads_enum}
 use Rattle.bser_format.specs.declared.errors.Error.{Error}
 use Rattle.bser_deserializer.specs.State.{State}
-use Rattle.bser_variants.specs.Askings.{PayloadAsking, VariantAskings, asking_enum}
-use Rattle.bser_variants.specs.Variants.{OpenEnum, HoldsVariant, IsPayload, IsUnitVariant, RefusesPayload, RefusesUnitVariant}
+use Rattle.bser_structs.specs.VariantAskings.{PayloadAsking, VariantAskings, asking_enum}
+use Rattle.bser_structs.specs.ReadVariants.{OpenEnum, HoldsVariant, IsPayload, IsUnitVariant, RefusesPayload, RefusesUnitVariant}
 use Rattle.bser_structs.specs.declared.payloads.OneOf.{OneOf}
 use Rattle.bser_structs.specs.declared.payloads.OneOf.TheVariants.{First, Others}
 

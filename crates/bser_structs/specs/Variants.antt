@@ -13,8 +13,8 @@ use Rattle.bser_format.specs.declared.errors.Message.TheVariants.{Fixed}
 use Rattle.bser_deserializer.specs.Reading.{Asking, bare, Needs}
 use Rattle.bser_types.specs.Meanings.{TypeMeaning}
 use Rattle.bser_types.specs.Slots.{struct_needs}
-use Rattle.bser_variants.specs.Askings.{PayloadAsking, VariantAskings, asking_enum}
-use Rattle.bser_variants.specs.Variants.{HoldsVariant}
+use Rattle.bser_structs.specs.VariantAskings.{PayloadAsking, VariantAskings, asking_enum}
+use Rattle.bser_structs.specs.ReadVariants.{HoldsVariant}
 use Rattle.bser_structs.specs.Fields.{Coding, FieldOf, required, optional, nullable, reads_fields, HoldsFields, fields_needs, asking_fields, fields_tree}
 
 -- ---- variants

@@ -4,11 +4,11 @@ ghost use Rattle.bser_structs.specs.Payloads.{ReadsEnum, RefusesEnum};
 ghost use Rattle.bser_structs.specs.Variants.{VariantOf};
 
 use crate::payloads::ReadPayloads;
+use crate::variant::open_variant;
 use bser_bunser::refusal::Answer;
 use bser_deserializer::deserializer::Deserializer;
 use bser_source::read::DeRead;
 use bser_source::reference::LendsText;
-use bser_variants::variant::open_variant;
 use std::alloc::Global;
 
 /// An enum, by the list of its variants.
@@ -20,7 +20,7 @@ pub trait Variants {
 /// Reads the variant that is expected, of an enum of this name: one of these names, and its
 /// payload.
 ///
-/// The errors are those of [`read_enum`](bser_variants::enum_access::ReadsEnums::read_enum), those
+/// The errors are those of [`read_enum`](crate::enum_access::ReadsEnums::read_enum), those
 /// of the payload's type, and [`Complaint::WrongType`](bser_format::errors::Complaint::WrongType)
 /// for a name without its payload. After an error each later call fails.
 #[inline(always)]

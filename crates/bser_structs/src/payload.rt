@@ -7,9 +7,10 @@ ghost use Rattle.bser_deserializer.specs.Reading.{bare, Needs};
 ghost use Rattle.bser_types.specs.Accesses.{texts};
 ghost use Rattle.bser_types.specs.Slots.{reads_struct, struct_needs};
 ghost use Rattle.bser_structs.specs.Askings.{asking_struct};
-ghost use Rattle.bser_variants.specs.Askings.{PayloadAsking};
+ghost use Rattle.bser_structs.specs.VariantAskings.{PayloadAsking};
 ghost use Rattle.bser_structs.specs.Payloads.{GivesPayload, GivesNone};
 
+use crate::payload_calls::{await_payload, read_null, read_payload};
 use crate::slots::Slots;
 use crate::struct_reader::ReadsFields;
 use bser_bunser::refusal::Answer;
@@ -20,7 +21,6 @@ use bser_format::errors::Complaint;
 use bser_source::read::DeRead;
 use bser_source::reference::LendsText;
 use bser_types::deserialize::Deserialize;
-use bser_variants::payload::await_payload;
 use std::alloc::Global;
 use std::marker::PhantomData;
 
@@ -80,13 +80,7 @@ impl<L: LendsText> ReadPayload<L> for Unit {
         from: &mut Deserializer<R>,
         head: Option<MapHead>,
     ) -> Answer<()> {
-        let Some(head) = head else {
-            return Ok(());
-        };
-        await_payload(from, head);
-        from.read_unit()?;
-        from.close_pairs(head);
-        Ok(())
+        read_null(from, head)
     }
 }
 
@@ -112,13 +106,7 @@ impl<L: LendsText, T: Deserialize<L>> ReadPayload<L> for Newtype<T> {
         from: &mut Deserializer<R>,
         head: Option<MapHead>,
     ) -> Answer<T> {
-        let Some(head) = head else {
-            return Err(from.complain(Complaint::WrongType));
-        };
-        await_payload(from, head);
-        let value = T::deserialize(alloc, from)?;
-        from.close_pairs(head);
-        Ok(value)
+        read_payload(alloc, from, head)
     }
 }
 

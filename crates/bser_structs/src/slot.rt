@@ -37,7 +37,7 @@ pub trait Slot<L: LendsText>: Drop {
     // which reader gives its errors, where its type says one
     ghost asks: { Option (Asking Self.field.reads) };
 
-    /// A field that was not read yet.
+    /// Makes a field that was not read yet.
     fn empty() -> Self
         ensures { Self.keeps result Self.field };
 
@@ -60,7 +60,7 @@ pub trait Slot<L: LendsText>: Drop {
         ensures refused { OnErr result (RefusesFill Self.asks Self.needs Self.field
             from.old from.new) };
 
-    /// The field's value, or None where it is required and absent.
+    /// Returns the field's value, or None where it is required and absent.
     fn finish(self) -> Option<Self::Value>
         ensures { Ends Self.holds (Self.keeps self) result };
 }

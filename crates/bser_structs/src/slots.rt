@@ -38,7 +38,7 @@ pub trait Slots<L: LendsText>: Drop {
     // which readers give their errors, where their types say one
     ghost asks: { FieldAskings Self.fields };
 
-    /// Fields that were not read yet.
+    /// Makes fields that were not read yet.
     fn empty() -> Self
         ensures { Self.keeps result Self.fields };
 
@@ -58,8 +58,8 @@ pub trait Slots<L: LendsText>: Drop {
         ensures refused { OnErr result (RefusesAt place Self.fields Self.asks Self.needs
             (Self.keeps self.old) from.old from.new) };
 
-    /// Whether the row's keys, from this place on, are these names one after another, each of them
-    /// once, and as many as there are fields.
+    /// Returns whether the row's keys, from this place on, are these names one after another. Each
+    /// of them has to be there once, and as many as there are fields.
     fn are_in_turn<R: DeRead<Lent = L>>(
         from: &Deserializer<R>,
         place: usize,
@@ -81,7 +81,7 @@ pub trait Slots<L: LendsText>: Drop {
         ensures refused { OnErr result (RefusesInTurn Self.fields Self.asks Self.needs
             from.old from.new) };
 
-    /// The fields' values, or the place of the first that is required and absent.
+    /// Returns the fields' values, or the place of the first that is required and absent.
     fn finish(self) -> Result<Self::Values, usize>
         ensures values { EndAs Self.holds (Self.keeps self) (ok_of result) }
         ensures absent { IfErr result (Lacks (Self.keeps self)) };

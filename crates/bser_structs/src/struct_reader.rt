@@ -11,7 +11,7 @@ use bser_source::read::DeRead;
 use bser_source::reference::LendsText;
 use std::alloc::Global;
 
-/// What reads structs: a [`Deserializer`].
+/// Reads structs, as a [`Deserializer`] does.
 pub trait ReadsFields<L: LendsText> {
     /// Reads an object or a row as the fields of a struct.
     fn read_fields<F: Slots<L>>(&mut self, alloc: Global, names: &[&str]) -> Answer<F::Values>;

@@ -15,7 +15,7 @@ pub trait PutField {
     // the entries that it is: one, or none where it is left out
     ghost entry: { Self → List (List ℕ × Result Tree Error) };
 
-    /// How many entries it is.
+    /// Returns how many entries the field is.
     fn count(&self) -> usize
         ensures { IsCount (length (entry self.now)) result };
 
@@ -75,7 +75,7 @@ pub trait PutFields {
     // the entries that they are
     ghost entries: { Self → List (List ℕ × Result Tree Error) };
 
-    /// How many entries they are.
+    /// Returns how many entries the fields are.
     fn count(&self) -> usize
         ensures { IsCount (length (entries self.now)) result };
 

@@ -9,7 +9,7 @@ use bser_deserializer::container::{MapHead, SeqHead};
 use bser_deserializer::deserializer::Deserializer;
 use bser_source::read::DeRead;
 
-/// An access to the items of the array or template that this head opened.
+/// Returns an access to the items of the array or template that this head opened.
 #[inline(always)]
 pub fn items_of<'a, R: DeRead>(from: &'a mut Deserializer<R>, head: SeqHead) -> SeqAccess<'a, R>
     ensures same_reference { IsSeqOf from.entry result }
@@ -18,7 +18,8 @@ pub fn items_of<'a, R: DeRead>(from: &'a mut Deserializer<R>, head: SeqHead) -> 
     SeqAccess { from, head }
 }
 
-/// An access to the entries of the object or row that this head opened, before its first key.
+/// Returns an access to the entries of the object or row that this head opened, before its first
+/// key.
 #[inline(always)]
 pub fn pairs_of<'a, R: DeRead>(from: &'a mut Deserializer<R>, head: MapHead) -> MapAccess<'a, R>
     ensures same_reference { IsMapOf from.entry result }

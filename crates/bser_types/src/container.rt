@@ -11,8 +11,9 @@ use bser_deserializer::container::Containers;
 use bser_deserializer::deserializer::Deserializer;
 use bser_source::read::DeRead;
 
-/// What opens containers: a [`Deserializer`]. A trait, since the deserializer is a type of a lower
-/// crate, to which only a trait adds calls; that crate knows none of the types that are read.
+/// Reads arrays and objects part by part, as a [`Deserializer`] does. A trait, since the
+/// deserializer is a type of a lower crate, to which only a trait adds calls; that crate knows none
+/// of the types that are read.
 pub trait ReadsContainers {
     /// The source that it reads from.
     type Source: DeRead;

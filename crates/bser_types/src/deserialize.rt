@@ -57,8 +57,8 @@ impl<T: Meant> Shape for T {
 ///
 /// In place of serde's visitors a type pulls its parts from the deserializer.
 pub trait Deserialize<L: LendsText>: Shape + Drop {
-    /// Reads what is expected, a value as a rule, and answers by the type's meaning: exactly where
-    /// a prefix of the bytes left spells a tree that the type reads, and then it takes that prefix.
+    /// Reads what is expected, a value as a rule. It answers by the type's meaning: exactly where a
+    /// prefix of the bytes left spells a tree that the type reads, and then it takes that prefix.
     ///
     /// Else it is an error, as an I/O error of the reader is. A type that holds borrowed bytes,
     /// over a source that copies, is [`Complaint::BorrowedFromCopying`]. Out of memory comes only

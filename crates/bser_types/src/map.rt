@@ -21,15 +21,15 @@ use std::alloc::Global;
 #[derive(Drop)]
 pub struct MapAccess<'a, R: DeRead> {
     pub(crate) from: &'a mut Deserializer<R>,
-    // of an object how many entries are to come, of a row the place of the next field, and how it
-    // stood outside
+    // of an object how many entries are to come, of a row the place of the next field, and what was
+    // open around it
     pub(crate) head: MapHead,
     // whether the value of a key that was read is expected
     pub(crate) pending: bool,
 }
 
 impl<'a, R: DeRead> MapAccess<'a, R> {
-    /// How many entries are left, whose keys were not read.
+    /// Returns how many entries are left, whose keys were not read.
     #[inline(always)]
     pub fn remaining(&self) -> usize
         ensures { result ≡ pairs_left (open_pairs self.now).wanted }

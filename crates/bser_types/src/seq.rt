@@ -19,12 +19,12 @@ use std::alloc::Global;
 #[derive(Drop)]
 pub struct SeqAccess<'a, R: DeRead> {
     pub(crate) from: &'a mut Deserializer<R>,
-    // how many items are left, whether they are rows, and how it stood outside
+    // how many items are left, whether they are rows, and what was open around it
     pub(crate) head: SeqHead,
 }
 
 impl<'a, R: DeRead> SeqAccess<'a, R> {
-    /// How many items are left.
+    /// Returns how many items are left.
     pub fn remaining(&self) -> usize
         ensures { result ≡ items_left (open_items self.now).wanted }
     {

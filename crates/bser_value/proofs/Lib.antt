@@ -11,3 +11,6 @@ pub mod CompactPieces
 pub mod Folding
 pub mod Writable
 pub mod Puts
+pub mod Joins
+pub mod Tables
+pub mod Fronts

@@ -8,7 +8,6 @@ use Rattle.bser_format.specs.Normal.{last_entries}
 use Rattle.bser_format.proofs.Least.{map_some, then_some}
 use Rattle.bser_events.specs.Events as events
 use Rattle.bser_events.specs.Events.{Event, TakesAll, none, more}
-use Rattle.bser_value.specs.Around.{around_of}
 use Rattle.bser_value.specs.Made.{Open, whole, in_array, in_object, in_keys, in_rows, Stack, begun, built, inside, give, closed, make, makes}
 use Rattle.bser_value.specs.Shows.{ShowsOpen, Shows, Turns, Takes, Builds}
 use Rattle.bser_value.specs.ValueView.{tree_of}
@@ -26,7 +25,7 @@ inside_turns f old new kept turns s t shows e =
     map_some (λ i. record { inner = i; around = s.around }) (f s.inner) t e λ i made same.
     subst (Shows new) same (record {
       inner = turns s.inner i shows.inner made;
-      around = subst (λ v. AllZip ShowsOpen (reverse (around_of v)) s.around) (sym kept) shows.around;
+      around = subst (λ v. AllZip ShowsOpen (reverse v.items) s.around) (sym kept) shows.around;
     })
 
 -- the rows of a template begin
@@ -65,12 +64,12 @@ rows_begin n b = inside_turns begun b b refl (begun_turns b.inner)
 -- ---- containers
 
 -- its value is put into the container around it
-pub closed_turns : (old mid new : ValueBuilder) (v : Value) → around_of old.around ≡ around_of mid.around ++ mid.inner ∷ [] → Builds old.inner (Some v) → Turns Shows (give (tree_of v)) mid new
+pub closed_turns : (old mid new : ValueBuilder) (v : Value) → old.around.items ≡ mid.around.items ++ mid.inner ∷ [] → Builds old.inner (Some v) → Turns Shows (give (tree_of v)) mid new
     → Turns Shows (λ s. closed s.inner s.around) old new
 closed_turns old mid new v around builds turns s t shows e =
-    go s.around (subst (λ bs. AllZip ShowsOpen bs s.around) (ap reverse around ∙ reverse-append (around_of mid.around) (mid.inner ∷ [])) shows.around) e
+    go s.around (subst (λ bs. AllZip ShowsOpen bs s.around) (ap reverse around ∙ reverse-append mid.around.items (mid.inner ∷ [])) shows.around) e
   where
-    go : (os : List Open) → AllZip ShowsOpen (mid.inner ∷ reverse (around_of mid.around)) os → closed s.inner os ≡ Some t → Shows new t
+    go : (os : List Open) → AllZip ShowsOpen (mid.inner ∷ reverse mid.around.items) os → closed s.inner os ≡ Some t → Shows new t
     go [] h e = absurd h
     go (o ∷ os) h e = then_some (λ u. give u (record { inner = o; around = os })) (built s.inner) t e λ u made given.
         let same : tree_of v ≡ u = same_Some (tree_of v) u (builds s.inner u shows.inner made) in

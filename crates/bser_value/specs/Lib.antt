@@ -5,6 +5,6 @@ pub mod Displayed
 pub mod Made
 pub mod Gathered
 pub mod Places
-pub mod Around
 pub mod Shows
 pub mod CompactTexts
+pub mod Direct

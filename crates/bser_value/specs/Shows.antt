@@ -5,7 +5,6 @@ use Rattle.bser_format.specs.Tree.{Tree, array, object, entries_of}
 use Rattle.bser_format.specs.Normal.{last_entries}
 use Rattle.bser_events.specs.Events.{Event}
 use Rattle.bser_value.specs.Made.{Open, whole, in_array, in_object, in_keys, in_rows, Stack, built, make, put, named, give, opened, closed, inside}
-use Rattle.bser_value.specs.Around.{around_of}
 use Rattle.bser_value.specs.Gathered.{all_items}
 use Rattle.bser_value.specs.Places.{ArePlaces}
 use Rattle.bser_value.specs.ValueView.{tree_of, items_view, entry_trees}
@@ -66,7 +65,7 @@ ShowsOpen _ _ = ⊥
 -- the innermost and those around it, of which the last is the next
 pub record Shows (b : ValueBuilder) (s : Stack) : Type 0 where
   pub inner : ShowsOpen b.inner s.inner
-  pub around : AllZip ShowsOpen (reverse (around_of b.around)) s.around
+  pub around : AllZip ShowsOpen (reverse b.around.items) s.around
 
 -- ---- steps
 

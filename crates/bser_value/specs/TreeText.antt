@@ -7,7 +7,8 @@ use Rattle.bser_format.specs.RealText.{IsRealText, real_text}
 use Rattle.bser_format.specs.SomeText.{Exactly, ◌followed_by◌}
 use Rattle.bser_format.specs.Tree.{Tree, null, boolean, integer, real, bytes, text, array, object, template, Items, no_items, item, Entries, no_entries, entry}
 
--- a text of the tree; texts of items and of entries, with a comma and a space between them, with what stands before the first, and up to the bracket that closes them
+-- a text of the tree; texts of items and of entries, with a comma and a space between them, with
+-- what comes before the first, and up to the bracket that closes them
 abbrev mutual
   pub IsTextOf : Tree → List ℕ → Type 0
   IsTextOf null = Exactly (codes "null")

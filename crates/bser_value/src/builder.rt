@@ -3,12 +3,10 @@ ghost use Rattle.std.specs.Prelude.{◌≡◌, true, false, [], ◌∷◌, ◌++
 ghost use Rattle.bser_format.specs.Tree.{Tree, bytes, text};
 ghost use Rattle.bser_events.specs.Told.{told};
 ghost use Rattle.bser_events.specs.declared.builder.Stop.TheVariants.{Memory};
-ghost use Rattle.bser_value.specs.Around.{around_of};
 ghost use Rattle.bser_value.specs.Made.{unread, read_as, in_array, in_object, in_keys};
 ghost use Rattle.bser_value.specs.Shows.{Shows, Takes, Gives, Names, Opens, Closes};
 ghost use Rattle.bser_value.specs.ValueView.{tree_of};
 
-use crate::around::Around;
 use crate::building::Building;
 use crate::value::Value;
 use bser_events::builder::{Builder, Stop};
@@ -23,23 +21,23 @@ pub struct ValueBuilder {
     alloc: Global,
     /// What is being read.
     inner: Building,
-    /// The containers around it.
-    around: Around,
+    /// The containers around it, the outermost first.
+    around: Vec<Building>,
 }
 
 impl ValueBuilder {
-    /// Nothing was read.
+    /// Begins with nothing read.
     pub fn new(alloc: Global) -> Self
         ensures { Shows result unread }
     {
         ValueBuilder {
             alloc,
             inner: Building::Whole { value: None },
-            around: Around::new(alloc),
+            around: Vec::new(alloc),
         }
     }
 
-    /// The value, once all of it was reported.
+    /// Returns the value, once all of it was reported.
     pub fn into_value(self) -> Option<Value>
         ensures { (t : Tree) → Shows self (read_as t) → option_map tree_of result ≡ Some t }
     {
@@ -58,9 +56,10 @@ impl ValueBuilder {
     fn begin(&mut self, container: Building) -> Result<(), AllocError>
         ensures inner { OnOk result (self.new.inner ≡ container) }
         ensures around { OnOk result
-            (around_of self.new.around ≡ around_of self.old.around ++ self.old.inner ∷ []) }
+            (self.new.around.items ≡ self.old.around.items ++ self.old.inner ∷ []) }
     {
-        self.around.push(mem::replace(&mut self.inner, container))
+        self.around.push(mem::replace(&mut self.inner, container))?;
+        Ok(())
     }
 
     /// Opens an array.

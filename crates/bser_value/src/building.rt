@@ -39,7 +39,7 @@ pub enum Building {
 }
 
 impl Building {
-    /// An array of which nothing was read.
+    /// Begins an array, of which nothing was read.
     pub fn array(alloc: Global) -> Self
         ensures { ShowsOpen result (in_array []) }
     {
@@ -48,7 +48,7 @@ impl Building {
         }
     }
 
-    /// An object of which nothing was read.
+    /// Begins an object, of which nothing was read.
     pub fn object(alloc: Global) -> Self
         ensures { ShowsOpen result (in_object [] None) }
     {
@@ -58,7 +58,7 @@ impl Building {
         }
     }
 
-    /// A template of which nothing was read.
+    /// Begins a template, of which nothing was read.
     pub fn template(alloc: Global) -> Self
         ensures { ShowsOpen result (in_keys []) }
     {
@@ -111,7 +111,7 @@ impl Building {
         }
     }
 
-    /// The value of a container of which all was read.
+    /// Returns the value of a container of which all was read.
     pub fn into_value(self) -> Result<Option<Value>, AllocError>
         ensures { IfOk result (λ value. Builds self value) }
     {
@@ -125,7 +125,7 @@ impl Building {
 }
 
 /// Puts in an entry. The last of equal keys stays.
-fn put_entry(
+pub(crate) fn put_entry(
     entries: &mut BTreeMap<String, Value>,
     key: String,
     value: Value,

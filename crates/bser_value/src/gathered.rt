@@ -31,7 +31,7 @@ pub struct Gathered {
 }
 
 impl Gathered {
-    /// No values. It takes no memory.
+    /// Begins with no values. It takes no memory.
     pub fn new(alloc: Global) -> Self
         ensures { all_items result ≡ [] }
     {
@@ -95,7 +95,7 @@ impl Gathered {
         Ok(())
     }
 
-    /// All values in one list.
+    /// Returns all values in one list.
     pub fn into_list(self) -> Result<Vec<Value>, AllocError>
         ensures { IfOk result (λ list. list.items ≡ all_items self) }
     {

@@ -2,10 +2,10 @@
 //! written in the compact form, which no message that reads as it is shorter than.
 #![tactic(auto)]
 
-mod around;
 pub mod builder;
 mod building;
 pub mod compact;
+mod direct;
 mod gathered;
 mod places;
 mod reading;

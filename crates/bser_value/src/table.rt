@@ -28,7 +28,7 @@ pub struct Table {
 }
 
 impl Table {
-    /// A template of which nothing was read.
+    /// Begins a template, of which nothing was read.
     pub fn new(alloc: Global) -> Self
         ensures { ShowsKeys result [] }
     {
@@ -112,7 +112,7 @@ impl Table {
         Ok(())
     }
 
-    /// The rows that were read.
+    /// Returns the rows that were read.
     pub fn into_rows(self) -> Result<Vec<Value>, AllocError>
         ensures { IfOk result (λ rows. BuildsRows self rows.items) }
     {

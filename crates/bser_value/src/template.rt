@@ -32,9 +32,9 @@ pub fn add_template_head<W: Sink>(
     Ok(())
 }
 
-/// The first of the items, where they are a template's rows: at least two objects that all have its
-/// keys, of which there is one at least. It looks at no key twice, and at none after the first
-/// that differs.
+/// Returns the first of the items, where they are a template's rows: at least two objects that all
+/// have its keys, of which there is one at least. It looks at no key twice, and at none after the
+/// first that differs.
 pub fn shared_keys(items: &[Value]) -> Option<&BTreeMap<String, Value>>
     ensures { option_map (λ first. names_of first.now.entries) result ≡ template_names items.now }
 {

@@ -41,8 +41,8 @@ impl Value {
         Ok(Self::Utf8String(String::from_str(alloc, string)?))
     }
 
-    /// The integer, or the error `value is too large to represent as i64` exactly where it is above
-    /// `i64::MAX`.
+    /// Returns the integer, or the error `value is too large to represent as i64` exactly where it
+    /// is above `i64::MAX`.
     pub fn from_usize(number: usize) -> Result<Self, &'static str>
         ensures ok { IfOk result (λ v. tree_of v ≡ integer (pos number)) }
         ensures err { IfErr result (λ message. message.now
@@ -64,7 +64,7 @@ impl Value {
         self.clone()
     }
 
-    /// Visits all that the value holds and answers nothing: its contract tells a proof what every
+    /// Visits all that the value holds and answers nothing: its contract gives a proof what every
     /// value's tree is. It calls itself once for each level, as `try_clone` does.
     #[cycle(check)]
     pub fn check_tree(&self)

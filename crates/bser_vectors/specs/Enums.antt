@@ -8,8 +8,8 @@ use Rattle.bser_deserializer.specs.Reading.{Asking}
 use Rattle.bser_types.specs.Slots.{required, reads_struct}
 use Rattle.bser_structs.specs.Askings.{asking_struct}
 use Rattle.bser_types.specs.Askings.{asking_tuple}
-use Rattle.bser_variants.specs.Askings.{VariantAskings, asking_enum}
-use Rattle.bser_variants.specs.Variants.{HoldsVariant}
+use Rattle.bser_structs.specs.VariantAskings.{VariantAskings, asking_enum}
+use Rattle.bser_structs.specs.ReadVariants.{HoldsVariant}
 use Rattle.bser_vectors.specs.declared.enums.EnumRow.{EnumRow}
 use Rattle.bser_vectors.specs.declared.enums.TestEnum.{TestEnum}
 use Rattle.bser_vectors.specs.declared.enums.TestEnum.TheVariants.{TestUnit, TestNewtype, TestTuple, TestStruct}

@@ -10,10 +10,10 @@ use bser_bunser::refusal::Answer;
 use bser_deserializer::deserializer::Deserializer;
 use bser_source::read::DeRead;
 use bser_source::reference::LendsText;
+use bser_structs::enum_access::ReadsEnums;
 use bser_structs::slot::Required;
 use bser_structs::struct_reader::ReadsFields;
 use bser_types::deserialize::{Deserialize, OwnedShape, Shape};
-use bser_variants::enum_access::ReadsEnums;
 use std::alloc::Global;
 
 /// A variant of each form.

@@ -1,4 +1,4 @@
--- What a message is as an event that is told apart.
+-- What a message is as an event of one kind.
 use Rattle.std.specs.Prelude.{◌≡◌, ◌⊎◌, ℕ, List}
 use Rattle.bser_types.specs.declared.deserialize.Shape as shape
 use Rattle.watchman_client.specs.Requests.{ReadsOwned, UnreadOwned}
@@ -20,12 +20,12 @@ UnreadKind types Files message e = UnreadOwned types.files message e
 UnreadKind types Other message e = ⊥
 
 module _ {T F : Type 0} (header : shape.Ghosts Header) (types : EventTypes T F) where
-  -- the message reads as this event, of the kind that its header tells
+  -- the message reads as this event, of the kind that its header gives
   abbrev pub ReadsEvent : List ℕ → Event T F → Type 0
   ReadsEvent message event = (h : Header) × ReadsOwned header message h
       × (kind_of_event event ≡ event_kind_of h) × IsEvent types message event
 
-  -- the message is not read as a header, or not as an event of the kind that its header tells
+  -- the message is not read as a header, or not as an event of the kind that its header gives
   abbrev pub UnreadEvent : List ℕ → ClientError → Type 0
   UnreadEvent message e = UnreadOwned header message e
       ⊎ ((h : Header) × ReadsOwned header message h × UnreadKind types (event_kind_of h) message e)

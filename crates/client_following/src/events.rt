@@ -1,4 +1,4 @@
-//! The events of a client, told apart.
+//! The events of a client, each as a value of its kind.
 ghost use Rattle.std.specs.Prelude.{◌≡◌, ◌^◌, ◌-◌, IfOk, IfErr};
 ghost use Rattle.client_following.specs.Events.{ReadsEvent, UnreadEvent, UnreadKind};
 ghost use Rattle.watchman_client.specs.Events.{EventsInTurn, EventsToTheEnd};
@@ -27,7 +27,7 @@ pub struct TypedEvents<'c, T, F, S, W> {
     event: PhantomData<(T, F)>,
 }
 
-/// The events that the client keeps, and then those of the stream.
+/// Returns the events that the client keeps, and then those of the stream.
 pub fn events_of<T, F, S, W>(client: &mut Client<S, W>) -> TypedEvents<'_, T, F, S, W>
 where
     T: DeserializeOwned,
@@ -160,7 +160,8 @@ where
     }
 }
 
-/// What [`events_in_turn`](watchman_client::laws::events_in_turn) says, of loops over [`events_of`].
+/// What [`events_in_turn`](watchman_client::laws::events_in_turn) says holds of loops over
+/// [`events_of`] too.
 pub fn typed_events_in_turn<S: Source, W: Sink, T: DeserializeOwned, F: DeserializeOwned>()
     ensures items { EventsInTurn W S.remaining
         (ReadsEvent ⟦<Header as Shape>⟧ ⟦<T as EventShape<F>>⟧.events)

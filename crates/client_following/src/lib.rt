@@ -1,5 +1,5 @@
-//! A client of Watchman that tells what changed below a folder since a clock, and then each change,
-//! until the subscription ends, or the stream behind a whole message.
+//! A client of Watchman that prints what changed below a folder since a clock, and then each
+//! change, until the subscription ends, or the stream behind a whole message.
 #![tactic(auto)]
 
 pub mod events;
@@ -38,12 +38,12 @@ const NEEDED: &[&str] = &["cmd-subscribe"];
 #[derive(Clone, Copy)]
 pub struct Followed<'a> {
     pub folder: &'a str,
-    /// The clock that changes are told from. From now on, where there is none.
+    /// The clock after which changes are wanted. From now on, where there is none.
     pub since: Option<&'a str>,
 }
 
-/// Follows the changes, and tells them on the log. The answer is a program's exit status: 0, or 1
-/// after an error, which is told too, as the end of the subscription is.
+/// Follows the changes, and writes them to the log. The answer is a program's exit status: 0, or 1
+/// after an error, which is written too, as the end of the subscription is.
 pub fn follow_changes<S: Source + Drop, W: Sink + Drop, L: Write>(
     alloc: Global,
     followed: Followed<'_>,
@@ -115,7 +115,7 @@ fn follow_since<S: Source, W: Sink, L: Write>(
 }
 
 /// Names and sizes of the files that changed since the clock, below the folder that is followed:
-/// where the server watches one above it, it tells how the way goes on from there.
+/// where the server watches one above it, `relative_root` is the way from there.
 fn query_since<'a>(project: &'a WatchProject<ByteString>, clock: &'a str) -> Query<'a> {
     Query {
         since: Some(Moment::Clock(clock)),
@@ -159,8 +159,8 @@ fn tell_event<L: Write>(log: &mut L, event: &Event<ByteString, File<ByteString>>
     Ok(())
 }
 
-/// Tells a clock, and each of the files that changed up to it. A fresh answer tells all that there
-/// are, as where the server was started anew.
+/// Writes a clock to the log, and each of the files that changed up to it. A fresh answer has all
+/// that there are, as where the server was started anew.
 fn tell_changes<L: Write>(
     log: &mut L,
     clock: &str,

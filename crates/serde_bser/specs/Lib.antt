@@ -54,11 +54,11 @@ pub use Rattle.bser_types.specs.Tuples
 pub use Rattle.bser_structs.specs.FieldCalls
 pub use Rattle.bser_structs.specs.Askings as FieldAskings
 pub use Rattle.bser_structs.specs.SlotValues
-pub use Rattle.bser_variants.specs.Variants
-pub use Rattle.bser_variants.specs.EnumAccess
-pub use Rattle.bser_variants.specs.Calls as VariantCalls
-pub use Rattle.bser_variants.specs.Rests as VariantRests
-pub use Rattle.bser_variants.specs.Askings as VariantAskings
+pub use Rattle.bser_structs.specs.ReadVariants as Variants
+pub use Rattle.bser_structs.specs.EnumAccess
+pub use Rattle.bser_structs.specs.VariantCalls
+pub use Rattle.bser_structs.specs.VariantRests
+pub use Rattle.bser_structs.specs.VariantAskings
 pub use Rattle.bser_messages.specs.Messages
 pub use Rattle.bser_messages.specs.Limited
 pub use Rattle.bser_messages.specs.Lengths

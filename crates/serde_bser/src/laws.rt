@@ -10,8 +10,9 @@ pub fn one_front()
     ensures { OneFront }
 {}
 
-/// The canonical message of a value is a message, whatever follows it, and reads as that value: for
-/// values of at most as many levels as are read, whose message is at most `i64::MAX` bytes.
+/// The canonical message of a value is a message, whatever follows it, and reads as that value.
+/// This holds for values of at most as many levels as are read, whose message is at most `i64::MAX`
+/// bytes.
 pub fn reads_back()
     ensures message { CanonicalIsMessage }
     ensures front { CanonicalIsTheFront }
@@ -29,9 +30,9 @@ pub fn twice_is_once()
     ensures { TwiceIsOnce }
 {}
 
-/// Whatever a message reads as is the tree of a value: without templates, with numbers in their
-/// ranges and texts in UTF-8, and each object's keys once, in rising order. So every value that was
-/// read can stand where the other laws ask for one.
+/// Whatever a message reads as is the tree of a value. It has no templates, its numbers are in
+/// their ranges and its texts in UTF-8, and each object's keys come once, in rising order. So the
+/// other laws apply to every value that was read.
 pub fn read_values_are_value_trees()
     ensures { ReadIsValueTree }
 {}
@@ -49,14 +50,14 @@ pub fn round_trip()
     ensures values { ValueIsReturned }
 {}
 
-/// No message without templates that reads as a value is shorter than its canonical message,
-/// whatever sizes of integers, tags of strings, repeated keys and capabilities it has.
+/// No message without templates that reads as a value is shorter than its canonical message. This
+/// holds whatever sizes of integers, tags of strings, repeated keys and capabilities it has.
 pub fn least_length()
     ensures { LeastLength }
 {}
 
-/// How many values a body of `k` bytes reads as, how deep they are with `n` levels, and how long
-/// their canonical body is: at most `2 * k`, `2 * n - 1` and `k * k`.
+/// A body of `k` bytes reads as at most `2 * k` values. With `n` levels they are at most
+/// `2 * n - 1` deep, and their canonical body has at most `k * k` bytes.
 pub fn nodes_and_depth()
     ensures nodes { NodesBound }
     ensures depth { DepthBound }
@@ -64,8 +65,9 @@ pub fn nodes_and_depth()
     ensures fits { ShortBodiesFit }
 {}
 
-/// A value has no more values, bytes of keys and levels than the message's tree, its templates written
-/// out. So [`size_of`](crate::de::size_of) tells before at most how large a `Value` will be.
+/// A value has no more values, bytes of keys and levels than the message's tree, its templates
+/// written out. So [`size_of`](crate::de::size_of) gives a bound of how large a `Value` will be,
+/// before it is made.
 pub fn size_bounds_value()
     ensures { SizeBoundsValue }
 {}
@@ -104,16 +106,16 @@ pub fn equal_compact_messages()
     ensures { EqualCompactMessages }
 {}
 
-/// No message at all that reads as a value is shorter than its compact message, whatever limit,
-/// capabilities, templates, sizes of integers, tags of strings, repeated keys and skipped fields it
-/// has; so neither is the canonical message.
+/// No message at all that reads as a value is shorter than its compact message. This holds whatever
+/// limit, capabilities, templates, sizes of integers, tags of strings, repeated keys and skipped
+/// fields it has. So the canonical message is no shorter either.
 pub fn least_compact()
     ensures least { LeastCompact }
     ensures canonical { CompactIsNoLonger }
 {}
 
-/// What is found in a document is written and printed as what it is found as: the value that an item
-/// holds, by whatever call it was found, is the item's own.
+/// What is found in a document is written and printed as what it is found as. The value that an
+/// item holds, by whatever call it was found, is the item's own.
 pub fn found_is_written()
     ensures held { HeldIsWritten }
     ensures found { FoundIsWritten }

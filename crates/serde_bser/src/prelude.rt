@@ -3,6 +3,7 @@
 
 pub use bser_source::read::DeRead;
 pub use bser_source::reference::LendsText;
+pub use bser_structs::enum_access::ReadsEnums;
 pub use bser_structs::enums::Variants;
 pub use bser_structs::fields::{Codec, Fields, ReadOnly, WriteOnly};
 pub use bser_structs::slot::Slot;
@@ -12,4 +13,3 @@ pub use bser_structs::{put_enum, put_struct, read_enum, read_struct};
 pub use bser_types::container::ReadsContainers;
 pub use bser_types::deserialize::{Deserialize, DeserializeOwned, Meant, OwnedShape, Shape};
 pub use bser_types::impls::SkipsValues;
-pub use bser_variants::enum_access::ReadsEnums;

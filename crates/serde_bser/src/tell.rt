@@ -1,5 +1,5 @@
-//! Messages told to a builder of one's own, event by event, with the place of each, and with errors
-//! that are described.
+//! Reporting messages to a builder of one's own, event by event, with the place of each, and with
+//! errors that are described.
 
 pub use bser_events::builder::{Builder, Stop};
 pub use bser_events::event::{Event, EventKind, Place};

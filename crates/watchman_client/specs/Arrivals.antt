@@ -8,7 +8,7 @@ pub record Arrival : Type 0 where
   pub bytes : List ℕ
   pub unsolicited : Bool
 
--- the bytes are one whole message, told as what it is
+-- the bytes are one whole message, given as what it is
 abbrev pub IsTold : Arrival → Type 0
 IsTold a = IsWhole a.bytes × IsKind a.unsolicited a.bytes
 

@@ -41,7 +41,7 @@ may_be_sent (Io e) = true
 may_be_sent OutOfMemory = true
 may_be_sent _ = false
 
--- why the next message is not told
+-- why the next message is not given
 abbrev pub IsHindered : {S : Type 0} → (S → Option (List ℕ)) → ClientError → Hand S → Type 0
 IsHindered remaining (Frame e) s = StopsHere remaining s e
 IsHindered remaining Memory s = ⊤
@@ -82,7 +82,7 @@ IsToldError (Server error) message = TellsError error message
 IsToldError Memory message = ⊤
 IsToldError _ message = ⊥
 
--- the message tells of an error, or is refused as one of the type
+-- the message reports an error, or is refused as one of the type
 abbrev pub Unread : {A : Type 0} → shape.Ghosts A → List ℕ → ClientError → Type 0
 Unread type message (Answer e) = SliceRefused LEVELS type message (cause_of e.description)
 Unread type message e = IsToldError e message

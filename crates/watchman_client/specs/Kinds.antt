@@ -1,4 +1,4 @@
--- Which messages are unsolicited, and which tell of an error.
+-- Which messages are unsolicited, and which report an error.
 use Rattle.std.specs.Prelude.{◌≡◌, ℕ, Bool, true, false, List, [], ◌∷◌, ◌++◌, codes}
 use Rattle.bser_format.specs.Content.{Content, Meaning, truth, byte_list}
 use Rattle.bser_format.specs.ReadsHolders.{list_of}

@@ -18,12 +18,12 @@ use Rattle.watchman_client.specs.declared.errors.ClientError.TheVariants.{Answer
 
 -- ---- what was given, read as a value that borrows nothing
 
--- the message reads as the value, and tells of no error
+-- the message reads as the value, and reports no error
 pub record ReadsOwned {A : Type 0} (type : shape.Ghosts A) (message : List ℕ) (v : A) : Type 0 where
   pub found : BeginsWith LEVELS type.reads type.holds message v
   pub none : TellsNoError message
 
--- the message tells of an error, or is refused as one of the type, or memory ran out
+-- the message reports an error, or is refused as one of the type, or memory ran out
 abbrev pub UnreadOwned : {A : Type 0} → shape.Ghosts A → List ℕ → ClientError → Type 0
 UnreadOwned type message (Answer e) = FrameRefused LEVELS type message (cause_of e.description)
 UnreadOwned type message e = IsToldError e message

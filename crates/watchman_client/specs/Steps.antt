@@ -76,7 +76,7 @@ abbrev pub TookFront : {W : Type 0} → (W → W → List ℕ → Type 0) → Li
 TookFront took message old new =
     (front : List ℕ) × (rest : List ℕ) × (message ≡ front ++ rest) × took old new front
 
--- what a call does, where a writer tells what it takes
+-- what a call does, where a writer shows what it takes
 abbrev pub IsStep : {W : Type 0} → (W → W → List ℕ → Type 0) → State W → Step → State W → Type 0
 IsStep took a (sent m) b = Asks a.view b.view × took a.writer b.writer m
 IsStep took a (broke m) b =

@@ -61,7 +61,7 @@ impl<S, W> Model for Client<S, W> {
 }
 
 impl<S: Source, W: Sink> Client<S, W> {
-    /// A client of which nothing was sent, that reads from the reader's next byte on.
+    /// Makes a client that has sent nothing, and that reads from the reader's next byte on.
     pub fn new(alloc: Global, bounds: Bounds, reader: S, writer: W) -> Self
         ensures left { (view_of S.remaining result).left ≡ S.remaining reader }
         ensures kept { result.kept ≡ [] }
@@ -167,7 +167,7 @@ impl<S: Source, W: Sink> Client<S, W> {
         given
     }
 
-    /// The bytes of the message that was given last.
+    /// Returns the bytes of the message that was given last.
     pub fn message(&self) -> &[u8]
         ensures { result.now ≡ self.now.message }
     {
@@ -198,14 +198,14 @@ impl<S: Source, W: Sink> Client<S, W> {
         read_owned_answer(self.alloc, self.message())
     }
 
-    /// Whether a request is outstanding.
+    /// Returns whether a request is outstanding.
     pub fn is_waiting(&self) -> bool
         ensures { result ≡ self.now.waiting }
     {
         self.waiting
     }
 
-    /// Whether a call failed for good.
+    /// Returns whether a call failed for good.
     pub fn has_failed(&self) -> bool
         ensures { result ≡ self.now.failed }
     {

@@ -1,4 +1,4 @@
-//! Why a call of a client answers no value.
+//! Why a call of a client failed.
 ghost use Rattle.std.specs.Prelude.{◌≡◌};
 ghost use Rattle.watchman_client.specs.Failures.{ends, fails, may_be_sent};
 
@@ -8,7 +8,7 @@ use bser_format::errors::Error as BserError;
 use bser_frames::error::FrameError;
 use thiserror::Error;
 
-/// Why a call of a client answers no value.
+/// Why a call of a client failed.
 #[derive(Debug, Error, Drop)]
 pub enum ClientError {
     /// A request is outstanding, so no other was sent.
@@ -52,7 +52,7 @@ pub enum ClientError {
     Answer(Unreadable),
 }
 
-/// Whether the error makes a client fail for good.
+/// Returns whether the error makes a client fail for good.
 pub fn fails(error: &ClientError) -> bool
     ensures { result ≡ fails error.now }
 {
@@ -63,7 +63,7 @@ pub fn fails(error: &ClientError) -> bool
     }
 }
 
-/// Whether no message comes behind the error: the client fails for good, or has failed.
+/// Returns whether no message comes behind the error: the client fails for good, or has failed.
 pub fn ends(error: &ClientError) -> bool
     ensures { result ≡ ends error.now }
 {
@@ -73,7 +73,7 @@ pub fn ends(error: &ClientError) -> bool
     }
 }
 
-/// Whether a beginning of a message may have been sent before this error.
+/// Returns whether a beginning of a message may have been sent before this error.
 pub fn may_be_sent(error: &BserError) -> bool
     ensures { result ≡ may_be_sent error.now }
 {

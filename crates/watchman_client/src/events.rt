@@ -20,7 +20,7 @@ pub struct Events<'c, S, W, T> {
 }
 
 impl<S: Source, W: Sink> Client<S, W> {
-    /// The unsolicited messages that are kept, and then those of the stream, as
+    /// Returns the unsolicited messages that are kept, and then those of the stream, as
     /// [`next_event`](Self::next_event) gives them.
     pub fn events<T: DeserializeOwned>(&mut self) -> Events<'_, S, W, T>
         ensures client { result.client.now ≡ self.old }

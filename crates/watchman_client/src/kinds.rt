@@ -1,4 +1,4 @@
-//! Which messages are unsolicited, and which tell of an error.
+//! Which messages are unsolicited, and which report an error.
 ghost use Rattle.std.specs.Prelude.{◌≡◌, codes, [], ◌∷◌, true, false, IfOk, IfSome, IfNone, List, ℕ};
 ghost use Rattle.bser_structs.specs.Fields.{required, struct_meaning};
 ghost use Rattle.watchman_client.specs.Kinds.{IsKind, TellsError};
@@ -16,7 +16,7 @@ use bser_structs::struct_reader::ReadsFields;
 use bser_types::deserialize::{Deserialize, Meant, OwnedShape};
 use std::alloc::{AllocError, Global};
 
-/// What a message tells of itself.
+/// What a message says of itself.
 #[derive(Drop)]
 pub(crate) struct Mark {
     /// Whether it is unsolicited.
@@ -63,7 +63,7 @@ impl<L: LendsText> Deserialize<L> for Failure {
     }
 }
 
-/// Whether a message is unsolicited: an object whose `unilateral` is true.
+/// Returns whether a message is unsolicited: an object whose `unilateral` is true.
 ///
 /// All else is not, bytes that are no message too. Fails only where memory runs out.
 pub fn is_unsolicited(alloc: Global, message: &[u8]) -> Result<bool, AllocError>
@@ -76,7 +76,7 @@ pub fn is_unsolicited(alloc: Global, message: &[u8]) -> Result<bool, AllocError>
     }
 }
 
-/// The text of an object's `error`, and `None` for all else.
+/// Returns the text of an object's `error`, and `None` for all else.
 ///
 /// Fails only where memory runs out.
 pub fn error_of(alloc: Global, message: &[u8]) -> Result<Option<ByteString>, AllocError>

@@ -14,10 +14,10 @@ pub fn whole_run<W: Sink>()
     ensures { WholeRun W.Sink }
 {}
 
-/// Over any items of a loop over [`events`](crate::client::Client::events), each unsolicited message
-/// is one of them, once and in order: as the value, or as the error why it is not read. The loop goes
-/// on behind each error that does not end all. The first call that gives no item is at the end of the
-/// stream, with no message kept.
+/// Over any items of a loop over [`events`](crate::client::Client::events), each unsolicited
+/// message is one of them, once and in order. It is there as the value, or as the error why it is
+/// not read. The loop goes on behind each error that does not end all. The first call that gives no
+/// item is at the end of the stream, with no message kept.
 pub fn events_in_turn<S: Source, W: Sink, T: DeserializeOwned>()
     ensures items { EventsInTurn W S.remaining (ReadsOwned T.Shape) (UnreadOwned T.Shape) }
     ensures all { EventsToTheEnd W S.remaining (ReadsOwned T.Shape) (UnreadOwned T.Shape) }

@@ -21,7 +21,7 @@ pub(crate) enum Next {
     Answer,
 }
 
-/// Has the next message in hand, and tells what it is.
+/// Has the next message in hand, and returns what it is.
 pub(crate) fn next_kind<S: Source>(
     alloc: Global,
     incoming: &mut Incoming<S>,

@@ -14,7 +14,7 @@ use bser_messages::described::from_slice;
 use bser_types::deserialize::{Deserialize, DeserializeOwned};
 use std::alloc::Global;
 
-/// Fails where the message tells of an error.
+/// Fails where the message reports an error.
 fn refuse_error(alloc: Global, message: &[u8]) -> Result<(), ClientError>
     ensures none { OnOk result (TellsNoError message.now) }
     ensures told { IfErr result (λ e. IsToldError e message.now) }

@@ -7,7 +7,7 @@ use Rattle.std.specs.Str.{bytes_eq}
 abbrev pub colon : ℕ
 colon = 58
 
--- what stands before a clock's ticks, which are behind its last colon: the server and the crawl
+-- the part of a clock before its ticks, which are behind its last colon: the server and the crawl
 abbrev pub instance_of : List ℕ → List ℕ
 instance_of clock = before_last (λ b. b == colon) clock
 

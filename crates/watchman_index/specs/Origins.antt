@@ -9,7 +9,7 @@ Agrees (Some known) (Some told) = known ≡ told
 Agrees (Some _) None = ⊤
 Agrees None _ = ⊤
 
--- what is known stays, and else what is told is known
+-- what is known stays, and else what the message names is known
 abbrev pub Learns : Origin → Option (List ℕ) → Option (List ℕ) → Origin → Type 0
 Learns old root subscription new = (new.root ≡ option_or old.root root)
     × (new.subscription ≡ option_or old.subscription subscription)

@@ -14,8 +14,8 @@ changed_by n s = record { state = s; told = n; changed = n }
 abbrev pub told_again : ℕ → Row → Row
 told_again n was = record was { told = n }
 
--- the row of a file that message n lists as s. Message n changed it, but where it tells all files
--- again, and tells of this one what was known
+-- the row of a file that message n lists as s. Message n changed it, unless it lists all files
+-- again, and this one as it was known
 abbrev pub IsTold : ℕ → Listing → Option Row → FileState → Row → Type 0
 IsTold n Changed was s now = now ≡ changed_by n s
 IsTold n AllAnew was s now = now ≡ changed_by n s

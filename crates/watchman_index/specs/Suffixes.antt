@@ -3,7 +3,7 @@ use Rattle.std.specs.Prelude.{ℕ, Bool, not, List, [], ◌∷◌, Option, Some,
 use Rattle.std.specs.List.{list_any}
 use Rattle.std.specs.Option.{option_or}
 
--- a dot, behind which a suffix stands
+-- a dot, behind which a suffix is
 abbrev pub dot : ℕ
 dot = 46
 
@@ -19,7 +19,7 @@ is_mark b = b == dot || b == slash
 abbrev pub has_slash : List ℕ → Bool
 has_slash bytes = list_any (λ b. b == slash) bytes
 
--- what stands behind the last dot of a name, where no slash stands behind it
+-- what is behind the last dot of a name, where no slash is behind it
 abbrev pub suffix_of : List ℕ → Option (List ℕ)
 suffix_of [] = None
 suffix_of (b ∷ rest) = option_or (suffix_of rest)

@@ -14,7 +14,7 @@ use Rattle.watchman_index.specs.Rows.{gone, IsTold}
 abbrev pub of_name : {X : Type 0} → BTreeMap (List ℕ) X → List ℕ → Option X
 of_name table name = get (slice_cmp nat_cmp) table name
 
--- the row of a file that message n does not list: gone, where the message tells all files
+-- the row of a file that message n does not list: gone, where the message lists all files
 abbrev pub unlisted : ℕ → Listing → Option Row → Option Row
 unlisted n listing was = if is_of_all listing then option_map (gone n) was else was
 

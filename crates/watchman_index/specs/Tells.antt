@@ -1,4 +1,4 @@
--- What a message of the server tells an index, by its kind.
+-- What an index can use of a message of the server, by its kind.
 use Rattle.std.specs.Prelude.{◌≡◌, ◌≢◌, ◌⊎◌, ℕ, Bool, true, false, List, Option, Some, None}
 use Rattle.std.specs.Option.{is_some}
 use Rattle.bser_types.specs.declared.deserialize.Shape as shape
@@ -50,29 +50,29 @@ module _ (types : Types) (bytes : List ℕ) where
   abbrev pub IsNoSubscribed : Type 0
   IsNoSubscribed = IsSubscribed None ⊎ IsNone types.subscribed bytes
 
-  -- an answer to a query tells its files
+  -- an answer to a query gives its files
   abbrev pub TellsQuery : Told → Type 0
   TellsQuery (Files c) = (answer : QueryResult (List ℕ) Listed) × IsReadAs types.query bytes answer × IsOfQuery answer c
   TellsQuery _ = ⊥
 
-  -- a message of a subscription tells its files
+  -- a message of a subscription gives its files
   abbrev pub TellsChanged : Told → Type 0
   TellsChanged (Files c) = (changed : FilesChanged (List ℕ) Listed) × IsReadAs types.changed bytes changed × IsOfSubscription changed c
   TellsChanged _ = ⊥
 
-  -- an error of the server tells its text
+  -- an error of the server gives its text
   abbrev pub TellsError : Told → Type 0
   TellsError (ServerError e) = (reply : ErrorReply (List ℕ)) × IsReadAs types.error bytes reply × (reply.error ≡ e)
   TellsError _ = ⊥
 
-  -- a message without files tells the clock that it has
+  -- a message without files gives the clock that it has
   abbrev pub TellsClock : Told → Type 0
   TellsClock (told.Subscribed c) = IsSubscribed (Some c)
   TellsClock (Clock c) = IsNoSubscribed × ((v : watch.Clock (List ℕ)) × IsReadAs types.clock bytes v × (v.clock ≡ c))
   TellsClock Nothing = IsNoSubscribed × IsNone types.clock bytes
   TellsClock _ = ⊥
 
-  -- a message of this kind, with files or without, tells this
+  -- a message of this kind, with files or without, gives this
   abbrev pub TellsAs : Kind → Bool → Told → Type 0
   TellsAs kinds.Answer true t = TellsQuery t
   TellsAs kinds.Answer false t = TellsClock t
@@ -80,7 +80,7 @@ module _ (types : Types) (bytes : List ℕ) where
   TellsAs (kinds.Event events.Files) _ t = TellsChanged t
   TellsAs (kinds.Event _) _ t = TellsClock t
 
-  -- the message tells this
+  -- the message gives this
   abbrev pub Tells : Told → Type 0
   Tells t = (h : Header) × IsReadAs types.header bytes h × TellsAs (kind_of h) (is_some h.files) t
 
@@ -92,8 +92,8 @@ module _ (types : Types) (bytes : List ℕ) where
   IsUnreadAs (kinds.Event events.Files) _ e = IsUnread types.changed bytes e
   IsUnreadAs (kinds.Event _) _ e = ⊥
 
-  -- why it is not known what the message tells: it is not read as a header, or not as the type of its
-  -- kind; or there is no memory for what one that is no error tells
+  -- why it is not known what the message gives: it is not read as a header, or not as the type of
+  -- its kind; or there is no memory for what one that is no error gives
   abbrev pub Untold : Unread → Type 0
   Untold (unread.Message d) =
       IsUnread types.header bytes (cause_of d)

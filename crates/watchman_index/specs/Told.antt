@@ -1,4 +1,4 @@
--- What a message tells.
+-- What an index can use of a message.
 use Rattle.std.specs.Prelude.{◌≡◌, ℕ, List, Some, None}
 use Rattle.watchman_types.specs.declared.query.QueryResult.{QueryResult}
 use Rattle.watchman_types.specs.declared.subscription.FilesChanged.{FilesChanged}

@@ -1,4 +1,4 @@
--- Messages that are told to an index one after another.
+-- Messages that are applied to an index one after another.
 use Rattle.std.specs.Prelude.{◌≡◌, ◌≢◌, ◌⊎◌, ◌↔◌, ◌+◌, ℕ, true, List, [], ◌∷◌, Option, Some, None, IsSomeAnd}
 use Rattle.std.specs.BTreeMap.{IsEmpty, Updates}
 use Rattle.std.specs.Cmp.Lexicographic.{slice_cmp}
@@ -19,7 +19,7 @@ use Rattle.watchman_index.specs.declared.told.Told.TheVariants.{Files, Clock, Su
 
 -- ---- one message
 
--- the files that a message tells were applied as those of message n, and its clock is the last
+-- the files that a message lists were applied as those of message n, and its clock is the last
 pub record IsApplied (n : ℕ) (c : Changes) (old new : Index) : Type 0 where
   pub files : Applies n (listing_of c.is_fresh_instance old.last_clock c.clock) c.files old.files new.files
   pub clocks : Updates (slice_cmp nat_cmp) old.clocks new.clocks c.clock (Some n)
@@ -39,7 +39,7 @@ pub record State : Type 0 where
   pub number : ℕ
   pub index : Index
 
--- no message was told
+-- no message was applied
 pub record IsNew (a : State) : Type 0 where
   pub number : a.number ≡ 0
   pub files : IsEmpty a.index.files
@@ -47,14 +47,14 @@ pub record IsNew (a : State) : Type 0 where
   pub last : a.index.last_clock ≡ None
 
 -- files are applied as those of the next message, a clock is kept as one behind the last, and what
--- tells none of these changes nothing
+-- has none of these changes nothing
 abbrev pub Takes : State → Told → State → Type 0
 Takes a (Files c) b = (b.number ≡ a.number + 1) × IsApplied b.number c a.index b.index
 Takes a (Clock c) b = (b.number ≡ a.number) × IsKept a.number c a.index b.index
 Takes a (Subscribed c) b = (b.number ≡ a.number) × IsKept a.number c a.index b.index
 Takes a _ b = b ≡ a
 
--- the clock that is told
+-- the clock of the message
 abbrev pub clock_of : Told → Option (List ℕ)
 clock_of (Files c) = Some c.clock
 clock_of (Clock c) = Some c
@@ -63,8 +63,8 @@ clock_of _ = None
 
 -- ---- which files a message changes
 
--- a message changes each file that it lists, but where it tells all again, and of this one what was
--- known; and where it tells all, each file that existed and that it does not list
+-- a message changes each file that it lists, unless it lists all again, and this one as it was
+-- known; and where it lists all, each file that existed and that it does not list
 abbrev pub IsChange : Listing → Option FileState → Option Row → Type 0
 IsChange Changed (Some s) was = Unit {0}
 IsChange Changed None was = ⊥
@@ -74,7 +74,7 @@ IsChange AllAgain (Some s) None = Unit {0}
 IsChange AllAgain (Some s) (Some was) = was.state ≢ s
 IsChange AllAgain None was = IsSomeAnd was (λ r. r.state.exists ≡ true)
 
--- what was told to the index changes the file of this name
+-- what was applied to the index changes the file of this name
 abbrev pub ChangesFile : List ℕ → State → Told → Type 0
 ChangesFile name a (Files c) = IsChange (listing_of c.is_fresh_instance a.index.last_clock c.clock)
     (of_name c.files name) (of_name a.index.files name)
@@ -82,12 +82,12 @@ ChangesFile name a _ = ⊥
 
 -- ---- messages in turn
 
--- a message, and what it tells
+-- a message, and what it gives
 pub record Message : Type 0 where
   pub bytes : List ℕ
   pub told : Told
 
--- the message tells that, and the index took it
+-- the message gives that, and the index took it
 abbrev pub Turn : Types → State → Message → State → Type 0
 Turn types a m b = Tells types m.bytes m.told × Takes a m.told b
 
@@ -95,7 +95,7 @@ Turn types a m b = Tells types m.bytes m.told × Takes a m.told b
 abbrev pub Turns : Types → State → List Message → State → Type 0
 Turns types a messages b = FoldsTo (Turn types) a messages b
 
--- no message tells this clock
+-- no message has this clock
 abbrev pub NoneTells : List ℕ → List Message → Type 0
 NoneTells clock messages = AllByRecursion (λ m. clock_of m.told ≢ Some clock) messages
 
@@ -114,12 +114,12 @@ pub record IsAlike (a b : State) : Type 0 where
   pub clocks : (clock : List ℕ) → of_name a.index.clocks clock ≡ of_name b.index.clocks clock
   pub last : a.index.last_clock ≡ b.index.last_clock
 
--- what an index has is determined by the messages that were told to it, from nothing on
+-- what an index has is determined by the messages that were applied to it, from nothing on
 abbrev pub ToldTheSame : Types → Type 0
 ToldTheSame types = (messages : List Message) (a b c d : State) → IsNew a → IsNew c
     → Turns types a messages b → Turns types c messages d → IsAlike b d
 
--- a clock that no message told is not known
+-- a clock that no message had is not known
 abbrev pub UntoldIsUnknown : Types → Type 0
 UntoldIsUnknown types = (messages : List Message) (clock : List ℕ) (a b : State) → IsNew a
     → Turns types a messages b → NoneTells clock messages → of_name b.index.clocks clock ≡ None
@@ -131,7 +131,7 @@ pub record ChangedSince (types : Types) (clock : List ℕ) (a : State) (messages
       → IsSomeAnd (of_name b.index.files name) (λ r. is_since (of_name b.index.clocks clock) r ≡ true)
       ↔ OneChanges types name a messages b
 
--- what changed since a clock is what the messages behind the last one that told it changed
+-- what changed since a clock is what the messages behind the last one that had it changed
 abbrev pub ToldInTurn : Types → Type 0
 ToldInTurn types = (before behind : List Message) (m : Message) (clock : List ℕ) (a i j b : State)
     → IsNew a → Turns types a before i → Turn types i m j → Turns types j behind b

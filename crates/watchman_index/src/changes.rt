@@ -11,7 +11,7 @@ use std::collections::BTreeMap;
 use watchman_types::query::QueryResult;
 use watchman_types::subscription::FilesChanged;
 
-/// What a message tells of the files below a root.
+/// The files below a root that a message lists, and what goes with them.
 #[derive(Debug, Drop)]
 pub struct Changes {
     /// The root, where the message names it.
@@ -20,7 +20,7 @@ pub struct Changes {
     pub subscription: Option<ByteString>,
     /// The clock of the message.
     pub clock: ByteString,
-    /// The clock that a message of a subscription tells the changes from.
+    /// The clock after which the changes of a subscription's message are.
     pub since: Option<ByteString>,
     /// Whether the files that are listed are all that there are, and not those that changed.
     pub is_fresh_instance: bool,
@@ -29,7 +29,7 @@ pub struct Changes {
 }
 
 impl Changes {
-    /// What the answer to a query tells. The error is that there is no memory for it.
+    /// Takes the changes from the answer to a query. The error is that there is no memory for it.
     pub fn of_query(
         alloc: Global,
         answer: QueryResult<ByteString, Listed>,
@@ -46,7 +46,8 @@ impl Changes {
         })
     }
 
-    /// What a message of a subscription tells. The error is that there is no memory for it.
+    /// Takes the changes from a message of a subscription. The error is that there is no memory for
+    /// it.
     pub fn of_subscription(
         alloc: Global,
         told: FilesChanged<ByteString, Listed>,
@@ -64,8 +65,8 @@ impl Changes {
     }
 }
 
-/// The files of a list by their names. Where a name stands more than once, its last place counts.
-/// The error is that there is no memory for them.
+/// Returns the files of a list by their names. Where a name occurs more than once, its last place
+/// counts. The error is that there is no memory for them.
 pub fn files_of(
     alloc: Global,
     listed: Vec<Listed>,

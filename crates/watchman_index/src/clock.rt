@@ -2,8 +2,9 @@
 ghost use Rattle.std.specs.Prelude.{◌≡◌};
 ghost use Rattle.watchman_index.specs.Clocks.{instance_of, is_one_instance};
 
-/// What stands before a clock's ticks, which are behind its last colon: when the server began, its
-/// process, and how often it crawled a root. Empty for a text without a colon.
+/// Returns the part of a clock before its ticks, which are behind its last colon. It says when the
+/// server began, its process, and how often it crawled a root. It is empty for a text without a
+/// colon.
 pub fn instance_of_clock(clock: &[u8]) -> &[u8]
     ensures { result.now ≡ instance_of clock.now }
 {
@@ -13,7 +14,7 @@ pub fn instance_of_clock(clock: &[u8]) -> &[u8]
     }
 }
 
-/// Whether both clocks are of one server, and of one crawl of the root, so that the later one
+/// Returns whether both clocks are of one server and of one crawl of the root. Then the later one
 /// counts on from the earlier one.
 pub fn are_of_one_instance(a: &[u8], b: &[u8]) -> bool
     ensures { result ≡ is_one_instance a.now b.now }

@@ -24,9 +24,9 @@ use std::collections::BTreeMap;
 pub struct Index {
     /// What the messages are of.
     pub origin: Origin,
-    /// For each clock that was told the number of the last message up to it.
+    /// For each clock that a message had, the number of the last message up to it.
     pub clocks: BTreeMap<ByteString, u64>,
-    /// The clock of the last message that told files, up to which all is told.
+    /// The clock of the last message that listed files, up to which all changes are in.
     pub last_clock: Option<ByteString>,
     /// The files. Of those that were deleted it is known that they are.
     pub files: BTreeMap<ByteString, Row>,
@@ -42,7 +42,7 @@ pub struct ChangesSince<'a> {
 }
 
 impl Index {
-    /// An index of no files.
+    /// Makes an index of no files.
     pub fn new(alloc: Global) -> Self
         ensures files { IsEmpty result.files }
         ensures clocks { IsEmpty result.clocks }
@@ -56,11 +56,12 @@ impl Index {
         }
     }
 
-    /// Applies what the message of this number tells.
+    /// Applies the changes of the message of this number.
     ///
-    /// A file that it lists has the state that it tells. Where it tells all files, those that it
-    /// does not list are gone; else they are as before. The message changed each file that it lists,
-    /// but where it tells all files again ([`Listing::AllAgain`]), and of this one what was known.
+    /// A file that it lists has the state that it gives. Where it lists all files, those that it
+    /// does not list are gone; else they are as before. The message changed each file that it
+    /// lists, unless it lists all files again ([`Listing::AllAgain`]), and this one as it was
+    /// known.
     ///
     /// A message of another root or subscription is refused, and nothing is changed. Where there is
     /// no memory, each file is as before or as after the message, which may be applied again.
@@ -97,8 +98,8 @@ impl Index {
         Ok(())
     }
 
-    /// Keeps a clock that was told behind the message of this number, and before the next. The
-    /// error is that there is no memory for it, and then nothing is changed.
+    /// Keeps a clock that came behind the message of this number, and before the next. The error is
+    /// that there is no memory for it, and then nothing is changed.
     pub fn apply_clock(&mut self, number: u64, clock: ByteString) -> Result<(), AllocError>
         ensures kept { OnOk result (IsKept number clock self.old self.new) }
         ensures files { self.new.files ≡ self.old.files }
@@ -110,8 +111,9 @@ impl Index {
         Ok(())
     }
 
-    /// The files that messages changed after this clock, also those that were deleted. For a clock
-    /// that was not told, all files that exist. The error is that there is no memory for the list.
+    /// Returns the files that messages changed after this clock, also those that were deleted. For
+    /// a clock that is not known, all files that exist. The error is that there is no memory for
+    /// the list.
     pub fn changes_since(
         &self,
         alloc: Global,

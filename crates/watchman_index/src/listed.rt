@@ -23,7 +23,7 @@ pub struct Listed {
     pub exists: bool,
     /// How many bytes the file has.
     pub size: Option<u64>,
-    /// The type and the permissions, as `stat` tells them.
+    /// The type and the permissions, as `stat` gives them.
     pub mode: Option<u32>,
     /// The type.
     pub kind: Option<FileType>,
@@ -67,7 +67,7 @@ impl OwnedShape for Listed {
 }
 
 impl Listed {
-    /// What is said of the file.
+    /// Returns what is said of the file.
     pub fn state(&self) -> FileState
         ensures { result ≡ state_of self.now }
     {

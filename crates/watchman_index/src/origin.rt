@@ -49,7 +49,7 @@ impl fmt::Display for Refusal {
 }
 
 impl Origin {
-    /// Nothing is known yet.
+    /// Begins with nothing known.
     pub fn new() -> Self
         ensures { (result.root ≡ None) × (result.subscription ≡ None) }
     {

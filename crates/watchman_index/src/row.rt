@@ -13,7 +13,7 @@ pub struct FileState {
     pub exists: bool,
     /// How many bytes the file has.
     pub size: Option<u64>,
-    /// The type and the permissions, as `stat` tells them.
+    /// The type and the permissions, as `stat` gives them.
     pub mode: Option<u32>,
     /// The type.
     pub kind: Option<FileType>,
@@ -34,7 +34,7 @@ pub struct Row {
 
 impl Row {
     /// The row of a file that the message of this number lists so, and what it was before. The
-    /// message changed it, but where it tells all files again, and of this one what was known.
+    /// message changed it, unless it lists all files again, and this one as it was known.
     pub(crate) fn told(number: u64, listing: Listing, was: Option<Row>, state: FileState) -> Row
         ensures { IsTold number listing was state result }
     {
@@ -58,7 +58,7 @@ impl Row {
         }
     }
 
-    /// The row of a file that the message of this number says to be gone, since it tells all files
+    /// The row of a file that the message of this number says to be gone, since it lists all files
     /// and not this one. One that did not exist stays as it was.
     pub(crate) fn gone(self, number: u64) -> Row
         ensures { result ≡ gone number self }
@@ -77,7 +77,7 @@ impl Row {
         }
     }
 
-    /// The row after the message of this number, which tells all files, and this one where it
+    /// The row after the message of this number, which lists all files, and this one where it
     /// `is_listed`.
     pub(crate) fn kept(self, number: u64, is_listed: bool) -> Row
         ensures { result ≡ (if is_listed then self else gone number self) }

@@ -3,8 +3,8 @@ ghost use Rattle.std.specs.Prelude.{◌≡◌};
 ghost use Rattle.std.specs.Option.{option_map};
 ghost use Rattle.watchman_index.specs.Suffixes.{is_mark, suffix_of};
 
-/// What stands behind the last dot of a path's last component, as Watchman has it. The suffix of
-/// `.profile` is `profile`.
+/// Returns what is behind the last dot of a path's last component, as Watchman has it. The suffix
+/// of `.profile` is `profile`.
 pub fn suffix_of(name: &[u8]) -> Option<&[u8]>
     ensures { option_map (λ suffix. suffix.now) result ≡ suffix_of name.now }
 {

@@ -1,4 +1,4 @@
-//! What a message tells that an index can use.
+//! What an index can use of a message.
 ghost use Rattle.std.specs.Prelude.{◌≡◌, List, ℕ, Some, IfOk, IfErr, IfSome, IfNone};
 ghost use Rattle.watchman_index.specs.Tells.{
   IsNone,
@@ -26,7 +26,7 @@ use watchman_types::query::QueryResult;
 use watchman_types::subscription::{FilesChanged, Subscribed};
 use watchman_types::watch::Clock;
 
-/// What a message tells that an index can use.
+/// What an index can use of a message.
 #[derive(Debug, Drop)]
 pub enum Told {
     /// Which files there are, or which of them changed.
@@ -41,7 +41,7 @@ pub enum Told {
     Nothing,
 }
 
-/// Why it is not known what a message tells.
+/// Why it is not known what an index can use of a message.
 #[derive(Debug, Drop)]
 pub enum Unread {
     /// It is malformed, or lists files without what an index keeps of them.
@@ -79,7 +79,7 @@ impl fmt::Display for Unread {
     }
 }
 
-/// What the messages that are told are read as.
+/// The types that messages are read as.
 pub trait ToldTypes {
     // what each message is read as
     ghost types: { Types };
@@ -96,10 +96,10 @@ impl ToldTypes for Told {
     } };
 }
 
-/// Reads what the message at the start of `bytes` tells, of at most 128 levels.
+/// Reads what an index can use of the message at the start of `bytes`, of at most 128 levels.
 ///
-/// An answer that has `files` and a message of a subscription tell these; an error of the server
-/// its text; and all else a clock, where it has one.
+/// That is the files of an answer that has `files` and of a message of a subscription; the text of
+/// an error of the server; and the clock of all else, where it has one.
 ///
 /// Fails as [`from_slice`] does of a [`Header`]; where the message has `files`, as it does of a
 /// [`QueryResult`] or [`FilesChanged`] of [`Listed`] files; and where there is no memory.
@@ -119,7 +119,7 @@ pub fn read_told(alloc: Global, bytes: &[u8]) -> Result<Told, Unread>
     }
 }
 
-/// What the answer to a query tells.
+/// What an index can use of the answer to a query.
 fn query_told(alloc: Global, bytes: &[u8]) -> Result<Told, Unread>
     ensures told { IfOk result (TellsQuery ⟦<Told as ToldTypes>⟧.types bytes.now) }
     ensures refused { IfErr result (IsUnreadOrFull
@@ -130,7 +130,7 @@ fn query_told(alloc: Global, bytes: &[u8]) -> Result<Told, Unread>
     Ok(Told::Files(changes))
 }
 
-/// What a message of a subscription tells.
+/// What an index can use of a message of a subscription.
 fn subscription_told(alloc: Global, bytes: &[u8]) -> Result<Told, Unread>
     ensures told { IfOk result (TellsChanged ⟦<Told as ToldTypes>⟧.types bytes.now) }
     ensures refused { IfErr result (IsUnreadOrFull

@@ -12,7 +12,7 @@ abbrev pub is_true : Option Bool → Bool
 is_true (Some b) = b
 is_true None = false
 
--- which event it is: the first of these that it tells
+-- which event it is: the first of these that it has
 abbrev pub event_kind_of : Header → EventKind
 event_kind_of h =
     if is_some h.log then Log

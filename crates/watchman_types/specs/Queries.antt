@@ -20,7 +20,7 @@ truth_tree v = Ok (boolean v)
 abbrev pub number_tree : ℕ → Result Tree Error
 number_tree n = Ok (integer (pos n))
 
--- a path is a byte string, or an object where its depth is told
+-- a path is a byte string, or an object where its depth is given
 abbrev pub path_at : Path → Option ℕ → Result Tree Error
 path_at p None = bytes_tree p.path
 path_at p (Some n) = entries_tree ((codes "path", bytes_tree p.path) ∷ (codes "depth", number_tree n) ∷ [])
@@ -28,7 +28,7 @@ path_at p (Some n) = entries_tree ((codes "path", bytes_tree p.path) ∷ (codes 
 abbrev pub path_tree : Path → Result Tree Error
 path_tree p = path_at p p.depth
 
--- the entries that say which files, and what is told of them
+-- the entries that say which files, and which of their fields
 abbrev pub selection_entries : Query → List Entry
 selection_entries q =
     given_entry (codes "since") moment_tree q.since
@@ -44,7 +44,7 @@ origin_entries q =
     ++ given_entry (codes "glob") (λ ss. slice_tree (λ s. Ok (text s.now)) ss.now) q.glob
     ++ []
 
--- the entries that say how paths are compared, and which files are told once or not at all
+-- the entries that say how paths are compared, and which files are listed once or not at all
 abbrev pub comparing_entries : Query → List Entry
 comparing_entries q =
     given_entry (codes "glob_includedotfiles") truth_tree q.glob_include_dot_files

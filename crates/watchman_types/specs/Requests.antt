@@ -20,7 +20,7 @@ capabilities_tree c = entries_tree (
 abbrev pub timeout_tree : ℕ → Result Tree Error
 timeout_tree n = entries_tree ((codes "sync_timeout", number_tree n) ∷ [])
 
--- a state's name, and what subscribers are told
+-- a state's name, and what subscribers get
 abbrev pub state_entries : {M : Type 0} → (M → Result Tree Error) → List ℕ → Option M → List Entry
 state_entries tree name metadata = (codes "name", Ok (text name)) ∷ given_entry (codes "metadata") tree metadata
 

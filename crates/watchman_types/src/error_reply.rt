@@ -6,7 +6,7 @@ use serde_bser::de::{Answer, Deserializer};
 use serde_bser::prelude::*;
 use std::alloc::Global;
 
-/// What the server answers where it cannot do what was asked.
+/// The server's answer where it cannot do what was asked.
 #[derive(Debug, Drop)]
 pub struct ErrorReply<S> {
     /// Why, in words. It may hold a path, which need not be UTF-8.

@@ -23,7 +23,7 @@ pub struct File<S> {
     pub oclock: Option<S>,
     /// The clock when the file was first seen.
     pub cclock: Option<S>,
-    /// Whether the file exists. One that was deleted is told with the last that was known of it.
+    /// Whether the file exists. One that was deleted is listed with the last that was known of it.
     pub exists: Option<bool>,
     /// Whether the file is new since the clock that was asked for.
     pub new: Option<bool>,
@@ -31,27 +31,27 @@ pub struct File<S> {
     pub kind: Option<FileType>,
     /// How many bytes the file has.
     pub size: Option<u64>,
-    /// The type and the permissions, as `stat` tells them.
+    /// The type and the permissions, as `stat` gives them.
     pub mode: Option<u32>,
     /// When the content last changed, in seconds.
     pub mtime: Option<i64>,
-    /// The same, in milliseconds.
+    /// `mtime` in milliseconds.
     pub mtime_ms: Option<i64>,
-    /// The same, in microseconds.
+    /// `mtime` in microseconds.
     pub mtime_us: Option<i64>,
-    /// The same, in nanoseconds.
+    /// `mtime` in nanoseconds.
     pub mtime_ns: Option<i64>,
-    /// The same, in seconds, as a real.
+    /// `mtime` in seconds, as a real.
     pub mtime_f: Option<RealBits>,
-    /// When the file or what is told of it last changed, in seconds.
+    /// When the file or its status last changed, in seconds.
     pub ctime: Option<i64>,
-    /// The same, in milliseconds.
+    /// `ctime` in milliseconds.
     pub ctime_ms: Option<i64>,
-    /// The same, in microseconds.
+    /// `ctime` in microseconds.
     pub ctime_us: Option<i64>,
-    /// The same, in nanoseconds.
+    /// `ctime` in nanoseconds.
     pub ctime_ns: Option<i64>,
-    /// The same, in seconds, as a real.
+    /// `ctime` in seconds, as a real.
     pub ctime_f: Option<RealBits>,
     /// The user that owns the file.
     pub uid: Option<u32>,

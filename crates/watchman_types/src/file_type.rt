@@ -36,7 +36,7 @@ pub enum FileType {
 }
 
 impl FileType {
-    /// Watchman's letter for it.
+    /// Returns Watchman's letter for the type.
     pub fn word(self) -> &'static str
         ensures { result.now ≡ file_type_word self }
     {
@@ -53,7 +53,7 @@ impl FileType {
         }
     }
 
-    /// The type of this letter. `None` for a text that is none of the letters.
+    /// Returns the type of this letter. `None` for a text that is none of the letters.
     pub fn from_word(word: &str) -> Option<FileType>
         ensures found { IfSome result (λ t. file_type_word t ≡ word.now) }
         ensures none { IfNone result ((t : FileType) → file_type_word t ≢ word.now) }

@@ -1,4 +1,4 @@
-//! What tells which message it is.
+//! The parts of a message that decide its kind.
 ghost use Rattle.std.specs.Prelude.{◌≡◌, codes, [], ◌∷◌, refl};
 ghost use Rattle.serde_bser.specs.StructFields.{optional, struct_meaning};
 ghost use Rattle.watchman_types.specs.Kinds.{kind_of, event_kind_of};
@@ -8,7 +8,7 @@ use serde_bser::de::{Answer, Deserializer, Ignored};
 use serde_bser::prelude::*;
 use std::alloc::Global;
 
-/// The parts of a message that tell which one it is.
+/// The parts of a message that decide its kind.
 #[derive(Debug, Drop)]
 pub struct Header {
     /// True in a message that no request asked for.
@@ -21,7 +21,7 @@ pub struct Header {
     pub state_enter: Option<Ignored>,
     /// Whether a state ended.
     pub state_leave: Option<Ignored>,
-    /// Whether it tells of files.
+    /// Whether it lists files.
     pub files: Option<Ignored>,
     /// True where a subscription ended.
     pub canceled: Option<bool>,
@@ -65,10 +65,10 @@ impl OwnedShape for Header {
 }
 
 impl Header {
-    /// Which message it is.
+    /// Returns the kind of the message.
     ///
     /// One whose `unilateral` is true is an event. All else is the answer to the outstanding
-    /// request, and an error where `error` is there. The kind of an event is told by the first of
+    /// request, and an error where `error` is there. The kind of an event follows from the first of
     /// these parts that it has: `log`, `state-enter`, `state-leave`, a true `canceled`, `files`.
     pub fn kind(&self) -> Kind
         ensures { result ≡ kind_of self.now }
@@ -80,7 +80,7 @@ impl Header {
         }
     }
 
-    /// Which event it is, where it is one.
+    /// Returns the kind of the event, where the message is one.
     pub fn event_kind(&self) -> EventKind
         ensures { result ≡ event_kind_of self.now }
     {

@@ -1,6 +1,6 @@
-//! Which message it is.
+//! The kind of a message.
 
-/// Which message it is.
+/// The kind of a message.
 #[derive(Debug, Clone, Copy, PartialEq, Eq)]
 pub enum Kind {
     /// The answer to the outstanding request.
@@ -11,7 +11,7 @@ pub enum Kind {
     Event(EventKind),
 }
 
-/// Which message it is that no request asked for.
+/// The kind of an event: a message that no request asked for.
 #[derive(Debug, Clone, Copy, PartialEq, Eq)]
 pub enum EventKind {
     /// A [`Log`](crate::log::Log).

@@ -36,7 +36,7 @@ pub enum Message<S, F, T> {
     Event(Event<S, F>),
 }
 
-/// What the events with such texts and files are read as.
+/// What each event is read as, by the types of its texts and files.
 pub trait EventShape<F> {
     // what each event is read as
     ghost events: { EventTypes Self F };
@@ -92,7 +92,7 @@ pub fn read_event<'de, S: Deserialize<&'de [u8]>, F: Deserialize<&'de [u8]>>(
 
 /// Reads the message at the start of `bytes`, of at most 128 levels.
 ///
-/// [`Header::kind`] tells which message it is: an event where its `unilateral` is true, else the
+/// [`Header::kind`] decides which message it is: an event where its `unilateral` is true, else the
 /// error of the server where it has an `error`, else the answer to the outstanding request. What
 /// follows the message is ignored.
 ///

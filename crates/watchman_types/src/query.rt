@@ -26,7 +26,7 @@ pub struct QueryResult<S, F> {
     pub warning: Option<S>,
     /// Whether `files` are all that there are, and not those that changed.
     pub is_fresh_instance: bool,
-    /// What the server tells of its work, where that was asked for.
+    /// What the server reports of its work, where that was asked for.
     pub debug: Option<Value>,
 }
 

@@ -1,4 +1,4 @@
-//! States: what a client does with a folder, and tells the other clients.
+//! States: what a client does with a folder, and lets the other clients know.
 ghost use Rattle.std.specs.Prelude.{codes, [], ◌∷◌, refl};
 ghost use Rattle.serde_bser.specs.StructFields.{required, optional, struct_meaning, none_lent};
 
@@ -7,7 +7,7 @@ use serde_bser::prelude::*;
 use serde_bser::value::Value;
 use std::alloc::Global;
 
-/// The answer to `state-enter`, and what a subscription tells of it.
+/// The answer to `state-enter`, and the event by which subscriptions report it.
 #[derive(Debug, Drop)]
 pub struct StateEntered<S> {
     /// The name of the state.
@@ -56,7 +56,7 @@ impl<S: OwnedShape> OwnedShape for StateEntered<S> {
         (none_lent S.owned refl))) };
 }
 
-/// The answer to `state-leave`, and what a subscription tells of it.
+/// The answer to `state-leave`, and the event by which subscriptions report it.
 #[derive(Debug, Drop)]
 pub struct StateLeft<S> {
     /// The name of the state.

@@ -1,4 +1,4 @@
-//! Subscriptions, and what they tell.
+//! Subscriptions, and their messages.
 ghost use Rattle.std.specs.Prelude.{codes, [], ◌∷◌, refl};
 ghost use Rattle.serde_bser.specs.StructFields.{required, optional, struct_meaning, none_lent};
 
@@ -96,11 +96,11 @@ impl<S: OwnedShape> OwnedShape for Unsubscribed<S> {
 pub struct Flushed<S> {
     /// The version of the server.
     pub version: S,
-    /// Those that told what was due before this answer.
+    /// Those that sent what was due before this answer.
     pub synced: Vec<S>,
-    /// Those that had nothing to tell.
+    /// Those that had nothing to send.
     pub no_sync_needed: Vec<S>,
-    /// Those that drop what they would tell, as long as a state holds.
+    /// Those that drop what they would send, as long as a state holds.
     pub dropped: Vec<S>,
 }
 
@@ -137,7 +137,7 @@ impl<S: OwnedShape> OwnedShape for Flushed<S> {
         (none_lent S.owned refl))) };
 }
 
-/// What a subscription tells of files.
+/// The files that a subscription reports as changed.
 ///
 /// `F` is what a file is read as, as in a [`QueryResult`](crate::query::QueryResult).
 #[derive(Debug, Drop)]
@@ -150,7 +150,7 @@ pub struct FilesChanged<S, F> {
     pub files: Vec<F>,
     /// The folder that is watched.
     pub root: Option<S>,
-    /// The clock that the changes are told from. The first message has none.
+    /// The clock after which the changes are. The first message has none.
     pub since: Option<S>,
     /// What the user should know, as that the root was crawled anew.
     pub warning: Option<S>,
@@ -197,7 +197,7 @@ impl<S: OwnedShape, F: OwnedShape> OwnedShape for FilesChanged<S, F> {
         (none_lent S.owned (none_lent S.owned (none_lent S.owned refl))))) };
 }
 
-/// What is told of a subscription that has ended, since its folder is no longer watched.
+/// The event of a subscription that has ended, since its folder is no longer watched.
 #[derive(Debug, Drop)]
 pub struct Canceled<S> {
     /// The name of the subscription.

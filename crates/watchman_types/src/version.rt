@@ -48,7 +48,7 @@ impl<S: OwnedShape + MapKey> OwnedShape for Version<S> {
 
 /// A text that the server's capabilities are named by.
 pub trait CapabilityName: MapKey {
-    /// Whether it has the bytes of `name`.
+    /// Returns whether it has the bytes of `name`.
     fn is_named(&self, name: &str) -> bool
         ensures { result ≡ bytes_eq (Self.name self.now) name.now };
 }
@@ -78,7 +78,7 @@ impl<'a> CapabilityName for &'a [u8] {
 }
 
 impl<S: CapabilityName> Version<S> {
-    /// Whether the server says that it has the capability of this name.
+    /// Returns whether the server says that it has the capability of this name.
     ///
     /// It is false of a name that the request did not ask for, and of each name where the server is
     /// too old to know capabilities and answers none.
@@ -91,8 +91,8 @@ impl<S: CapabilityName> Version<S> {
         }
     }
 
-    /// The first of the names of which [`has_capability`](Self::has_capability) is false, or `None`
-    /// where the server has them all.
+    /// Returns the first of the names of which [`has_capability`](Self::has_capability) is false,
+    /// or `None` where the server has them all.
     pub fn missing_capability<'n>(&self, required: &[&'n str]) -> Option<&'n str>
         ensures { result ≡ first_missing S.name self.now.capabilities required.now }
     {

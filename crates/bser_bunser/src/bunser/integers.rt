@@ -1,7 +1,7 @@
 //! Integers of any width.
 ghost use Rattle.std.specs.Prelude.{◌≡◌, ◌≢◌, IfOk, IfErr, IfSome, IfNone, OnErr, OnOk};
 ghost use Rattle.bser_format.specs.Named.{int};
-ghost use Rattle.bser_bunser.specs.Calls.{TakesInt, LooksFor, Keeps, HasFailed, IsCutShort, FailsBy, AnswersBy};
+ghost use Rattle.bser_bunser.specs.Calls.{TakesInt, LooksFor, Keeps, HasFailed, IsCutShort, FailsBy, FailsInPlace, AnswersBy, AnswersInPlace};
 
 use crate::bunser::Bunser;
 use crate::prefix::{Look, Prefix, int_prefix};
@@ -82,6 +82,7 @@ impl<R: DeRead> Bunser<R> {
         ensures ok { IfOk result (λ v. TakesInt v self.old self.new) }
         ensures kept { OnOk result (Keeps self.old self.new) }
         ensures refused { OnErr result (FailsBy int self.old self.new) }
+        ensures place { OnErr result (FailsInPlace self.old self.new) }
     {
         match self.buffered_int() {
             Some(number) => Ok(number),
@@ -96,6 +97,7 @@ impl<R: DeRead> Bunser<R> {
         ensures ok { IfOk result (λ v. TakesInt v self.old self.new) }
         ensures kept { OnOk result (Keeps self.old self.new) }
         ensures refused { OnErr result (FailsBy int self.old self.new) }
+        ensures place { OnErr result (FailsInPlace self.old self.new) }
     {
         match self.next_int_slowly()? {
             Look::Taken(number) => Ok(number),
@@ -112,6 +114,7 @@ impl<R: DeRead> Bunser<R> {
         ensures ok { IfOk result (λ v. TakesInt v self.old self.new) }
         ensures kept { OnOk result (Keeps self.old self.new) }
         ensures refused { IfErr result (AnswersBy int self.old self.new) }
+        ensures place { IfErr result (AnswersInPlace self.old self.new) }
     {
         match self.int() {
             Ok(number) => Ok(number),

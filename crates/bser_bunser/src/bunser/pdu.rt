@@ -14,7 +14,7 @@ use bser_format::errors::{Complaint, Error, ReadCause, Result};
 use bser_source::read::DeRead;
 use byteorder::{ByteOrder, LittleEndian};
 
-/// What is in the header of a message.
+/// The content of a message's header, and where its body begins.
 #[derive(Clone, Copy)]
 pub struct PduInfo {
     /// The capabilities that the message asks for, one bit each.

@@ -3,7 +3,7 @@ ghost use Rattle.std.specs.Prelude.{◌≡◌, ◌<◌, ◌^◌, pos, length, If
 ghost use Rattle.bser_source.specs.Refs.{bytes_of, is_lent};
 ghost use Rattle.bser_format.specs.Clauses.{after_a_refusal};
 ghost use Rattle.bser_format.specs.Named.{complain, front, size, count, string};
-ghost use Rattle.bser_bunser.specs.Calls.{Takes, TakesSome, TakesInt, TakesLent, HasLength, TakesCounted, Keeps, Closes, HasFailed, LacksBytes, LacksCopy, NamedBy, NamesCopy, NamedOrMemory, FailsShort, FailsBy};
+ghost use Rattle.bser_bunser.specs.Calls.{Takes, TakesSome, TakesInt, TakesLent, HasLength, TakesCounted, Keeps, Closes, HasFailed, LacksBytes, LacksCopy, NamedBy, NamesCopy, NamedOrMemory, FailsShort, FailsBy, FailsInPlace};
 ghost use Rattle.bser_bunser.specs.Names.{Names, natural_of, bytes_after};
 ghost use Rattle.bser_bunser.specs.Refusal.{BytesRefused};
 
@@ -251,6 +251,7 @@ impl<R: DeRead> Bunser<R> {
         ensures fits { IfOk result (λ n. n < 2 ^ 63) }
         ensures kept { OnOk result (Keeps self.old self.new) }
         ensures refused { OnErr result (FailsBy (natural_of complaint) self.old self.new) }
+        ensures place { OnErr result (FailsInPlace self.old self.new) }
     {
         let number = self.int()?;
         if number < 0 {
@@ -271,6 +272,7 @@ impl<R: DeRead> Bunser<R> {
         ensures fits { IfOk result (λ n. n < 2 ^ 63) }
         ensures kept { OnOk result (Keeps self.old self.new) }
         ensures refused { OnErr result (FailsBy size self.old self.new) }
+        ensures place { OnErr result (FailsInPlace self.old self.new) }
     {
         match self.buffered_length() {
             Some(len) => Ok(len),
@@ -298,6 +300,7 @@ impl<R: DeRead> Bunser<R> {
         ensures fits { IfOk result (λ n. n < 2 ^ 63) }
         ensures kept { OnOk result (Keeps self.old self.new) }
         ensures refused { OnErr result (FailsBy size self.old self.new) }
+        ensures place { OnErr result (FailsInPlace self.old self.new) }
     {
         self.natural(Complaint::NegativeLength)
     }
@@ -314,6 +317,7 @@ impl<R: DeRead> Bunser<R> {
         ensures fits { IfOk result (λ n. n < 2 ^ 63) }
         ensures kept { OnOk result (Keeps self.old self.new) }
         ensures refused { OnErr result (FailsBy count self.old self.new) }
+        ensures place { OnErr result (FailsInPlace self.old self.new) }
     {
         self.natural(Complaint::NegativeCount)
     }

@@ -38,7 +38,7 @@ impl EnumName {
         }
     }
 
-    /// The name, as far as it was kept.
+    /// Returns the name, as far as it was kept.
     pub fn as_str(&self) -> &str
         ensures { result.now ≡ kept self.now }
     {

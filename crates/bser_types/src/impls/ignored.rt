@@ -40,8 +40,8 @@ impl OwnedShape for Ignored {
     ghost owned = { refl };
 }
 
-/// What skips values: a [`Deserializer`]. A trait, since the deserializer is a type of a lower crate,
-/// to which only a trait adds calls.
+/// Skips values, as a [`Deserializer`] does. A trait, since the deserializer is a type of a lower
+/// crate, to which only a trait adds calls.
 pub trait SkipsValues {
     /// Skips what is expected, of any kind, whole.
     fn skip_value(&mut self) -> Answer<()>;

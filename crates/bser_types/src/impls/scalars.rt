@@ -24,14 +24,14 @@ use std::alloc::Global;
 pub struct RealBits(pub u64);
 
 impl RealBits {
-    /// The number, or `None` for a NaN, of which `f64::from_bits` makes no float.
+    /// Returns the number, or `None` for a NaN, of which `f64::from_bits` makes no float.
     pub fn as_f64(self) -> Option<f64>
         ensures { result ≡ float_of self.0 }
     {
         float_of(self.0)
     }
 
-    /// The number as bits, or `None` for a NaN, whose bits are not known.
+    /// Returns the number as bits, or `None` for a NaN, whose bits are not known.
     pub fn from_f64(number: f64) -> Option<Self>
         ensures { option_map (λ real. real.0) result ≡ bits_of number }
     {

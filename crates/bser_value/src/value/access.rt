@@ -10,8 +10,8 @@ use std::collections::BTreeMap;
 use std::num::nearest_i64_to_f64;
 
 impl Value {
-    /// The value at this key of an object. `None` where the object has no such key, and for every
-    /// value that is no object.
+    /// Returns the value at this key of an object. `None` where the object has no such key, and for
+    /// every value that is no object.
     pub fn get(&self, key: &str) -> Option<&Value>
         ensures { option_map (λ member. tree_of member.now) result
             ≡ get key.now (tree_of self.now) }
@@ -22,7 +22,8 @@ impl Value {
         }
     }
 
-    /// The text of a `Utf8String`, and `None` for all else, a byte string that is UTF-8 included.
+    /// Returns the text of a `Utf8String`, and `None` for all else, a byte string that is UTF-8
+    /// included.
     pub fn as_str(&self) -> Option<&str>
         ensures { option_map (λ text. text.now) result ≡ as_str (tree_of self.now) }
     {
@@ -32,8 +33,8 @@ impl Value {
         }
     }
 
-    /// The bytes of a byte string or of a `Utf8String`, as a server sends one name as either, and
-    /// `None` for all else.
+    /// Returns the bytes of a byte string or of a `Utf8String`, as a server sends one name as
+    /// either, and `None` for all else.
     pub fn as_bytes(&self) -> Option<&[u8]>
         ensures { option_map (λ bytes. bytes.now) result ≡ as_bytes (tree_of self.now) }
     {
@@ -44,7 +45,7 @@ impl Value {
         }
     }
 
-    /// The integer, and `None` for all else, reals included.
+    /// Returns the integer, and `None` for all else, reals included.
     pub fn as_i64(&self) -> Option<i64>
         ensures { result ≡ as_i64 (tree_of self.now) }
     {
@@ -54,8 +55,8 @@ impl Value {
         }
     }
 
-    /// The real, or the `f64` nearest to the integer. `None` for a NaN, of which `f64::from_bits`
-    /// makes no float, and for all that is no number.
+    /// Returns the real, or the `f64` nearest to the integer. `None` for a NaN, of which
+    /// `f64::from_bits` makes no float, and for all that is no number.
     pub fn as_f64(&self) -> Option<f64>
         ensures { result ≡ as_f64 (tree_of self.now) }
     {
@@ -66,7 +67,7 @@ impl Value {
         }
     }
 
-    /// The truth value, and `None` for all else.
+    /// Returns the truth value, and `None` for all else.
     pub fn as_bool(&self) -> Option<bool>
         ensures { result ≡ as_bool (tree_of self.now) }
     {
@@ -76,7 +77,7 @@ impl Value {
         }
     }
 
-    /// The items of an array, and `None` for all else.
+    /// Returns the items of an array, and `None` for all else.
     pub fn as_array(&self) -> Option<&Vec<Value>>
         ensures { option_map (λ items. items_view items.now.items) result
             ≡ as_array (tree_of self.now) }
@@ -87,7 +88,7 @@ impl Value {
         }
     }
 
-    /// The entries of an object, and `None` for all else.
+    /// Returns the entries of an object, and `None` for all else.
     pub fn as_object(&self) -> Option<&BTreeMap<String, Value>>
         ensures { option_map (λ entries. entries_view entries.now.entries) result
             ≡ as_object (tree_of self.now) }
@@ -98,7 +99,7 @@ impl Value {
         }
     }
 
-    /// Whether the value is null.
+    /// Returns whether the value is null.
     pub fn is_null(&self) -> bool
         ensures { IsTrue result ↔ (tree_of self.now ≡ null) }
     {

@@ -8,7 +8,7 @@ use bser_ser::{Serialize, Serializer};
 use bser_source::device::Sink;
 use std::alloc::Global;
 
-/// How a file's number stands to the given one.
+/// How a file's number compares with the given one.
 #[derive(Clone, Copy)]
 pub enum Operator {
     /// `eq`
@@ -26,7 +26,7 @@ pub enum Operator {
 }
 
 impl Operator {
-    /// Watchman's word for it.
+    /// Returns Watchman's word for it.
     pub fn word(self) -> &'static str
         ensures { result.now ≡ operator_word self }
     {

@@ -9,7 +9,7 @@ use bser_ser::{Serialize, Serializer};
 use bser_source::device::Sink;
 use std::alloc::Global;
 
-/// Which lines of the log are told.
+/// Which lines of its log the server sends.
 #[derive(Clone, Copy)]
 pub enum Level {
     /// `debug`: all
@@ -21,7 +21,7 @@ pub enum Level {
 }
 
 impl Level {
-    /// Watchman's word for it.
+    /// Returns Watchman's word for it.
     pub fn word(self) -> &'static str
         ensures { result.now ≡ log_level_word self }
     {
@@ -33,7 +33,7 @@ impl Level {
     }
 }
 
-/// `log-level`: the server tells lines of its log from now on, or no longer.
+/// `log-level`: the server sends lines of its log from now on, or no longer.
 #[derive(Clone, Copy)]
 pub struct LogLevelRequest {
     pub level: Level,

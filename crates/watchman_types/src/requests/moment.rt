@@ -12,7 +12,7 @@ use std::alloc::Global;
 /// A moment, from which on changes are asked for.
 #[derive(Clone, Copy)]
 pub enum Moment<'a> {
-    /// A clock that the server told, as `c:1446410081:18462:7:135`, or a named cursor, as `n:mine`.
+    /// A clock that the server gave, as `c:1446410081:18462:7:135`, or a named cursor, as `n:mine`.
     Clock(&'a str),
     /// Seconds since 1970, in the time of the server.
     Time(i64),
@@ -43,7 +43,7 @@ pub enum TimeField {
 }
 
 impl TimeField {
-    /// Watchman's word for it.
+    /// Returns Watchman's word for it.
     pub fn word(self) -> &'static str
         ensures { result.now ≡ time_field_word self }
     {

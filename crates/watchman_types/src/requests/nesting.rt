@@ -4,7 +4,8 @@ ghost use Rattle.watchman_types.specs.Expressions.{nesting, most_nesting};
 
 use crate::requests::expression::Expression;
 
-/// Whether at most so many operators are one in another. It calls itself once for each of these.
+/// Returns whether at most so many operators are one in another. It calls itself once for each of
+/// these.
 #[cycle(nest)]
 pub fn nests_within(expression: &Expression<'_>, levels: usize) -> bool
     ensures { IsTrue result ↔ (nesting expression.now ≤ levels) }

@@ -35,18 +35,18 @@ impl<'a> Serialize for Path<'a> {
     }
 }
 
-/// Which files are asked for, and what is to be told of each. What is `None` is left out, so that
-/// the server's own choice holds.
+/// Which files a query asks for, and which fields of each. What is `None` is left out, so that the
+/// server's own choice holds.
 ///
-/// Files are taken from `since`, `path`, `suffix` or `glob`, or are all below the root; `expression`
-/// says which of these are told.
+/// Files are taken from `since`, `path`, `suffix` or `glob`, or are all below the root;
+/// `expression` says which of these are listed.
 #[derive(Clone, Copy)]
 pub struct Query<'a> {
     /// Those that changed after this moment.
     pub since: Option<Moment<'a>>,
     /// Those for which this holds.
     pub expression: Option<Expression<'a>>,
-    /// The fields to be told of each file.
+    /// The fields of each file that are asked for.
     pub fields: Option<&'a [&'a str]>,
     /// Those below these paths.
     pub path: Option<&'a [Path<'a>]>,
@@ -62,13 +62,14 @@ pub struct Query<'a> {
     pub relative_root: Option<Bytes<'a>>,
     /// Whether small and capital letters differ.
     pub case_sensitive: Option<bool>,
-    /// Whether a file that several of the above give is told once.
+    /// Whether a file that several of the above give is listed once.
     pub dedup_results: Option<bool>,
-    /// Whether no file is told where the server does not know `since` any more.
+    /// Whether no file is listed where the server does not know `since` any more.
     pub empty_on_fresh_instance: Option<bool>,
-    /// Whether no changed files are told, but only the clock. Watchman 4.9.0 tells them all the same.
+    /// Whether the answer has only the clock, and no changed files. Watchman 4.9.0 lists them
+    /// anyway.
     pub omit_changed_files: Option<bool>,
-    /// Whether directories are told where one of their files changed.
+    /// Whether directories are listed where one of their files changed.
     pub always_include_directories: Option<bool>,
     /// How long the server may wait until it has seen all changes so far, in milliseconds; 0 for not
     /// at all.
@@ -80,7 +81,7 @@ pub struct Query<'a> {
 }
 
 impl<'a> Query<'a> {
-    /// A query with no field.
+    /// Makes a query with no field.
     pub fn new() -> Self
         ensures { query_entries result ≡ [] }
     {
@@ -106,7 +107,7 @@ impl<'a> Query<'a> {
     }
 }
 
-/// The fields that say which files, and what is told of them.
+/// The entries that say which files, and which of their fields.
 #[derive(Clone, Copy)]
 struct Selection<'q, 'a>(&'q Query<'a>);
 
@@ -133,7 +134,7 @@ impl<'q, 'a> PutField for Selection<'q, 'a> {
     }
 }
 
-/// The fields that say from where files are taken.
+/// The entries that say from where files are taken.
 #[derive(Clone, Copy)]
 struct Origins<'q, 'a>(&'q Query<'a>);
 
@@ -160,7 +161,7 @@ impl<'q, 'a> PutField for Origins<'q, 'a> {
     }
 }
 
-/// The fields that say how paths are compared, and which files are told once or not at all.
+/// The entries that say how paths are compared, and which files are listed once or not at all.
 #[derive(Clone, Copy)]
 struct Comparing<'q, 'a>(&'q Query<'a>);
 
@@ -190,7 +191,7 @@ impl<'q, 'a> PutField for Comparing<'q, 'a> {
     }
 }
 
-/// The other fields.
+/// The other entries.
 #[derive(Clone, Copy)]
 struct Answering<'q, 'a>(&'q Query<'a>);
 

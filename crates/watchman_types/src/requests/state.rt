@@ -17,7 +17,7 @@ use std::alloc::Global;
 pub struct StateEnterRequest<'a, M> {
     pub root: Bytes<'a>,
     pub name: &'a str,
-    /// Any value, which subscribers are told.
+    /// Any value, which subscribers get.
     pub metadata: Option<M>,
 }
 
@@ -37,7 +37,7 @@ impl<'a, M: Serialize> Serialize for StateEnterRequest<'a, M> {
 pub struct StateLeaveRequest<'a, M> {
     pub root: Bytes<'a>,
     pub name: &'a str,
-    /// Any value, which subscribers are told.
+    /// Any value, which subscribers get.
     pub metadata: Option<M>,
 }
 

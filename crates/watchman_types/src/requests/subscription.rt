@@ -15,24 +15,24 @@ use bser_source::device::Sink;
 use bser_structs::Given;
 use std::alloc::Global;
 
-/// `subscribe`: the server tells from now on what the query answers, each time that files change.
+/// `subscribe`: the server sends from now on what the query answers, each time that files change.
 #[derive(Clone, Copy)]
 pub struct SubscribeRequest<'a> {
     pub root: Bytes<'a>,
     /// By it the server's messages name the subscription.
     pub name: &'a str,
     pub query: Query<'a>,
-    /// Whether nothing is told while a version control system is at work. The server takes `true`
+    /// Whether nothing is sent while a version control system is at work. The server takes `true`
     /// without it.
     pub defer_vcs: Option<bool>,
-    /// The states in which changes are told only at their end.
+    /// The states in which changes are sent only at their end.
     pub defer: Option<&'a [&'a str]>,
-    /// The states in which changes are not told at all.
+    /// The states in which changes are not sent at all.
     pub drop: Option<&'a [&'a str]>,
 }
 
 impl<'a> SubscribeRequest<'a> {
-    /// A subscription that defers and drops nothing of its own.
+    /// Makes a subscription that defers and drops nothing of its own.
     pub fn new(root: Bytes<'a>, name: &'a str, query: Query<'a>) -> Self
         ensures root { result.root ≡ root.entry }
         ensures name { result.name ≡ name.entry }
@@ -77,7 +77,7 @@ impl<'a> Serialize for UnsubscribeRequest<'a> {
     }
 }
 
-/// `flush-subscriptions`: the server tells first what it has not yet told of the subscriptions.
+/// `flush-subscriptions`: the server sends what is due of the subscriptions before it answers.
 #[derive(Clone, Copy)]
 pub struct FlushSubscriptionsRequest<'a> {
     pub root: Bytes<'a>,

@@ -23,7 +23,7 @@ pub enum Scope {
 }
 
 impl Scope {
-    /// Watchman's word for it.
+    /// Returns Watchman's word for it.
     pub fn word(self) -> &'static str
         ensures { result.now ≡ scope_word self }
     {
@@ -142,7 +142,7 @@ impl<'a> Serialize for Pcre<'a> {
     }
 }
 
-/// The term `dirname`: the file is below this directory, and as many levels below it as `depth`
+/// The term `dirname`: the file is below this directory. It is as many levels below it as `depth`
 /// says, where a file right in it is at 0.
 #[derive(Clone, Copy)]
 pub struct Dirname<'a> {

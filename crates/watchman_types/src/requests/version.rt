@@ -12,7 +12,7 @@ use std::alloc::Global;
 /// What a client wants the server to be able to do, by names such as `relative_root`.
 #[derive(Clone, Copy)]
 pub struct Capabilities<'a> {
-    /// The server tells of each whether it has it.
+    /// The server answers for each whether it has it.
     pub optional: &'a [&'a str],
     /// The server answers an error if it lacks one of these.
     pub required: &'a [&'a str],

@@ -1,6 +1,7 @@
 use Rattle.std.proofs.Common.{refl, subst, get_or}
 use Rattle.bser_bunser.specs.Prefixes.{IsLengthPrefix}
 use Rattle.bser_bunser.specs.declared.prefix.Prefix.TheVariants.{Short, Unexpected}
+use Rattle.bser_bunser.proofs.Faults.{counted_stands}
 use Rattle.bser_bunser.proofs.Ints.{first_is, all_after}
 use Rattle.bser_bunser.proofs.Tokens.{short_counted, none_counted}
 use Rattle.bser_bunser.proofs.prefix.counted_prefix.Goals as goal
@@ -15,4 +16,4 @@ pub returns-in-Unexpected : goal.returns-in-Unexpected
 returns-in-Unexpected c =
     let held = c.args.bytes.now in
     let is = subst (λ l. IsLengthPrefix l (Unexpected c.in-Unexpected.why)) (all_after held) c.in-Unexpected.ensures in
-    rw c.fault.ensures (none_counted (get_or held 0 0) c.in-Unexpected.why held c.requires.some (first_is held (get_or held 0 0) c.requires.some refl) c.requires.counted is)
+    rw c.fault.ensures (none_counted (get_or held 0 0) c.in-Unexpected.why held c.requires.some (first_is held (get_or held 0 0) c.requires.some refl) c.requires.counted is, counted_stands (get_or held 0 0) c.in-Unexpected.why held is)

@@ -43,4 +43,5 @@ returns-in_default c =
     let x5 : x ≡ 5 → ⊥ = λ e. c.requires.other int32 (sym e) in
     let x6 : x ≡ 6 → ⊥ = λ e. c.requires.other int64 (sym e) in
     let high : 13 < x = omega arith in
-    none_known x c.args.bytes.now c.requires.some (first_is c.args.bytes.now x c.requires.some refl) high
+    let next = first_is c.args.bytes.now x c.requires.some refl in
+    (none_known x c.args.bytes.now c.requires.some next high, next)

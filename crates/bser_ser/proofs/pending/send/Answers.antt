@@ -1,12 +1,7 @@
-use Rattle.std.proofs.Common.{rules, [], arith}
-use Rattle.std.proofs.lemmas.Grind.{common_steps}
+use Rattle.std.proofs.Common.{rules, ◌≡◌, []}
 use Rattle.bser_ser.proofs.Sending.{took_more, took_no_more}
+use Rattle.bser_ser.proofs.pending.send.Goals.{in-Ok-eq0, in-Err}
 use Rattle.bser_ser.proofs.pending.send.Goals as goal
-
-pub returns-then-n-eq0-clause-sent : goal.returns-then-n-eq0-clause-sent
-returns-then-n-eq0-clause-sent g c =
-    let none : g.W.Sink.took c.loop-done.writer c.push.new.self [] = rw c.if-n-eq0.true at c.in-Ok.ensures.taken in
-    took_no_more g.W.Sink.took g.met.W.Sink.took_both _ _ _ c.loop-done.done c.loop-done.pending.items _ _ c.loop-done.invariant.same (search rules) c.loop-done.invariant.took none
 
 pub loop-done-preserved : goal.loop-done-preserved
 loop-done-preserved g c = record {
@@ -17,12 +12,7 @@ loop-done-preserved g c = record {
   same = search rules;
 }
 
-pub returns-in-Err-clause-sent : goal.returns-in-Err-clause-sent
-returns-in-Err-clause-sent g c =
-    took_no_more g.W.Sink.took g.met.W.Sink.took_both _ _ _ c.loop-done.done c.loop-done.pending.items _ _ c.loop-done.invariant.same (search rules) c.loop-done.invariant.took c.in-Err.ensures.taken
-
-pub returns-then-n-eq0-clause-err : goal.returns-then-n-eq0-clause-err
-returns-then-n-eq0-clause-err g c = grind (arith, common_steps)
-
-pub returns-in-Err-clause-err : goal.returns-in-Err-clause-err
-returns-in-Err-clause-err g c = grind (arith, common_steps)
+pub returns-in-loop-done-clause-sent : goal.returns-in-loop-done-clause-sent
+returns-in-loop-done-clause-sent g c =
+    let none : g.W.Sink.took c.loop-done.writer c.push.new.self [] = elim c.match-push.branch [ in-Ok-eq0 w ↦ (let zero : w.in-Ok-eq0.field-0 ≡ 0 = search rules in rw zero at w.in-Ok-eq0.ensures.taken) | in-Err w ↦ w.in-Err.ensures.taken ] in
+    took_no_more g.W.Sink.took g.met.W.Sink.took_both _ _ _ c.loop-done.done c.loop-done.pending.items _ _ c.loop-done.invariant.same (search rules) c.loop-done.invariant.took none

@@ -1,6 +1,6 @@
 -- What follows a string behind its tag.
 use Rattle.bser_format.specs.declared.errors.Complaint.TheVariants.{NegativeLength}
-use Rattle.bser_serde.proofs.Binds.{each_some}
+use Rattle.bser_events.proofs.Binds.{each_some}
 use Rattle.bser_serde.proofs.Pieces.{string_cut}
 use Rattle.bser_serde.proofs.heads.counted_string.Goals as goal
 

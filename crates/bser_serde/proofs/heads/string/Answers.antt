@@ -1,6 +1,6 @@
 -- What follows a string's bytes.
 use Rattle.std.proofs.Common.{rules, take}
-use Rattle.bser_serde.proofs.Pieces.{front_cut}
+use Rattle.bser_events.proofs.AtStart.{front_cut}
 use Rattle.bser_serde.proofs.heads.string.Goals as goal
 use Rattle.bser_serde.proofs.heads.string.Goals.{else-is_text-via-then-is_text+else-is_none, else-is_text-via-else-is_text}
 

@@ -5,9 +5,10 @@ use Rattle.bser_format.specs.Named.{many, text_of, entry_of, field_of, with_text
 use Rattle.bser_format.specs.declared.errors.Kind.TheVariants.{MapKey}
 use Rattle.bser_events.specs.Found.{value_rest, IsContainer}
 use Rattle.bser_events.proofs.Begins.{value_field}
-use Rattle.bser_serde.specs.Takes.{Takes}
-use Rattle.bser_serde.proofs.Binds.{each_some, on_step, on_end}
-use Rattle.bser_serde.proofs.Pieces.{behind, table_there, entry_taken, scalar_value, token_value, string_value, array_value, object_value, template_value}
+use Rattle.bser_events.specs.Takes.{Takes}
+use Rattle.bser_events.proofs.Binds.{each_some, on_step, on_end}
+use Rattle.bser_events.proofs.AtStart.{behind}
+use Rattle.bser_serde.proofs.Pieces.{table_there, entry_taken, scalar_value, token_value, string_value, array_value, object_value, template_value}
 use Rattle.bser_serde.proofs.Tags.{scalar_taken, string_taken}
 use Rattle.bser_serde.proofs.values.+value.Goals as goal
 use Rattle.bser_serde.proofs.values.+value.Goals.{template-else-width-eq0-via-then-width-eq0+else-rows-ne0, template-else-width-eq0-via-else-width-eq0}
@@ -42,7 +43,7 @@ entries-returns t c =
 
 pub entry-returns : goal.entry-returns
 entry-returns t c =
-    each_some _ _ c.value.result c.value.ensures (λ rest h. entry_taken c.args.levels c.args.bytes.now _ rest.now (c.in_ok-rest.ensures MapKey) h)
+    each_some _ _ c.value.result c.value.ensures (λ rest h. entry_taken c.args.levels c.args.bytes.now _ rest.now (_, c.in_ok-key.ensures.read MapKey) h)
 
 pub field-returns-then-size-ne0 : goal.field-returns-then-size-ne0
 field-returns-then-size-ne0 t c =

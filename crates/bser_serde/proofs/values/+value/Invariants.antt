@@ -2,7 +2,7 @@
 use Rattle.std.proofs.Common.{◌*◌, ◌+◌, ◌-◌}
 use Rattle.bser_format.specs.Named.{text_of, entry_of, field_of, with_text_keys}
 use Rattle.bser_format.specs.declared.errors.Kind.TheVariants.{MapKey}
-use Rattle.bser_serde.proofs.Binds.{ReadsOn}
+use Rattle.bser_events.proofs.Binds.{ReadsOn}
 use Rattle.bser_serde.proofs.values.+value.Given as goal
 
 abbrev pub decreases-value : goal.decreases-value

@@ -6,8 +6,8 @@ use Rattle.std.specs.Borrow.{Bor}
 use Rattle.bser_format.specs.Enums.{Payload}
 use Rattle.bser_deserializer.specs.State.{State}
 use Rattle.bser_deserializer.proofs.Openings.{if_ok, if_err}
-use Rattle.bser_variants.specs.EnumAccess.{enum_head}
-use Rattle.bser_variants.specs.Variants.{OpenEnum}
+use Rattle.bser_structs.specs.EnumAccess.{enum_head}
+use Rattle.bser_structs.specs.ReadVariants.{OpenEnum}
 use Rattle.bser_structs.proofs.VariantPlaces.{place_known, name_refused, place_read, place_refused}
 use Rattle.bser_structs.proofs.enums.read_variants.Goals as goal
 

@@ -12,4 +12,4 @@ returns c =
     let text = string_bytes c.args.text in
     let long : c.len-len.result ≡ length text = search rules in
     let kept = k.ensures.strings ∙ ap (λ v. c.args.self.now.strings.items ++ vec_items v) c.into_bytes.ensures.value in
-    string_ok c.args.self.now c.keep_whole.new.self c.put.new.self (λ l a. nodes.Text l a) (λ s. events.text s) text c.len-len.result k.at (events.text text) c.put.result refl k.ensures.place long kept k.ensures.nodes k.ensures.begun c.put.ensures.nodes c.put.ensures.strings c.put.ensures.begun (λ s l a. refl) (λ s l a h e. (h, subst IsUtf8 (sym e) (IsUtf8-string_bytes c.args.text))) refl (λ l a. refl) (λ m. refl)
+    string_ok c.args.self.now c.keep_whole.new.self c.put.new.self (λ l a. nodes.Text l a) (λ s. events.text s) text c.len-len.result k.at (events.text text) c.put.result refl k.ensures.place long kept k.ensures.nodes k.ensures.innermost c.put.ensures.nodes c.put.ensures.strings c.put.ensures.innermost (λ s l a. refl) (λ s l a h e. (h, subst IsUtf8 (sym e) (IsUtf8-string_bytes c.args.text))) refl (λ l a. refl) (λ m. refl)

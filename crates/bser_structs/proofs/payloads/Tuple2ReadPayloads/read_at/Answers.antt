@@ -1,7 +1,7 @@
 use Rattle.std.proofs.Common.{◌≡◌, ◌-◌, suc, arith}
 use Rattle.bser_deserializer.specs.State.{State}
-use Rattle.bser_variants.specs.EnumAccess.{enum_head}
-use Rattle.bser_variants.specs.Variants.{OpenEnum}
+use Rattle.bser_structs.specs.EnumAccess.{enum_head}
+use Rattle.bser_structs.specs.ReadVariants.{OpenEnum}
 use Rattle.bser_structs.proofs.VariantPlaces.{later_read}
 use Rattle.bser_structs.proofs.payloads.Tuple2ReadPayloads.read_at.Goals as goal
 

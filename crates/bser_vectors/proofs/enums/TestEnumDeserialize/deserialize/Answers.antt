@@ -6,16 +6,16 @@ use Rattle.bser_format.specs.Content.{Meaning, one, variant}
 use Rattle.bser_deserializer.specs.Reading.{Needs}
 use Rattle.bser_format.specs.Enums.{Payload}
 use Rattle.bser_format.specs.ReadsHolders.{reads_tuple}
-use Rattle.bser_variants.specs.EnumAccess.{open_enum}
+use Rattle.bser_structs.specs.EnumAccess.{open_enum}
 use Rattle.bser_deserializer.specs.HoldsLists.{HoldsTuple}
 use Rattle.bser_types.specs.Slots.{struct_needs}
 use Rattle.bser_types.specs.Tuples.{tuple_needs}
 use Rattle.bser_deserializer.specs.State.{State}
-use Rattle.bser_variants.specs.Variants.{OpenEnum}
-use Rattle.bser_variants.proofs.VariantNames.{payload_at}
-use Rattle.bser_variants.proofs.Variants.{place_there, enum_refused, unit_found, unit_refused, payload_found, payload_refused}
-use Rattle.bser_variants.specs.Askings.{VariantAskings}
-use Rattle.bser_variants.proofs.Askings.{asked_at}
+use Rattle.bser_structs.specs.ReadVariants.{OpenEnum}
+use Rattle.bser_structs.proofs.VariantNames.{payload_at}
+use Rattle.bser_structs.proofs.ReadVariants.{place_there, enum_refused, unit_found, unit_refused, payload_found, payload_refused}
+use Rattle.bser_structs.specs.VariantAskings.{VariantAskings}
+use Rattle.bser_structs.proofs.VariantAskings.{asked_at}
 use Rattle.bser_vectors.specs.Enums.{reads_parts, test_variants, test_askings}
 use Rattle.bser_vectors.proofs.enums.TestEnumDeserialize.deserialize.Goals as goal
 

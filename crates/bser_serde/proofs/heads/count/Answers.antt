@@ -1,6 +1,0 @@
--- What follows a count.
-use Rattle.bser_serde.proofs.Pieces.{counted}
-use Rattle.bser_serde.proofs.heads.count.Goals as goal
-
-pub returns-in-Found : goal.returns-in-Found
-returns-in-Found c k = counted k c.in-Found.value c.in-Found.len c.args.bytes.now c.in-Found.ensures
