@@ -1,5 +1,6 @@
 /* The value of a message, made of its tape. */
 #include "internal.h"
+#include "keys.h"
 
 typedef PyObject *decoder(const char *bytes, Py_ssize_t len, const char *errors);
 
@@ -28,7 +29,7 @@ typedef struct {
     last_int *last;
 } shape;
 
-enum { KEYS_WITHOUT_GROWTH = 5, FEW_ROWS = 3 };
+enum { KEYS_WITHOUT_GROWTH = 5, FEW_ROWS = 3, FEW_ITEMS = 16 };
 
 static PyObject *other_value(walk *w);
 
@@ -36,27 +37,26 @@ static const char *string_at(const walk *w, size_t at) { return (const char *)w-
 
 static Py_ssize_t count_at(const walk *w, size_t at) { return (Py_ssize_t)bser_count_of(w->words[at]); }
 
-/* The next value. An object without entries is its two words. */
+/* The next value. An object without entries is its two words, and those of its end. */
 static inline PyObject *value(walk *w) {
-    size_t at = w->at;
-    unsigned tag = bser_tag_of(w->words[at]);
-    PyObject *made;
-    if (tag == BSER_BYTES && w->encoding == NULL) {
-        made = PyBytes_FromStringAndSize(string_at(w, at), count_at(w, at));
-    } else if (tag == BSER_INT) {
-        made = PyLong_FromLongLong((long long)w->words[at + 1]);
-    } else if (tag == BSER_TRUE || tag == BSER_FALSE) {
-        made = Py_NewRef(tag == BSER_TRUE ? Py_True : Py_False);
-    } else if (tag == BSER_NULL || tag == BSER_SKIP) {
-        made = Py_NewRef(Py_None);
-    } else if (w->words[at] == BSER_OBJECT && w->mutable) {
-        made = PyDict_New();
-        at += 2;
-    } else {
-        return other_value(w);
+    const uint64_t *word = w->words + w->at;
+    switch (bser_tag_of(word[0])) {
+    case BSER_BYTES:
+        if (w->encoding != NULL) break;
+        w->at += 2;
+        return PyBytes_FromStringAndSize((const char *)w->bytes + word[1], (Py_ssize_t)bser_count_of(word[0]));
+    case BSER_INT: w->at += 2; return PyLong_FromLongLong((long long)word[1]);
+    case BSER_TRUE: w->at += 2; return Py_NewRef(Py_True);
+    case BSER_FALSE: w->at += 2; return Py_NewRef(Py_False);
+    case BSER_NULL:
+    case BSER_SKIP: w->at += 2; return Py_NewRef(Py_None);
+    case BSER_OBJECT:
+        if (word[0] != BSER_OBJECT || !w->mutable) break;
+        w->at += 4;
+        return PyDict_New();
+    default: break;
     }
-    w->at = at + 2;
-    return made;
+    return other_value(w);
 }
 
 static PyObject *next_key(walk *w) {
@@ -101,9 +101,32 @@ static PyObject *item(walk *w, const shape *with) {
     return value(w);
 }
 
+/* An item of a short list. */
+static inline PyObject *item_of_few(walk *w) {
+    size_t at = w->at;
+    if (bser_tag_of(w->words[at]) != BSER_BYTES || w->encoding != NULL) return value(w);
+    w->at = at + 2;
+    return bytes_of(string_at(w, at), count_at(w, at));
+}
+
+/* A short list. It often has words that other messages repeat: the fields of a query, or a request. */
+static PyObject *list_of_few(walk *w, Py_ssize_t count) {
+    PyObject *list = PyList_New(count);
+    pass(w);
+    for (Py_ssize_t i = 0; list != NULL && i < count; i++) {
+        PyObject *made = item_of_few(w);
+        if (made == NULL)
+            Py_CLEAR(list);
+        else
+            PyList_SET_ITEM(list, i, made);
+    }
+    return list;
+}
+
 /* A list, or a tuple where nothing may change. */
 static PyObject *array_of(walk *w, Py_ssize_t count) {
-    return w->mutable ? list_of(w, count, item, NULL) : tuple_of(w, count, value);
+    if (!w->mutable) return tuple_of(w, count, value);
+    return count <= FEW_ITEMS ? list_of_few(w, count) : list_of(w, count, item, NULL);
 }
 
 /* Puts the next value under the key into the dict. */
@@ -307,17 +330,23 @@ static decoder *decoder_of(const char *encoding) {
     return strcmp(encoding, "ascii") == 0 ? PyUnicode_DecodeASCII : NULL;
 }
 
+/* What the arguments behind the first one choose. */
+static int take_choices(walk *w, PyObject *const *taken) {
+    if (taken[1] != NULL && (w->mutable = PyObject_IsTrue(taken[1])) < 0) return -1;
+    if (take_text(&w->encoding, taken[2]) < 0 || take_text(&w->errors, taken[3]) < 0) return -1;
+    if (w->errors == NULL) w->errors = "strict";
+    if (w->encoding != NULL) w->decode = decoder_of(w->encoding);
+    return 0;
+}
+
 PyObject *loads(PyObject *module, PyObject *const *args, Py_ssize_t count, PyObject *names) {
     static const char *const parameters[] = {"buf", "mutable", "value_encoding", "value_errors", NULL};
     PyObject *taken[4] = {NULL, NULL, NULL, NULL};
-    walk w = {NULL, NULL, 0, 0, 0, 1, NULL, NULL, NULL};
+    walk w = {NULL, NULL, 0, 0, 0, 1, NULL, "strict", NULL};
     message m;
     (void)module;
     if (take_arguments("loads", parameters, taken, args, count, names) < 0) return NULL;
-    if (taken[1] != NULL && (w.mutable = PyObject_IsTrue(taken[1])) < 0) return NULL;
-    if (take_text(&w.encoding, taken[2]) < 0 || take_text(&w.errors, taken[3]) < 0) return NULL;
-    if (w.errors == NULL) w.errors = "strict";
-    if (w.encoding != NULL) w.decode = decoder_of(w.encoding);
+    if ((count != 1 || names != NULL) && take_choices(&w, taken) < 0) return NULL;
     if (open_message(&m, taken[0]) < 0) return NULL;
     PyObject *made = value_of(&m, &w);
     close_message(&m);

@@ -55,10 +55,6 @@ static inline int take_arguments(const char *call, const char *const *names, PyO
     return 0;
 }
 
-/* keys.c */
-PyObject *key_of(const char *bytes, Py_ssize_t len);
-PyObject *text_of(const char *bytes, Py_ssize_t len);
-
 /* words.c */
 enum { MOST_WORDS_KEPT = 1 << 18, GIVEN_AT_ONCE = 1 << 16 };
 uint64_t *words_of(const uint8_t *bytes, size_t len, size_t *room, bser_outcome *found);

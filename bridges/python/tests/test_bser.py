@@ -156,6 +156,17 @@ class Values(unittest.TestCase):
         for _ in range(3):
             self.assertEqual(bser.loads(bser.dumps([value, value])), [value, value])
 
+    def test_short_lists(self):
+        """Lists of byte strings of all lengths, some of which share a place among those that are kept."""
+        words = [b"x" * n for n in range(18)] + [b"query", b"mtime_ms", b"mtime_us", b"\xff\xfe"]
+        words += [b"head%dtail" % i for i in range(12)] + [b"head%08dtail" % i for i in range(12)]
+        for _ in range(3):
+            for at in range(len(words)):
+                value = [words[at:at + 16], [words[:at], words[at]]]
+                message = bser.dumps(value)
+                self.assertEqual(bser.loads(message), value)
+                self.assertEqual(bser.loads(message, value_encoding="latin-1")[1][1], words[at].decode("latin-1"))
+
     def test_arguments(self):
         message = bser.dumps(1)
         self.assertEqual(bser.loads(buf=message, value_errors=None), 1)
