@@ -4,9 +4,10 @@
 //! unknown arguments; each but the first comes with lines on standard error.
 #![tactic(auto)]
 
-use bser_cli::standard::run_process;
+use bser_cli::program::Bser;
+use bser_shell::standard::run_process;
 use std::process::ExitCode;
 
 fn main(rt: HostRuntime) -> ExitCode {
-    run_process(rt)
+    run_process(&rt, &Bser::new(rt.alloc(), &rt))
 }

@@ -21,23 +21,23 @@ use Rattle.bser_c.specs.Builders.{Agreed, Compares, Parted, StandNext, words_bef
 use Rattle.bser_c.specs.Tape as tapes
 use Rattle.bser_c.specs.Tape.{AreWordsOfAll, HasTape}
 use Rattle.bser_c.specs.Untaped.{IsSame, LiesIn, untaped_by}
-use Rattle.bser_c.specs.declared.comparing.Compared.{Compared}
-use Rattle.bser_c.specs.declared.untape.Untaped.{Untaped}
-use Rattle.bser_c.specs.declared.untape.Untaped.TheVariants.{Memory}
+use Rattle.bser_c.specs.declared.comparing.TapeComparison.{TapeComparison}
+use Rattle.bser_c.specs.declared.untape.TapeError.{TapeError}
+use Rattle.bser_c.specs.declared.untape.TapeError.TheVariants.{Memory}
 use Rattle.bser_c.proofs.Says.{first_of_all}
 use Rattle.bser_c.proofs.Tapes.{words_counted}
 
 -- ---- words that agreed
 
 -- the words of events stood where it was
-record AgreedAll (old : Compared) (es : List Event) (new : Compared) : Type 0 where
+record AgreedAll (old : TapeComparison) (es : List Event) (new : TapeComparison) : Type 0 where
   words : new.words ≡ old.words
   strings : new.strings ≡ old.strings
   added : List ℕ
   are : AreWordsOfAll old.strings.now es added
   grew : words_before new ≡ words_before old ++ added
 
-agreed_by : (a b c : Compared) (e : Event) (es : List Event) → Agreed a e b → AgreedAll b es c → AgreedAll a (e ∷ es) c
+agreed_by : (a b c : TapeComparison) (e : Event) (es : List Event) → Agreed a e b → AgreedAll b es c → AgreedAll a (e ∷ es) c
 agreed_by a b c e es first p = record {
   words = p.words ∙ first.words;
   strings = p.strings ∙ first.strings;
@@ -47,35 +47,35 @@ agreed_by a b c e es first p = record {
 }
 
 -- the events were compared, one after another
-abbrev ComparesAll : Compared → List Event → Compared → Type 0
+abbrev ComparesAll : TapeComparison → List Event → TapeComparison → Type 0
 ComparesAll a es b = TakesAll Compares a es b
 
 -- so were those that were taken at their places
-compared_in : (at : ℕ) (bytes : List ℕ) (a b : Compared) (es : List Event) → TakesIn (λ x e p y. Compares x e y) at bytes a es b → ComparesAll a es b
+compared_in : (at : ℕ) (bytes : List ℕ) (a b : TapeComparison) (es : List Event) → TakesIn (λ x e p y. Compares x e y) at bytes a es b → ComparesAll a es b
 compared_in at bytes a b es (places.none n m) = none m
 compared_in at bytes a b es (places.more n own rest m k o e others spelled first after) = more m k o e others first (compared_in (n + length own) rest k o others after)
 
 -- one of the two
-either : {P : Type 0} (a b : Compared) (e : Event) → Compares a e b → (Agreed a e b → P) → (Parted a e b → P) → P
+either : {P : Type 0} (a b : TapeComparison) (e : Event) → Compares a e b → (Agreed a e b → P) → (Parted a e b → P) → P
 either a b e (inl agreed) f g = f agreed
 either a b e (inr parted) f g = g parted
 
 -- once others stood next none agree
-stays_parted : (a b : Compared) (es : List Event) → length a.words.now < 2 ^ 64 - 1 → a.at ≡ 2 ^ 64 - 1 → ComparesAll a es b → b.at ≡ 2 ^ 64 - 1
+stays_parted : (a b : TapeComparison) (es : List Event) → length a.words.now < 2 ^ 64 - 1 → a.at ≡ 2 ^ 64 - 1 → ComparesAll a es b → b.at ≡ 2 ^ 64 - 1
 stays_parted a b es short at (none m) = at
 stays_parted a b es short at (more m n o e rest first after) =
     either m n e first (λ agreed. absurd (omega (arith, short, at, agreed.longer, agreed.within)))
     (λ parted. stays_parted n o rest (omega (arith, short, ap (λ w. length w.now) parted.words)) parted.at after)
 
 -- so where it did not end so, all agreed
-agreed_all : (a b : Compared) (es : List Event) → length a.words.now < 2 ^ 64 - 1 → b.at < 2 ^ 64 - 1 → ComparesAll a es b → AgreedAll a es b
+agreed_all : (a b : TapeComparison) (es : List Event) → length a.words.now < 2 ^ 64 - 1 → b.at < 2 ^ 64 - 1 → ComparesAll a es b → AgreedAll a es b
 agreed_all a b es short end (none m) = record { words = refl; strings = refl; added = []; are = tapes.none; grew = sym (append-nil (words_before m)) }
 agreed_all a b es short end (more m n o e rest first after) =
     either m n e first (λ agreed. agreed_by m n o e rest agreed (agreed_all n o rest (omega (arith, short, ap (λ w. length w.now) agreed.words)) end after))
     (λ parted. absurd (omega (arith, end, stays_parted n o rest (omega (arith, short, ap (λ w. length w.now) parted.words)) parted.at after)))
 
 -- and where the words of all these events stand next, all agree
-agrees_all : (a b : Compared) (es : List Event) (words rest : List ℕ) → drop a.at a.words.now ≡ words ++ rest → AreWordsOfAll a.strings.now es words → ComparesAll a es b → b.at ≡ a.at + length words
+agrees_all : (a b : TapeComparison) (es : List Event) (words rest : List ℕ) → drop a.at a.words.now ≡ words ++ rest → AreWordsOfAll a.strings.now es words → ComparesAll a es b → b.at ≡ a.at + length words
 agrees_all a b es words rest next are (none m) = omega (arith, words_counted m.strings.now [] words are)
 agrees_all a b es words rest next are (more m n o e others first after) =
     let u = first_of_all m.strings.now e others words are in
@@ -92,17 +92,17 @@ agrees_all a b es words rest next are (more m n o e others first after) =
     (λ parted. absurd (parted.other (record { these = u.these; rest = u.rest ++ rest; next = split; are = u.first })))
 
 -- the words stay
-kept_words : (a b : Compared) (es : List Event) → ComparesAll a es b → b.words ≡ a.words
+kept_words : (a b : TapeComparison) (es : List Event) → ComparesAll a es b → b.words ≡ a.words
 kept_words a b es (none m) = refl
 kept_words a b es (more m n o e rest first after) = kept_words n o rest after ∙ either m n e first (λ agreed. agreed.words) (λ parted. parted.words)
 
 -- two words stand next
-pub stands_two : (c : Compared) (e : Event) → StandNext c e → c.at + 2 ≤ length c.words.now
+pub stands_two : (c : TapeComparison) (e : Event) → StandNext c e → c.at + 2 ≤ length c.words.now
 stands_two c e h = omega (arith, ap length h.next, length-drop c.at c.words.now, length-append h.these h.rest, ap length h.are.are)
 
 -- ---- what was told
 
-module _ (limits : Limits) (words strings message : List ℕ) (before after : Compared) (h : Header) (levels : limits.levels ≡ 128) (fresh : before.at ≡ 0) (same_words : before.words.now ≡ words) (same_strings : before.strings.now ≡ strings)
+module _ (limits : Limits) (words strings message : List ℕ) (before after : TapeComparison) (h : Header) (levels : limits.levels ≡ 128) (fresh : before.at ≡ 0) (same_words : before.words.now ≡ words) (same_strings : before.strings.now ≡ strings)
     (t : BeginsTold limits (λ x e p y. Compares x e y) message before after h) (short : length words < 2 ^ 64 - 1) where
   after_words : after.words.now ≡ words
   after_words = ap (λ w. w.now) (kept_words before after (events t.tells.tree) (compared_in h.start t.tells.bytes before after (events t.tells.tree) t.tells.told)) ∙ same_words
@@ -162,7 +162,7 @@ only_memory limits bytes strings words asks d levels most (inr short) has =
     (short.refused.excuse bytes [] one (record { capabilities = 0; tree = has.tree; message = message; read = ap (λ (b : Bool). cond b (Some one) None) has.keys }) (sym (append-nil bytes))).memory
 
 -- so the error of a message whose tape this is, is want of memory
-pub untaped_memory : (limits : Limits) (bytes strings words : List ℕ) (asks : Bool) (d : Description) (cause : Error) (at : ℕ) (u : Untaped) → limits.levels ≡ 128 → limits.bytes ≡ 2 ^ 64 - 1 → SliceUntold limits asks bytes (Failed d) → cause ≡ cause_of d → u ≡ untaped_by cause at → HasTape 128 strings 0 bytes words → u ≡ Memory
+pub untaped_memory : (limits : Limits) (bytes strings words : List ℕ) (asks : Bool) (d : Description) (cause : Error) (at : ℕ) (u : TapeError) → limits.levels ≡ 128 → limits.bytes ≡ 2 ^ 64 - 1 → SliceUntold limits asks bytes (Failed d) → cause ≡ cause_of d → u ≡ untaped_by cause at → HasTape 128 strings 0 bytes words → u ≡ Memory
 untaped_memory limits bytes strings words asks d cause at u levels most untold is by has = by ∙ ap (λ e. untaped_by e at) (is ∙ only_memory limits bytes strings words asks d levels most untold has)
 
 -- and the place of any is that of the words that agreed
@@ -170,5 +170,5 @@ lies_by : (cause : Error) (at words room : ℕ) → at ≤ words → LiesIn word
 lies_by OutOfMemory at words room h = tt
 lies_by _ at words room h = h
 
-pub untaped_lies : (cause : Error) (at words room : ℕ) (u : Untaped) → u ≡ untaped_by cause at → at ≤ words → LiesIn words room u
+pub untaped_lies : (cause : Error) (at words room : ℕ) (u : TapeError) → u ≡ untaped_by cause at → at ≤ words → LiesIn words room u
 untaped_lies cause at words room u by h = subst (λ x. LiesIn words room x) (sym by) (lies_by cause at words room h)

@@ -3,8 +3,8 @@ use Rattle.std.proofs.Common.{◌≡◌, inl, inr, ℕ, List, length, sym, ap, s
 use Rattle.std.proofs.lemmas.Option.{same_Some}
 use Rattle.bser_format.specs.Tree.{Tree}
 use Rattle.bser_canonical.specs.Slices.{RefusesSliceRewriting, RewritesToSize, RewroteSlice}
-use Rattle.bser_canonical.specs.declared.slice.Unwritten.{Unwritten}
-use Rattle.bser_canonical.specs.declared.slice.Unwritten.TheVariants.{TooLong}
+use Rattle.bser_canonical.specs.declared.slice.RewriteError.{RewriteError}
+use Rattle.bser_canonical.specs.declared.slice.RewriteError.TheVariants.{TooLong}
 use Rattle.bser_c.specs.Failures.{TellsWhyUntaped}
 use Rattle.bser_c.specs.Parts.{size_with_header}
 use Rattle.bser_c.specs.Untaped.{AreTape, WantsBytes}
@@ -14,7 +14,7 @@ pub rewrote_size : (form : Tree → Tree) (bytes message : List ℕ) (n : ℕ) �
 rewrote_size form bytes message n r is = (r.tree, r.read, is ∙ ap length r.written)
 
 -- that of a message that was too long
-pub wanted_size : (form : Tree → Tree) (bytes : List ℕ) (n : ℕ) (u : Unwritten) → RefusesSliceRewriting form bytes u → u ≡ TooLong n → RewritesToSize form bytes n
+pub wanted_size : (form : Tree → Tree) (bytes : List ℕ) (n : ℕ) (u : RewriteError) → RefusesSliceRewriting form bytes u → u ≡ TooLong n → RewritesToSize form bytes n
 wanted_size form bytes n u r is = subst (RefusesSliceRewriting form bytes) is r
 
 -- words that are no tape

@@ -16,8 +16,8 @@ use Rattle.bser_c.specs.Parts.{header_of, parts, size_with_header, with_header}
 use Rattle.bser_c.specs.Tape.{HasTape}
 use Rattle.bser_c.specs.Untaped.{AreTape, AreToldBy, LiesIn, RefusesTape, RefusesWords, WantsBytes}
 use Rattle.bser_c.specs.declared.front.Front.{Front}
-use Rattle.bser_c.specs.declared.untape.Untaped.{Untaped}
-use Rattle.bser_c.specs.declared.untape.Untaped.TheVariants.{Invalid, TooLong, Memory}
+use Rattle.bser_c.specs.declared.untape.TapeError.{TapeError}
+use Rattle.bser_c.specs.declared.untape.TapeError.TheVariants.{Invalid, TooLong, Memory}
 use Rattle.bser_c.proofs.Says.{says_all}
 use Rattle.bser_c.proofs.Told.{tree_told}
 
@@ -87,12 +87,12 @@ wants strings words body size told is = record {
       );
 }
 
-pub refused_words : (strings words : List ℕ) (e : Untaped) → RefusesWords strings words e → RefusesTape strings words e
+pub refused_words : (strings words : List ℕ) (e : TapeError) → RefusesWords strings words e → RefusesTape strings words e
 refused_words strings words (Invalid at) h = λ tape. (let t = tape_told strings words tape in let told = t.told in cc)
 refused_words strings words (TooLong size) h = wants strings words h.0 size h.1 h.2
 refused_words strings words Memory h = tt
 
-pub refused_compared : (strings words message : List ℕ) (e : Untaped) → AreToldBy strings words message → (HasTape 128 strings 0 message words → e ≡ Memory) → ((room : ℕ) → LiesIn (length words) room e) → RefusesTape strings words e
+pub refused_compared : (strings words message : List ℕ) (e : TapeError) → AreToldBy strings words message → (HasTape 128 strings 0 message words → e ≡ Memory) → ((room : ℕ) → LiesIn (length words) room e) → RefusesTape strings words e
 refused_compared strings words message (Invalid at) told memory place = λ tape. (
     let t = tape_told strings words tape in
     let same : t.body ≡ told.body = same_Some t.body told.body (sym t.told ∙ told.told) in

@@ -3,7 +3,7 @@ use Rattle.std.specs.Prelude.{◌≡◌, ◌⊎◌, ◌≤◌, ◌+◌, ◌-◌,
 use Rattle.bser_events.specs.Events.{Event}
 use Rattle.bser_c.specs.Tape.{AreWordsOf}
 use Rattle.bser_c.specs.declared.writing.Tape.{Tape}
-use Rattle.bser_c.specs.declared.comparing.Compared.{Compared}
+use Rattle.bser_c.specs.declared.comparing.TapeComparison.{TapeComparison}
 
 -- ---- a tape that is written
 
@@ -25,18 +25,18 @@ pub record Grew (old : Tape) (e : Event) (new : Tape) : Type 0 where
 -- ---- a tape that is compared
 
 -- the words that were compared
-abbrev pub words_before : Compared → List ℕ
+abbrev pub words_before : TapeComparison → List ℕ
 words_before c = take c.at c.words.now
 
 -- the words of an event stand next
-pub record StandNext (c : Compared) (e : Event) : Type 0 where
+pub record StandNext (c : TapeComparison) (e : Event) : Type 0 where
   pub these : List ℕ
   pub rest : List ℕ
   pub next : drop c.at c.words.now ≡ these ++ rest
   pub are : AreWordsOf c.strings.now e these
 
 -- they stand next, and it goes on behind them
-pub record Agreed (old : Compared) (e : Event) (new : Compared) : Type 0 where
+pub record Agreed (old : TapeComparison) (e : Event) (new : TapeComparison) : Type 0 where
   pub words : new.words ≡ old.words
   pub strings : new.strings ≡ old.strings
   pub added : List ℕ
@@ -46,12 +46,12 @@ pub record Agreed (old : Compared) (e : Event) (new : Compared) : Type 0 where
   pub grew : words_before new ≡ words_before old ++ added
 
 -- others stand next, and from there on none agree
-pub record Parted (old : Compared) (e : Event) (new : Compared) : Type 0 where
+pub record Parted (old : TapeComparison) (e : Event) (new : TapeComparison) : Type 0 where
   pub words : new.words ≡ old.words
   pub strings : new.strings ≡ old.strings
   pub at : new.at ≡ 2 ^ 64 - 1
   pub other : StandNext old e → ⊥
 
 -- an event was compared with the words that stand next
-abbrev pub Compares : Compared → Event → Compared → Type 0
+abbrev pub Compares : TapeComparison → Event → TapeComparison → Type 0
 Compares old e new = Agreed old e new ⊎ Parted old e new

@@ -10,8 +10,8 @@ use Rattle.bser_messages.specs.Lengths.{RefusesLength}
 use Rattle.bser_messages.specs.Messages.{RefusesSlice}
 use Rattle.bser_messages.specs.declared.description.Description.{Description}
 use Rattle.bser_canonical.specs.Slices.{LiesInSlice, RefusesSliceRewriting}
-use Rattle.bser_canonical.specs.declared.slice.Unwritten.{Unwritten}
-use Rattle.bser_canonical.specs.declared.slice.Unwritten.TheVariants.{Refused, Failed, TooLong}
+use Rattle.bser_canonical.specs.declared.slice.RewriteError.{RewriteError}
+use Rattle.bser_canonical.specs.declared.slice.RewriteError.TheVariants.{Refused, Failed, TooLong}
 use Rattle.bser_c.specs.Codes.{byte_of, code_of}
 use Rattle.bser_c.specs.Untaped.{AreTape}
 
@@ -27,14 +27,14 @@ pub record TellsWhyNoLength (bytes : List ℕ) (code byte place : ℕ) : Type 0 
   pub within : place ≤ length bytes
 
 -- they say why a message was not rewritten, and 2 that there is no room
-abbrev pub Tells : Unwritten → ℕ → ℕ → ℕ → Type 0
+abbrev pub Tells : RewriteError → ℕ → ℕ → ℕ → Type 0
 Tells (Refused d) code byte place = AreOf (cause_of d) code byte × (place ≡ place_of d)
 Tells (Failed e) code byte place = AreOf e code byte × (place ≡ 0)
 Tells (TooLong size) code byte place = code ≡ 2
 
 -- the message was refused at this place, or it was read, and no message can be made of its value
 pub record TellsWhyUnwritten (form : Tree → Tree) (bytes : List ℕ) (room code byte place : ℕ) : Type 0 where
-  pub reason : Unwritten
+  pub reason : RewriteError
   pub refused : RefusesSliceRewriting form bytes reason
   pub are : Tells reason code byte place
   pub within : LiesInSlice (length bytes) room reason

@@ -6,11 +6,11 @@ use Rattle.bser_format.specs.declared.errors.Error.TheVariants.{OutOfMemory}
 use Rattle.bser_messages.specs.declared.told.Header.{Header}
 use Rattle.bser_c.specs.Parts.{parts, size_with_header, with_header}
 use Rattle.bser_c.specs.Tape.{HasTape}
-use Rattle.bser_c.specs.declared.untape.Untaped.{Untaped}
-use Rattle.bser_c.specs.declared.untape.Untaped.TheVariants.{Invalid, TooLong, Memory}
+use Rattle.bser_c.specs.declared.untape.TapeError.{TapeError}
+use Rattle.bser_c.specs.declared.untape.TapeError.TheVariants.{Invalid, TooLong, Memory}
 
 -- the place is one of so many words or right behind them, and what is wanted is more than the room
-abbrev pub LiesIn : ℕ → ℕ → Untaped → Type 0
+abbrev pub LiesIn : ℕ → ℕ → TapeError → Type 0
 LiesIn words room (Invalid at) = at ≤ words
 LiesIn words room (TooLong size) = room < size
 LiesIn words room Memory = Unit {0}
@@ -32,7 +32,7 @@ pub record WantsBytes (strings words : List ℕ) (size : ℕ) : Type 0 where
   pub message : (tape : AreTape strings words) → size ≡ length (canonical_message tape.has.tree)
 
 -- the words are no tape, or so many bytes are wanted, or memory ran out
-abbrev pub RefusesTape : List ℕ → List ℕ → Untaped → Type 0
+abbrev pub RefusesTape : List ℕ → List ℕ → TapeError → Type 0
 RefusesTape strings words (Invalid at) = AreTape strings words → ⊥
 RefusesTape strings words (TooLong size) = WantsBytes strings words size
 RefusesTape strings words Memory = Unit {0}
@@ -46,7 +46,7 @@ pub record AreToldBy (strings words text : List ℕ) : Type 0 where
   pub whole : text ≡ with_header body
 
 -- the words mean nothing, or a message of so many bytes
-abbrev pub RefusesWords : List ℕ → List ℕ → Untaped → Type 0
+abbrev pub RefusesWords : List ℕ → List ℕ → TapeError → Type 0
 RefusesWords strings words (Invalid at) = parts strings words ≡ None
 RefusesWords strings words (TooLong size) = (body : List ℕ) × (parts strings words ≡ Some body) × (size ≡ size_with_header body)
 RefusesWords strings words Memory = ⊥
@@ -54,7 +54,7 @@ RefusesWords strings words Memory = ⊥
 -- ---- a comparison
 
 -- of an error of reading, before which so many words agreed
-abbrev pub untaped_by : Error → ℕ → Untaped
+abbrev pub untaped_by : Error → ℕ → TapeError
 untaped_by OutOfMemory at = Memory
 untaped_by _ at = Invalid at
 

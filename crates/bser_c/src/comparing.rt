@@ -13,7 +13,7 @@ use bser_messages::told::Header;
 /// The words of a tape, over the bytes of its strings, and how many of them agreed with the events
 /// up to now. It takes all events, also behind one whose words are others.
 #[derive(Drop)]
-pub struct Compared<'w, 's> {
+pub struct TapeComparison<'w, 's> {
     words: &'w [u64],
     strings: &'s [u8],
     /// How many words agreed, or `usize::MAX` where others came next.
@@ -47,14 +47,14 @@ fn is_second(strings: &[u8], event: Event<'_>, word: u64) -> bool
     }
 }
 
-impl<'w, 's> Compared<'w, 's> {
+impl<'w, 's> TapeComparison<'w, 's> {
     /// Begins with no event reported.
     pub fn new(words: &'w [u64], strings: &'s [u8]) -> Self
         ensures words { result.words ≡ words.entry }
         ensures strings { result.strings ≡ strings.entry }
         ensures at { result.at ≡ 0 }
     {
-        Compared {
+        TapeComparison {
             words,
             strings,
             at: 0,
@@ -118,7 +118,7 @@ impl<'w, 's> Compared<'w, 's> {
     }
 }
 
-impl<'w, 's> Builder for Compared<'w, 's> {
+impl<'w, 's> Builder for TapeComparison<'w, 's> {
     ghost takes = { λ a e _ b. Compares a e b };
 
     ghost stopped = { λ _ _ _ _ _. ⊥ };

@@ -21,7 +21,7 @@ ghost use Rattle.bser_format.specs.Named.{head, refuses, eof};
 ghost use Rattle.bser_messages.specs.Lengths.{HasLength, IsLengthOfEach};
 ghost use Rattle.bser_canonical.specs.Canon.{canonical};
 ghost use Rattle.bser_canonical.specs.Slices.{RewritesToSize, RewroteSlice};
-ghost use Rattle.bser_canonical.specs.declared.slice.Unwritten.TheVariants.{TooLong};
+ghost use Rattle.bser_canonical.specs.declared.slice.RewriteError.TheVariants.{TooLong};
 ghost use Rattle.bser_c.specs.Codes.{TellsWhy};
 ghost use Rattle.bser_c.specs.Tape.{BeginsWithTape, HasTape, HasTapeOf};
 ghost use Rattle.bser_c.specs.declared.codes.TheConstants.{DONE, TOO_SMALL};
@@ -32,8 +32,8 @@ use crate::codes::{CONTRADICTION, NO_MEMORY, NOT_WHOLE, TAPE_INVALID};
 pub use crate::outcome::BserOutcome;
 use crate::outcome::{done, handed_out, refused, stopped, too_small};
 use crate::reading::tape_of;
-use crate::untape::{Untaped, message_of};
-use bser_canonical::slice::{Unwritten, canonical_of, compact_of};
+use crate::untape::{TapeError, message_of};
+use bser_canonical::slice::{RewriteError, canonical_of, compact_of};
 use bser_messages::described;
 use bser_messages::description::Description;
 use bser_messages::length::message_length;
@@ -131,9 +131,9 @@ pub extern "C" fn bser_of_tape(
 {
     match message_of(alloc, words, strings, out) {
         Ok(size) => done(size),
-        Err(Untaped::Invalid { at }) => stopped(TAPE_INVALID, at),
-        Err(Untaped::TooLong { size }) => too_small(size),
-        Err(Untaped::Memory) => stopped(NO_MEMORY, 0),
+        Err(TapeError::Invalid { at }) => stopped(TAPE_INVALID, at),
+        Err(TapeError::TooLong { size }) => too_small(size),
+        Err(TapeError::Memory) => stopped(NO_MEMORY, 0),
     }
 }
 
@@ -178,14 +178,14 @@ pub extern "C" fn bser_compact(alloc: Global, bytes: &[u8], out: &mut [u8]) -> B
 }
 
 /// Why a message was not rewritten.
-fn not_written(unwritten: Unwritten) -> BserOutcome
+fn not_written(unwritten: RewriteError) -> BserOutcome
     ensures told { Tells unwritten result.code result.detail result.place }
     ensures wanted { result.code ≡ TOO_SMALL → unwritten ≡ TooLong result.length }
 {
     match unwritten {
-        Unwritten::Refused(description) => refused(description.cause(), description.place()),
-        Unwritten::Failed(error) => refused(&error, 0),
-        Unwritten::TooLong { size } => too_small(size),
+        RewriteError::Refused(description) => refused(description.cause(), description.place()),
+        RewriteError::Failed(error) => refused(&error, 0),
+        RewriteError::TooLong { size } => too_small(size),
     }
 }
 

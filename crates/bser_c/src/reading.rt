@@ -8,7 +8,7 @@ ghost use Rattle.bser_c.specs.Tape.{BeginsWithTape, HasTapeOf};
 use crate::writing::Tape;
 use bser_messages::limits::Limits;
 use bser_messages::telling;
-use bser_messages::told::Untold;
+use bser_messages::told::TellError;
 use std::alloc::Global;
 
 /// What is known of a message beside its tape.
@@ -27,7 +27,7 @@ pub struct Taped {
 ///
 /// Where the tape has more words than there is room for, `words` holds nothing of use. The error is
 /// the first one in the order of reading, or out of memory for the containers that are open.
-pub fn tape_of(alloc: Global, bytes: &[u8], words: &mut [u64]) -> Result<Taped, Untold>
+pub fn tape_of(alloc: Global, bytes: &[u8], words: &mut [u64]) -> Result<Taped, TellError>
     ensures found { IfOk result (λ t. t.len ≤ length words.new
         → BeginsWithTape LEVELS bytes.now t.capabilities t.size (take t.len words.new)) }
     ensures wanted { IfOk result (λ t. HasTapeOf LEVELS bytes.now t.len) }

@@ -6,9 +6,9 @@ ghost use Rattle.bser_c.specs.Parts.{header_of, part};
 ghost use Rattle.bser_c.specs.Puts.{PutsAll, PutsPart};
 ghost use Rattle.bser_c.specs.Tape.{HasTape};
 ghost use Rattle.bser_c.specs.Untaped.{AreToldBy, LiesIn, RefusesTape, RefusesWords, untaped_by};
-ghost use Rattle.bser_c.specs.declared.untape.Untaped.TheVariants.{Memory};
+ghost use Rattle.bser_c.specs.declared.untape.TapeError.TheVariants.{Memory};
 
-use crate::comparing::Compared;
+use crate::comparing::TapeComparison;
 use crate::front::Front;
 use crate::measure::{size_of, size_of_count};
 use crate::tags::{BYTES_KEY, CLOSE, KEY, ROWS};
@@ -24,7 +24,7 @@ use std::alloc::Global;
 
 /// Why a tape has no message.
 #[derive(Debug, Clone, Copy, PartialEq, Eq)]
-pub enum Untaped {
+pub enum TapeError {
     /// The words are no tape.
     Invalid {
         /// How many words lie before those that are wrong.
@@ -51,7 +51,7 @@ pub fn message_of(
     words: &[u64],
     strings: &[u8],
     out: &mut [u8],
-) -> Result<usize, Untaped>
+) -> Result<usize, TapeError>
     ensures made { IfOk result (λ n. HasTape LEVELS strings.now 0 (take n out.new) words.now) }
     ensures fits { IfOk result (λ size. size ≤ length out.new) }
     ensures place { IfErr result (LiesIn (length words.now) (length out.old)) }
@@ -64,7 +64,7 @@ pub fn message_of(
 
 /// Writes what the words mean, and returns how many bytes that are. It may be no message.
 #[tactic(auto, using(crate::proofs::Untapes::told_size, crate::proofs::Untapes::written))]
-fn write(words: &[u64], strings: &[u8], out: &mut [u8]) -> Result<usize, Untaped>
+fn write(words: &[u64], strings: &[u8], out: &mut [u8]) -> Result<usize, TapeError>
     ensures told { IfOk result (λ n. AreToldBy strings.now words.now (take n out.new)) }
     ensures fits { IfOk result (λ size. size ≤ length out.new) }
     ensures place { IfErr result (LiesIn (length words.now) (length out.old)) }
@@ -72,16 +72,16 @@ fn write(words: &[u64], strings: &[u8], out: &mut [u8]) -> Result<usize, Untaped
 {
     let body = match size_of(words, strings) {
         Ok(body) => body,
-        Err(at) => return Err(Untaped::Invalid { at }),
+        Err(at) => return Err(TapeError::Invalid { at }),
     };
     let size = (HEADER_START.len() + size_of_count(body as u64)).saturating_add(body);
     if size > out.len() {
-        return Err(Untaped::TooLong { size });
+        return Err(TapeError::TooLong { size });
     }
     let mut front = Front::new(out);
     match put_all(body, words, strings, &mut front) {
         Ok(()) => Ok(front.len()),
-        Err(at) => Err(Untaped::Invalid { at }),
+        Err(at) => Err(TapeError::Invalid { at }),
     }
 }
 
@@ -159,31 +159,31 @@ fn string_at(strings: &[u8], len: usize, at: u64) -> Option<&[u8]>
 }
 
 /// Tells the message, and compares it with the tape.
-fn compare(alloc: Global, words: &[u64], strings: &[u8], message: &[u8]) -> Result<(), Untaped>
+fn compare(alloc: Global, words: &[u64], strings: &[u8], message: &[u8]) -> Result<(), TapeError>
     ensures has { OnOk result (HasTape LEVELS strings.now 0 message.now words.now) }
     ensures refused { HasTape LEVELS strings.now 0 message.now words.now
         → IfErr result (λ e. e ≡ Memory) }
     ensures place { (room : ℕ) → IfErr result (LiesIn (length words.now) room) }
 {
-    let mut compared = Compared::new(words, strings);
+    let mut compared = TapeComparison::new(words, strings);
     let answer = telling::from_slice(alloc, Limits::new(), message, &mut compared);
     let at = compared.place().min(words.len());
     match answer {
         Ok(header) if compared.is_same(header, message.len()) => Ok(()),
-        Ok(_header) => Err(Untaped::Invalid { at }),
+        Ok(_header) => Err(TapeError::Invalid { at }),
         Err(untold) => match untold.reason {
             Reason::Failed(description) => Err(of_error(description.cause(), at)),
-            Reason::Stopped { place: _ } => Err(Untaped::Invalid { at }),
+            Reason::Stopped { place: _ } => Err(TapeError::Invalid { at }),
         },
     }
 }
 
 /// Why the message that the words gave was not read back, before whose error so many words agreed.
-fn of_error(error: &Error, at: usize) -> Untaped
+fn of_error(error: &Error, at: usize) -> TapeError
     ensures { result ≡ untaped_by error.now at }
 {
     match error {
-        Error::OutOfMemory => Untaped::Memory,
-        _ => Untaped::Invalid { at },
+        Error::OutOfMemory => TapeError::Memory,
+        _ => TapeError::Invalid { at },
     }
 }

@@ -24,8 +24,8 @@ use Rattle.bser_document.specs.declared.document.Document.{Document}
 use Rattle.bser_document.specs.DocumentView.{HoldsDocument, value_of}
 use Rattle.bser_canonical.specs.Canon.{IsReadAs, canonical}
 use Rattle.bser_canonical.specs.Slices.{LiesInSlice, ReadsTree, RefusesSliceRewriting, RewritesToSize, RewroteSlice, in_memory}
-use Rattle.bser_canonical.specs.declared.slice.Unwritten.{Unwritten}
-use Rattle.bser_canonical.specs.declared.slice.Unwritten.TheVariants.{Failed}
+use Rattle.bser_canonical.specs.declared.slice.RewriteError.{RewriteError}
+use Rattle.bser_canonical.specs.declared.slice.RewriteError.TheVariants.{Failed}
 use Rattle.bser_canonical.proofs.Writing.{value_read, document_read}
 
 -- what was read as a value of a type was read as the tree of that value
@@ -88,10 +88,10 @@ missed_there : {S : Type 0} (sink : Tells S) (t : Tree) (old new : S) (e : Error
 missed_there sink t old new e (inl m) = unmeasured t e m.0
 missed_there sink t old new e (inr broke) = inl (excused e broke.excuse)
 
-pub document_not_made : {S : Type 0} (sink : Tells S) (d : Document) (bytes : List ℕ) (old new : S) (e : Error) (u : Unwritten) → BeginsWith 128 reads_value HoldsDocument bytes d → Missed sink (Ok (value_of d)) old new e → u ≡ Failed (in_memory e) → RefusesSliceRewriting canonical bytes u
+pub document_not_made : {S : Type 0} (sink : Tells S) (d : Document) (bytes : List ℕ) (old new : S) (e : Error) (u : RewriteError) → BeginsWith 128 reads_value HoldsDocument bytes d → Missed sink (Ok (value_of d)) old new e → u ≡ Failed (in_memory e) → RefusesSliceRewriting canonical bytes u
 document_not_made sink d bytes old new e u h m is = subst (RefusesSliceRewriting canonical bytes) (sym is) (value_of d, read_document d bytes h, missed_there sink (value_of d) old new e m)
 
-pub value_not_made : {S : Type 0} (sink : Tells S) (v : Value) (bytes : List ℕ) (old new : S) (e : Error) (u : Unwritten) → BeginsWith 128 reads_value HoldsValue bytes v → Missed sink (Ok (fold_templates (tree_of v))) old new e → u ≡ Failed (in_memory e) → RefusesSliceRewriting fold_templates bytes u
+pub value_not_made : {S : Type 0} (sink : Tells S) (v : Value) (bytes : List ℕ) (old new : S) (e : Error) (u : RewriteError) → BeginsWith 128 reads_value HoldsValue bytes v → Missed sink (Ok (fold_templates (tree_of v))) old new e → u ≡ Failed (in_memory e) → RefusesSliceRewriting fold_templates bytes u
 value_not_made sink v bytes old new e u h m is = subst (RefusesSliceRewriting fold_templates bytes) (sym is) (tree_of v, read_as_value v bytes h, missed_there sink (fold_templates (tree_of v)) old new e m)
 
 -- a document is there, and no memory for its value
@@ -99,7 +99,7 @@ pub unaffordable : (d : Document) (bytes : List ℕ) → BeginsWith 128 reads_va
 unaffordable d bytes h = (value_of d, read_document d bytes h, inl refl)
 
 -- such an error has no place
-pub failed_lies : (len most : ℕ) (e : Error) (u : Unwritten) → u ≡ Failed e → LiesInSlice len most u
+pub failed_lies : (len most : ℕ) (e : Error) (u : RewriteError) → u ≡ Failed e → LiesInSlice len most u
 failed_lies len most e u is = subst (LiesInSlice len most) (sym is) tt
 
 -- ---- what one turn more needs

@@ -7,7 +7,7 @@ use Rattle.std.proofs.lemmas.Bool.{false_from_ne_true}
 use Rattle.std.proofs.lemmas.Slice.Eq.{bytes_eq-Decides}
 use Rattle.std.proofs.lemmas.Str.{IsUtf8-from_is_utf8}
 use Rattle.bser_canonical.specs.Arguments.{asks_compact, form_of, words}
-use Rattle.bser_canonical.specs.declared.program.Form.TheVariants.{Compact}
+use Rattle.bser_canonical.specs.declared.program.MessageForm.TheVariants.{Compact}
 use Rattle.bser_canonical.specs.Process.{Answers, AskFor, IsTextAt, IsTextOf, StandsFor}
 
 compact_word : (word : List ℕ) → asks_compact word ≡ true → word ≡ codes "--compact"

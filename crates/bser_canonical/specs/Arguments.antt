@@ -4,11 +4,11 @@ use Rattle.std.specs.declared.alloc.Global.{Global}
 use Rattle.bser_format.specs.Tree.{Tree}
 use Rattle.bser_format.specs.Compact.{fold_templates}
 use Rattle.bser_canonical.specs.Canon.{canonical}
-use Rattle.bser_canonical.specs.declared.program.Form.{Form}
-use Rattle.bser_canonical.specs.declared.program.Form.TheVariants.{Canonical, Compact}
+use Rattle.bser_canonical.specs.declared.program.MessageForm.{MessageForm}
+use Rattle.bser_canonical.specs.declared.program.MessageForm.TheVariants.{Canonical, Compact}
 
 -- a tree in this form
-abbrev pub in_form : Form → Tree → Tree
+abbrev pub in_form : MessageForm → Tree → Tree
 in_form Canonical = canonical
 in_form Compact = fold_templates
 
@@ -17,7 +17,7 @@ abbrev pub asks_compact : List ℕ → Bool
 asks_compact word = bytes_eq word (codes "--compact")
 
 -- the canonical form without words, the compact one for its word alone, and else none
-abbrev pub form_of : List (List ℕ) → Option Form
+abbrev pub form_of : List (List ℕ) → Option MessageForm
 form_of [] = Some Canonical
 form_of (word ∷ []) = if asks_compact word then Some Compact else None
 form_of _ = None

@@ -9,7 +9,7 @@ use Rattle.bser_ser.specs.Stopped.{Tells}
 use Rattle.bser_canonical.specs.Canon.{Gives, Rewrote, RefusesRewriting}
 use Rattle.bser_canonical.specs.Arguments.{asks_compact, form_of, in_form}
 use Rattle.bser_canonical.specs.Line.{PutsLine, unknown_argument}
-use Rattle.bser_canonical.specs.declared.program.Form.{Form}
+use Rattle.bser_canonical.specs.declared.program.MessageForm.{MessageForm}
 
 -- ---- arguments
 
@@ -40,7 +40,7 @@ abbrev pub IsTextAt : Option (List (List ℕ)) → ℕ → Option (String Global
 IsTextAt given place text = (words : List (List ℕ)) → given ≡ Some words → StandsFor (slice_get words place) text
 
 -- the words ask for this form, where they are known
-abbrev pub AskFor : Option (List (List ℕ)) → Option Form → Type 0
+abbrev pub AskFor : Option (List (List ℕ)) → Option MessageForm → Type 0
 AskFor given form = (words : List (List ℕ)) → given ≡ Some words → form_of words ≡ form
 
 -- ---- what the program leaves
@@ -51,7 +51,7 @@ Ending W = W → Result Unit io.Error → Type 0
 
 -- a message was rewritten in the form that is asked for, and the writer ended so
 pub record Ended {R W : Type 0} (given : Option (List (List ℕ))) (source : Gives R) (sink : Tells W) (ends : Ending W) (old new : R) (writer : W) (r : Result Unit io.Error) : Type 0 where
-  pub form : Form
+  pub form : MessageForm
   pub asked : AskFor given (Some form)
   pub after : W
   pub rewrote : Rewrote (in_form form) source sink old new writer after
@@ -59,7 +59,7 @@ pub record Ended {R W : Type 0} (given : Option (List (List ℕ))) (source : Giv
 
 -- rewriting a message in the form that is asked for was refused
 pub record Unrewritten {R W : Type 0} (given : Option (List (List ℕ))) (source : Gives R) (sink : Tells W) (old new : R) (writer : W) (e : Error) : Type 0 where
-  pub form : Form
+  pub form : MessageForm
   pub asked : AskFor given (Some form)
   pub after : W
   pub refused : RefusesRewriting (in_form form) source sink old new writer after e

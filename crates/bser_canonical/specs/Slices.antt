@@ -11,8 +11,8 @@ use Rattle.bser_ser.specs.Message.{IsUnmeasured}
 use Rattle.bser_messages.specs.Descriptions.{LiesWithin, cause_of}
 use Rattle.bser_messages.specs.Messages.{BeginsWith, RefusesSlice}
 use Rattle.bser_canonical.specs.Canon.{IsReadAs}
-use Rattle.bser_canonical.specs.declared.slice.Unwritten.{Unwritten}
-use Rattle.bser_canonical.specs.declared.slice.Unwritten.TheVariants.{Refused, Failed, TooLong}
+use Rattle.bser_canonical.specs.declared.slice.RewriteError.{RewriteError}
+use Rattle.bser_canonical.specs.declared.slice.RewriteError.TheVariants.{Refused, Failed, TooLong}
 
 -- the bytes begin with a message that reads as the value of this tree
 abbrev pub ReadsTree : List ℕ → Tree → Type 0
@@ -34,7 +34,7 @@ abbrev pub HasNoRewriting : (Tree → Tree) → List ℕ → Error → Type 0
 HasNoRewriting form bytes e = (t : Tree) × ReadsTree bytes t × IsUnmeasured (Ok (form t)) e
 
 -- the message was refused, or no message can be made of its value, or one of this size is wanted
-abbrev pub RefusesSliceRewriting : (Tree → Tree) → List ℕ → Unwritten → Type 0
+abbrev pub RefusesSliceRewriting : (Tree → Tree) → List ℕ → RewriteError → Type 0
 RefusesSliceRewriting form bytes (Refused d) = RefusesSlice 128 reads_value (Some asking_value) owned (cause_of d) bytes
 RefusesSliceRewriting form bytes (Failed e) = HasNoRewriting form bytes e
 RefusesSliceRewriting form bytes (TooLong size) = RewritesToSize form bytes size
@@ -45,7 +45,7 @@ in_memory (Io e) = OutOfMemory
 in_memory e = e
 
 -- the place is one of len bytes or right behind them, and the new message has more bytes than most
-abbrev pub LiesInSlice : ℕ → ℕ → Unwritten → Type 0
+abbrev pub LiesInSlice : ℕ → ℕ → RewriteError → Type 0
 LiesInSlice len most (Refused d) = LiesWithin len d
 LiesInSlice len most (Failed e) = Unit {0}
 LiesInSlice len most (TooLong size) = most < size

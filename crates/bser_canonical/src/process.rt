@@ -8,8 +8,9 @@ ghost use Rattle.bser_canonical.specs.Line.{PutsReport};
 ghost use Rattle.bser_canonical.specs.Process.{AnswersAt, AskFor, Ended, Fails, IsTextAt, IsTextOf};
 ghost use Rattle.bser_canonical.specs.Process.{Unasked};
 
-use crate::program::{DONE, REFUSED, report, run};
+use crate::program::{report, run};
 use bser_format::errors::Error;
+use bser_shell::status::{DONE, FAILED};
 use bser_source::device::{Sink, Source, Watched};
 use std::alloc::{AllocError, Global};
 use std::env::{Env, FillError};
@@ -97,7 +98,7 @@ pub fn process<A: Arguments, R: Source, W: Sink + Finish + Drop, E: Sink>(
 {
     let Ok(args) = gather(alloc, given) else {
         report(alloc, errors, &Error::OutOfMemory);
-        return ExitCode::from(REFUSED);
+        return ExitCode::from(FAILED);
     };
     let mut writer = writer;
     let status = run(alloc, &args, reader, &mut writer, errors);
@@ -165,7 +166,7 @@ fn last_status<W: Finish + Drop, E: Sink>(
         Ok(()) => DONE,
         Err(fault) => {
             report(alloc, errors, &Error::Io(fault));
-            REFUSED
+            FAILED
         }
     }
 }

@@ -7,21 +7,13 @@ ghost use Rattle.bser_canonical.specs.Line.{IsReport, PutsLine, PutsReport, unkn
 
 use crate::engine::{canon, canon_compact};
 use bser_format::errors::Error;
+use bser_shell::status::{DONE, FAILED, UNKNOWN_ARGUMENT};
 use bser_source::device::{Sink, Source};
 use std::alloc::{AllocError, Global};
 
-/// The status after the message was written.
-pub const DONE: u8 = 0;
-
-/// The status after a refusal.
-pub const REFUSED: u8 = 1;
-
-/// The status where an argument is not known, or is one too many.
-pub const UNKNOWN_ARGUMENT: u8 = 2;
-
 /// The form in which a value is written.
 #[derive(Clone, Copy, Drop)]
-enum Form {
+enum MessageForm {
     Canonical,
     Compact,
 }
@@ -58,7 +50,7 @@ pub fn run<R: Source, W: Sink, E: Sink>(
         Ok(()) => DONE,
         Err(error) => {
             report(alloc, errors, &error);
-            REFUSED
+            FAILED
         }
     }
 }
@@ -75,12 +67,12 @@ pub fn report<E: Sink>(alloc: Global, errors: &mut E, error: &Error)
 }
 
 /// The form that the arguments ask for, where the program knows them.
-fn form_asked(args: &[String]) -> Option<Form>
+fn form_asked(args: &[String]) -> Option<MessageForm>
     ensures { result ≡ form_of (words args.now) }
 {
     match args {
-        [] => Some(Form::Canonical),
-        [argument] if argument.as_str() == "--compact" => Some(Form::Compact),
+        [] => Some(MessageForm::Canonical),
+        [argument] if argument.as_str() == "--compact" => Some(MessageForm::Compact),
         _ => None,
     }
 }
@@ -88,7 +80,7 @@ fn form_asked(args: &[String]) -> Option<Form>
 /// Rewrites one message in this form.
 fn rewrite<R: Source, W: Sink>(
     alloc: Global,
-    form: Form,
+    form: MessageForm,
     reader: &mut R,
     writer: &mut W,
 ) -> Result<(), Error>
@@ -98,8 +90,8 @@ fn rewrite<R: Source, W: Sink>(
         reader.old reader.new writer.old writer.new) }
 {
     match form {
-        Form::Canonical => canon(alloc, reader, writer),
-        Form::Compact => canon_compact(alloc, reader, writer),
+        MessageForm::Canonical => canon(alloc, reader, writer),
+        MessageForm::Compact => canon_compact(alloc, reader, writer),
     }
 }
 

@@ -3,7 +3,7 @@ ghost use Rattle.std.specs.Prelude.{◌≡◌, ◌≤◌, IfOk, IfErr, length, �
 ghost use Rattle.bser_format.specs.Compact.{fold_templates};
 ghost use Rattle.bser_canonical.specs.Canon.{canonical};
 ghost use Rattle.bser_canonical.specs.Slices.{LiesInSlice, RewroteSlice, RefusesSliceRewriting, in_memory};
-ghost use Rattle.bser_canonical.specs.declared.slice.Unwritten.TheVariants.{Failed};
+ghost use Rattle.bser_canonical.specs.declared.slice.RewriteError.TheVariants.{Failed};
 
 use crate::footprint::is_affordable;
 use bser_document::document::Document;
@@ -18,7 +18,7 @@ use std::alloc::Global;
 
 /// Why a message was not rewritten.
 #[derive(Debug, Drop)]
-pub enum Unwritten {
+pub enum RewriteError {
     /// It cannot be read.
     Refused(Description),
     /// Its value has no message: the body would be longer than `i64::MAX` bytes
@@ -37,7 +37,7 @@ pub enum Unwritten {
 /// It is measured first, and made only where it has at most `most` bytes. Beside it this takes memory
 /// that is linear in the length of the message that is read, since no `Value` is made.
 #[tactic(auto, using(crate::proofs::Slices::rewrote_document, crate::proofs::Slices::document_size, crate::proofs::Slices::document_fits, crate::proofs::Slices::document_not_made, crate::proofs::Slices::failed_lies))]
-pub fn canonical_of(alloc: Global, bytes: &[u8], most: usize) -> Result<Vec<u8>, Unwritten>
+pub fn canonical_of(alloc: Global, bytes: &[u8], most: usize) -> Result<Vec<u8>, RewriteError>
     ensures ok { IfOk result (λ message. RewroteSlice canonical bytes.now message.items) }
     ensures fits { IfOk result (λ message. length message.items ≤ most) }
     ensures refused { IfErr result (RefusesSliceRewriting canonical bytes.now) }
@@ -45,7 +45,7 @@ pub fn canonical_of(alloc: Global, bytes: &[u8], most: usize) -> Result<Vec<u8>,
 {
     let read: Document = match described::from_slice(alloc, bytes) {
         Ok(read) => read,
-        Err(description) => return Err(Unwritten::Refused(description)),
+        Err(description) => return Err(RewriteError::Refused(description)),
     };
     let mut counter = CountWrite::new();
     if let Err(error) = serialize_to(alloc, &mut counter, &read) {
@@ -53,7 +53,7 @@ pub fn canonical_of(alloc: Global, bytes: &[u8], most: usize) -> Result<Vec<u8>,
     }
     let size = counter.count();
     if size > most {
-        return Err(Unwritten::TooLong { size });
+        return Err(RewriteError::TooLong { size });
     }
     let mut memory = InMemory::new(Vec::new(alloc));
     match serialize_to(alloc, &mut memory, &read) {
@@ -69,7 +69,7 @@ pub fn canonical_of(alloc: Global, bytes: &[u8], most: usize) -> Result<Vec<u8>,
 /// bytes for each byte of the message, and more than 512,000, the error is `Error::OutOfMemory`, as of
 /// a template of many skipped fields.
 #[tactic(auto, using(crate::proofs::Slices::rewrote_value, crate::proofs::Slices::value_size, crate::proofs::Slices::value_not_made, crate::proofs::Slices::failed_lies))]
-pub fn compact_of(alloc: Global, bytes: &[u8], most: usize) -> Result<Vec<u8>, Unwritten>
+pub fn compact_of(alloc: Global, bytes: &[u8], most: usize) -> Result<Vec<u8>, RewriteError>
     ensures ok { IfOk result (λ message. RewroteSlice fold_templates bytes.now message.items) }
     ensures fits { IfOk result (λ message. length message.items ≤ most) }
     ensures refused { IfErr result (RefusesSliceRewriting fold_templates bytes.now) }
@@ -80,7 +80,7 @@ pub fn compact_of(alloc: Global, bytes: &[u8], most: usize) -> Result<Vec<u8>, U
     }
     let read: Value = match described::from_slice(alloc, bytes) {
         Ok(read) => read,
-        Err(description) => return Err(Unwritten::Refused(description)),
+        Err(description) => return Err(RewriteError::Refused(description)),
     };
     let mut memory = InMemory::new(Vec::new(alloc));
     if let Err(error) = serialize_compact(alloc, &mut memory, &read) {
@@ -88,7 +88,7 @@ pub fn compact_of(alloc: Global, bytes: &[u8], most: usize) -> Result<Vec<u8>, U
     }
     let message = memory.into_inner();
     if message.len() > most {
-        return Err(Unwritten::TooLong {
+        return Err(RewriteError::TooLong {
             size: message.len(),
         });
     }
@@ -98,22 +98,22 @@ pub fn compact_of(alloc: Global, bytes: &[u8], most: usize) -> Result<Vec<u8>, U
 /// Why a message has no compact one of which no `Value` is made: it cannot be read, or there is no
 /// memory for that.
 #[tactic(auto, using(crate::proofs::Slices::unaffordable))]
-fn unaffordable(alloc: Global, bytes: &[u8]) -> Unwritten
+fn unaffordable(alloc: Global, bytes: &[u8]) -> RewriteError
     ensures refused { RefusesSliceRewriting fold_templates bytes.now result }
     ensures place { (most : ℕ) → LiesInSlice (length bytes.now) most result }
 {
     match described::from_slice::<Document>(alloc, bytes) {
-        Ok(_read) => Unwritten::Failed(Error::OutOfMemory),
-        Err(description) => Unwritten::Refused(description),
+        Ok(_read) => RewriteError::Failed(Error::OutOfMemory),
+        Err(description) => RewriteError::Refused(description),
     }
 }
 
 /// Why no message was made in memory. An I/O error comes of want of memory alone.
-fn not_made(error: Error) -> Unwritten
+fn not_made(error: Error) -> RewriteError
     ensures { result ≡ Failed (in_memory error) }
 {
     match error {
-        Error::Io(_) => Unwritten::Failed(Error::OutOfMemory),
-        error => Unwritten::Failed(error),
+        Error::Io(_) => RewriteError::Failed(Error::OutOfMemory),
+        error => RewriteError::Failed(error),
     }
 }

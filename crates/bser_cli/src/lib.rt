@@ -7,4 +7,3 @@ mod lines;
 mod order;
 mod pointer;
 pub mod program;
-pub mod standard;

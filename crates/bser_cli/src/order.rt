@@ -2,9 +2,9 @@
 
 use crate::lines::Json;
 use crate::pointer::{Get, ValueForm, is_pointer};
+use bser_from_json::reading::Strings;
+use bser_from_json::texts::Writing;
 use bser_json::printing::Layout;
-use bser_json::reading::Strings;
-use bser_json::texts::Writing;
 use bser_views::tree::{Show, Style};
 use clap::ArgMatches;
 use std::fmt;
@@ -37,18 +37,18 @@ pub struct Order<'a> {
 
 /// Why words ask for nothing.
 #[derive(Debug, Clone, Copy)]
-pub(crate) enum Disorder<'a> {
+pub(crate) enum UsageError<'a> {
     /// The name is no command's.
     Command,
     /// The word is no JSON pointer.
     Pointer(&'a str),
 }
 
-impl fmt::Display for Disorder<'_> {
+impl fmt::Display for UsageError<'_> {
     fn fmt<W: fmt::Write>(&self, f: &mut fmt::Formatter<W>) -> fmt::Result {
         match self {
-            Disorder::Command => f.write_str("no command"),
-            Disorder::Pointer(word) => write!(
+            UsageError::Command => f.write_str("no command"),
+            UsageError::Pointer(word) => write!(
                 f,
                 "{word:?} is no JSON pointer: one begins with /, as /files/0/name, or is empty"
             ),
@@ -60,7 +60,7 @@ impl fmt::Display for Disorder<'_> {
 pub(crate) fn order_of<'a>(
     name: &str,
     matches: &ArgMatches<'a>,
-) -> Result<Order<'a>, Disorder<'a>> {
+) -> Result<Order<'a>, UsageError<'a>> {
     let task = match name {
         "show" => Task::Show(Show {
             style: style_of(matches),
@@ -74,7 +74,7 @@ pub(crate) fn order_of<'a>(
             is_compact: matches.get_flag("compact"),
         },
         "from-json" => Task::FromJson(writing_of(matches)),
-        _ => return Err(Disorder::Command),
+        _ => return Err(UsageError::Command),
     };
     Ok(Order {
         task,
@@ -82,7 +82,7 @@ pub(crate) fn order_of<'a>(
     })
 }
 
-fn get_of<'a>(matches: &ArgMatches<'a>) -> Result<Get<'a>, Disorder<'a>> {
+fn get_of<'a>(matches: &ArgMatches<'a>) -> Result<Get<'a>, UsageError<'a>> {
     let each = match matches.get_str("each") {
         Some(word) => Some(pointer_of(word)?),
         None => None,
@@ -103,11 +103,11 @@ fn get_of<'a>(matches: &ArgMatches<'a>) -> Result<Get<'a>, Disorder<'a>> {
 }
 
 /// The word, where it is a pointer.
-fn pointer_of<'a>(word: &'a str) -> Result<&'a str, Disorder<'a>> {
+fn pointer_of<'a>(word: &'a str) -> Result<&'a str, UsageError<'a>> {
     if is_pointer(word) {
         Ok(word)
     } else {
-        Err(Disorder::Pointer(word))
+        Err(UsageError::Pointer(word))
     }
 }
 

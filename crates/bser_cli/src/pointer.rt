@@ -74,7 +74,7 @@ impl Get<'_> {
         container: Item<'_>,
         out: &mut W,
     ) -> Result<(), ViewError> {
-        let mut inside = Inside { lacking: 0, all: 0 };
+        let mut inside = Depth { lacking: 0, all: 0 };
         if let Some(items) = container.items() {
             for item in items {
                 self.put_inside(alloc, item, &mut inside, out)?;
@@ -95,7 +95,7 @@ impl Get<'_> {
         &self,
         alloc: Global,
         item: Item<'_>,
-        inside: &mut Inside,
+        inside: &mut Depth,
         out: &mut W,
     ) -> Result<(), ViewError> {
         inside.all = inside.all.saturating_add(1);
@@ -138,15 +138,15 @@ impl Get<'_> {
 
 /// How many values of a container were gone into.
 #[derive(Clone, Copy)]
-struct Inside {
+struct Depth {
     lacking: u64,
     all: u64,
 }
 
-impl Inside {
+impl Depth {
     /// The failure where some lack what was asked for.
     fn outcome(self) -> Result<(), ViewError> {
-        let Inside { lacking, all } = self;
+        let Depth { lacking, all } = self;
         if lacking == 0 {
             return Ok(());
         }

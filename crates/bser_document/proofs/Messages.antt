@@ -10,7 +10,7 @@ use Rattle.bser_value.proofs.Read.{value_there}
 use Rattle.bser_messages.specs.Told.{TellsMessage, BeginsTold, TookTold, IsNextTold}
 use Rattle.bser_messages.specs.declared.limits.Limits.{Limits}
 use Rattle.bser_messages.specs.declared.told.Header.{Header}
-use Rattle.bser_messages.specs.declared.told.Untold.{Untold}
+use Rattle.bser_messages.specs.declared.told.TellError.{TellError}
 use Rattle.bser_document.specs.declared.builder.DocumentBuilder.{DocumentBuilder}
 use Rattle.bser_document.specs.declared.document.Document.{Document}
 use Rattle.bser_document.specs.DocumentView.{Views, ViewsValue, ViewsDocument, Takes}
@@ -57,5 +57,5 @@ module _ (limits : Limits) (before after : DocumentBuilder) (d : Document) where
   next_kept h old new views nodes strings k = record { text = k.text; bytes = k.bytes; keeps = message_kept h k.text views nodes strings k.tells }
 
 -- a message was told, and not the end of the stream
-pub next_told : (limits : Limits) (before after : DocumentBuilder) (r : Result (Option Header) Untold) (h : Header) (old new : Option (List ℕ)) → r ≡ Ok (Some h) → IfOk r (IsNextTold limits (λ a e p b. Takes a e b) old new before after) → TookTold limits (λ a e p b. Takes a e b) old new before after h
+pub next_told : (limits : Limits) (before after : DocumentBuilder) (r : Result (Option Header) TellError) (h : Header) (old new : Option (List ℕ)) → r ≡ Ok (Some h) → IfOk r (IsNextTold limits (λ a e p b. Takes a e b) old new before after) → TookTold limits (λ a e p b. Takes a e b) old new before after h
 next_told limits before after r h old new is told = subst (λ r. IfOk r (IsNextTold limits (λ a e p b. Takes a e b) old new before after)) is told

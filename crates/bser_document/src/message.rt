@@ -15,7 +15,7 @@ use crate::builder::DocumentBuilder;
 use crate::document::Document;
 use bser_messages::limits::Limits;
 use bser_messages::telling;
-use bser_messages::told::Untold;
+use bser_messages::told::TellError;
 use bser_source::device::Source;
 use std::alloc::Global;
 
@@ -26,7 +26,7 @@ impl Document {
     /// It takes no more nodes and bytes of strings, counted together, than the body of the message
     /// has bytes. The errors are those of [`from_slice`](bser_messages::telling::from_slice), but
     /// for [`Stopped`](bser_messages::told::Reason::Stopped), which does not come.
-    pub fn from_slice(alloc: Global, limits: Limits, bytes: &[u8]) -> Result<Document, Untold>
+    pub fn from_slice(alloc: Global, limits: Limits, bytes: &[u8]) -> Result<Document, TellError>
         requires { limits.levels ≤ MOST_LEVELS }
         ensures found { IfOk result (BeginsWithKept limits bytes.now) }
         ensures failed { IfErr result (λ e. SliceUntold limits false bytes.now e.reason) }
@@ -52,7 +52,7 @@ impl Document {
         alloc: Global,
         limits: Limits,
         reader: &mut S,
-    ) -> Result<Option<Document>, Untold>
+    ) -> Result<Option<Document>, TellError>
         requires { limits.levels ≤ MOST_LEVELS }
         ensures found { IfOk result
             (IsNextKept limits (S.remaining reader.old) (S.remaining reader.new)) }

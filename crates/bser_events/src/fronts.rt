@@ -10,7 +10,7 @@ use bser_source::text::as_text;
 
 /// A count, and what follows it.
 #[derive(Clone, Copy)]
-pub struct Counted<'b> {
+pub struct CountFront<'b> {
     /// The count.
     pub count: usize,
     /// What follows it.
@@ -20,12 +20,12 @@ pub struct Counted<'b> {
 /// Returns the count that these bytes begin with, and what follows it. None where no count is
 /// there.
 #[inline(always)]
-pub fn count(bytes: &[u8]) -> Option<Counted<'_>>
+pub fn count(bytes: &[u8]) -> Option<CountFront<'_>>
     ensures { IfSome result (λ n. (c : Complaint)
         → counting c bytes.now ≡ reads n.count n.rest.now) }
 {
     match length_prefix(bytes) {
-        Prefix::Found { value, len } => Some(Counted {
+        Prefix::Found { value, len } => Some(CountFront {
             count: value,
             rest: &bytes[len..],
         }),

@@ -7,20 +7,20 @@ use std::io;
 
 /// The bytes of a slice that were not given yet.
 #[derive(Drop)]
-pub(crate) struct Bytes<'a> {
+pub(crate) struct SliceReader<'a> {
     rest: &'a [u8],
 }
 
-impl<'a> Bytes<'a> {
+impl<'a> SliceReader<'a> {
     /// Gives all of `bytes`.
     pub(crate) fn new(bytes: &'a [u8]) -> Self
         ensures { rest_of result ≡ bytes.entry.now }
     {
-        Bytes { rest: bytes }
+        SliceReader { rest: bytes }
     }
 }
 
-impl<'a> Source for Bytes<'a> {
+impl<'a> Source for SliceReader<'a> {
     ghost remaining = { λ b. Some (rest_of b) };
 
     ghost failures = { λ _. 0 };

@@ -5,7 +5,7 @@ ghost use Rattle.bser_messages.specs.Messages.{BeginsWith, HeadFirst, SparesMemo
 ghost use Rattle.bser_messages.specs.Descriptions.{caused};
 ghost use Rattle.bser_frames.specs.Messages.{FrameRefused};
 
-use crate::bytes::Bytes;
+use crate::bytes::SliceReader;
 use bser_messages::described::from_reader_within;
 use bser_messages::description::Description;
 use bser_types::deserialize::DeserializeOwned;
@@ -26,5 +26,5 @@ pub fn read_owned<T: DeserializeOwned>(
     ensures memory { SparesMemory T.needs (caused result) }
     ensures head { HeadFirst (Some bytes.now) (caused result) }
 {
-    from_reader_within(alloc, limit, &mut Bytes::new(bytes))
+    from_reader_within(alloc, limit, &mut SliceReader::new(bytes))
 }

@@ -12,9 +12,9 @@ use std::fs;
 const COLUMNS: usize = 7;
 
 /// Compares what the index says to have changed after each clock with the lines of a file, whose
-/// columns are message, clock, number and paths of what the server told since then, and number and
-/// paths of what the index has to say. Those are the server's, and what a message listed that was
-/// asked for since an earlier clock. The clocks of the messages `unknown` were not added.
+/// columns are message, clock, number and paths of what the server listed since then, and number
+/// and paths of what the index has to list. Those are the server's, and what a message listed that
+/// was asked for since an earlier clock. The clocks of the messages `unknown` were not added.
 pub fn check_changes(rt: &HostRuntime, file: &str, unknown: &[u32]) -> Result<()> {
     let lines = fs::read_to_string(rt, file)?;
     let mut compared = 0u32;

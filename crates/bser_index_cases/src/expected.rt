@@ -5,7 +5,7 @@ use bser_vectors::columns::columns;
 use bser_views::quoted::Quoted;
 use std::alloc::Global;
 
-/// The numbers of the session's messages that tell files, in their order.
+/// The numbers of the session's messages that list files, in their order.
 ///
 /// The index counts the messages that it adds, and the session counts all.
 #[derive(Drop)]

@@ -1,9 +1,7 @@
 //! Runs `bser_index` in memory on each line of standard input that begins with `$ bser_index `, and
 //! prints the line, what the program wrote, what it reported, and its status where that is not 0.
+//! Other lines are printed as they are.
 //!
-//! The words of a line are parted by a space. Behind them may stand, as in a shell, `< FILE` for
-//! what is read, `> /dev/full` for an output that fails, and `| tr '\0' '\n'` for one whose NULs are
-//! printed as newlines. Other lines are printed as they are.
 //! Then the messages of a recorded session are added, and the index is compared after each with
 //! tables that were folded elsewhere.
 #![tactic(auto)]
@@ -13,7 +11,7 @@ mod expected;
 mod running;
 mod session;
 
-use crate::running::{print_ran, run_line};
+use crate::running::print_line;
 use crate::session::print_session;
 use anyhow::Result;
 use std::io;
@@ -23,7 +21,7 @@ fn main(rt: HostRuntime) -> Result<()> {
     for text in list.as_str().lines() {
         println!(rt; "{text}")?;
         if let Some(command) = text.strip_prefix("$ bser_index ") {
-            print_ran(&rt, &run_line(&rt, command)?)?;
+            print_line(&rt, command)?;
         }
     }
     print_session(&rt)

@@ -12,12 +12,12 @@ use std::fs;
 /// The session's messages that are answers to queries of another expression or with other fields.
 const OTHERS: [u32; 4] = [39, 41, 43, 45];
 
-/// The last of the session's messages that tells files before the server was started anew.
+/// The last of the session's messages that lists files before the server was started anew.
 const LAST_OF_FIRST: u32 = 71;
 
-/// Adds the session's messages up to each that tells files, and compares the index with the table
-/// after it. Compares what changed after each clock before the server was started anew with what it
-/// told then, and at the end what changed after some clocks.
+/// Adds the session's messages up to each that lists files, and compares the index with the table
+/// after it. Compares what changed after each clock before the server was started anew with its
+/// answers of then, and at the end what changed after some clocks.
 pub fn print_session(rt: &HostRuntime) -> Result<()> {
     let stream = fs::read(rt, "stream-server.bser")?;
     let list = fs::read_to_string(rt, "messages.tsv")?;
@@ -31,7 +31,7 @@ pub fn print_session(rt: &HostRuntime) -> Result<()> {
             continue;
         }
         bytes.extend_from_slice(message.bytes(&stream))?;
-        if message.tells_files {
+        if message.lists_files {
             add_messages(rt, &bytes)?;
             check_table(rt, &numbers, tables.as_str(), message.number)?;
             bytes.clear();
@@ -44,11 +44,11 @@ pub fn print_session(rt: &HostRuntime) -> Result<()> {
     check_changes(rt, "restart.tsv", &OTHERS)
 }
 
-/// The numbers of those that tell files and are added.
+/// The numbers of those that list files and are added.
 fn folded_of(alloc: Global, messages: &[SentMessage]) -> Result<Vec<u32>> {
     let mut numbers = Vec::new(alloc);
     for message in messages {
-        if message.tells_files {
+        if message.lists_files {
             numbers.push(message.number)?;
         }
     }

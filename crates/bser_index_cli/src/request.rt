@@ -1,6 +1,6 @@
 //! The request whose answer an index takes next.
 
-use bser_json::reading::{Strings, value_of};
+use bser_from_json::reading::{Strings, value_of};
 use bser_ser::message::serialize_to;
 use bser_source::device::Watched;
 use bser_value::value::Value;

@@ -4,3 +4,9 @@ pub mod Indenting
 pub mod Saying
 pub mod Parts
 pub mod RowsSaid
+pub mod PrintedNumbers
+pub mod Marks
+pub mod PrintedKeys
+pub mod Leads
+pub mod PrintedTokens
+pub mod ReadsBack

@@ -1,5 +1,6 @@
 pub mod Indented
 pub mod Pending
 pub mod Printed
+pub mod Retagged
 pub mod Said
 pub mod Strings

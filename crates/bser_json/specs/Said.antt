@@ -1,16 +1,18 @@
 -- What is printed of a tree, as tokens of JSON.
-use Rattle.std.specs.Prelude.{◌≡◌, ℕ, List, [], ◌∷◌, ◌++◌, Option, Some, None, Bool, true, false, Float, codes, if◌then◌else◌}
+use Rattle.std.specs.Prelude.{◌≡◌, ℕ, List, [], ◌∷◌, ◌++◌, Option, Some, None, Bool, true, false, Float, codes}
 use Rattle.std.specs.Float.{binary64, float_is_finite}
 use Rattle.std.specs.Fmt.{signed_decimal}
 use Rattle.std.specs.Int.{w64, to_be_bytes}
 use Rattle.std.specs.Str.{is_utf8}
 use Rattle.std.specs.Io.KnownBytes.{Appends}
 use Rattle.fast_float.specs.Parse.{parse_float}
-use Rattle.hex.specs.Hex.{encode_lower}
+use Rattle.hex.specs.Hex.{IsBytes, encode_lower}
+use Rattle.json.specs.Print.{IsNumber}
 use Rattle.json.specs.Token as tokens
 use Rattle.bser_format.specs.QuotedText.{key_mark}
 use Rattle.bser_format.specs.RealText.{float_of}
 use Rattle.bser_format.specs.Tree.{Tree, null, boolean, integer, real, bytes, text, array, object, template, Items, no_items, item, Entries, no_entries, entry}
+use Rattle.bser_from_json.specs.Made.{is_whole}
 use Rattle.bser_json.specs.Printed.{laid_out, Puts}
 use Rattle.bser_json.specs.declared.printing.Layout.{Layout}
 use Rattle.bser_json.specs.declared.printing.Printing.{Printing}
@@ -20,15 +22,20 @@ abbrev pub marked : List ℕ → List ℕ → List tokens.Token
 marked k bs = tokens.begin_object ∷ tokens.key k ∷ tokens.string (encode_lower bs) ∷ tokens.end_object ∷ []
 
 abbrev pub SaysMarked : List ℕ → List ℕ → List tokens.Token → Type 0
-SaysMarked k bs ts = ts ≡ marked k bs
+SaysMarked k bs ts = (ts ≡ marked k bs) × IsBytes bs
 
 -- a byte string: as a string where it is UTF-8, else marked
-abbrev pub SaysBytes : List ℕ → List tokens.Token → Type 0
-SaysBytes bs ts = ts ≡ (if is_utf8 bs then tokens.string bs ∷ [] else marked (codes "$bytes") bs)
+abbrev pub SaysString : Bool → List ℕ → List tokens.Token → Type 0
+SaysString true bs ts = ts ≡ tokens.string bs ∷ []
+SaysString false bs ts = SaysMarked (codes "$bytes") bs ts
 
--- a number that reads back as this real where it is finite, and else its bits, the highest byte first
+abbrev pub SaysBytes : List ℕ → List tokens.Token → Type 0
+SaysBytes bs ts = SaysString (is_utf8 bs) bs ts
+
+-- a number that is no integer and reads back as this real where it is finite, and else its bits, the
+-- highest byte first
 abbrev pub SaysNumber : ℕ → Float → Bool → List tokens.Token → Type 0
-SaysNumber bits x true ts = (s : List ℕ) × (ts ≡ tokens.number s ∷ []) × (parse_float binary64 s ≡ Some x)
+SaysNumber bits x true ts = (s : List ℕ) × (ts ≡ tokens.number s ∷ []) × IsNumber s × (is_whole s ≡ false) × (parse_float binary64 s ≡ Some x)
 SaysNumber bits x false ts = SaysMarked (codes "$real") (to_be_bytes w64 bits) ts
 
 -- the same of a real, where the bits may be those of no number

@@ -8,7 +8,7 @@ ghost use Rattle.json.specs.Token as tokens;
 ghost use Rattle.bser_json.specs.Indented.{IsIndented, PrintsLines, last_of};
 ghost use Rattle.bser_json.specs.Strings.{BeginsInLines};
 
-use bser_views::trouble::Trouble;
+use bser_views::print_error::PrintError;
 use json::{Token, Writer};
 use std::alloc::{AllocError, Global};
 use std::io::Write;
@@ -54,7 +54,7 @@ impl Indented {
 
     /// Puts a token, and writes what is put where that is enough. The errors are that there is no
     /// memory for the token, and those of the writer.
-    pub(crate) fn put<W: Write>(&mut self, token: Token<'_>, out: &mut W) -> Result<(), Trouble>
+    pub(crate) fn put<W: Write>(&mut self, token: Token<'_>, out: &mut W) -> Result<(), PrintError>
         requires { IsPrintable (token_of token) }
         ensures { (start : Option (List ℕ)) (ts : List tokens.Token)
             → PrintsLines start (W.contents out.old) ts self.old
@@ -69,7 +69,7 @@ impl Indented {
     }
 
     /// Writes what is put. The errors are those of the writer.
-    pub(crate) fn write_to<W: Write>(&mut self, out: &mut W) -> Result<(), Trouble>
+    pub(crate) fn write_to<W: Write>(&mut self, out: &mut W) -> Result<(), PrintError>
         ensures kept { (start : Option (List ℕ)) (ts : List tokens.Token)
             → PrintsLines start (W.contents out.old) ts self.old
             → OnOk result (PrintsLines start (W.contents out.new) ts self.new) }
@@ -86,7 +86,7 @@ impl Indented {
     /// then on stands behind the string.
     #[cold]
     #[inline(never)]
-    pub(crate) fn begin_string<W: Write>(&mut self, out: &mut W) -> Result<(), Trouble>
+    pub(crate) fn begin_string<W: Write>(&mut self, out: &mut W) -> Result<(), PrintError>
         ensures { (start : Option (List ℕ)) (ts : List tokens.Token)
             → PrintsLines start (W.contents out.old) ts self.old
             → OnOk result (BeginsInLines start (W.contents out.new) ts self.new) }

@@ -1,13 +1,9 @@
-//! JSON of messages: the text that is printed of one, and the message that is made of a text.
+//! The JSON text that is printed of a message.
 #![tactic(auto)]
 
-pub mod fault;
-mod incoming;
 mod indented;
+pub mod laws;
 mod pending;
 mod pieces;
 pub mod printing;
-pub mod reading;
-mod split;
-pub mod texts;
 pub mod writing;

@@ -7,7 +7,7 @@ ghost use Rattle.json.specs.Token as tokens;
 ghost use Rattle.bser_json.specs.Pending.{IsPending, PrintsLine, lead_of};
 ghost use Rattle.bser_json.specs.Strings.{BeginsInLine};
 
-use bser_views::trouble::Trouble;
+use bser_views::print_error::PrintError;
 use json::{Token, Writer};
 use std::alloc::{AllocError, Global};
 use std::io::Write;
@@ -48,7 +48,7 @@ impl Pending {
 
     /// Puts a token, and writes what is put where that is enough. The errors are that there is no
     /// memory for the token, and those of the writer.
-    pub(crate) fn put<W: Write>(&mut self, token: Token<'_>, out: &mut W) -> Result<(), Trouble>
+    pub(crate) fn put<W: Write>(&mut self, token: Token<'_>, out: &mut W) -> Result<(), PrintError>
         requires { IsPrintable (token_of token) }
         ensures { (start : Option (List ℕ)) (ts : List tokens.Token)
             → PrintsLine start (W.contents out.old) ts self.old
@@ -63,7 +63,7 @@ impl Pending {
     }
 
     /// Writes what is put. The errors are those of the writer, and that there is no memory.
-    pub(crate) fn write_to<W: Write>(&mut self, out: &mut W) -> Result<(), Trouble>
+    pub(crate) fn write_to<W: Write>(&mut self, out: &mut W) -> Result<(), PrintError>
         ensures kept { (start : Option (List ℕ)) (ts : List tokens.Token)
             → PrintsLine start (W.contents out.old) ts self.old
             → OnOk result (PrintsLine start (W.contents out.new) ts self.new) }
@@ -83,7 +83,7 @@ impl Pending {
 
     /// Writes what is put, and what stands before the first byte of a string. What is put from
     /// then on stands behind the string.
-    pub(crate) fn begin_string<W: Write>(&mut self, out: &mut W) -> Result<(), Trouble>
+    pub(crate) fn begin_string<W: Write>(&mut self, out: &mut W) -> Result<(), PrintError>
         ensures { (start : Option (List ℕ)) (ts : List tokens.Token)
             → PrintsLine start (W.contents out.old) ts self.old
             → OnOk result (BeginsInLine start (W.contents out.new) ts self.new) }

@@ -6,7 +6,7 @@ ghost use Rattle.json.specs.Token as tokens;
 ghost use Rattle.bser_json.specs.Printed.{Puts};
 
 use crate::printing::Printing;
-use bser_views::trouble::Trouble;
+use bser_views::print_error::PrintError;
 use json::Token;
 use std::alloc::Global;
 use std::io::Write;
@@ -17,7 +17,7 @@ const PIECE: usize = 4096;
 impl<W: Write> Printing<W> {
     /// Puts a string.
     #[inline(always)]
-    pub(crate) fn string(&mut self, alloc: Global, text: &str) -> Result<(), Trouble>
+    pub(crate) fn string(&mut self, alloc: Global, text: &str) -> Result<(), PrintError>
         ensures { OnOk result (Puts W.contents (tokens.string text.now ∷ []) self.old self.new) }
     {
         if text.len() <= PIECE {
@@ -27,7 +27,7 @@ impl<W: Write> Printing<W> {
     }
 
     /// Puts a string of the bytes in hexadecimal.
-    pub(crate) fn hexadecimal(&mut self, alloc: Global, bytes: &[u8]) -> Result<(), Trouble>
+    pub(crate) fn hexadecimal(&mut self, alloc: Global, bytes: &[u8]) -> Result<(), PrintError>
         ensures { OnOk result
             (Puts W.contents (tokens.string (encode_lower bytes.now) ∷ []) self.old self.new) }
     {
@@ -41,7 +41,7 @@ impl<W: Write> Printing<W> {
     /// Puts a string piece by piece.
     #[cold]
     #[inline(never)]
-    fn long_string(&mut self, alloc: Global, text: &str) -> Result<(), Trouble>
+    fn long_string(&mut self, alloc: Global, text: &str) -> Result<(), PrintError>
         ensures { OnOk result (Puts W.contents (tokens.string text.now ∷ []) self.old self.new) }
     {
         self.begin_string()?;
@@ -57,7 +57,7 @@ impl<W: Write> Printing<W> {
     /// Puts a string of the bytes in hexadecimal piece by piece.
     #[cold]
     #[inline(never)]
-    fn long_hexadecimal(&mut self, alloc: Global, bytes: &[u8]) -> Result<(), Trouble>
+    fn long_hexadecimal(&mut self, alloc: Global, bytes: &[u8]) -> Result<(), PrintError>
         ensures { OnOk result
             (Puts W.contents (tokens.string (encode_lower bytes.now) ∷ []) self.old self.new) }
     {

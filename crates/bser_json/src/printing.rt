@@ -10,7 +10,7 @@ ghost use Rattle.bser_json.specs.declared.printing.Layout as layouts;
 
 use crate::indented::{Indented, with_token};
 use crate::pending::Pending;
-use bser_views::trouble::Trouble;
+use bser_views::print_error::PrintError;
 use json::Token;
 use std::alloc::{AllocError, Global};
 use std::io::Write;
@@ -53,7 +53,7 @@ impl<W: Write + Drop> Printing<W> {
     }
 
     /// Writes what is not written, and gives the writer back.
-    pub(crate) fn finish(self) -> Result<W, Trouble>
+    pub(crate) fn finish(self) -> Result<W, PrintError>
         ensures { (start : Option (List ℕ)) (layout : layouts.Layout) (ts : List tokens.Token)
             → Prints W.contents start layout ts self
             → IfOk result (λ out. Appends start (W.contents out) (laid_out layout ts)) }
@@ -69,7 +69,7 @@ impl<W: Write + Drop> Printing<W> {
 
 impl<W: Write> Printing<W> {
     /// Puts a token. What is put is written where it is enough.
-    pub(crate) fn token(&mut self, token: Token<'_>) -> Result<(), Trouble>
+    pub(crate) fn token(&mut self, token: Token<'_>) -> Result<(), PrintError>
         requires { IsPrintable (token_of token) }
         ensures { OnOk result (Puts W.contents (token_of token.entry ∷ []) self.old self.new) }
     {
@@ -79,7 +79,7 @@ impl<W: Write> Printing<W> {
         }
     }
     /// Writes what is put, and what stands before the first byte of a string.
-    pub(crate) fn begin_string(&mut self) -> Result<(), Trouble>
+    pub(crate) fn begin_string(&mut self) -> Result<(), PrintError>
         ensures { OnOk result (BeginsString W.contents self.old self.new) }
     {
         match &mut self.text {
@@ -89,7 +89,7 @@ impl<W: Write> Printing<W> {
     }
 
     /// Writes what stands for the next part of the string that was begun.
-    pub(crate) fn put_part(&mut self, alloc: Global, part: &str) -> Result<(), Trouble>
+    pub(crate) fn put_part(&mut self, alloc: Global, part: &str) -> Result<(), PrintError>
         ensures { OnOk result (AddsPart W.contents part.now self.old self.new) }
     {
         let quoted = with_token(Vec::new(alloc), Token::String(part))?;
@@ -98,7 +98,7 @@ impl<W: Write> Printing<W> {
     }
 
     /// Ends the string that was begun.
-    pub(crate) fn end_string(&mut self) -> Result<(), Trouble>
+    pub(crate) fn end_string(&mut self) -> Result<(), PrintError>
         ensures { OnOk result (EndsString W.contents self.old self.new) }
     {
         self.out.write_all(b"\"")?;

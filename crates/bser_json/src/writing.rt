@@ -33,9 +33,9 @@ use bser_document::items::Items;
 use bser_document::order::{RowFields, ordered_keys};
 use bser_document::rows::Rows;
 use bser_format::real::float_of;
-use bser_views::trouble::Trouble;
+use bser_views::print_error::PrintError;
 use json::Token;
-use std::alloc::Global;
+use std::alloc::{AllocError, Global};
 use std::collections::BTreeMap;
 use std::io::Write;
 
@@ -56,7 +56,7 @@ pub fn write_json<W: Write + Drop>(
     item: Item<'_>,
     layout: Layout,
     out: W,
-) -> Result<W, Trouble>
+) -> Result<W, PrintError>
     ensures { (u : Tree) → HoldsItem item.entry u
         → IfOk result (λ new. WritesText layout u (W.contents out) (W.contents new)) }
 {
@@ -72,7 +72,7 @@ fn put_item<W: Write>(
     item: Item<'_>,
     room: usize,
     out: &mut Printing<W>,
-) -> Result<(), Trouble>
+) -> Result<(), PrintError>
     ensures { (u : Tree) → HoldsItem item.entry u
         → OnOk result (PutsSaid W.contents (Says u) out.old out.new) }
 {
@@ -89,12 +89,12 @@ fn put_container<W: Write>(
     item: Item<'_>,
     room: usize,
     out: &mut Printing<W>,
-) -> Result<(), Trouble>
+) -> Result<(), PrintError>
     ensures { (u : Tree) → HoldsItem item.entry u
         → OnOk result (PutsSaid W.contents (Says u) out.old out.new) }
 {
     if room == 0 {
-        return Err(Trouble::Memory);
+        return Err(PrintError::Memory(AllocError));
     }
     if let Some(entries) = item.entries() {
         return put_entries(alloc, entries, room - 1, out);
@@ -104,7 +104,7 @@ fn put_container<W: Write>(
     }
     match item.items() {
         Some(items) => put_items(alloc, items, room - 1, out),
-        None => Err(Trouble::Memory),
+        None => Err(PrintError::Memory(AllocError)),
     }
 }
 
@@ -115,7 +115,7 @@ fn put_rows<W: Write>(
     rows: Rows<'_>,
     room: usize,
     out: &mut Printing<W>,
-) -> Result<(), Trouble>
+) -> Result<(), PrintError>
     ensures { (ks : List (List ℕ)) (ms : List (List Pair)) → HoldsRows rows.entry ks ms
         → OnOk result (PutsSaid W.contents (Says (array (row_objects ms))) out.old out.new) }
 {
@@ -137,7 +137,7 @@ fn put_row<W: Write>(
     fields: &RowFields<'_>,
     room: usize,
     out: &mut Printing<W>,
-) -> Result<(), Trouble>
+) -> Result<(), PrintError>
     ensures { (m : List Pair) → shown order.entry.now ≡ last_places (keys_of m)
         → HoldsFields fields.entry.now m
         → OnOk result (PutsSaid W.contents (Says (row_object m)) out.old out.new) }
@@ -159,7 +159,7 @@ fn put_field<W: Write>(
     field: Option<Item<'_>>,
     room: usize,
     out: &mut Printing<W>,
-) -> Result<(), Trouble>
+) -> Result<(), PrintError>
     ensures { (u : Tree) → FindsField u field.entry
         → OnOk result (PutsSaid W.contents (Says u) out.old out.new) }
 {
@@ -176,7 +176,7 @@ fn put_items<W: Write>(
     items: Items<'_>,
     room: usize,
     out: &mut Printing<W>,
-) -> Result<(), Trouble>
+) -> Result<(), PrintError>
     ensures { (us : trees.Items) → HoldsItems items.entry us
         → OnOk result (PutsSaid W.contents (Says (array us)) out.old out.new) }
 {
@@ -194,7 +194,7 @@ fn put_entries<W: Write>(
     entries: Entries<'_>,
     room: usize,
     out: &mut Printing<W>,
-) -> Result<(), Trouble>
+) -> Result<(), PrintError>
     ensures { (m : List (List ℕ × Tree)) → HoldsEntries entries.entry m
         → OnOk result (PutsSaid W.contents (Says (object (entries_of (last_entries m)))) out.old out.new) }
 {
@@ -209,7 +209,7 @@ fn put_sorted<W: Write>(
     sorted: &BTreeMap<&str, Item<'_>>,
     room: usize,
     out: &mut Printing<W>,
-) -> Result<(), Trouble>
+) -> Result<(), PrintError>
     ensures { (es : trees.Entries) → Lists (entries es) sorted.now.entries
         → OnOk result (PutsSaid W.contents (Says (object es)) out.old out.new) }
 {
@@ -223,7 +223,7 @@ fn put_sorted<W: Write>(
 
 /// Puts a key, and before one that begins with a dollar sign one more.
 #[inline(always)]
-fn put_key<W: Write>(alloc: Global, key: &str, out: &mut Printing<W>) -> Result<(), Trouble>
+fn put_key<W: Write>(alloc: Global, key: &str, out: &mut Printing<W>) -> Result<(), PrintError>
     ensures { OnOk result (PutsSaid W.contents (SaysKey key.now) out.old out.new) }
 {
     match key.as_bytes().first().copied() {
@@ -235,7 +235,7 @@ fn put_key<W: Write>(alloc: Global, key: &str, out: &mut Printing<W>) -> Result<
 /// Puts a key behind a dollar sign.
 #[cold]
 #[inline(never)]
-fn put_dollar<W: Write>(alloc: Global, key: &str, out: &mut Printing<W>) -> Result<(), Trouble>
+fn put_dollar<W: Write>(alloc: Global, key: &str, out: &mut Printing<W>) -> Result<(), PrintError>
     ensures { OnOk result
         (Puts W.contents (tokens.key (codes "$" ++ key.now) ∷ []) out.old out.new) }
 {
@@ -244,7 +244,11 @@ fn put_dollar<W: Write>(alloc: Global, key: &str, out: &mut Printing<W>) -> Resu
 }
 
 /// Puts a value that is no container.
-fn put_scalar<W: Write>(alloc: Global, item: Item<'_>, out: &mut Printing<W>) -> Result<(), Trouble>
+fn put_scalar<W: Write>(
+    alloc: Global,
+    item: Item<'_>,
+    out: &mut Printing<W>,
+) -> Result<(), PrintError>
     ensures { (u : Tree) → HoldsItem item.entry u → IsPlain u
         → OnOk result (PutsSaid W.contents (Says u) out.old out.new) }
 {
@@ -267,7 +271,7 @@ fn put_scalar<W: Write>(alloc: Global, item: Item<'_>, out: &mut Printing<W>) ->
 }
 
 /// Puts an integer.
-fn put_integer<W: Write>(number: i64, out: &mut Printing<W>) -> Result<(), Trouble>
+fn put_integer<W: Write>(number: i64, out: &mut Printing<W>) -> Result<(), PrintError>
     ensures { OnOk result (PutsSaid W.contents (Says (integer number)) out.old out.new) }
 {
     let mut buffer = itoa::Buffer::new();
@@ -275,7 +279,7 @@ fn put_integer<W: Write>(number: i64, out: &mut Printing<W>) -> Result<(), Troub
 }
 
 /// Puts a byte string.
-fn put_bytes<W: Write>(alloc: Global, bytes: &[u8], out: &mut Printing<W>) -> Result<(), Trouble>
+fn put_bytes<W: Write>(alloc: Global, bytes: &[u8], out: &mut Printing<W>) -> Result<(), PrintError>
     ensures { OnOk result (PutsSaid W.contents (SaysBytes bytes.now) out.old out.new) }
 {
     match std::str::from_utf8(bytes) {
@@ -285,7 +289,7 @@ fn put_bytes<W: Write>(alloc: Global, bytes: &[u8], out: &mut Printing<W>) -> Re
 }
 
 /// Puts a real with these bits.
-fn put_real<W: Write>(alloc: Global, bits: u64, out: &mut Printing<W>) -> Result<(), Trouble>
+fn put_real<W: Write>(alloc: Global, bits: u64, out: &mut Printing<W>) -> Result<(), PrintError>
     ensures { OnOk result (PutsSaid W.contents (SaysReal bits) out.old out.new) }
 {
     match float_of(bits) {
@@ -300,7 +304,7 @@ fn put_float<W: Write>(
     bits: u64,
     number: f64,
     out: &mut Printing<W>,
-) -> Result<(), Trouble>
+) -> Result<(), PrintError>
     ensures { OnOk result (PutsSaid W.contents (SaysNumber bits number (float_is_finite number))
         out.old out.new) }
 {
@@ -317,7 +321,7 @@ fn put_marked<W: Write>(
     key: &str,
     bytes: &[u8],
     out: &mut Printing<W>,
-) -> Result<(), Trouble>
+) -> Result<(), PrintError>
     ensures { OnOk result (PutsSaid W.contents (SaysMarked key.now bytes.now) out.old out.new) }
 {
     out.token(Token::BeginObject)?;

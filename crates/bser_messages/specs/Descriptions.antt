@@ -6,11 +6,11 @@ use Rattle.bser_format.specs.declared.errors.Error.TheVariants.{DeCustom, DeInva
 use Rattle.bser_format.specs.declared.errors.Kind.TheVariants.{NextItem}
 use Rattle.bser_format.specs.declared.errors.ReadCause.TheVariants.{Eof, Utf8}
 use Rattle.bser_deserializer.specs.declared.note.Note.{Note}
-use Rattle.bser_messages.specs.declared.counted.Counted.{Counted}
+use Rattle.bser_messages.specs.declared.counted.CountedSource.{CountedSource}
 use Rattle.bser_messages.specs.declared.description.Description.{Description}
 
 -- the source whose bytes are counted
-abbrev pub inner_of : {S : Type 0} → Counted S → S
+abbrev pub inner_of : {S : Type 0} → CountedSource S → S
 inner_of c = c.inner
 
 -- the error of reading

@@ -28,7 +28,7 @@ use Rattle.bser_messages.specs.declared.limits.Limits.{Limits}
 use Rattle.bser_messages.specs.declared.told.Header.{Header}
 use Rattle.bser_messages.specs.declared.told.Reason.{Reason}
 use Rattle.bser_messages.specs.declared.told.Reason.TheVariants.{Stopped, Failed}
-use Rattle.bser_messages.specs.declared.told.Untold.{Untold}
+use Rattle.bser_messages.specs.declared.told.TellError.{TellError}
 
 -- ---- what is reported
 
@@ -87,7 +87,7 @@ pub record BeginWithHeader (left : Option (List ℕ)) (h : Header) : Type 0 wher
   pub front : (x : List ℕ) → left ≡ Some x → (rest : List ℕ) × (x ≡ text ++ rest)
 
 -- the header is the one at the start of the bytes left, where it is known
-abbrev pub KnowsHeader : Option (List ℕ) → Untold → Type 0
+abbrev pub KnowsHeader : Option (List ℕ) → TellError → Type 0
 KnowsHeader left e = IfSome e.header (BeginWithHeader left)
 
 -- the builder stopped, or memory ran out
@@ -96,7 +96,7 @@ IsStop (Stopped place) = Unit {0}
 IsStop (Failed d) = cause_of d ≡ OutOfMemory
 
 -- the builder stops, and memory runs out, only after the header
-abbrev pub StopsLate : Untold → Type 0
+abbrev pub StopsLate : TellError → Type 0
 StopsLate e = IsStop e.reason → IsSome e.header
 
 -- the place is one of len bytes or right behind them
@@ -105,7 +105,7 @@ IsReasonWithin len (Stopped place) = place ≤ len
 IsReasonWithin len (Failed d) = LiesWithin len d
 
 -- the place is one of the bytes that were given or right behind them
-abbrev pub HasPlace : Untold → Type 0
+abbrev pub HasPlace : TellError → Type 0
 HasPlace e = IsReasonWithin e.given e.reason
 
 -- a slice is refused as a message that is passed over, or a builder that may ask to stop did so
@@ -149,13 +149,13 @@ IsCut takes stopped left before after given (Some h) (Failed d) = CutBehind take
 
 -- the builder took events that the bytes behind the header spell, each once and in order, and then no
 -- more, or took no more at the next one
-abbrev pub LeavesBuilder : {B : Type 0} → (B → Event → Place → B → Type 0) → (Stop → B → Event → Place → B → Type 0) → Option (List ℕ) → B → B → Untold → Type 0
+abbrev pub LeavesBuilder : {B : Type 0} → (B → Event → Place → B → Type 0) → (Stop → B → Event → Place → B → Type 0) → Option (List ℕ) → B → B → TellError → Type 0
 LeavesBuilder takes stopped left before after e = IsCut takes stopped left before after e.given e.header e.reason
 
 -- ---- going on
 
 -- how many bytes of the message were not given, where its header is known, and none past its end
-abbrev pub rest_after : Untold → Option ℕ
+abbrev pub rest_after : TellError → Option ℕ
 rest_after e = option_and_then (λ h. let n = min (h.start + h.len) (2 ^ 64 - 1) in if nat_le e.given n then Some (n - e.given) else None) e.header
 
 -- true where that many bytes were taken, and false where their number is not known, and nothing was

@@ -7,17 +7,17 @@ use std::io;
 
 /// A source, and how many bytes it gave.
 #[derive(Drop)]
-pub(crate) struct Counted<S> {
+pub(crate) struct CountedSource<S> {
     inner: S,
     given: usize,
 }
 
-impl<S> Counted<S> {
+impl<S> CountedSource<S> {
     /// Counts what `inner` gives from now on.
     pub(crate) fn new(inner: S) -> Self
         ensures { inner_of result ≡ inner }
     {
-        Counted { inner, given: 0 }
+        CountedSource { inner, given: 0 }
     }
 
     /// How many bytes were given, at most `usize::MAX`.
@@ -29,12 +29,12 @@ impl<S> Counted<S> {
     pub(crate) fn into_inner(self) -> S
         ensures { result ≡ inner_of self }
     {
-        let Counted { inner, given: _ } = self;
+        let CountedSource { inner, given: _ } = self;
         inner
     }
 }
 
-impl<S: Source> Source for Counted<S> {
+impl<S: Source> Source for CountedSource<S> {
     ghost remaining = { λ c. S.remaining (inner_of c) };
 
     ghost failures = { λ c. S.failures (inner_of c) };

@@ -12,7 +12,7 @@ ghost use Rattle.bser_messages.specs.Messages.{
 };
 ghost use Rattle.bser_messages.specs.Descriptions.{LiesWithin, caused};
 
-use crate::counted::Counted;
+use crate::counted::CountedSource;
 use crate::description::Description;
 use crate::message::read_message;
 use crate::progress::Progress;
@@ -96,7 +96,7 @@ pub fn from_reader_within<S: Source, T: DeserializeOwned>(
     ensures memory { SparesMemory T.needs (caused result) }
     ensures head { HeadFirst (S.remaining reader.old) (caused result) }
 {
-    let mut from = Deserializer::unread(alloc, IoRead::new(Counted::new(reader)));
+    let mut from = Deserializer::unread(alloc, IoRead::new(CountedSource::new(reader)));
     let answer = read_message(alloc, limit, &mut from);
     let progress = Progress::of(&from);
     let counted = from.into_inner().into_inner();

@@ -24,7 +24,7 @@ pub(crate) enum Target<'n> {
 
 /// A container that is open.
 #[derive(Drop)]
-enum Open {
+enum OpenPart {
     /// An array, of which so many items were begun.
     Array {
         begun: usize,
@@ -41,13 +41,13 @@ enum Open {
     },
 }
 
-impl Open {
+impl OpenPart {
     /// Notes that a part is begun.
     fn begin_part(&mut self) {
         match self {
-            Open::Array { begun } => *begun = begun.saturating_add(1),
-            Open::Object { key: _, begun } => *begun = true,
-            Open::Template { keys: _, begun } => {
+            OpenPart::Array { begun } => *begun = begun.saturating_add(1),
+            OpenPart::Object { key: _, begun } => *begun = true,
+            OpenPart::Template { keys: _, begun } => {
                 *begun = Some(begun.unwrap_or(0).saturating_add(1));
             }
         }
@@ -56,12 +56,12 @@ impl Open {
     /// Notes a key of an object, or of a template.
     fn put_key(&mut self, name: String) -> Result<(), AllocError> {
         match self {
-            Open::Array { begun: _ } => {}
-            Open::Object { key, begun } => {
+            OpenPart::Array { begun: _ } => {}
+            OpenPart::Object { key, begun } => {
                 *key = Some(name);
                 *begun = false;
             }
-            Open::Template { keys, begun: _ } => keys.push(name)?,
+            OpenPart::Template { keys, begun: _ } => keys.push(name)?,
         }
         Ok(())
     }
@@ -69,16 +69,16 @@ impl Open {
     /// Puts the steps to the part that was begun last, if there is one.
     fn put_last(&self, alloc: Global, steps: &mut Vec<Step>) -> Result<(), AllocError> {
         match self {
-            Open::Array { begun } => {
+            OpenPart::Array { begun } => {
                 if *begun > 0 {
                     steps.push(Step::Index(*begun - 1))?;
                 }
             }
-            Open::Object { key: Some(key), .. } => {
+            OpenPart::Object { key: Some(key), .. } => {
                 steps.push(Step::Key(String::from_str(alloc, key.as_str())?))?;
             }
-            Open::Object { key: None, .. } => {}
-            Open::Template { keys, begun } => {
+            OpenPart::Object { key: None, .. } => {}
+            OpenPart::Template { keys, begun } => {
                 let field = begun.unwrap_or(0).saturating_sub(1);
                 put_field(alloc, keys.as_slice(), field, steps)?;
             }
@@ -89,17 +89,17 @@ impl Open {
     /// Puts the steps to the part that comes next, if it is known which that is.
     fn put_next(&self, alloc: Global, steps: &mut Vec<Step>) -> Result<(), AllocError> {
         match self {
-            Open::Array { begun } => steps.push(Step::Index(*begun))?,
-            Open::Object {
+            OpenPart::Array { begun } => steps.push(Step::Index(*begun))?,
+            OpenPart::Object {
                 key: Some(key),
                 begun: false,
             } => steps.push(Step::Key(String::from_str(alloc, key.as_str())?))?,
-            Open::Object { .. } => {}
-            Open::Template {
+            OpenPart::Object { .. } => {}
+            OpenPart::Template {
                 keys,
                 begun: Some(begun),
             } => put_field(alloc, keys.as_slice(), *begun, steps)?,
-            Open::Template { .. } => {}
+            OpenPart::Template { .. } => {}
         }
         Ok(())
     }
@@ -130,7 +130,7 @@ pub(crate) struct Locating {
     /// How many containers the type had opened there.
     opened: usize,
     /// The containers that are open, the outermost first.
-    around: Vec<Open>,
+    around: Vec<OpenPart>,
 }
 
 impl Locating {
@@ -194,7 +194,7 @@ impl Locating {
         let mut levels = 0usize;
         for open in &self.around.as_slice()[..outer] {
             levels = match open {
-                Open::Template { keys: _, begun: _ } => levels.saturating_add(2),
+                OpenPart::Template { keys: _, begun: _ } => levels.saturating_add(2),
                 _ => levels.saturating_add(1),
             };
         }
@@ -209,7 +209,7 @@ impl Locating {
     }
 
     /// Opens a container, which is a part of the one around it.
-    fn open(&mut self, open: Open) -> Result<(), AllocError> {
+    fn open(&mut self, open: OpenPart) -> Result<(), AllocError> {
         self.begin_part();
         self.around.push(open)?;
         Ok(())
@@ -218,12 +218,12 @@ impl Locating {
     /// Notes an event.
     fn note(&mut self, event: Event<'_>) -> Result<(), AllocError> {
         match event {
-            Event::Array { len: _ } => self.open(Open::Array { begun: 0 })?,
-            Event::Object { len: _ } => self.open(Open::Object {
+            Event::Array { len: _ } => self.open(OpenPart::Array { begun: 0 })?,
+            Event::Object { len: _ } => self.open(OpenPart::Object {
                 key: None,
                 begun: false,
             })?,
-            Event::Template { len: _ } => self.open(Open::Template {
+            Event::Template { len: _ } => self.open(OpenPart::Template {
                 keys: Vec::new(self.alloc),
                 begun: None,
             })?,
@@ -234,7 +234,7 @@ impl Locating {
                 }
             }
             Event::Rows { len: _ } => {
-                if let Some(Open::Template { keys: _, begun }) = self.around.last_mut() {
+                if let Some(OpenPart::Template { keys: _, begun }) = self.around.last_mut() {
                     *begun = Some(0);
                 }
             }

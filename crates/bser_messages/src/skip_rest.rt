@@ -2,7 +2,7 @@
 ghost use Rattle.std.specs.Prelude.{◌≡◌, IfOk, IfErr};
 ghost use Rattle.bser_messages.specs.Told.{SkipFails, Skips, rest_after};
 
-use crate::told::Untold;
+use crate::told::TellError;
 use bser_bunser::bunser::Bunser;
 use bser_bunser::refusal::Refused;
 use bser_format::errors::Result;
@@ -10,7 +10,7 @@ use bser_source::device::Source;
 use bser_source::io_read::IoRead;
 use std::alloc::Global;
 
-impl Untold {
+impl TellError {
     /// Passes over what is left of the message in the reader that gave it, up to the end that the
     /// header announces. Returns whether the reader is there now.
     ///

@@ -15,11 +15,11 @@ ghost use Rattle.bser_messages.specs.Told.{
   StopsLate,
 };
 
-use crate::counted::Counted;
+use crate::counted::CountedSource;
 use crate::description::description_of;
 use crate::limits::Limits;
 use crate::progress::Progress;
-use crate::told::{Header, Reason, Untold};
+use crate::told::{Header, Reason, TellError};
 use crate::told_message::tell_message;
 use bser_deserializer::deserializer::Deserializer;
 use bser_events::builder::Builder;
@@ -46,7 +46,7 @@ pub fn from_slice<B: Builder>(
     limits: Limits,
     bytes: &[u8],
     builder: &mut B,
-) -> Result<Header, Untold>
+) -> Result<Header, TellError>
     requires { limits.levels ≤ MOST_LEVELS }
     ensures found { IfOk result (BeginsTold limits B.takes bytes.now builder.old builder.new) }
     ensures failed { IfErr result (λ e. SliceUntold limits B.asks bytes.now e.reason) }
@@ -79,7 +79,7 @@ pub fn next_message<S: Source, B: Builder>(
     limits: Limits,
     reader: &mut S,
     builder: &mut B,
-) -> Result<Option<Header>, Untold>
+) -> Result<Option<Header>, TellError>
     requires { limits.levels ≤ MOST_LEVELS }
     ensures found { IfOk result (IsNextTold limits B.takes
         (S.remaining reader.old) (S.remaining reader.new) builder.old builder.new) }
@@ -92,7 +92,7 @@ pub fn next_message<S: Source, B: Builder>(
     ensures cut { IfErr result (LeavesBuilder B.takes B.stopped
         (S.remaining reader.old) builder.old builder.new) }
 {
-    let mut read = IoRead::new(Counted::new(reader));
+    let mut read = IoRead::new(CountedSource::new(reader));
     match read.peek() {
         Ok(_first) => {
             let mut from = Deserializer::unread(alloc, read);
@@ -122,13 +122,13 @@ pub fn next_message<S: Source, B: Builder>(
 /// The error of a reader that failed before the first byte of a message.
 #[cold]
 #[inline(never)]
-fn unread(cause: ReadCause) -> Untold
+fn unread(cause: ReadCause) -> TellError
     ensures reason { IsReasonOf None (error_of cause) 0 result.reason }
     ensures header { result.header ≡ None }
     ensures given { result.given ≡ 0 }
 {
     let cause = Error::de_reader_error(cause);
-    Untold {
+    TellError {
         reason: Reason::Failed(description_of(cause, Progress::NONE, 0)),
         header: None,
         given: 0,

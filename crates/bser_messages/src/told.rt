@@ -40,7 +40,7 @@ pub enum Reason {
 ///
 /// It prints as one line without an end.
 #[derive(Debug, Drop)]
-pub struct Untold {
+pub struct TellError {
     /// Why the message was not reported whole.
     pub reason: Reason,
     /// The message's header, where it was taken.
@@ -50,7 +50,7 @@ pub struct Untold {
     pub given: usize,
 }
 
-impl fmt::Display for Untold {
+impl fmt::Display for TellError {
     fn fmt<W: fmt::Write>(&self, f: &mut fmt::Formatter<W>) -> fmt::Result {
         match &self.reason {
             Reason::Stopped { place } => write!(f, "stopped by the builder, at byte {place}"),

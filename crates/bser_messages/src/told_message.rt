@@ -17,7 +17,7 @@ ghost use Rattle.bser_messages.specs.Told.{
 
 use crate::limits::Limits;
 use crate::progress::Progress;
-use crate::told::{Header, Reason, Untold};
+use crate::told::{Header, Reason, TellError};
 use bser_bunser::refusal::{Answer, Refused};
 use bser_deserializer::deserializer::Deserializer;
 use bser_events::builder::Builder;
@@ -36,7 +36,7 @@ impl Cut {
     /// builder wanted no more, where it did, at the event of this place.
     #[cold]
     #[inline(never)]
-    pub(crate) fn untold(self, progress: Progress, asked: Option<Place>, given: usize) -> Untold
+    pub(crate) fn untold(self, progress: Progress, asked: Option<Place>, given: usize) -> TellError
         ensures reason { IsReasonOf asked self.cause given result.reason }
         ensures header { result.header ≡ self.header }
         ensures given { result.given ≡ given }
@@ -48,7 +48,7 @@ impl Cut {
             },
             None => Reason::Failed(progress.describe(cause, given)),
         };
-        Untold {
+        TellError {
             reason,
             header,
             given,

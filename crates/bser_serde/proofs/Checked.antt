@@ -7,7 +7,7 @@ use Rattle.bser_deserializer.specs.declared.deserializer.TheConstants.{LEVELS}
 use Rattle.bser_messages.specs.Limited.{any_length, usual_limits}
 use Rattle.bser_serde.specs.Messages.{IsWellFormed, BeginsWithMessage}
 use Rattle.bser_serde.specs.Refusals.{SliceUnread, FrameUnread, IsUnfit}
-use Rattle.bser_serde.specs.declared.refusal.Refusal.{Refusal}
+use Rattle.bser_serde.specs.declared.read_error.ReadError.{ReadError}
 use Rattle.bser_serde.proofs.Told.{usual, unfit_slice, unread_frame}
 
 module _ (limits : Limits) (bytes : List ℕ) (start len : ℕ) (b : HasMessage limits.levels limits.bytes bytes start len) where
@@ -33,7 +33,7 @@ pub whole_frame : (limits : Limits) (bytes : List ℕ) (start len n : ℕ) → l
 whole_frame limits bytes start len n levels most b is same = subst (λ l. IsWellFormed l bytes) (usual limits levels most) (checked_whole limits bytes start len b n is same)
 
 -- and is a misfit
-pub unfit_frame : (limits : Limits) (bytes : List ℕ) (start len : ℕ) (e : Refusal) → limits.levels ≡ LEVELS → limits.bytes ≡ any_length → HasMessage limits.levels limits.bytes bytes start len
+pub unfit_frame : (limits : Limits) (bytes : List ℕ) (start len : ℕ) (e : ReadError) → limits.levels ≡ LEVELS → limits.bytes ≡ any_length → HasMessage limits.levels limits.bytes bytes start len
     → IsUnfit e → FrameUnread usual_limits bytes e
 unfit_frame limits bytes start len e levels most b h =
     unread_frame usual_limits bytes e (subst (λ l. SliceUnread l bytes e) (usual limits levels most) (unfit_slice limits bytes e (checked_slice limits bytes start len b) h))

@@ -10,12 +10,12 @@ use Rattle.bser_deserializer.specs.declared.deserializer.TheConstants.{LEVELS}
 use Rattle.bser_messages.specs.Descriptions.{LiesWithin}
 use Rattle.bser_messages.specs.Limited.{any_length, usual_limits}
 use Rattle.bser_messages.specs.Told.{SliceUntold, NextUntold, IsReasonWithin, HasPlace}
-use Rattle.bser_messages.specs.declared.told.Untold.{Untold}
+use Rattle.bser_messages.specs.declared.told.TellError.{TellError}
 use Rattle.bser_source.specs.declared.device.Source as source
 use Rattle.bser_serde.specs.Messages.{IsWellFormed, BeginsWithMessage, BeginsWithMessageOf, TookMessage}
 use Rattle.bser_serde.specs.Refusals.{SliceUnread, FrameUnread, NextUnread, IsUnfit, IsUntold}
-use Rattle.bser_serde.specs.declared.refusal.Refusal.{Refusal}
-use Rattle.bser_serde.specs.declared.refusal.Refusal.TheVariants.{Malformed, Misfit, BytesLeft, Ended, OutOfMemory}
+use Rattle.bser_serde.specs.declared.read_error.ReadError.{ReadError}
+use Rattle.bser_serde.specs.declared.read_error.ReadError.TheVariants.{Malformed, Misfit, BytesLeft, Ended, OutOfMemory}
 
 module _ {B : Type 0} (limits : Limits) (takes : B → Event → Place → B → Type 0) (before after : B) (h : Header) where
   pub well_formed : (text : List ℕ) → TellsMessage limits takes before after h text → IsWellFormed limits text
@@ -56,7 +56,7 @@ usual l levels bytes = ap (λ n. limits_of n l.bytes) levels ∙ ap (λ n. limit
 -- ---- refusals
 
 -- a well-formed message at the front is a misfit
-pub unfit_slice : (limits : Limits) (bytes : List ℕ) (e : Refusal) → BeginsWithMessage limits bytes → IsUnfit e → SliceUnread limits bytes e
+pub unfit_slice : (limits : Limits) (bytes : List ℕ) (e : ReadError) → BeginsWithMessage limits bytes → IsUnfit e → SliceUnread limits bytes e
 unfit_slice limits bytes (Malformed d) b h = absurd h
 unfit_slice limits bytes (Misfit m) b h = b
 unfit_slice limits bytes (BytesLeft n) b h = absurd h
@@ -64,7 +64,7 @@ unfit_slice limits bytes Ended b h = absurd h
 unfit_slice limits bytes OutOfMemory b h = tt
 
 -- a slice that was not told is not read
-pub untold_slice : (limits : Limits) (bytes : List ℕ) (u : Untold) (e : Refusal) → SliceUntold limits false bytes u.reason → HasPlace u → u.given ≡ length bytes → IsUntold u e → SliceUnread limits bytes e
+pub untold_slice : (limits : Limits) (bytes : List ℕ) (u : TellError) (e : ReadError) → SliceUntold limits false bytes u.reason → HasPlace u → u.given ≡ length bytes → IsUntold u e → SliceUnread limits bytes e
 untold_slice limits bytes u (Malformed d) s p g h =
     (subst (SliceUntold limits false bytes) h.0 s, h.1, subst (λ n. LiesWithin n d) g (subst (IsReasonWithin u.given) h.0 p))
 untold_slice limits bytes u (Misfit m) s p g h = absurd h
@@ -73,7 +73,7 @@ untold_slice limits bytes u Ended s p g h = absurd h
 untold_slice limits bytes u OutOfMemory s p g h = tt
 
 -- nor as a frame
-pub unread_frame : (limits : Limits) (bytes : List ℕ) (e : Refusal) → SliceUnread limits bytes e → FrameUnread limits bytes e
+pub unread_frame : (limits : Limits) (bytes : List ℕ) (e : ReadError) → SliceUnread limits bytes e → FrameUnread limits bytes e
 unread_frame limits bytes (Malformed d) h = h
 unread_frame limits bytes (Misfit m) h = h
 unread_frame limits bytes (BytesLeft n) h = absurd h
@@ -81,7 +81,7 @@ unread_frame limits bytes Ended h = absurd h
 unread_frame limits bytes OutOfMemory h = h
 
 -- a well-formed message that was taken is a misfit
-pub unfit_next : {S : Type 0} (limits : Limits) (told : source.Ghosts S) (old new : S) (e : Refusal) → TookMessage limits (told.remaining old) (told.remaining new) → IsUnfit e → NextUnread limits told old new e
+pub unfit_next : {S : Type 0} (limits : Limits) (told : source.Ghosts S) (old new : S) (e : ReadError) → TookMessage limits (told.remaining old) (told.remaining new) → IsUnfit e → NextUnread limits told old new e
 unfit_next limits told old new (Malformed d) t h = absurd h
 unfit_next limits told old new (Misfit m) t h = t
 unfit_next limits told old new (BytesLeft n) t h = absurd h
@@ -89,7 +89,7 @@ unfit_next limits told old new Ended t h = absurd h
 unfit_next limits told old new OutOfMemory t h = tt
 
 -- a reader's message that was not told is not read
-pub untold_next : {S : Type 0} (limits : Limits) (told : source.Ghosts S) (old new : S) (u : Untold) (e : Refusal) → NextUntold limits false told old new u.reason → IsUntold u e → NextUnread limits told old new e
+pub untold_next : {S : Type 0} (limits : Limits) (told : source.Ghosts S) (old new : S) (u : TellError) (e : ReadError) → NextUntold limits false told old new u.reason → IsUntold u e → NextUnread limits told old new e
 untold_next limits told old new u (Malformed d) s h = (subst (NextUntold limits false told old new) h.0 s, h.1)
 untold_next limits told old new u (Misfit m) s h = absurd h
 untold_next limits told old new u (BytesLeft n) s h = absurd h

@@ -2,7 +2,7 @@
 ghost use Rattle.std.specs.Prelude.{◌≡◌, IfSome};
 ghost use Rattle.bser_serde.specs.Takes.{Cut, CutString, size_of_scalar};
 
-use bser_events::fronts::{Counted, count};
+use bser_events::fronts::{CountFront, count};
 use bser_format::header::BSER_UTF8STRING;
 use bser_source::text::as_text;
 
@@ -43,6 +43,6 @@ pub(crate) fn string(bytes: &[u8], is_text: bool, len: usize) -> Option<&[u8]>
 pub(crate) fn counted_string(bytes: &[u8], is_text: bool) -> Option<&[u8]>
     ensures { IfSome result (λ rest. CutString is_text bytes.now rest.now) }
 {
-    let Counted { count: len, rest } = count(bytes)?;
+    let CountFront { count: len, rest } = count(bytes)?;
     string(rest, is_text, len)
 }

@@ -6,21 +6,21 @@
 #![tactic(auto)]
 
 mod bytes;
-mod failure;
 mod heads;
 pub mod message;
+mod read_error;
 mod reading;
-mod refusal;
 mod spelled;
 mod values;
+mod write_error;
 mod writer;
 mod writing;
 
 pub use crate::bytes::{ByteBuf, Bytes};
+pub use crate::read_error::ReadError;
 pub use crate::reading::{
     from_frame, from_reader, from_reader_limited, from_slice, from_slice_limited,
 };
-pub use crate::refusal::Refusal;
 pub use crate::writing::{to_vec, to_writer};
 pub use bser_serde_format::misfit::{Misfit, Reason};
 pub use serde_bser::describe::Path;

@@ -3,7 +3,7 @@ ghost use Rattle.std.specs.Prelude.{IfSome};
 ghost use Rattle.bser_serde.specs.HasMessage.{HasMessage};
 
 use crate::values::value;
-use bser_events::fronts::{Counted, count};
+use bser_events::fronts::{CountFront, count};
 use bser_format::header::HEADER_START;
 
 /// Where the body of a message stands.
@@ -29,7 +29,7 @@ pub fn body_of(bytes: &[u8], levels: usize, most: usize) -> Option<Body>
     {
         return None;
     }
-    let Counted {
+    let CountFront {
         count: len,
         rest: body,
     } = count(&bytes[HEADER_START.len()..])?;

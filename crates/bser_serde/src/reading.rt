@@ -6,9 +6,9 @@ ghost use Rattle.bser_serde.specs.Messages.{BeginsWithMessage, IsWellFormed, Too
 ghost use Rattle.bser_serde.specs.Refusals.{SliceUnread, FrameUnread, NextUnread, IsUnfit};
 
 use crate::message::body_of;
-use crate::refusal::{Refusal, refusal_of};
+use crate::read_error::{ReadError, refusal_of};
 use bser_serde_format::copied::Copied;
-use bser_serde_format::faults::{Fault, Site, Unread};
+use bser_serde_format::faults::{FormatError, Site, Unread};
 use bser_serde_format::misfit::{Misfit, Reason};
 use bser_serde_format::steps::steps_to;
 use bser_serde_format::walk::Walk;
@@ -25,7 +25,7 @@ use std::alloc::{AllocError, Global};
 ///
 /// Bytes that begin with no well-formed message are refused by its first fault, whatever the type
 /// looks at. A misfit comes only of a well-formed message.
-pub fn from_slice<'de, T: Deserialize<'de>>(alloc: Global, bytes: &'de [u8]) -> Result<T, Refusal>
+pub fn from_slice<'de, T: Deserialize<'de>>(alloc: Global, bytes: &'de [u8]) -> Result<T, ReadError>
     ensures found { OnOk result (BeginsWithMessage usual_limits bytes.now) }
     ensures refused { IfErr result (SliceUnread usual_limits bytes.now) }
 {
@@ -40,7 +40,7 @@ pub fn from_slice_limited<'de, T: Deserialize<'de>>(
     alloc: Global,
     limits: Limits,
     bytes: &'de [u8],
-) -> Result<T, Refusal>
+) -> Result<T, ReadError>
     requires { limits.levels ≤ MOST_LEVELS }
     ensures found { OnOk result (BeginsWithMessage limits bytes.now) }
     ensures refused { IfErr result (SliceUnread limits bytes.now) }
@@ -62,7 +62,7 @@ fn told_slice<'de, T: Deserialize<'de>>(
     alloc: Global,
     limits: Limits,
     bytes: &'de [u8],
-) -> Result<T, Refusal>
+) -> Result<T, ReadError>
     requires { limits.levels ≤ MOST_LEVELS }
     ensures found { OnOk result (BeginsWithMessage limits bytes.now) }
     ensures refused { IfErr result (SliceUnread limits bytes.now) }
@@ -78,9 +78,9 @@ fn told_slice<'de, T: Deserialize<'de>>(
 
 /// Reads a value from a frame: one message of at most 128 levels, and no byte behind it.
 ///
-/// As [`from_slice`]. Bytes behind the message are [`Refusal::BytesLeft`].
+/// As [`from_slice`]. Bytes behind the message are [`ReadError::BytesLeft`].
 #[tactic(auto, using(crate::proofs::Checked::whole_frame, crate::proofs::Checked::unfit_frame))]
-pub fn from_frame<'de, T: Deserialize<'de>>(alloc: Global, frame: &'de [u8]) -> Result<T, Refusal>
+pub fn from_frame<'de, T: Deserialize<'de>>(alloc: Global, frame: &'de [u8]) -> Result<T, ReadError>
     ensures found { OnOk result (IsWellFormed usual_limits frame.now) }
     ensures refused { IfErr result (FrameUnread usual_limits frame.now) }
 {
@@ -100,7 +100,7 @@ pub fn from_frame<'de, T: Deserialize<'de>>(alloc: Global, frame: &'de [u8]) -> 
 #[cold]
 #[inline(never)]
 #[tactic(auto, using(crate::proofs::Told::begins_with_of, crate::proofs::Told::is_whole, crate::proofs::Told::unfit_slice, crate::proofs::Told::untold_slice, crate::proofs::Told::unread_frame))]
-fn told_frame<'de, T: Deserialize<'de>>(alloc: Global, frame: &'de [u8]) -> Result<T, Refusal>
+fn told_frame<'de, T: Deserialize<'de>>(alloc: Global, frame: &'de [u8]) -> Result<T, ReadError>
     ensures found { OnOk result (IsWellFormed usual_limits frame.now) }
     ensures refused { IfErr result (FrameUnread usual_limits frame.now) }
 {
@@ -108,7 +108,7 @@ fn told_frame<'de, T: Deserialize<'de>>(alloc: Global, frame: &'de [u8]) -> Resu
         Ok(header) => {
             let taken = header.message_length();
             if taken != frame.len() {
-                return Err(Refusal::BytesLeft(taken));
+                return Err(ReadError::BytesLeft(taken));
             }
             match read(alloc, header.start, frame) {
                 Ok(value) => Ok(value),
@@ -122,11 +122,11 @@ fn told_frame<'de, T: Deserialize<'de>>(alloc: Global, frame: &'de [u8]) -> Resu
 /// Reads a value that owns what it holds from the reader's next message, of at most 128 levels.
 ///
 /// Just that message is taken, whether the type reads it or not. The errors are those of
-/// [`from_slice`]; or that the reader failed, as a malformed message; or [`Refusal::Ended`].
+/// [`from_slice`]; or that the reader failed, as a malformed message; or [`ReadError::Ended`].
 pub fn from_reader<S: Source, T: DeserializeOwned>(
     alloc: Global,
     reader: &mut S,
-) -> Result<T, Refusal>
+) -> Result<T, ReadError>
     ensures found { OnOk result
         (TookMessage usual_limits (S.remaining reader.old) (S.remaining reader.new)) }
     ensures refused { IfErr result (NextUnread usual_limits S.Source reader.old reader.new) }
@@ -142,7 +142,7 @@ pub fn from_reader_limited<S: Source, T: DeserializeOwned>(
     alloc: Global,
     limits: Limits,
     reader: &mut S,
-) -> Result<T, Refusal>
+) -> Result<T, ReadError>
     requires { limits.levels ≤ MOST_LEVELS }
     ensures found { OnOk result
         (TookMessage limits (S.remaining reader.old) (S.remaining reader.new)) }
@@ -154,7 +154,7 @@ pub fn from_reader_limited<S: Source, T: DeserializeOwned>(
             Ok(value) => Ok(value),
             Err(refusal) => Err(refusal),
         },
-        Ok(None) => Err(Refusal::Ended),
+        Ok(None) => Err(ReadError::Ended),
         Err(untold) => Err(refusal_of(untold)),
     }
 }
@@ -164,7 +164,7 @@ fn read<'de, T: Deserialize<'de>>(
     alloc: Global,
     start: usize,
     message: &'de [u8],
-) -> Result<T, Refusal>
+) -> Result<T, ReadError>
     ensures { IfErr result IsUnfit }
 {
     let mut walk = Walk::new(alloc, message, start);
@@ -179,7 +179,7 @@ fn read_owned<T: DeserializeOwned>(
     alloc: Global,
     start: usize,
     message: &[u8],
-) -> Result<T, Refusal>
+) -> Result<T, ReadError>
     ensures { IfErr result IsUnfit }
 {
     let mut walk = Walk::new(alloc, message, start);
@@ -192,20 +192,20 @@ fn read_owned<T: DeserializeOwned>(
 /// Why the type does not read the message.
 #[cold]
 #[inline(never)]
-fn unfit(alloc: Global, fault: Fault, start: usize, message: &[u8]) -> Refusal
+fn unfit(alloc: Global, fault: FormatError, start: usize, message: &[u8]) -> ReadError
     ensures { IsUnfit result }
 {
     match fault {
-        Fault::Memory => Refusal::OutOfMemory,
-        Fault::Misfit(unread) => {
+        FormatError::Memory => ReadError::OutOfMemory,
+        FormatError::Misfit(unread) => {
             let Unread { reason, site } = Box::into_inner(unread);
             match steps_of(alloc, &reason, start, message, site) {
-                Ok(steps) => Refusal::Misfit(Misfit {
+                Ok(steps) => ReadError::Misfit(Misfit {
                     reason,
                     place: site.place,
                     path: Path { steps },
                 }),
-                Err(_) => Refusal::OutOfMemory,
+                Err(_) => ReadError::OutOfMemory,
             }
         }
     }

@@ -7,7 +7,7 @@ ghost use Rattle.bser_events.specs.Takes.{Takes};
 
 use crate::heads::{LONGEST_SCALAR, counted_string, scalar_size, string};
 use bser_bunser::prefix::{Prefix, Token, is_key_tag, token_prefix};
-use bser_events::fronts::{Counted, count, key, keys};
+use bser_events::fronts::{CountFront, count, key, keys};
 use bser_format::header::{BSER_ARRAY, BSER_BYTESTRING, BSER_INT8, BSER_SKIP, BSER_UTF8STRING};
 
 /// What follows the value that these bytes begin with. None where they begin with no well-formed
@@ -93,7 +93,7 @@ fn template(bytes: &[u8], levels: usize) -> Option<&[u8]>
     }
     let width = count(&bytes[1..])?;
     let rest = keys(width.rest, width.count)?;
-    let Counted { count: rows, rest } = count(rest)?;
+    let CountFront { count: rows, rest } = count(rest)?;
     if width.count == 0 && rows != 0 {
         return None;
     }

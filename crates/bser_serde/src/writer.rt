@@ -1,7 +1,7 @@
 //! The parts of a value on their way to a message.
 mod serializer;
 
-use crate::failure::Failure;
+use crate::write_error::WriteError;
 use bser_ser::{Parts, PutRefused};
 use serde::{Case, NameKind, Serialize};
 use serde_bser::errors::{Collection, Complaint, Error, Message, Result};
@@ -9,7 +9,7 @@ use serde_bser::ser::{InMemory, Serializer as Puts};
 use std::alloc::Global;
 
 /// What a part of a value came to.
-type Put = std::result::Result<(), Failure>;
+type Put = std::result::Result<(), WriteError>;
 
 /// The most items or entries that a message can count.
 const MOST_COUNTED: usize = i64::MAX as usize;
@@ -56,13 +56,13 @@ pub(crate) struct Writer {
 /// A value has no form in a message, for this reason.
 #[cold]
 #[inline(never)]
-fn refusal(alloc: Global, reason: &str) -> Failure {
+fn refusal(alloc: Global, reason: &str) -> WriteError {
     match String::from_str(alloc, reason) {
         Ok(text) => {
             let msg = Message::Made(text);
-            Failure::of(alloc, Error::SerCustom { msg })
+            WriteError::of(alloc, Error::SerCustom { msg })
         }
-        Err(_) => Failure::MEMORY,
+        Err(_) => WriteError::MEMORY,
     }
 }
 
@@ -71,7 +71,7 @@ fn refusal(alloc: Global, reason: &str) -> Failure {
 fn answered(put: std::result::Result<(), PutRefused>) -> Put {
     match put {
         Ok(()) => Ok(()),
-        Err(PutRefused) => Err(Failure::MEMORY),
+        Err(PutRefused) => Err(WriteError::MEMORY),
     }
 }
 
@@ -111,7 +111,7 @@ impl Writer {
     /// The value that comes is a map or a text, and should not be.
     #[cold]
     #[inline(never)]
-    fn unexpected(&self) -> Failure {
+    fn unexpected(&self) -> WriteError {
         if self.role == Role::Key {
             return refusal(self.alloc, "a key that is no text");
         }
@@ -175,11 +175,11 @@ impl Writer {
         kind: NameKind,
         name: &str,
         case: Case,
-    ) -> std::result::Result<String, Failure> {
+    ) -> std::result::Result<String, WriteError> {
         let mut spelled = String::new(self.alloc);
         match case.append(kind, name, &mut spelled) {
             Ok(()) => Ok(spelled),
-            Err(_) => Err(Failure::MEMORY),
+            Err(_) => Err(WriteError::MEMORY),
         }
     }
 
@@ -199,7 +199,7 @@ impl Writer {
         self.is_counting = !matches!(open, OpenMap::Given);
         match self.open.push(open) {
             Ok(()) => Ok(()),
-            Err(_) => Err(Failure::MEMORY),
+            Err(_) => Err(WriteError::MEMORY),
         }
     }
 
@@ -215,7 +215,7 @@ impl Writer {
     fn begin_counted(&mut self) -> Put {
         let place = self.counts.len();
         if self.counts.push(0).is_err() {
-            return Err(Failure::MEMORY);
+            return Err(WriteError::MEMORY);
         }
         let count = match self.known.get(self.used) {
             Some(count) => *count,
@@ -228,30 +228,30 @@ impl Writer {
     /// A count has no form in a message.
     #[cold]
     #[inline(never)]
-    fn too_many(&self) -> Failure {
-        Failure::of(self.alloc, Error::ser_custom(Complaint::CountTooGreat))
+    fn too_many(&self) -> WriteError {
+        WriteError::of(self.alloc, Error::ser_custom(Complaint::CountTooGreat))
     }
 
     /// An unsigned integer has no form in a message.
     #[cold]
     #[inline(never)]
-    fn too_big(&self, v: u64) -> Failure {
-        Failure::of(self.alloc, Error::SerU64TooBig { v })
+    fn too_big(&self, v: u64) -> WriteError {
+        WriteError::of(self.alloc, Error::SerU64TooBig { v })
     }
 
     /// An integer of 128 bits has no form in a message.
     #[cold]
     #[inline(never)]
-    fn out_of_range(&self) -> Failure {
-        Failure::of(self.alloc, Error::ser_custom(Complaint::IntegerOutOfRange))
+    fn out_of_range(&self) -> WriteError {
+        WriteError::of(self.alloc, Error::ser_custom(Complaint::IntegerOutOfRange))
     }
 
     /// An array does not know how many items it has.
     #[cold]
     #[inline(never)]
-    fn uncounted(&self) -> Failure {
+    fn uncounted(&self) -> WriteError {
         let kind = Collection::Sequence;
-        Failure::of(self.alloc, Error::SerNeedSize { kind })
+        WriteError::of(self.alloc, Error::SerNeedSize { kind })
     }
 }
 

@@ -1,7 +1,7 @@
 //! Errors of a walk, each with where it is.
 use crate::heads::{kind_of, rest, tag_at};
 use crate::misfit::Reason;
-use crate::walk::{Due, ENDED, Walk};
+use crate::walk::{ENDED, NextPart, Walk};
 use bser_bunser::prefix::{Prefix, int_prefix};
 use bser_format::header::BSER_BYTESTRING;
 use serde_bser::describe::Wanted;
@@ -28,24 +28,24 @@ pub struct Unread {
 
 /// Why the message is not read. It is small, since each step answers with one or without.
 #[derive(Drop)]
-pub enum Fault {
+pub enum FormatError {
     Misfit(Box<Unread>),
     Memory,
 }
 
 impl<'m> Walk<'m> {
     /// The error for this reason there.
-    fn misfit(&self, reason: Reason, site: Site) -> Fault {
+    fn misfit(&self, reason: Reason, site: Site) -> FormatError {
         match Box::new(self.alloc, Unread { reason, site }) {
-            Ok(unread) => Fault::Misfit(unread),
-            Err(_) => Fault::Memory,
+            Ok(unread) => FormatError::Misfit(unread),
+            Err(_) => FormatError::Memory,
         }
     }
 
     /// Another kind of value is wanted than the one that comes.
     #[cold]
     #[inline(never)]
-    pub(crate) fn stray(&self, wanted: Wanted) -> Fault {
+    pub(crate) fn stray(&self, wanted: Wanted) -> FormatError {
         let found = kind_of(self.here());
         self.ahead(Reason::WrongType { wanted, found })
     }
@@ -53,12 +53,12 @@ impl<'m> Walk<'m> {
     /// An error about what is read next.
     #[cold]
     #[inline(never)]
-    pub(crate) fn ahead(&self, reason: Reason) -> Fault {
+    pub(crate) fn ahead(&self, reason: Reason) -> FormatError {
         let site = Site {
             place: self.at,
             depth: self.depth(),
             is_inside: true,
-            is_whole: matches!(self.due, Due::Row),
+            is_whole: matches!(self.due, NextPart::Row),
         };
         self.misfit(reason, site)
     }
@@ -67,7 +67,7 @@ impl<'m> Walk<'m> {
     /// nothing was read since the walk went back, it is about what is read next.
     #[cold]
     #[inline(never)]
-    pub(crate) fn behind(&self, reason: Reason) -> Fault {
+    pub(crate) fn behind(&self, reason: Reason) -> FormatError {
         if self.last == ENDED {
             return self.after(reason, self.depth().saturating_add(1));
         }
@@ -86,13 +86,13 @@ impl<'m> Walk<'m> {
     /// An error about the object or the row that was read last.
     #[cold]
     #[inline(never)]
-    pub(crate) fn at_end(&self, reason: Reason) -> Fault {
+    pub(crate) fn at_end(&self, reason: Reason) -> FormatError {
         let closed = usize::from(!self.is_between_rows());
         self.after(reason, self.depth().saturating_add(closed))
     }
 
     /// An error about a container as a whole, which ends here as one of so many.
-    fn after(&self, reason: Reason, depth: usize) -> Fault {
+    fn after(&self, reason: Reason, depth: usize) -> FormatError {
         let site = Site {
             place: self.at,
             depth,
@@ -105,9 +105,9 @@ impl<'m> Walk<'m> {
     /// The value that was read last is none that the type holds.
     #[cold]
     #[inline(never)]
-    pub(crate) fn unheld(&self) -> Fault {
+    pub(crate) fn unheld(&self) -> FormatError {
         let last = match self.due {
-            Due::Value => rest(self.bytes, self.last),
+            NextPart::Value => rest(self.bytes, self.last),
             _ => &[],
         };
         let reason = match int_prefix(last) {

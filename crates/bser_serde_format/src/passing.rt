@@ -1,7 +1,7 @@
 //! Going past what a type does not look at.
 use crate::heads::token_at;
-use crate::table::Table;
-use crate::walk::{Due, ENDED, Walk};
+use crate::table::TemplateParts;
+use crate::walk::{ENDED, NextPart, Walk};
 use bser_bunser::prefix::Token;
 
 impl<'m> Walk<'m> {
@@ -9,16 +9,16 @@ impl<'m> Walk<'m> {
     #[inline(always)]
     pub(crate) fn pass_due(&mut self) {
         match self.due {
-            Due::Value => self.pass_value(),
-            Due::Key(_) => self.due = Due::Value,
-            Due::Row => self.pass_row(),
+            NextPart::Value => self.pass_value(),
+            NextPart::Key(_) => self.due = NextPart::Value,
+            NextPart::Row => self.pass_row(),
         }
     }
 
     /// Goes past a row.
     #[inline(never)]
     fn pass_row(&mut self) {
-        self.due = Due::Value;
+        self.due = NextPart::Value;
         for _ in self.open.first..self.open.end {
             self.pass_value();
         }
@@ -67,7 +67,7 @@ fn end_of(bytes: &[u8], start: usize) -> usize {
             Token::Array { len } => (len, 0),
             Token::Object { len } => (len.saturating_mul(2), 0),
             Token::Str { is_text: _, len } => (0, len),
-            Token::Template => match Table::at(bytes, at) {
+            Token::Template => match TemplateParts::at(bytes, at) {
                 Some(table) => (
                     table.size(),
                     table.fields.saturating_sub(at.saturating_add(len)),

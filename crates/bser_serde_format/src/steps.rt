@@ -1,7 +1,7 @@
 //! The steps to a place of a message.
 use crate::faults::Site;
 use crate::heads::{Span, bytes_of, string_at, token_at};
-use crate::table::Table;
+use crate::table::TemplateParts;
 use bser_bunser::prefix::Token;
 use bser_source::text::as_text;
 use serde_bser::describe::Step;
@@ -25,7 +25,7 @@ enum Container {
 
 /// A container that is open.
 #[derive(Clone, Copy, Drop)]
-struct Level {
+struct PathLevel {
     container: Container,
     /// How many items, keys and values, or fields are not begun yet.
     left: usize,
@@ -36,7 +36,7 @@ struct Level {
 struct Opened<'m> {
     bytes: &'m [u8],
     at: usize,
-    levels: Vec<Level>,
+    levels: Vec<PathLevel>,
 }
 
 impl<'m> Opened<'m> {
@@ -76,13 +76,13 @@ impl<'m> Opened<'m> {
     /// Opens a container whose parts begin at this place.
     fn open(&mut self, container: Container, left: usize, at: usize) -> Result<(), AllocError> {
         self.at = at;
-        self.levels.push(Level { container, left })?;
+        self.levels.push(PathLevel { container, left })?;
         Ok(())
     }
 
     /// Opens the template that comes.
     fn open_template(&mut self) -> Result<(), AllocError> {
-        let Some(table) = Table::at(self.bytes, self.at) else {
+        let Some(table) = TemplateParts::at(self.bytes, self.at) else {
             self.at = self.bytes.len();
             return Ok(());
         };
@@ -123,7 +123,7 @@ impl<'m> Opened<'m> {
 
     /// Goes past the end of the innermost container, or else past what begins in it.
     fn go_on(&mut self) -> Result<(), AllocError> {
-        if let Some(Level { left: 0, .. }) = self.levels.last() {
+        if let Some(PathLevel { left: 0, .. }) = self.levels.last() {
             let _closed = self.levels.pop();
             return Ok(());
         }
@@ -198,7 +198,7 @@ pub fn steps_to(
     let mut steps = Vec::new(alloc);
     let count = opened.levels.len();
     for level in 0..count {
-        if let Some(Level { container, .. }) = opened.levels.get(level) {
+        if let Some(PathLevel { container, .. }) = opened.levels.get(level) {
             let is_last = level.saturating_add(1) == count;
             opened.put(alloc, *container, is_last && site.is_whole, &mut steps)?;
         }

@@ -3,7 +3,7 @@ use crate::heads::{count_at, string_at};
 
 /// Where the parts of a template stand.
 #[derive(Clone, Copy, Drop)]
-pub(crate) struct Table {
+pub(crate) struct TemplateParts {
     /// How many bytes of the message stand before its first key.
     pub(crate) keys: usize,
     /// How many keys it has.
@@ -14,16 +14,16 @@ pub(crate) struct Table {
     pub(crate) fields: usize,
 }
 
-impl Table {
+impl TemplateParts {
     /// The table of the template that begins at this place.
-    pub(crate) fn at(bytes: &[u8], at: usize) -> Option<Table> {
+    pub(crate) fn at(bytes: &[u8], at: usize) -> Option<TemplateParts> {
         let keys = count_at(bytes, at.saturating_add(2))?;
         let mut end = keys.end;
         for _ in 0..keys.count {
             end = string_at(bytes, end)?.end;
         }
         let rows = count_at(bytes, end)?;
-        Some(Table {
+        Some(TemplateParts {
             keys: keys.end,
             len: keys.count,
             rows: rows.count,

@@ -1,8 +1,8 @@
 //! A walk over a well-formed message.
-use crate::faults::Fault;
+use crate::faults::FormatError;
 use crate::heads::{Span, bytes_of, count_at, rest, string_at, tag_at, token_at};
 use crate::misfit::Reason;
-use crate::table::Table;
+use crate::table::TemplateParts;
 use bser_bunser::prefix::{Prefix, Token, int_prefix};
 use bser_format::header::{BSER_ARRAY, BSER_OBJECT, BSER_TEMPLATE, BSER_UTF8STRING};
 use bser_source::text::as_text;
@@ -37,7 +37,7 @@ pub(crate) struct Open {
 
 /// What is read next.
 #[derive(Clone, Copy, Drop)]
-pub(crate) enum Due {
+pub(crate) enum NextPart {
     /// The value that comes next.
     Value,
     /// The row whose fields come next.
@@ -48,9 +48,9 @@ pub(crate) enum Due {
 
 /// A place to come back to.
 #[derive(Clone, Copy, Drop)]
-pub struct Mark {
+pub struct Rewind {
     at: usize,
-    due: Due,
+    due: NextPart,
     open: Open,
     outer: usize,
     keys: usize,
@@ -72,7 +72,7 @@ pub struct Walk<'m> {
     pub(crate) at: usize,
     /// How many stand before what was read last, or [`ENDED`].
     pub(crate) last: usize,
-    pub(crate) due: Due,
+    pub(crate) due: NextPart,
     /// The innermost container that is open.
     pub(crate) open: Open,
     /// Those around it, and one around the message.
@@ -89,7 +89,7 @@ impl<'m> Walk<'m> {
             bytes,
             at: start,
             last: start,
-            due: Due::Value,
+            due: NextPart::Value,
             open: Open {
                 form: Form::Parts,
                 left: 0,
@@ -111,9 +111,9 @@ impl<'m> Walk<'m> {
     #[inline(always)]
     pub(crate) fn here(&self) -> u8 {
         match self.due {
-            Due::Value => tag_at(self.bytes, self.at),
-            Due::Row => BSER_OBJECT,
-            Due::Key(_) => BSER_UTF8STRING,
+            NextPart::Value => tag_at(self.bytes, self.at),
+            NextPart::Row => BSER_OBJECT,
+            NextPart::Key(_) => BSER_UTF8STRING,
         }
     }
 
@@ -121,7 +121,7 @@ impl<'m> Walk<'m> {
     #[inline(never)]
     pub(crate) fn token(&self) -> Option<(Token, usize)> {
         match self.due {
-            Due::Value => token_at(self.bytes, self.at),
+            NextPart::Value => token_at(self.bytes, self.at),
             _ => None,
         }
     }
@@ -141,8 +141,8 @@ impl<'m> Walk<'m> {
 
     /// The integer that comes.
     #[inline(always)]
-    pub(crate) fn integer(&mut self) -> Result<i64, Fault> {
-        if let Due::Value = self.due {
+    pub(crate) fn integer(&mut self) -> Result<i64, FormatError> {
+        if let NextPart::Value = self.due {
             if let Prefix::Found { value, len } = int_prefix(rest(self.bytes, self.at)) {
                 self.pass(len);
                 return Ok(value);
@@ -153,18 +153,18 @@ impl<'m> Walk<'m> {
 
     /// Where the string or the key is that comes.
     #[inline(always)]
-    pub(crate) fn string_span(&mut self) -> Result<Span, Fault> {
+    pub(crate) fn string_span(&mut self) -> Result<Span, FormatError> {
         match self.due {
-            Due::Value => match string_at(self.bytes, self.at) {
+            NextPart::Value => match string_at(self.bytes, self.at) {
                 Some(span) => {
                     self.pass_to(span.end);
                     Ok(span)
                 }
                 None => Err(self.stray(Wanted::Text)),
             },
-            Due::Row => Err(self.stray(Wanted::Text)),
-            Due::Key(span) => {
-                self.due = Due::Value;
+            NextPart::Row => Err(self.stray(Wanted::Text)),
+            NextPart::Key(span) => {
+                self.due = NextPart::Value;
                 Ok(span)
             }
         }
@@ -172,14 +172,14 @@ impl<'m> Walk<'m> {
 
     /// The bytes that come, as a string or a key.
     #[inline(always)]
-    pub(crate) fn string_bytes(&mut self) -> Result<&'m [u8], Fault> {
+    pub(crate) fn string_bytes(&mut self) -> Result<&'m [u8], FormatError> {
         let span = self.string_span()?;
         Ok(bytes_of(self.bytes, span))
     }
 
     /// The text that comes.
     #[inline(always)]
-    pub(crate) fn text(&mut self) -> Result<&'m str, Fault> {
+    pub(crate) fn text(&mut self) -> Result<&'m str, FormatError> {
         match as_text(self.string_bytes()?) {
             Some(text) => Ok(text),
             None => Err(self.behind(Reason::NotUtf8)),
@@ -194,19 +194,19 @@ impl<'m> Walk<'m> {
 
     /// Opens a container.
     #[inline(always)]
-    fn enter(&mut self, open: Open) -> Result<(), Fault> {
+    fn enter(&mut self, open: Open) -> Result<(), FormatError> {
         match self.outer.push(self.open) {
             Ok(()) => {
                 self.open = open;
                 Ok(())
             }
-            Err(_) => Err(Fault::Memory),
+            Err(_) => Err(FormatError::Memory),
         }
     }
 
     /// Opens the array or the object that comes.
     #[inline(always)]
-    fn enter_parts(&mut self) -> Result<(), Fault> {
+    fn enter_parts(&mut self) -> Result<(), FormatError> {
         let (left, end) = match count_at(self.bytes, self.at.saturating_add(1)) {
             Some(count) => (count.count, count.end),
             None => (0, self.bytes.len()),
@@ -224,7 +224,7 @@ impl<'m> Walk<'m> {
 
     /// Begins an array, or a template.
     #[inline(always)]
-    pub(crate) fn open_array(&mut self) -> Result<(), Fault> {
+    pub(crate) fn open_array(&mut self) -> Result<(), FormatError> {
         match self.here() {
             BSER_ARRAY => self.enter_parts(),
             BSER_TEMPLATE => self.enter_rows(),
@@ -234,8 +234,8 @@ impl<'m> Walk<'m> {
 
     /// Opens the template that comes.
     #[inline(never)]
-    fn enter_rows(&mut self) -> Result<(), Fault> {
-        let Some(table) = Table::at(self.bytes, self.at) else {
+    fn enter_rows(&mut self) -> Result<(), FormatError> {
+        let Some(table) = TemplateParts::at(self.bytes, self.at) else {
             return Err(self.stray(Wanted::Array));
         };
         let first = self.keys.len();
@@ -245,7 +245,7 @@ impl<'m> Walk<'m> {
                 at = span.end;
                 let text = self.key(span);
                 if self.keys.push(RowKey { span, text }).is_err() {
-                    return Err(Fault::Memory);
+                    return Err(FormatError::Memory);
                 }
             }
         }
@@ -269,7 +269,7 @@ impl<'m> Walk<'m> {
         }
         self.open.left = self.open.left.saturating_sub(1);
         if let Form::Rows = self.open.form {
-            self.due = Due::Row;
+            self.due = NextPart::Row;
         }
         true
     }
@@ -291,9 +291,9 @@ impl<'m> Walk<'m> {
 
     /// Begins an object, or a row.
     #[inline(always)]
-    pub(crate) fn open_object(&mut self) -> Result<(), Fault> {
-        if let Due::Row = self.due {
-            self.due = Due::Value;
+    pub(crate) fn open_object(&mut self) -> Result<(), FormatError> {
+        if let NextPart::Row = self.due {
+            self.due = NextPart::Value;
             self.open.form = Form::Row;
             self.open.next = self.open.first;
             return Ok(());
@@ -351,7 +351,7 @@ impl<'m> Walk<'m> {
         };
         match span {
             Some(span) => {
-                self.due = Due::Key(span);
+                self.due = NextPart::Key(span);
                 true
             }
             None => false,
@@ -359,8 +359,8 @@ impl<'m> Walk<'m> {
     }
 
     /// A place to come back to, before the value that is read next.
-    pub(crate) fn place(&self) -> Mark {
-        Mark {
+    pub(crate) fn place(&self) -> Rewind {
+        Rewind {
             at: self.at,
             due: self.due,
             open: self.open,
@@ -370,7 +370,7 @@ impl<'m> Walk<'m> {
     }
 
     /// Goes back there. What was open there still is, and nothing was read last.
-    pub(crate) fn go_back(&mut self, mark: Mark) {
+    pub(crate) fn go_back(&mut self, mark: Rewind) {
         self.at = mark.at;
         self.last = mark.at;
         self.due = mark.due;

@@ -8,7 +8,7 @@ ghost use Rattle.bser_value.specs.Direct.{ReadsValue, ReadsRest, ReadsArray, Rea
 use crate::building::put_entry;
 use crate::value::Value;
 use bser_bunser::prefix::{Prefix, Token, token_prefix};
-use bser_events::fronts::{Counted, Taken, count, key, keys, text};
+use bser_events::fronts::{CountFront, Taken, count, key, keys, text};
 use bser_format::bytestring::ByteString;
 use bser_format::header::{BSER_ARRAY, BSER_SKIP};
 use std::alloc::{AllocError, Global};
@@ -41,11 +41,11 @@ impl Inner for Innermost {
 }
 
 /// Reads containers whose parts `I` reads.
-pub(crate) struct Level<I: Inner> {
+pub(crate) struct ContainersOf<I: Inner> {
     inner: PhantomData<I>,
 }
 
-impl<I: Inner> Inner for Level<I> {
+impl<I: Inner> Inner for ContainersOf<I> {
     #[inline(never)]
     fn container(alloc: Global, token: Token, bytes: &[u8], levels: usize) -> Option<Read<'_>> {
         if levels == 0 {
@@ -61,7 +61,7 @@ impl<I: Inner> Inner for Level<I> {
 }
 
 /// Reads the containers of four levels.
-pub(crate) type FourLevels = Level<Level<Level<Level<Innermost>>>>;
+pub(crate) type FourLevels = ContainersOf<ContainersOf<ContainersOf<ContainersOf<Innermost>>>>;
 
 /// The value that these bytes begin with, whose container `I` reads, and what follows it. None says
 /// nothing of the bytes.
@@ -188,12 +188,12 @@ fn template<I: Inner>(alloc: Global, bytes: &[u8], levels: usize) -> Option<Read
     if levels == 0 || bytes.is_empty() || bytes[0] != BSER_ARRAY {
         return None;
     }
-    let Counted {
+    let CountFront {
         count: width,
         rest: names,
     } = count(&bytes[1..])?;
     let after = keys(names, width)?;
-    let Counted {
+    let CountFront {
         count: height,
         rest,
     } = count(after)?;

@@ -15,16 +15,16 @@ use Rattle.bser_vectors.specs.declared.enums.TestEnum.{TestEnum}
 use Rattle.bser_vectors.specs.declared.enums.TestEnum.TheVariants.{TestUnit, TestNewtype, TestTuple, TestStruct}
 
 -- an object with two fields
-abbrev pub reads_parts : Meaning → Meaning
-reads_parts S = reads_struct (codes "abc" ∷ codes "def" ∷ []) (required S ∷ required S ∷ [])
+abbrev pub reads_test_struct : Meaning → Meaning
+reads_test_struct S = reads_struct (codes "abc" ∷ codes "def" ∷ []) (required S ∷ required S ∷ [])
 
-abbrev pub asking_parts : {S : Meaning} → Option (Asking S) → Option (Asking (reads_parts S))
-asking_parts {S = S} a =
+abbrev pub asking_test_struct : {S : Meaning} → Option (Asking S) → Option (Asking (reads_test_struct S))
+asking_test_struct {S = S} a =
     asking_struct (codes "abc" ∷ codes "def" ∷ []) (required S ∷ required S ∷ []) (a, (a, tt))
 
 -- the names of the variants, each with its payload: none, one value, two values, and an object with two fields
 abbrev pub test_variants : Meaning → List (List ℕ × Payload)
-test_variants S = (codes "TestUnit", unit) ∷ (codes "TestNewtype", holds S) ∷ (codes "TestTuple", holds (reads_tuple (S ∷ S ∷ []))) ∷ (codes "TestStruct", holds (reads_parts S)) ∷ []
+test_variants S = (codes "TestUnit", unit) ∷ (codes "TestNewtype", holds S) ∷ (codes "TestTuple", holds (reads_tuple (S ∷ S ∷ []))) ∷ (codes "TestStruct", holds (reads_test_struct S)) ∷ []
 
 -- one of these variants
 abbrev pub reads_test_enum : Meaning → Meaning
@@ -32,7 +32,7 @@ reads_test_enum S = reads_enum (test_variants S)
 
 -- what each payload asks for, where its parts tell of names
 abbrev pub test_askings : {S : Meaning} → Option (Asking S) → VariantAskings (test_variants S)
-test_askings {S = S} a = (tt, (a, (asking_tuple (S ∷ S ∷ []) (a, (a, tt)), (asking_parts a, tt))))
+test_askings {S = S} a = (tt, (a, (asking_tuple (S ∷ S ∷ []) (a, (a, tt)), (asking_test_struct a, tt))))
 
 abbrev pub asking_test_enum : {S : Meaning} → Option (Asking S) → Option (Asking (reads_test_enum S))
 asking_test_enum {S = S} a = asking_enum (codes "TestEnum") (test_variants S) (test_askings a)

@@ -41,7 +41,7 @@ impl Plan {
         }
     }
 
-    /// The same up to `bytes` bytes, and then `then`.
+    /// So up to `bytes` bytes, and then `then`.
     pub fn up_to(self, bytes: usize, then: Then) -> Self {
         Plan {
             most: self.most,
@@ -79,9 +79,11 @@ impl Plan {
 /// Gives the bytes of a slice by a plan.
 #[derive(Drop)]
 pub struct PlannedReader<'a> {
-    left: &'a [u8],
+    /// The bytes that were not given.
+    pub left: &'a [u8],
+    /// How often it was asked.
+    pub calls: u64,
     plan: Plan,
-    calls: u64,
 }
 
 impl<'a> PlannedReader<'a> {
@@ -92,16 +94,6 @@ impl<'a> PlannedReader<'a> {
             plan,
             calls: 0,
         }
-    }
-
-    /// The bytes that were not given.
-    pub fn left(&self) -> &'a [u8] {
-        self.left
-    }
-
-    /// How often it was asked.
-    pub fn calls(&self) -> u64 {
-        self.calls
     }
 }
 
@@ -119,7 +111,8 @@ impl<'a> Read for PlannedReader<'a> {
 /// Takes bytes by a plan, and keeps them.
 #[derive(Drop)]
 pub struct PlannedWriter {
-    taken: Vec<u8>,
+    /// The bytes that were taken.
+    pub taken: Vec<u8>,
     plan: Plan,
 }
 
@@ -130,16 +123,6 @@ impl PlannedWriter {
             taken: Vec::new(alloc),
             plan,
         }
-    }
-
-    /// The bytes that were taken.
-    pub fn taken(&self) -> &[u8] {
-        self.taken.as_slice()
-    }
-
-    /// The bytes that were taken, for their owner.
-    pub fn into_taken(self) -> Vec<u8> {
-        self.taken
     }
 }
 

@@ -4,7 +4,7 @@ ghost use Rattle.std.specs.Prelude.{false, ◌||◌, [], ◌∷◌, None};
 ghost use Rattle.std.proofs.Common.{ap};
 ghost use Rattle.bser_deserializer.specs.HoldsLists.{HoldsTuple};
 ghost use Rattle.bser_types.specs.Slots.{struct_needs};
-ghost use Rattle.bser_vectors.specs.Enums.{reads_parts, asking_parts, reads_test_enum, HoldsTestEnum, asking_test_enum, reads_enum_row, HoldsEnumRow, asking_enum_row};
+ghost use Rattle.bser_vectors.specs.Enums.{reads_test_struct, asking_test_struct, reads_test_enum, HoldsTestEnum, asking_test_enum, reads_enum_row, HoldsEnumRow, asking_enum_row};
 
 use bser_bunser::refusal::Answer;
 use bser_deserializer::deserializer::Deserializer;
@@ -17,7 +17,7 @@ use bser_types::deserialize::{Deserialize, OwnedShape, Shape};
 use std::alloc::Global;
 
 /// A variant of each form.
-#[derive(Debug, PartialEq, Eq, Drop)]
+#[derive(Debug, PartialEq, Eq, Drop, serde::Serialize, serde::Deserialize)]
 pub enum TestEnum<S> {
     TestUnit,
     TestNewtype(S),
@@ -60,7 +60,9 @@ impl<L: LendsText, S: Deserialize<L>> Deserialize<L> for TestEnum<S> {
                 Ok(TestEnum::TestTuple(first, second))
             }
             _ => {
-                let Parts { abc, def } = variant.newtype_variant::<Parts<S>>(alloc)?;
+                let TestStructFields { abc, def } = variant.newtype_variant::<TestStructFields<S>>(
+                    alloc,
+                )?;
                 Ok(TestEnum::TestStruct { abc, def })
             }
         }
@@ -73,38 +75,38 @@ impl<S: OwnedShape> OwnedShape for TestEnum<S> {
 
 /// What `TestStruct` holds.
 #[derive(Drop)]
-struct Parts<S> {
+struct TestStructFields<S> {
     abc: S,
     def: S,
 }
 
-impl<S: Shape> Shape for Parts<S> {
-    ghost reads = { reads_parts S.reads };
+impl<S: Shape> Shape for TestStructFields<S> {
+    ghost reads = { reads_test_struct S.reads };
 
     ghost holds = { λ v c. HoldsTuple (S.holds v.abc ∷ S.holds v.def ∷ []) c };
 
     ghost needs = { struct_needs (S.needs ∷ S.needs ∷ []) };
 
-    ghost asks = { asking_parts S.asks };
+    ghost asks = { asking_test_struct S.asks };
 
     ghost plain = { None };
 }
 
-impl<L: LendsText, S: Deserialize<L>> Deserialize<L> for Parts<S> {
+impl<L: LendsText, S: Deserialize<L>> Deserialize<L> for TestStructFields<S> {
     fn deserialize<R: DeRead<Lent = L>>(
         alloc: Global,
         from: &mut Deserializer<R>,
-    ) -> Answer<Parts<S>> {
+    ) -> Answer<TestStructFields<S>> {
         let (abc, (def, ())) = from.read_fields::<(Required<S>, (Required<S>, ()))>(
             alloc,
             &["abc", "def"],
         )?;
-        Ok(Parts { abc, def })
+        Ok(TestStructFields { abc, def })
     }
 }
 
 /// A row with one field, an enum.
-#[derive(Drop)]
+#[derive(Drop, serde::Serialize, serde::Deserialize)]
 pub struct EnumRow<S> {
     pub abc: TestEnum<S>,
 }

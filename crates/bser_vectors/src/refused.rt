@@ -1,4 +1,4 @@
-//! Messages that are refused, and what has to be told of each.
+//! Messages that are refused, and how each has to be described.
 use crate::columns::columns;
 use hex::FromHexError;
 use std::alloc::Global;
@@ -17,7 +17,7 @@ pub struct RefusedMessage<'a> {
     pub field: &'a str,
     first: usize,
     last: usize,
-    /// The path that has to be told.
+    /// The path that has to be named.
     pub path: &'a str,
 }
 
@@ -37,8 +37,8 @@ impl<'a> RefusedMessage<'a> {
         })
     }
 
-    /// Whether the text has the words that have to be told, and the place is one that may be.
-    pub fn is_told(&self, text: &str, place: usize) -> bool {
+    /// Whether the text has the words that it has to have, and the place is one that may be.
+    pub fn is_described(&self, text: &str, place: usize) -> bool {
         has_words(text, self.words) && self.first <= place && place <= self.last
     }
 }

@@ -1,4 +1,4 @@
-//! The messages of a recorded session, as a list tells of them.
+//! The messages of a recorded session, as a list has them.
 use crate::columns::columns;
 use std::alloc::{AllocError, Global};
 
@@ -15,14 +15,14 @@ pub struct SentMessage {
     pub end: usize,
     /// Whether nobody asked for it.
     pub is_unsolicited: bool,
-    /// Whether it tells files.
-    pub tells_files: bool,
+    /// Whether it lists files.
+    pub lists_files: bool,
 }
 
 impl SentMessage {
     /// Takes a line apart at its tabs. What is no number is 0.
     fn parse(line: &str) -> Self {
-        let [number, connection, start, len, kind, tells, ..] = columns(line, "\t");
+        let [number, connection, start, len, kind, lists, ..] = columns(line, "\t");
         let start: usize = start.parse().unwrap_or(0);
         SentMessage {
             number: number.parse().unwrap_or(0),
@@ -30,7 +30,7 @@ impl SentMessage {
             start,
             end: start.saturating_add(len.parse().unwrap_or(0)),
             is_unsolicited: kind == "unsolicited",
-            tells_files: tells == "files",
+            lists_files: lists == "files",
         }
     }
 

@@ -16,7 +16,7 @@ use bser_types::deserialize::{Deserialize, OwnedShape, Shape};
 use std::alloc::Global;
 
 /// A file's name and size.
-#[derive(Debug, PartialEq, Eq, Drop)]
+#[derive(Debug, PartialEq, Eq, Drop, serde::Serialize, serde::Deserialize)]
 pub struct FileInfo<S> {
     pub name: S,
     pub size: u32,
@@ -52,7 +52,7 @@ impl<S: OwnedShape> OwnedShape for FileInfo<S> {
 }
 
 /// The files of an answer.
-#[derive(Debug, PartialEq, Eq, Drop)]
+#[derive(Debug, PartialEq, Eq, Drop, serde::Serialize, serde::Deserialize)]
 pub struct Files<S> {
     pub files: Vec<FileInfo<S>>,
 }
@@ -84,7 +84,7 @@ impl<S: OwnedShape> OwnedShape for Files<S> {
 }
 
 /// A row of the worked template: a number, and a text and a number that may be absent.
-#[derive(Debug, PartialEq, Eq, Drop)]
+#[derive(Debug, PartialEq, Eq, Drop, serde::Serialize, serde::Deserialize)]
 pub struct TemplateRow<S> {
     pub abc: i32,
     pub def: Option<S>,

@@ -17,7 +17,7 @@ pub struct Witness<'m> {
     pub taken: usize,
     /// Where the last event ended.
     pub end: usize,
-    /// Whether each event began with its tag where the last one ended, and each string stood right
+    /// Whether each event began with its tag where the last one ended, and each string was right
     /// before its end.
     pub in_place: bool,
 }
@@ -34,30 +34,18 @@ impl<'m> Witness<'m> {
         }
     }
 
-    /// Whether these bytes stand right before this place.
-    fn has_before(&self, string: &[u8], end: usize) -> bool {
-        match self.message.get(end.saturating_sub(string.len())..end) {
-            Some(bytes) => bytes == string,
-            None => false,
-        }
-    }
-
-    /// Whether the event's tag is at the start of the place.
-    fn has_tag(&self, event: Event<'_>, place: Place) -> bool {
-        match self.message.get(place.start) {
-            Some(tag) => is_tag(event, place.is_text, *tag),
-            None => false,
-        }
-    }
-
-    /// Whether the event stands at this place.
+    /// Whether the event is at this place: its tag at the start, right behind the last event, and its
+    /// string right before the end.
     fn is_at(&self, event: Event<'_>, place: Place) -> bool {
-        let stands = match event {
-            Event::Close => place.start == place.end,
-            _ => place.start < place.end && self.has_tag(event, place),
+        let has_tag = match (event, self.message.get(place.start)) {
+            (Event::Close, _) => place.start == place.end,
+            (_, Some(tag)) => place.start < place.end && is_tag(event, place.is_text, *tag),
+            (_, None) => false,
         };
         let follows = self.taken == 0 || place.start == self.end;
-        stands && follows && self.has_before(string_of(event), place.end)
+        let string = string_of(event);
+        let start = place.end.saturating_sub(string.len());
+        has_tag && follows && self.message.get(start..place.end) == Some(string)
     }
 }
 

@@ -64,16 +64,16 @@ fn announced(alloc: Global, header: [u8; MOST_HEADER], given: usize, bytes: &[u8
 /// A reader of one message. Where its end is announced, no byte behind that end is taken, and it
 /// answers 0 there, as at the end of the input.
 #[derive(Drop)]
-pub(crate) struct Frame<S> {
+pub(crate) struct MessageReader<S> {
     alloc: Global,
     inner: S,
     end: End,
 }
 
-impl<S> Frame<S> {
+impl<S> MessageReader<S> {
     /// Gives the message that `inner` gives next, up to this end.
     pub(crate) fn new(alloc: Global, inner: S, end: End) -> Self {
-        Frame { alloc, inner, end }
+        MessageReader { alloc, inner, end }
     }
 
     /// Whether it was given up to the end that is announced.
@@ -89,7 +89,7 @@ impl<S> Frame<S> {
     }
 }
 
-impl<S: Source> Source for Frame<S> {
+impl<S: Source> Source for MessageReader<S> {
     ghost use Rattle.std.specs.Prelude.{None};
 
     ghost remaining = { λ _. None };

@@ -4,20 +4,16 @@
 //! those of a reader and reports what is malformed.
 #![tactic(auto)]
 
-pub mod beside;
-pub mod counted;
 mod counts;
 mod flushing;
 mod frame;
+pub mod input_error;
 pub mod lack;
 pub mod messages;
 mod open;
 mod parts;
+pub mod print_error;
 pub mod quoted;
-pub mod reports;
-pub mod screen;
 pub mod summary;
 mod tally;
 pub mod tree;
-pub mod trouble;
-pub mod unread;

@@ -1,63 +1,57 @@
 //! The messages of a reader, shown one after the other.
 
-use crate::counted::Counted;
-use crate::frame::{End, Frame};
+use crate::frame::{End, MessageReader};
+use crate::input_error::{InputError, folder_fault, is_first_version};
 use crate::lack::Lack;
-use crate::reports::Reports;
-use crate::trouble::Trouble;
-use crate::unread::{Unread, folder_fault, is_first_version};
+use crate::print_error::PrintError;
 use bser_format::errors::{Error, ReadCause};
-use bser_messages::told::{Header, Reason, Untold};
+use bser_messages::told::{Header, Reason, TellError};
+use bser_shell::counted::CountedInput;
+use bser_shell::reports::Reports;
 use bser_source::device::Source;
 use std::alloc::{AllocError, Global};
 use std::io;
 use std::io::Write;
 
 /// Why a message was not shown whole.
-#[derive(Debug, Drop)]
+#[derive(Debug, Drop, thiserror::Error)]
 pub enum ViewError {
     /// The message, the memory or the reader failed.
-    Untold(Untold),
+    #[error("{0}")]
+    Tell(TellError),
     /// A part of the message runs past the end that its header announces.
+    #[error("{} bytes announced, and more wanted, at byte {}", .header.len, .header.message_length())]
     Overrun {
         /// What the header tells.
         header: Header,
         /// Why the message was not told whole.
-        untold: Untold,
+        untold: TellError,
     },
     /// The message was taken, and cannot be written again.
+    #[error("{0}")]
     Unwritten(Error),
     /// The message was taken, and lacks what it was asked for.
+    #[error("{0}")]
     Lacking(Lack),
     /// The message was taken, and there is no memory for what is to be shown of it.
-    Memory,
+    #[error("out of memory")]
+    Memory(#[from(alloc)] AllocError),
     /// The output failed.
-    Output(io::Error),
+    #[error("the output failed: {0}")]
+    Output(#[from] io::Error),
 }
 
-impl From<io::Error> for ViewError {
-    fn from(fault: io::Error) -> Self {
-        ViewError::Output(fault)
+impl From<TellError> for ViewError {
+    fn from(untold: TellError) -> Self {
+        ViewError::Tell(untold)
     }
 }
 
-impl From<Untold> for ViewError {
-    fn from(untold: Untold) -> Self {
-        ViewError::Untold(untold)
-    }
-}
-
-impl From<AllocError> for ViewError {
-    fn from(_error: AllocError) -> Self {
-        ViewError::Memory
-    }
-}
-
-impl From<Trouble> for ViewError {
-    fn from(trouble: Trouble) -> Self {
+impl From<PrintError> for ViewError {
+    fn from(trouble: PrintError) -> Self {
         match trouble {
-            Trouble::Memory => ViewError::Memory,
-            Trouble::Output(fault) => ViewError::Output(fault),
+            PrintError::Memory(error) => ViewError::Memory(error),
+            PrintError::Output(fault) => ViewError::Output(fault),
         }
     }
 }
@@ -76,23 +70,14 @@ pub trait View {
 }
 
 /// Where messages come from, and what is done after one that fails.
-#[derive(Debug, Clone, Copy)]
-pub struct Input<'a> {
+#[derive(Drop)]
+pub struct Input<'a, S> {
     /// The name of the input, in reports.
     pub name: &'a str,
     /// Whether the messages behind one that fails are shown too.
     pub keeps_going: bool,
-}
-
-impl Input<'_> {
-    /// Where the reader of a message ends.
-    fn end(&self) -> End {
-        if self.keeps_going {
-            End::ANNOUNCED
-        } else {
-            End::OfInput
-        }
-    }
+    /// What they are read from.
+    pub reader: S,
 }
 
 /// Shows the messages of the reader, and tells whether each was shown whole.
@@ -102,26 +87,31 @@ impl Input<'_> {
 /// then the next message is shown, and no byte behind that end is read of this one. An input without
 /// any byte has a line too, and is not shown whole. The output has all of a message before the next
 /// is read. The error is that of the output.
-pub fn show_messages<S: Source, V: View, W: Write, E: Write>(
+pub fn show_messages<S: Source + Drop, V: View, W: Write, E: Write>(
     alloc: Global,
-    input: Input<'_>,
-    reader: &mut S,
+    input: Input<'_, S>,
     view: &mut V,
     out: &mut W,
     reports: &mut Reports<'_, E>,
 ) -> io::Result<bool> {
-    let mut counted = Counted::new(reader, reports);
+    let Input {
+        name,
+        keeps_going,
+        reader,
+    } = input;
+    let mut counted = CountedInput::new(reader, reports);
+    let end = end_of(keeps_going);
     let mut whole = true;
     for _ in 0..u64::MAX {
         out.flush()?;
         let start = counted.given();
-        let mut frame = Frame::new(alloc, &mut counted, input.end());
+        let mut frame = MessageReader::new(alloc, &mut counted, end);
         let shown = view.show_next(alloc, start, &mut frame, out);
         let has_ended = frame.has_ended();
         match shown {
             Ok(true) => counted.reports().count_message(),
             Ok(false) if start == 0 => {
-                let _written = report_unread(input.name, Unread::Empty, counted.reports());
+                let _written = report_unread(name, InputError::Empty, counted.reports());
                 return Ok(false);
             }
             Ok(false) => return Ok(whole),
@@ -130,8 +120,8 @@ pub fn show_messages<S: Source, V: View, W: Write, E: Write>(
                 whole = false;
                 out.flush()?;
                 let failure = past_end(failure, has_ended);
-                report(input.name, start, &failure, counted.reports());
-                if !input.keeps_going || !goes_on(alloc, input.name, &failure, &mut counted) {
+                report(name, start, &failure, counted.reports());
+                if !keeps_going || !goes_on(alloc, name, &failure, &mut counted) {
                     return Ok(false);
                 }
             }
@@ -140,14 +130,23 @@ pub fn show_messages<S: Source, V: View, W: Write, E: Write>(
     Ok(whole)
 }
 
+/// Where the reader of a message ends.
+fn end_of(keeps_going: bool) -> End {
+    if keeps_going {
+        End::ANNOUNCED
+    } else {
+        End::OfInput
+    }
+}
+
 /// The failure of a message whose reader ended where its header announces, or did not end.
 fn past_end(failure: ViewError, has_ended: bool) -> ViewError {
     match failure {
-        ViewError::Untold(untold) => match untold.header {
+        ViewError::Tell(untold) => match untold.header {
             Some(header) if has_ended && is_of_reader(&untold) => {
                 ViewError::Overrun { header, untold }
             }
-            _ => ViewError::Untold(untold),
+            _ => ViewError::Tell(untold),
         },
         other => other,
     }
@@ -156,28 +155,11 @@ fn past_end(failure: ViewError, has_ended: bool) -> ViewError {
 /// Writes a line on a message that begins at byte `start`, and was not shown whole.
 fn report<E: Write>(name: &str, start: u64, failure: &ViewError, errors: &mut E) {
     let _written = match failure {
-        ViewError::Untold(untold) => report_untold(name, start, untold, errors),
-        ViewError::Overrun { header, .. } => {
-            let (len, end) = (header.len, header.message_length());
-            writeln!(
-                errors,
-                "bser: {name}: the message at {start}: {len} bytes announced, and more wanted, \
-                 at byte {end}"
-            )
-        }
-        ViewError::Unwritten(error) => {
-            writeln!(errors, "bser: {name}: the message at {start}: {error}")
-        }
+        ViewError::Tell(untold) => report_untold(name, start, untold, errors),
         ViewError::Lacking(lack) => {
             writeln!(errors, "bser: {name}: the message at {start} has {lack}")
         }
-        ViewError::Memory => {
-            writeln!(
-                errors,
-                "bser: {name}: the message at {start}: out of memory"
-            )
-        }
-        ViewError::Output(fault) => writeln!(errors, "bser: the output failed: {fault}"),
+        other => writeln!(errors, "bser: {name}: the message at {start}: {other}"),
     };
 }
 
@@ -185,11 +167,11 @@ fn report<E: Write>(name: &str, start: u64, failure: &ViewError, errors: &mut E)
 fn report_untold<E: Write>(
     name: &str,
     start: u64,
-    untold: &Untold,
+    untold: &TellError,
     errors: &mut E,
 ) -> io::Result<()> {
     if let Some(fault) = folder_fault(untold) {
-        return report_unread(name, Unread::Fault(fault), errors);
+        return report_unread(name, InputError::Fault(fault), errors);
     }
     write!(errors, "bser: {name}: the message at {start}: {untold}")?;
     if is_first_version(untold) {
@@ -199,7 +181,11 @@ fn report_untold<E: Write>(
 }
 
 /// Writes a line on an input that is not read.
-pub fn report_unread<E: Write>(name: &str, unread: Unread<'_>, errors: &mut E) -> io::Result<()> {
+pub fn report_unread<E: Write>(
+    name: &str,
+    unread: InputError<'_>,
+    errors: &mut E,
+) -> io::Result<()> {
     writeln!(errors, "bser: {name}: {unread}")
 }
 
@@ -209,12 +195,12 @@ fn goes_on<S: Source, E: Write>(
     alloc: Global,
     name: &str,
     failure: &ViewError,
-    counted: &mut Counted<'_, '_, S, E>,
+    counted: &mut CountedInput<'_, '_, S, E>,
 ) -> bool {
     let untold = match failure {
-        ViewError::Untold(untold) if !is_of_reader(untold) => untold,
+        ViewError::Tell(untold) if !is_of_reader(untold) => untold,
         ViewError::Overrun { untold, .. } => untold,
-        ViewError::Lacking(_) | ViewError::Memory | ViewError::Unwritten(_) => return true,
+        ViewError::Lacking(_) | ViewError::Memory(_) | ViewError::Unwritten(_) => return true,
         _ => return false,
     };
     let why = match untold.skip_rest(alloc, counted) {
@@ -227,7 +213,7 @@ fn goes_on<S: Source, E: Write>(
 }
 
 /// Whether the reader ended or failed.
-fn is_of_reader(untold: &Untold) -> bool {
+fn is_of_reader(untold: &TellError) -> bool {
     let Reason::Failed(description) = &untold.reason else {
         return false;
     };

@@ -8,7 +8,7 @@ use std::io::Write;
 
 /// A container that is open.
 #[derive(Drop)]
-pub(crate) enum Open {
+pub(crate) enum OpenView {
     /// An array, of which so many items were begun.
     Array {
         begun: usize,
@@ -19,7 +19,7 @@ pub(crate) enum Open {
     /// rows are told.
     Template {
         keys: Vec<String>,
-        next: Option<Field>,
+        next: Option<RowLabel>,
     },
 }
 
@@ -31,7 +31,7 @@ const LABEL: usize = 25;
 
 /// A field of a template's rows, by its row and its column.
 #[derive(Clone, Copy)]
-pub(crate) struct Field {
+pub(crate) struct RowLabel {
     row: usize,
     column: usize,
     // the name of the row, which begins at `start`
@@ -39,13 +39,13 @@ pub(crate) struct Field {
     start: usize,
 }
 
-impl Open {
+impl OpenView {
     /// Goes to the next part.
     pub(crate) fn step(&mut self) {
         match self {
-            Open::Array { begun } => *begun = begun.saturating_add(1),
-            Open::Object => {}
-            Open::Template { keys, next } => {
+            OpenView::Array { begun } => *begun = begun.saturating_add(1),
+            OpenView::Object => {}
+            OpenView::Template { keys, next } => {
                 if let Some(field) = next {
                     *next = Some(field.behind(keys.len()));
                 }
@@ -58,14 +58,14 @@ impl Open {
     #[inline(always)]
     pub(crate) fn put_name<W: Write>(&self, out: &mut W) -> io::Result<()> {
         match self {
-            Open::Array { begun } => {
+            OpenView::Array { begun } => {
                 let mut buffer = Buffer::new();
                 out.write_all(b"[")?;
                 out.write_all(buffer.format(*begun).as_bytes())?;
                 out.write_all(b"] ")
             }
-            Open::Object => Ok(()),
-            Open::Template { keys, next } => match next {
+            OpenView::Object => Ok(()),
+            OpenView::Template { keys, next } => match next {
                 Some(field) => field.put_name(keys, out),
                 None => Ok(()),
             },
@@ -74,7 +74,7 @@ impl Open {
 
     /// Notes a key of a template. The error is that there is no memory for it.
     pub(crate) fn put_key(&mut self, alloc: Global, key: &str) -> Result<(), AllocError> {
-        if let Open::Template { keys, next: _ } = self {
+        if let OpenView::Template { keys, next: _ } = self {
             keys.push(format!(in alloc; "{key:?}: ")?)?;
         }
         Ok(())
@@ -82,31 +82,31 @@ impl Open {
 
     /// Notes that the keys of a template are told, and its rows come.
     pub(crate) fn begin_rows(&mut self) {
-        if let Open::Template { keys: _, next } = self {
-            *next = Some(Field::first_of(0));
+        if let OpenView::Template { keys: _, next } = self {
+            *next = Some(RowLabel::first_of(0));
         }
     }
 }
 
-impl Field {
+impl RowLabel {
     /// The field behind this one, where a row has `width` fields.
-    fn behind(&self, width: usize) -> Field {
+    fn behind(&self, width: usize) -> RowLabel {
         let column = self.column.saturating_add(1);
         if column < width {
             let mut field = *self;
             field.column = column;
             return field;
         }
-        Field::first_of(self.row.saturating_add(1))
+        RowLabel::first_of(self.row.saturating_add(1))
     }
 
     /// The first field of this row.
-    fn first_of(row: usize) -> Field {
+    fn first_of(row: usize) -> RowLabel {
         let mut label = [b' '; LABEL];
         let digits = put_digits(&mut label, row as u64, LABEL - 1);
         let start = digits - ROW.len();
         label[start..digits].copy_from_slice(ROW);
-        Field {
+        RowLabel {
             row,
             column: 0,
             label,

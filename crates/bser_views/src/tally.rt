@@ -8,7 +8,7 @@ use bser_events::builder::{Builder, Stop};
 use bser_events::event::{Event, EventKind, Place};
 use bser_messages::limits::Limits;
 use bser_messages::telling;
-use bser_messages::told::{Header, Untold};
+use bser_messages::told::{Header, TellError};
 use bser_source::device::Source;
 use std::alloc::Global;
 
@@ -76,7 +76,7 @@ pub fn next_summed<S: Source>(
     alloc: Global,
     limits: Limits,
     reader: &mut S,
-) -> Result<Option<Summed>, Untold>
+) -> Result<Option<Summed>, TellError>
     requires { limits.levels ≤ MOST_LEVELS }
     ensures { IfOk result (IsNextSummed limits (S.remaining reader.old) (S.remaining reader.new)) }
 {

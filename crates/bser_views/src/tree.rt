@@ -2,10 +2,10 @@
 
 use crate::flushing::Flushing;
 use crate::messages::{View, ViewError};
-use crate::open::Open;
+use crate::open::OpenView;
 use crate::parts::{put_columns, put_levels, put_number, put_quoted};
+use crate::print_error::PrintError;
 use crate::quoted::Real;
-use crate::trouble::Trouble;
 use bser_events::builder::{Builder, Stop};
 use bser_events::event::{Event, Place};
 use bser_messages::limits::Limits;
@@ -70,7 +70,7 @@ pub(crate) struct Tree<'o, 'w, W: Write> {
     // where the message begins in the input
     start: u64,
     has_begun: bool,
-    around: Vec<Open>,
+    around: Vec<OpenView>,
     fault: Option<io::Error>,
 }
 
@@ -108,7 +108,7 @@ impl<'o, 'w, W: Write> Tree<'o, 'w, W> {
     }
 
     /// Prints what an event tells, and keeps what is needed of it.
-    fn show(&mut self, event: Event<'_>, place: Place) -> Result<(), Trouble> {
+    fn show(&mut self, event: Event<'_>, place: Place) -> Result<(), PrintError> {
         if let Event::Close = event {
             let _closed = self.around.pop();
             return Ok(());
@@ -175,9 +175,9 @@ impl<'o, 'w, W: Write> Tree<'o, 'w, W> {
     /// Keeps the containers that are open.
     fn keep(&mut self, event: Event<'_>) -> Result<(), AllocError> {
         match event {
-            Event::Array { .. } => self.around.push(Open::Array { begun: 0 })?,
-            Event::Object { .. } => self.around.push(Open::Object)?,
-            Event::Template { .. } => self.around.push(Open::Template {
+            Event::Array { .. } => self.around.push(OpenView::Array { begun: 0 })?,
+            Event::Object { .. } => self.around.push(OpenView::Object)?,
+            Event::Template { .. } => self.around.push(OpenView::Template {
                 keys: Vec::new(self.alloc),
                 next: None,
             })?,
@@ -217,8 +217,8 @@ impl<W: Write> Builder for Tree<'_, '_, W> {
     fn take(&mut self, event: Event<'_>, place: Place) -> Result<(), Stop> {
         match self.show(event, place) {
             Ok(()) => Ok(()),
-            Err(Trouble::Memory) => Err(Stop::Memory),
-            Err(Trouble::Output(fault)) => {
+            Err(PrintError::Memory(_error)) => Err(Stop::Memory),
+            Err(PrintError::Output(fault)) => {
                 self.fault = Some(fault);
                 Err(Stop::Asked)
             }

@@ -1,6 +1,6 @@
 //! Follows the changes below a folder, as a client of a Watchman server whose stream is standard
-//! input and output. The folder is the first argument, and a clock that changes are told from may be
-//! the second. What changed is told on standard error.
+//! input and output. The folder is the first argument, and a clock from which changes are asked for may
+//! be the second. What changed is logged on standard error.
 #![tactic(auto)]
 
 use anyhow::{Context, Result};

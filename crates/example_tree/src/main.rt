@@ -23,7 +23,7 @@ fn main(rt: HostRuntime) -> ExitCode {
     }
 }
 
-/// Prints the value from where the line stands, and what it holds on lines of their own.
+/// Prints the value at the end of the line, and its parts on lines of their own.
 fn print_tree<P: Print>(rt: &P, indent: usize, value: &Value) -> io::Result<()> {
     let inner = indent.saturating_add(2);
     match value {

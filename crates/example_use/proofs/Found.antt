@@ -11,7 +11,7 @@ use Rattle.bser_messages.specs.Told.{LeavesBuilder, IsCut}
 use Rattle.bser_messages.specs.declared.told.Header.{Header}
 use Rattle.bser_messages.specs.declared.told.Reason.{Reason}
 use Rattle.bser_messages.specs.declared.told.Reason.TheVariants.{Stopped}
-use Rattle.bser_messages.specs.declared.told.Untold.{Untold}
+use Rattle.bser_messages.specs.declared.told.TellError.{TellError}
 use Rattle.example_use.specs.Finds.{Finds, goes_on, has_found}
 use Rattle.example_use.specs.declared.find.Search.{Search}
 
@@ -63,6 +63,6 @@ found_cut bytes before after given place (Some h) fresh k =
       }
     ])
 
-pub found_in : (bytes : List ℕ) (before after : Search) (e : Untold) (place : ℕ) → e.reason ≡ Stopped place → before.is_next ≡ false → LeavesBuilder Goes Stops (Some bytes) before after e → IfSome after.found (Finds bytes)
+pub found_in : (bytes : List ℕ) (before after : Search) (e : TellError) (place : ℕ) → e.reason ≡ Stopped place → before.is_next ≡ false → LeavesBuilder Goes Stops (Some bytes) before after e → IfSome after.found (Finds bytes)
 found_in bytes before after e place is fresh k =
     found_cut bytes before after e.given place e.header fresh (subst (IsCut Goes Stops (Some bytes) before after e.given e.header) is k)

@@ -17,7 +17,7 @@ goes_on before e after = (after.is_next ≡ true) → IsSizeKey e
 abbrev pub has_found : Search → Event → Search → Type 0
 has_found before e after = (n : ℤ) × (before.is_next ≡ true) × (e ≡ events.integer n) × (after.found ≡ Some n)
 
--- such a key stands in the bytes, and right behind it the integer
+-- such a key is in the bytes, and right behind it the integer
 pub record Finds (bytes : List ℕ) (n : ℤ) : Type 0 where
   pub before : List ℕ
   pub key : List ℕ

@@ -6,7 +6,7 @@ ghost use Rattle.example_use.specs.Finds.{IsSizeKey, Finds, goes_on, has_found};
 use serde_bser::tell::{Builder, Event, Limits, Place, Reason, Stop, from_slice};
 use std::alloc::Global;
 
-/// The first integer that stands right behind a key "size".
+/// The first integer right behind a key "size".
 #[derive(Drop)]
 pub struct Search {
     /// Whether the last part was such a key.
@@ -56,8 +56,8 @@ fn is_size_key(event: Event<'_>) -> bool
     }
 }
 
-/// The first integer behind a key "size" in the message at the start of the bytes, wherever it
-/// stands. Nothing of the message is kept, and nothing behind the integer is read.
+/// The first integer behind a key "size" in the message at the start of the bytes, wherever it is.
+/// Nothing of the message is kept, and nothing behind the integer is read.
 #[tactic(auto, using(crate::proofs::Found::found_in))]
 pub fn first_size(alloc: Global, bytes: &[u8]) -> Option<i64>
     ensures { IfSome result (Finds bytes.now) }

@@ -1,7 +1,7 @@
 //! A client's stream: answers, the server's errors and what nobody asked for, from one reader.
 use crate::document::small_value;
 use crate::events::kind_of;
-use crate::replies::{Failure, Reply, print_reply};
+use crate::replies::{Reply, ServerError, print_reply};
 use serde_bser::de::Limits;
 use serde_bser::describe::Description;
 use serde_bser::device::Source;
@@ -30,7 +30,7 @@ pub fn print_frames<S: Source + Drop>(rt: &HostRuntime, reader: S) -> Result<()>
 
 /// Prints what the frame is: an answer, the server's error in its place, or another message.
 fn print_frame<S: Source>(rt: &HostRuntime, frames: &Frames<S>) -> Result<()> {
-    match frames.read::<Failure>() {
+    match frames.read::<ServerError>() {
         Ok(failure) => {
             println!(rt; "error of the server: {}", failure.error)?;
             Ok(())

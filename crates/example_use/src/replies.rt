@@ -36,21 +36,21 @@ impl<'a, L: LendsFrom<'a>> Deserialize<L> for Reply<'a> {
 
 /// What the server sends where it cannot answer.
 #[derive(Drop)]
-pub struct Failure<'a> {
+pub struct ServerError<'a> {
     pub error: &'a str,
 }
 
-impl<'a> Fields for Failure<'a> {
+impl<'a> Fields for ServerError<'a> {
     ghost fields = { required (codes "error") (λ v. v.error) ⟦<&'a str as ReadOnly>⟧.coding ∷ [] };
 }
 
-impl<'a> Meant for Failure<'a> {
-    ghost meaning = { struct_meaning ⟦<Failure<'a> as Fields>⟧.fields };
+impl<'a> Meant for ServerError<'a> {
+    ghost meaning = { struct_meaning ⟦<ServerError<'a> as Fields>⟧.fields };
 }
 
-impl<'a, L: LendsFrom<'a>> Deserialize<L> for Failure<'a> {
+impl<'a, L: LendsFrom<'a>> Deserialize<L> for ServerError<'a> {
     fn deserialize<R: DeRead<Lent = L>>(alloc: Global, from: &mut Deserializer<R>) -> Answer<Self> {
-        read_struct! { alloc, from, Failure { error: Required("error") } }
+        read_struct! { alloc, from, ServerError { error: Required("error") } }
     }
 }
 
@@ -62,7 +62,7 @@ pub fn print_replies(rt: &HostRuntime, bytes: &[u8]) -> Result<()> {
         match messages.next_message::<Reply>() {
             Ok(Some(reply)) => print_reply(rt, &reply)?,
             Ok(None) => break,
-            Err(_error) => match messages.next_message::<Failure>() {
+            Err(_error) => match messages.next_message::<ServerError>() {
                 Ok(Some(failure)) => println!(rt; "error of the server: {}", failure.error)?,
                 _other => return print_error(rt, &messages),
             },

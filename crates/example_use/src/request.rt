@@ -10,7 +10,7 @@ const C_FILES: &[Expression<'static>] = &[
     Expression::Suffix("c"),
 ];
 
-/// What is told of each file.
+/// The fields of each file that are asked for.
 const FIELDS: &[&str] = &["name", "size"];
 
 /// The request for the names and sizes of the C files below `root` that changed since a clock.

@@ -27,7 +27,7 @@ use Rattle.bser_value.specs.declared.value.Value.{Value}
 use Rattle.serde_bser.specs.ValueView.{tree_of}
 use Rattle.serde_bser.specs.Messages.{ReadsMessageAs, BeginsWith, RefusesSlice}
 use Rattle.serde_bser.specs.Reading.{Asking, Needs}
-use Rattle.laws.specs.Returned.{IsNotReturned, IsNotReturnedByReader, IsUnread, IsWrittenFor, TookOne}
+use Rattle.laws.specs.Returned.{IsNotReturned, IsNotReturnedByReader, IsNotRead, IsWrittenFor, TookOne}
 
 -- the value that a `Value` holds
 same_value : (t u : Tree) → value t ≡ value u → t ≡ u
@@ -93,7 +93,7 @@ module _ {A : Type 0} (value_of : A → Value) (left_of : A → List ℕ) (n : �
   left_back (Err e) h is found = tt
   left_back (Ok a) h is found = (both_back n w v bytes x (left_of a) (value_of a) h is found).1
 
-pub reader_refused : {A : Type 0} (n : ℕ) (asks : Option (Asking reads_value)) (w v : Tree) (bytes x : List ℕ) (r : Result A Error) → IsWrittenFor w v → bytes ≡ canonical_message w ++ x → IfErr r (IsUnread n asks bytes) → IfErr r (IsNotReturnedByReader n w)
+pub reader_refused : {A : Type 0} (n : ℕ) (asks : Option (Asking reads_value)) (w v : Tree) (bytes x : List ℕ) (r : Result A Error) → IsWrittenFor w v → bytes ≡ canonical_message w ++ x → IfErr r (IsNotRead n asks bytes) → IfErr r (IsNotReturnedByReader n w)
 reader_refused n asks w v bytes x (Ok a) h is refused = tt
 reader_refused n asks w v bytes x (Err e) h is (inl memory) = inl (inl (inl memory))
 reader_refused n asks w v bytes x (Err e) h is (inr (after, refused)) = go (leb (depth w) n) refl

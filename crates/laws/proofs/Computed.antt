@@ -14,7 +14,7 @@ use Rattle.bser_format.specs.Canonical.{canonical_message}
 use Rattle.bser_format.proofs.Exact.{value_exact}
 use Rattle.bser_format.proofs.Messages.{message_exact, tree_reads}
 use Rattle.bser_format.proofs.Settled.{settles, message_settles}
-use Rattle.laws.specs.Reading.{IsBody, IsRead, IsReadBack, IsRefused, IsValueOf}
+use Rattle.laws.specs.Reading.{IsBody, IsRead, IsReadBack, HasNoMessage, IsValueOf}
 
 abbrev pub are_bytes : List ℕ → Bool
 are_bytes [] = true
@@ -29,7 +29,7 @@ is_read n b t all e =
     let h = (message_exact n 0 b [] t (bytes_all b all)).0 e in
     (subst (IsMessage n 0 t) (sym (h.1 ∙ append-nil h.0)) h.2, e)
 
-pub is_refused : (n : ℕ) (b : List ℕ) → message n b ≡ None → IsRefused n b
+pub is_refused : (n : ℕ) (b : List ℕ) → message n b ≡ None → HasNoMessage n b
 is_refused n b e = (e, λ c t a x h same. none-some ((c, t), x) (sym e ∙ ap (message n) same ∙ ap forget (tree_reads n c t a x h)))
 
 pub is_body : (n : ℕ) (b : List ℕ) (t : Tree) → are_bytes b ≡ true → value n b ≡ Some (t, []) → IsBody n b t

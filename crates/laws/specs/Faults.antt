@@ -10,7 +10,7 @@ use Rattle.laws.specs.Samples.{empty_array}
 abbrev pub answer_within : ℕ → List ℕ → Answer (ℕ × Tree)
 answer_within n = message (with_text_keys n)
 
--- the same with 128 levels
+-- what it is read as with 128 levels
 abbrev pub answer : List ℕ → Answer (ℕ × Tree)
 answer = answer_within 128
 

@@ -15,8 +15,8 @@ abbrev pub IsRead : ℕ → List ℕ → Tree → Type 0
 IsRead n b t = IsMessage n 0 t b × (message n b ≡ Some ((0, t), []))
 
 -- the plain reader gives nothing, and no front of the list is a message of at most n levels
-abbrev pub IsRefused : ℕ → List ℕ → Type 0
-IsRefused n b = (message n b ≡ None) × ((c : ℕ) (t : Tree) (a x : List ℕ) → IsMessage n c t a → b ≢ a ++ x)
+abbrev pub HasNoMessage : ℕ → List ℕ → Type 0
+HasNoMessage n b = (message n b ≡ None) × ((c : ℕ) (t : Tree) (a x : List ℕ) → IsMessage n c t a → b ≢ a ++ x)
 
 -- the canonical message of t, which is read as t
 abbrev pub IsWritten : Tree → List ℕ → Type 0

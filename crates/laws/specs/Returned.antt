@@ -23,7 +23,7 @@ pub record IsWrittenFor (t v : Tree) : Type 0 where
 abbrev pub IsNotReturned : ℕ → Tree → Error → Type 0
 IsNotReturned n t e = IsUnmeasured (Ok t) e ⊎ (n < depth t)
 
--- the same, or a fault that the reader counted, which had counted none
+-- a value is not returned, or there is a fault that the reader counted, which had counted none
 abbrev pub IsNotReturnedByReader : ℕ → Tree → Error → Type 0
 IsNotReturnedByReader n t e = IsNotReturned n t e ⊎ ((after : ℕ) × IsReaderFault 0 after e)
 
@@ -32,5 +32,5 @@ abbrev pub TookOne : ℕ → List ℕ → List ℕ → Value → Type 0
 TookOne n bytes rest v = TookMessage n reads_value HoldsValue (Some bytes) (Some rest) v
 
 -- a reader of the bytes refused them, or memory was refused
-abbrev pub IsUnread : ℕ → Option (Asking reads_value) → List ℕ → Error → Type 0
-IsUnread n asks bytes e = (e ≡ OutOfMemory) ⊎ ((after : ℕ) × RefusesReader n reads_value asks e (Some bytes) 0 after)
+abbrev pub IsNotRead : ℕ → Option (Asking reads_value) → List ℕ → Error → Type 0
+IsNotRead n asks bytes e = (e ≡ OutOfMemory) ⊎ ((after : ℕ) × RefusesReader n reads_value asks e (Some bytes) 0 after)

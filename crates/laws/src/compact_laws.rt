@@ -11,7 +11,7 @@ ghost use Rattle.laws.specs.Reading.{HasSize, IsRead, IsValueOf};
 ghost use Rattle.laws.specs.Recorded.{file_value};
 ghost use Rattle.laws.specs.Templates.{people, people_message, people_value};
 
-/// The compact tree of two objects stands for them, and is as deep.
+/// The compact tree of two objects means them, and is as deep.
 pub fn compact_tree()
     ensures same { expand (fold_templates people_value) ≡ expand people_value }
     ensures value_depth { depth people_value ≡ 2 }

@@ -15,7 +15,7 @@ ghost use Rattle.bser_format.specs.ReadsScalars.{reads_signed, reads_unit, reads
 ghost use Rattle.bser_format.specs.ReadsHolders.{reads_vec, reads_map, reads_tuple};
 ghost use Rattle.bser_format.specs.ReadsAny.{reads_ignored};
 ghost use Rattle.bser_format.specs.Enums.{reads_enum, unit};
-ghost use Rattle.laws.specs.Reading.{IsRead, IsRefused, IsWritten};
+ghost use Rattle.laws.specs.Reading.{IsRead, HasNoMessage, IsWritten};
 ghost use Rattle.laws.specs.Samples.{short_message, long_message, key_a, key_b, one, two, nulls, single, double, both, same_key_twice, three_numbers, numbers, odd_key, empty_array, arrays_around, nest};
 ghost use Rattle.laws.specs.Templates.{no_keys, rows_without_keys, many_rows_without_keys, repeated_key, repeated, people_message, people, people_value, templates, nested_templates, hundred_nulls, hundred_rows, hundred_objects, unit_row, unit_rows};
 
@@ -90,7 +90,7 @@ pub fn keys_that_are_no_text()
     ensures not_ignored { reads_ignored (single (0xff ∷ []) null) ≡ None }
     ensures map { reads_map reads_byte_string reads_unit (single (0xff ∷ []) null) ≡ Some
         (list (content (pair (byte_list (0xff ∷ [])) contents.one) no_contents)) }
-    ensures refused { IsRefused 128 (short_message 0x06
+    ensures refused { HasNoMessage 128 (short_message 0x06
         (0x01 ∷ 0x03 ∷ 0x01 ∷ 0x03 ∷ 0x01 ∷ 0x0a ∷ [])) }
 {}
 
@@ -109,7 +109,7 @@ pub fn deepest_arrays()
     ensures long { length (arrays_around 127 empty_array) ≡ 384 }
     ensures read { IsRead 128 (long_message 0x80 0x01 (arrays_around 127 empty_array))
         (nest 127 (array no_items)) }
-    ensures refused { IsRefused 128 (long_message 0x83 0x01 (arrays_around 128 empty_array)) }
+    ensures refused { HasNoMessage 128 (long_message 0x83 0x01 (arrays_around 128 empty_array)) }
 {}
 
 /// A template of two rows, with a field skipped, which is null in the value.
@@ -125,13 +125,13 @@ pub fn a_template_with_a_skip()
 pub fn a_template_without_keys()
     ensures read { IsRead 128 (short_message 0x06 no_keys) (template [] no_rows) }
     ensures expanded { expand (template [] no_rows) ≡ array no_items }
-    ensures refused { IsRefused 128 (short_message 0x02 (0x0b ∷ 0x0a ∷ [])) }
+    ensures refused { HasNoMessage 128 (short_message 0x02 (0x0b ∷ 0x0a ∷ [])) }
 {}
 
 /// A template without keys has no rows.
 pub fn rows_without_keys_are_refused()
-    ensures one { IsRefused 128 (short_message 0x06 rows_without_keys) }
-    ensures many { IsRefused 128 (short_message 0x0d many_rows_without_keys) }
+    ensures one { HasNoMessage 128 (short_message 0x06 rows_without_keys) }
+    ensures many { HasNoMessage 128 (short_message 0x0d many_rows_without_keys) }
 {}
 
 /// Of equal keys of a template the last field stays.
@@ -144,8 +144,8 @@ pub fn the_last_of_equal_template_keys()
 pub fn the_deepest_template_without_keys()
     ensures read { IsRead 128 (long_message 0x80 0x01 (arrays_around 126 no_keys))
         (nest 126 (template [] no_rows)) }
-    ensures keys_too_deep { IsRefused 128 (long_message 0x83 0x01 (arrays_around 127 no_keys)) }
-    ensures too_deep { IsRefused 128 (long_message 0x86 0x01 (arrays_around 128 no_keys)) }
+    ensures keys_too_deep { HasNoMessage 128 (long_message 0x83 0x01 (arrays_around 127 no_keys)) }
+    ensures too_deep { HasNoMessage 128 (long_message 0x86 0x01 (arrays_around 128 no_keys)) }
 {}
 
 /// The deepest templates that are read: 127 around an empty array. Their value is 255 deep, and
@@ -155,12 +155,12 @@ pub fn deepest_templates()
     ensures deep { depth (expand (nested_templates 127)) ≡ 255 }
     ensures value { normal (expand (nested_templates 127)) ≡ Some (expand (nested_templates 127)) }
     ensures written { length (canonical_body (expand (nested_templates 127))) ≡ 1273 }
-    ensures refused { IsRefused 128 (canonical_message (expand (nested_templates 127))) }
+    ensures refused { HasNoMessage 128 (canonical_message (expand (nested_templates 127))) }
 {}
 
 /// A template without keys needs two levels.
 pub fn two_levels_for_a_template()
-    ensures refused { IsRefused 1 (short_message 0x06 no_keys) }
+    ensures refused { HasNoMessage 1 (short_message 0x06 no_keys) }
     ensures read { IsRead 2 (short_message 0x06 no_keys) (template [] no_rows) }
 {}
 
@@ -168,7 +168,7 @@ pub fn two_levels_for_a_template()
 pub fn three_levels_for_two_templates()
     ensures read { IsRead 3 (short_message 0x17 (templates 2)) (nested_templates 2) }
     ensures deep { depth (expand (nested_templates 2)) ≡ 5 }
-    ensures refused { IsRefused 2 (short_message 0x17 (templates 2)) }
+    ensures refused { HasNoMessage 2 (short_message 0x17 (templates 2)) }
 {}
 
 /// A hundred rows of one null are 201 values, 803 bytes when they are written out, and the same

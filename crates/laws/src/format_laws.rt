@@ -14,7 +14,7 @@ ghost use Rattle.bser_format.specs.Content as contents;
 ghost use Rattle.bser_format.specs.ReadsScalars.{reads_signed, reads_unit, reads_byte_string};
 ghost use Rattle.bser_format.specs.ReadsHolders.{reads_map, reads_tuple};
 ghost use Rattle.bser_format.specs.WrittenOut.{written_out as bytes_written_out, row_objects};
-ghost use Rattle.laws.specs.Reading.{HasSize, IsBody, IsRead, IsReadBack, IsRefused, IsValueOf};
+ghost use Rattle.laws.specs.Reading.{HasSize, IsBody, IsRead, IsReadBack, HasNoMessage, IsValueOf};
 ghost use Rattle.laws.specs.Samples.{short_message, empty_array, key_a, one, two, single, double, same_key_twice, numbers, three_numbers};
 ghost use Rattle.laws.specs.Templates.{no_keys, people_body, people_message, people, people_keys, people_rows, people_value, templates, nested_templates, hundred_nulls, hundred_rows, hundred_objects};
 ghost use Rattle.laws.specs.Spelled.{long_key_body, long_key_rows, long_key_objects, people_out, people_out_message};
@@ -25,7 +25,7 @@ ghost use Rattle.laws.specs.Recorded.{watch_list, watched, file_query, file_answ
 pub fn one_front()
     ensures recorded { IsRead 128 watch_list watched }
     ensures followed { message 128 (watch_list ++ watch_list) ≡ Some ((0, watched), watch_list) }
-    ensures cut { IsRefused 128 (take 39 watch_list) }
+    ensures cut { HasNoMessage 128 (take 39 watch_list) }
     ensures template { IsRead 128 people_message people }
     ensures template_followed { message 128 (people_message ++ watch_list) ≡ Some
         ((0, people), watch_list) }
@@ -62,7 +62,7 @@ pub fn twice_is_once()
 {}
 
 /// Messages without templates that are as long as their canonical messages, 40 bytes, and longer: 72
-/// bytes for 69, and 23 for 17 where a key stands twice. A template's message may be shorter.
+/// bytes for 69, and 23 for 17 where a key occurs twice. A template's message may be shorter.
 pub fn least_length()
     ensures recorded { IsRead 128 watch_list watched }
     ensures recorded_free { IsTemplateFree watched }

@@ -86,7 +86,7 @@ pub fn negative_numbers()
         ≡ refuses (complain NegativeCount) }
 {}
 
-/// Bytes that may not stand where they do.
+/// Bytes that may not be where they are.
 pub fn strays()
     ensures unknown { answer (short_message 0x01 (0x0e ∷ []))
         ≡ refuses (DeInvalidStartByte NextItem 0x0e) }

@@ -4,7 +4,7 @@ ghost use Rattle.bser_format.specs.Canonical.{canonical_message};
 ghost use Rattle.bser_format.specs.Compact.{fold_templates};
 ghost use Rattle.bser_ser.specs.Message.{IsUnmeasured};
 ghost use Rattle.serde_bser.specs.ValueView.{tree_of};
-ghost use Rattle.laws.specs.Returned.{IsNotReturned, IsNotReturnedByReader, IsWrittenFor, IsUnread, TookOne};
+ghost use Rattle.laws.specs.Returned.{IsNotReturned, IsNotReturnedByReader, IsWrittenFor, IsNotRead, TookOne};
 
 use crate::messages::to_compact_vec;
 use bser_source::device::Watched;
@@ -125,7 +125,7 @@ fn read_on(alloc: Global, limit: usize, bytes: &[u8]) -> Result<ReadBack>
     requires { limit ≤ 1024 }
     ensures found { IfOk result (λ back.
         TookOne limit bytes.now back.left.items back.value) }
-    ensures refused { IfErr result (IsUnread limit ⟦<Value as Shape>⟧.asks bytes.now) }
+    ensures refused { IfErr result (IsNotRead limit ⟦<Value as Shape>⟧.asks bytes.now) }
 {
     let mut reader = Watched::new(bytes);
     let value: Value = from_reader_within(alloc, limit, &mut reader)?;

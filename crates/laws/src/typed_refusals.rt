@@ -24,7 +24,7 @@ ghost use Rattle.laws.specs.Samples.{short_message};
 ghost use Rattle.laws.specs.Templates.{one_row};
 ghost use Rattle.laws.specs.Faults.{signed, pair, namesakes, variants};
 
-/// Another kind of value, told by its tag alone.
+/// Another kind of value, known by its tag alone.
 pub fn other_kinds()
     ensures text { asks_bool 0 3 node_due (0x0d ∷ []) ≡ refuses wrong_type }
     ensures unknown { asks_bool 0 3 node_due (0x0e ∷ [])

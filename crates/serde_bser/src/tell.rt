@@ -5,4 +5,4 @@ pub use bser_events::builder::{Builder, Stop};
 pub use bser_events::event::{Event, EventKind, Place};
 pub use bser_messages::limits::Limits;
 pub use bser_messages::telling::{from_slice, next_message};
-pub use bser_messages::told::{Header, Reason, Untold};
+pub use bser_messages::told::{Header, Reason, TellError};

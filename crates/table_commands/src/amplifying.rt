@@ -1,7 +1,7 @@
-//! Short messages that stand for long values.
+//! A short message whose value is long.
 use crate::run::{output_of, run_command_to};
-use crate::session::closed_behind;
 use anyhow::Result;
+use bser_vectors::commands::closed_behind;
 use std::alloc::Global;
 
 /// How long the key of the template is, and how many rows it has: 0x7530 in the message.

@@ -2,10 +2,9 @@
 use crate::run::{output_of, run_command};
 use anyhow::{Context, Result};
 use bser_vectors::columns::columns;
+use bser_vectors::counts::CaseCounts;
+use bser_vectors::messages::FIVE;
 use std::fs;
-
-/// A message that is in order.
-const GOOD: &[u8] = b"\x00\x02\x00\x00\x00\x00\x03\x02\x03\x05";
 
 /// The words of commands whose output does not say where a message is.
 const COMMANDS: [&[&str]; 4] = [&["json"], &["get", ""], &["canon"], &["canon", "--compact"]];
@@ -15,26 +14,29 @@ const COMMANDS: [&[&str]; 4] = [&["json"], &["get", ""], &["canon"], &["canon", 
 /// is reported.
 pub fn compare_frames(rt: &HostRuntime, list: &str) -> Result<()> {
     let text = fs::read_to_string(rt, list)?;
-    let mut runs = 0u64;
-    let mut wrong = 0u64;
+    let mut runs = CaseCounts::default();
     for line in text.as_str().lines() {
         let [name, message, ..] = columns(line, "\t");
         let message = hex::decode(rt.alloc(), message)?;
         let Some(frame) = frame_of(&message) else {
             continue;
         };
-        let mut input = Vec::from_slice(rt.alloc(), GOOD)?;
+        let mut input = Vec::from_slice(rt.alloc(), FIVE)?;
         input.extend_from_slice(frame)?;
-        input.extend_from_slice(GOOD)?;
+        input.extend_from_slice(FIVE)?;
         for words in COMMANDS {
-            runs = runs.saturating_add(1);
-            if !shows_both(rt, words, &input)? {
-                wrong = wrong.saturating_add(1);
-                println!(rt; "{name}, {words:?}: the message behind is not shown")?;
-            }
+            let mismatch = if shows_both(rt, words, &input)? {
+                None
+            } else {
+                Some("the message behind is not shown")
+            };
+            runs.add(rt, format_args!("{name}, {words:?}"), mismatch)?;
         }
     }
-    println!(rt; "{runs} runs on messages around malformed ones, {wrong} of them wrong")?;
+    println!(rt;
+        "{} runs on messages around malformed ones, {} of them wrong",
+        runs.cases, runs.wrong
+    )?;
     Ok(())
 }
 
@@ -50,7 +52,7 @@ fn frame_of(message: &[u8]) -> Option<&[u8]> {
 /// Whether a command with `--keep-going` shows the first and the last message of the input, and
 /// reports one line.
 fn shows_both(rt: &HostRuntime, words: &[&str], input: &[u8]) -> Result<bool> {
-    let good = output_of(rt, words, GOOD)?;
+    let good = output_of(rt, words, FIVE)?;
     let mut both = Vec::from_slice(rt.alloc(), &good)?;
     both.extend_from_slice(&good)?;
     let mut all = Vec::from_slice(rt.alloc(), words)?;

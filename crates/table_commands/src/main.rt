@@ -5,7 +5,7 @@
 //! each is wrong, and is named; `scripts/command_table` makes the first. `refused.tsv` has messages that
 //! are malformed, with what has to be reported of them and where, and `wrong-refused.tsv` wrong lines. A
 //! message is cut behind each of its bytes. Of files that come byte by byte is compared what is written
-//! before each read. Then commands are run on a short message that stands for a long value.
+//! before each read. Then commands are run on a short message whose value is long.
 #![tactic(auto)]
 
 mod amplifying;
@@ -14,7 +14,6 @@ mod frames;
 mod message;
 mod refusal;
 mod run;
-mod session;
 mod waiting;
 
 use crate::amplifying::print_amplifying;
@@ -22,7 +21,7 @@ use crate::commands::COMMANDS;
 use crate::frames::compare_frames;
 use crate::message::compare_messages;
 use crate::refusal::{compare_cuts, compare_refusals};
-use crate::session::print_session;
+use crate::run::print_session;
 use crate::waiting::compare_waits;
 use anyhow::Result;
 

@@ -6,6 +6,7 @@
 use crate::run::output_of;
 use anyhow::{Context, Result};
 use bser_vectors::columns::columns;
+use bser_vectors::counts::CaseCounts;
 use bser_vectors::sums::{is_message, is_text};
 use std::alloc::Global;
 use std::fs;
@@ -13,18 +14,17 @@ use std::fs;
 /// Compares what is made of each message of the list, and prints the lines that are not so.
 pub fn compare_messages(rt: &HostRuntime, list: &str) -> Result<()> {
     let text = fs::read_to_string(rt, list)?;
-    let mut lines = 0u64;
-    let mut wrong = 0u64;
+    let mut lines = CaseCounts::default();
     for line in text.as_str().lines() {
-        lines = lines.saturating_add(1);
         let line = KnownMessage::parse(line)?;
-        let message = line.message(rt)?;
-        if let Some(what) = line.first_mismatch(rt, &message)? {
-            wrong = wrong.saturating_add(1);
-            println!(rt; "{} at {}: {what}", line.file, line.start)?;
-        }
+        let mismatch = line.first_mismatch(rt, &line.message(rt)?)?;
+        lines.add(
+            rt,
+            format_args!("{} at {}", line.file, line.start),
+            mismatch,
+        )?;
     }
-    println!(rt; "{lines} messages, {wrong} of them wrong")?;
+    println!(rt; "{} messages, {} of them wrong", lines.cases, lines.wrong)?;
     Ok(())
 }
 

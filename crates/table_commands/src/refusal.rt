@@ -1,35 +1,34 @@
 //! Messages that are malformed, and what each command reports of them.
 //!
 //! A line of a list has what is wrong, the message in hexadecimal digits, the words that have to be
-//! reported, and the first and the last place that may be. Behind an `or` stand other words that may be.
+//! reported, and the first and the last place that may be. Behind an `or` are other words that may be.
 use crate::commands::COMMANDS;
-use crate::run::{CommandRun, output_of, run_command};
+use crate::run::{output_of, run_command};
 use anyhow::{Context, Result};
 use bser_vectors::columns::columns;
+use bser_vectors::commands::CommandRun;
+use bser_vectors::counts::CaseCounts;
+use bser_vectors::messages::FIVE;
 use bser_vectors::refused::has_words;
 use std::fs;
-
-/// A message that is in order.
-const BEFORE: &[u8] = b"\x00\x02\x00\x00\x00\x00\x03\x02\x03\x05";
 
 /// Runs each command on each message of the list, alone and behind one that is in order, and prints
 /// what is not reported as the line says.
 pub fn compare_refusals(rt: &HostRuntime, list: &str) -> Result<()> {
     let text = fs::read_to_string(rt, list)?;
-    let mut runs = 0u64;
-    let mut wrong = 0u64;
+    let mut runs = CaseCounts::default();
     for line in text.as_str().lines() {
         let line = MalformedMessage::parse(line)?;
         let message = hex::decode(rt.alloc(), line.message)?;
         for words in COMMANDS {
-            runs = runs.saturating_add(1);
-            if let Some(what) = line.first_mismatch(rt, words, &message)? {
-                wrong = wrong.saturating_add(1);
-                println!(rt; "{}, {words:?}: {what}", line.name)?;
-            }
+            let mismatch = line.first_mismatch(rt, words, &message)?;
+            runs.add(rt, format_args!("{}, {words:?}", line.name), mismatch)?;
         }
     }
-    println!(rt; "{runs} runs on malformed messages, {wrong} of them wrong")?;
+    println!(rt;
+        "{} runs on malformed messages, {} of them wrong",
+        runs.cases, runs.wrong
+    )?;
     Ok(())
 }
 
@@ -37,8 +36,7 @@ pub fn compare_refusals(rt: &HostRuntime, list: &str) -> Result<()> {
 /// not the early end is reported.
 pub fn compare_cuts(rt: &HostRuntime, file: &str) -> Result<()> {
     let message = fs::read(rt, file)?;
-    let mut runs = 0u64;
-    let mut wrong = 0u64;
+    let mut runs = CaseCounts::default();
     for cut in 1..message.len() {
         let line = MalformedMessage {
             name: file,
@@ -49,14 +47,14 @@ pub fn compare_cuts(rt: &HostRuntime, file: &str) -> Result<()> {
         };
         let front = message.get(..cut).context("outside")?;
         for words in [&["show"], &["json"], &["summary"], &["canon"]] {
-            runs = runs.saturating_add(1);
-            if let Some(what) = line.first_wrong(&run_command(rt, words, front)?, b"", 0)? {
-                wrong = wrong.saturating_add(1);
-                println!(rt; "{file} cut at {cut}, {words:?}: {what}")?;
-            }
+            let mismatch = line.first_wrong(&run_command(rt, words, front)?, b"", 0)?;
+            runs.add(rt, format_args!("{file} cut at {cut}, {words:?}"), mismatch)?;
         }
     }
-    println!(rt; "{runs} runs on fronts of {file}, {wrong} of them wrong")?;
+    println!(rt;
+        "{} runs on fronts of {file}, {} of them wrong",
+        runs.cases, runs.wrong
+    )?;
     Ok(())
 }
 
@@ -94,10 +92,10 @@ impl<'a> MalformedMessage<'a> {
         if let Some(what) = self.first_wrong(&run_command(rt, words, message)?, b"", 0)? {
             return Ok(Some(what));
         }
-        let mut both = Vec::from_slice(rt.alloc(), BEFORE)?;
+        let mut both = Vec::from_slice(rt.alloc(), FIVE)?;
         both.extend_from_slice(message)?;
-        let before = output_of(rt, words, BEFORE)?;
-        self.first_wrong(&run_command(rt, words, &both)?, &before, BEFORE.len())
+        let before = output_of(rt, words, FIVE)?;
+        self.first_wrong(&run_command(rt, words, &both)?, &before, FIVE.len())
     }
 
     /// The first thing of a run that is not as the line says, where the message begins at byte `start`,

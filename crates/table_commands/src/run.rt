@@ -1,19 +1,28 @@
 //! The program `bser`, run in memory.
 use anyhow::{Result, ensure};
-use bser_cli::program::run_bser;
+use bser_cli::program::Bser;
+use bser_shell::program::run_program;
+use bser_shell::screen::Terminals;
+use bser_shell::streams::GivenStreams;
+use bser_vectors::commands::{CommandLine, CommandRun};
 use bser_vectors::devices::{Plan, PlannedWriter};
-use bser_views::screen::Terminals;
+use std::io;
 use std::io::{Read, Write};
 
-/// What a run of a command left.
-#[derive(Drop)]
-pub struct CommandRun {
-    /// The status.
-    pub status: u8,
-    /// What was written to standard output.
-    pub output: Vec<u8>,
-    /// What was written to standard error.
-    pub errors: Vec<u8>,
+/// Runs the program on each line of standard input that begins with `$ bser `, and prints the line
+/// and what the run left. Other lines are printed as they are.
+pub fn print_session(rt: &HostRuntime) -> Result<()> {
+    let list = io::read_to_string(rt.alloc(), rt.reader())?;
+    for text in list.as_str().lines() {
+        println!(rt; "{text}")?;
+        if let Some(line) = text.strip_prefix("$ bser ") {
+            let line = CommandLine::parse(line);
+            let words: Vec<&str> = line.words.split(' ').collect(rt.alloc())?;
+            let run = run_command_to(rt, &words, &line.input(rt)?, line.plan)?;
+            line.print_run(rt, run)?;
+        }
+    }
+    Ok(())
 }
 
 /// Runs `bser` with these words behind its name, on this input. The output is taken by the plan.
@@ -29,7 +38,7 @@ pub fn run_command_to(
     let status = run_on(rt, words, &mut left, &mut output, &mut errors)?;
     Ok(CommandRun {
         status,
-        output: output.into_taken(),
+        output: output.taken,
         errors,
     })
 }
@@ -47,7 +56,13 @@ pub fn run_on<R: Read, W: Write + Drop>(
     for word in words {
         all.push(String::from_str(alloc, *word)?)?;
     }
-    Ok(run_bser(alloc, rt, &all, Terminals::NONE, input, output, errors))
+    let given = GivenStreams {
+        input,
+        output,
+        errors,
+        terminals: Terminals::NONE,
+    };
+    Ok(run_program(alloc, &Bser::new(alloc, rt), &all, given))
 }
 
 /// Runs `bser` with these words behind its name, on this input.

@@ -4,6 +4,7 @@
 //! prints of the bytes that were given, where the input ends there.
 use crate::run::{run_command, run_on};
 use anyhow::Result;
+use bser_vectors::counts::CaseCounts;
 use std::cell::Cell;
 use std::io::{Read, Write};
 use std::{fs, io};
@@ -11,8 +12,7 @@ use std::{fs, io};
 /// Runs each command on the file, and prints where not all was written that had to be.
 pub fn compare_waits(rt: &HostRuntime, commands: &[&[&str]], file: &str) -> Result<()> {
     let input = fs::read(rt, file)?;
-    let mut reads = 0u64;
-    let mut wrong = 0u64;
+    let mut reads = CaseCounts::default();
     for words in commands {
         let written = Cell::new(0);
         let mut reader = ByteReader {
@@ -27,15 +27,18 @@ pub fn compare_waits(rt: &HostRuntime, commands: &[&[&str]], file: &str) -> Resu
         let mut errors = Vec::new(rt.alloc());
         let _status = run_on(rt, *words, &mut reader, &mut writer, &mut errors)?;
         for (given, len) in reader.before.iter().enumerate() {
-            reads = reads.saturating_add(1);
             let front = run_command(rt, *words, &input[..given.min(input.len())])?;
-            if writer.taken.get(..*len) != Some(front.output.as_slice()) {
-                wrong = wrong.saturating_add(1);
+            let is_right = writer.taken.get(..*len) == Some(front.output.as_slice());
+            reads.count(is_right);
+            if !is_right {
                 println!(rt; "{file}, {words:?}: another output before byte {given} is read")?;
             }
         }
     }
-    println!(rt; "{reads} reads of {file}, {wrong} of them with another output before")?;
+    println!(rt;
+        "{} reads of {file}, {} of them with another output before",
+        reads.cases, reads.wrong
+    )?;
     Ok(())
 }
 

@@ -1,9 +1,10 @@
 //! Messages that are read as structs and enums.
-use crate::types::{DerivedEnum, DerivedEnumRow, DerivedFiles, DerivedRow};
 use crate::ways::{Answered, by_reader, by_slice, is_returned, refused_by_ignored};
 use anyhow::{Result, bail};
 use bser_vectors::columns::columns;
+use bser_vectors::enums::{EnumRow, TestEnum};
 use bser_vectors::shown::Shown;
+use bser_vectors::structs::{Files, TemplateRow};
 use serde::{Deserialize, DeserializeOwned, Serialize};
 use std::alloc::Global;
 use std::fs;
@@ -31,12 +32,12 @@ pub fn compare_all(rt: &HostRuntime, file: &str) -> Result<()> {
         };
         let compared = compare_as(rt.alloc(), kind, &message, expected)?;
         match &compared {
-            Compared::Same(Answered::Value(_)) => values = values.saturating_add(1),
-            Compared::Same(Answered::Misfit(_)) => misfits = misfits.saturating_add(1),
-            Compared::Same(Answered::Malformed(_)) => malformed = malformed.saturating_add(1),
-            Compared::Other(told) => {
+            Agreement::Same(Answered::Value(_)) => values = values.saturating_add(1),
+            Agreement::Same(Answered::Misfit(_)) => misfits = misfits.saturating_add(1),
+            Agreement::Same(Answered::Malformed(_)) => malformed = malformed.saturating_add(1),
+            Agreement::Other(answered) => {
                 others = others.saturating_add(1);
-                println!(rt; "line {lines}, {kind}: {told}, and not {answer}")?;
+                println!(rt; "line {lines}, {kind}: {answered}, and not {answer}")?;
             }
         }
     }
@@ -51,7 +52,7 @@ pub fn compare_all(rt: &HostRuntime, file: &str) -> Result<()> {
 
 /// Whether a message was answered as its line says.
 #[derive(Drop)]
-enum Compared {
+enum Agreement {
     Same(Answered),
     Other(String),
 }
@@ -62,16 +63,18 @@ fn compare_as(
     kind: &str,
     message: &[u8],
     expected: ExpectedAnswer<'_>,
-) -> Result<Compared> {
+) -> Result<Agreement> {
     match kind {
-        "TestEnum" => compare::<DerivedEnum>(alloc, message, expected),
-        "opt_TestEnum" => compare::<Option<DerivedEnum>>(alloc, message, expected),
-        "vec_TestEnum" => compare::<Vec<DerivedEnum>>(alloc, message, expected),
-        "vec_EnumRow" => compare::<Vec<DerivedEnumRow>>(alloc, message, expected),
-        "TemplateRow" => compare::<DerivedRow>(alloc, message, expected),
-        "vec_TemplateRow" => compare::<Vec<DerivedRow>>(alloc, message, expected),
-        "vec_opt_TemplateRow" => compare::<Vec<Option<DerivedRow>>>(alloc, message, expected),
-        "Files" => compare::<DerivedFiles>(alloc, message, expected),
+        "TestEnum" => compare::<TestEnum<String>>(alloc, message, expected),
+        "opt_TestEnum" => compare::<Option<TestEnum<String>>>(alloc, message, expected),
+        "vec_TestEnum" => compare::<Vec<TestEnum<String>>>(alloc, message, expected),
+        "vec_EnumRow" => compare::<Vec<EnumRow<String>>>(alloc, message, expected),
+        "TemplateRow" => compare::<TemplateRow<String>>(alloc, message, expected),
+        "vec_TemplateRow" => compare::<Vec<TemplateRow<String>>>(alloc, message, expected),
+        "vec_opt_TemplateRow" => compare::<Vec<Option<TemplateRow<String>>>>(
+            alloc, message, expected,
+        ),
+        "Files" => compare::<Files<String>>(alloc, message, expected),
         _ => bail!("no such type"),
     }
 }
@@ -81,25 +84,24 @@ fn compare<'de, T: Deserialize<'de> + DeserializeOwned + Serialize + Shown>(
     alloc: Global,
     message: &'de [u8],
     expected: ExpectedAnswer<'_>,
-) -> Result<Compared> {
+) -> Result<Agreement> {
     let answered = by_slice::<T>(alloc, message)?;
     if by_reader::<T>(alloc, message)? != answered {
-        return Ok(Compared::Other(format!(in alloc; "another answer from a reader")?));
+        return Ok(Agreement::Other(format!(in alloc; "another answer from a reader")?));
     }
     if !is_returned::<T>(alloc, message)? {
-        return Ok(Compared::Other(format!(in alloc; "another value read back")?));
+        return Ok(Agreement::Other(format!(in alloc; "another value read back")?));
     }
     let ignored = refused_by_ignored(alloc, message)?;
     let is_same = match &answered {
         Answered::Value(text) => expected.is_accepted && text.as_str() == expected.answer,
         Answered::Misfit(_) => !expected.is_accepted && ignored.is_none(),
-        Answered::Malformed(told) => !expected.is_accepted && ignored.as_ref() == Some(told),
+        Answered::Malformed(text) => !expected.is_accepted && ignored.as_ref() == Some(text),
     };
     if is_same {
-        return Ok(Compared::Same(answered));
+        return Ok(Agreement::Same(answered));
     }
-    Ok(Compared::Other(match answered {
-        Answered::Value(text) => text,
-        Answered::Misfit(told) | Answered::Malformed(told) => told,
+    Ok(Agreement::Other(match answered {
+        Answered::Value(text) | Answered::Misfit(text) | Answered::Malformed(text) => text,
     }))
 }

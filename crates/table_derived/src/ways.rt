@@ -1,8 +1,8 @@
 //! The ways of reading one message as a type.
 use anyhow::Result;
-use bser_serde::{Refusal, from_reader, from_slice, to_vec};
+use bser_serde::{ReadError, from_reader, from_slice, to_vec};
 use bser_vectors::devices::{Plan, PlannedReader};
-use bser_vectors::notation::text::Text;
+use bser_vectors::notation::notation_of;
 use bser_vectors::shown::Shown;
 use serde::{Deserialize, DeserializeOwned, Serialize};
 use serde_bser::de::Ignored;
@@ -15,21 +15,17 @@ use std::alloc::Global;
 pub enum Answered {
     /// It was read as the value of this notation.
     Value(String),
-    /// It is malformed, which was told so.
+    /// It is malformed, by this description.
     Malformed(String),
-    /// It is well-formed, and the type does not read it.
+    /// It is well-formed, and the type does not read it, by this description.
     Misfit(String),
 }
 
 /// How a reading was answered.
-fn told<T: Shown + Drop>(alloc: Global, read: Result<T, Refusal>) -> Result<Answered> {
+fn answer_of<T: Shown + Drop>(alloc: Global, read: Result<T, ReadError>) -> Result<Answered> {
     Ok(match read {
-        Ok(value) => {
-            let mut text = Text::new(alloc);
-            value.put(&mut text);
-            Answered::Value(text.end()?)
-        }
-        Err(Refusal::Misfit(misfit)) => Answered::Misfit(misfit.to_string(alloc)?),
+        Ok(value) => Answered::Value(notation_of(alloc, &value)?),
+        Err(ReadError::Misfit(misfit)) => Answered::Misfit(misfit.to_string(alloc)?),
         Err(refusal) => Answered::Malformed(refusal.to_string(alloc)?),
     })
 }
@@ -39,13 +35,13 @@ pub fn by_slice<'de, T: Deserialize<'de> + Shown>(
     alloc: Global,
     message: &'de [u8],
 ) -> Result<Answered> {
-    told(alloc, from_slice::<T>(alloc, message))
+    answer_of(alloc, from_slice::<T>(alloc, message))
 }
 
 /// How the message is answered from a reader of a few bytes a call.
 pub fn by_reader<T: DeserializeOwned + Shown>(alloc: Global, message: &[u8]) -> Result<Answered> {
     let mut reader = Watched::new(PlannedReader::new(message, Plan::pieces(3)));
-    told(alloc, from_reader::<_, T>(alloc, &mut reader))
+    answer_of(alloc, from_reader::<_, T>(alloc, &mut reader))
 }
 
 /// How the message is refused where it is passed over, if it is.
@@ -67,6 +63,6 @@ pub fn is_returned<T: DeserializeOwned + Serialize + Shown>(
     };
     let written = to_vec(alloc, &value)?;
     let mut again = Watched::new(written.as_slice());
-    let first = told(alloc, Ok(value))?;
-    Ok(told(alloc, from_reader::<_, T>(alloc, &mut again))? == first)
+    let first = answer_of(alloc, Ok(value))?;
+    Ok(answer_of(alloc, from_reader::<_, T>(alloc, &mut again))? == first)
 }

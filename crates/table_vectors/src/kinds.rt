@@ -5,6 +5,7 @@ use bser_types::impls::Ignored;
 use bser_value::value::Value;
 use bser_vectors::enums::{EnumRow, TestEnum};
 use bser_vectors::structs::{Files, TemplateRow};
+use serde_bser::document::Document;
 use std::alloc::Global;
 use std::borrow::CowStr;
 use std::collections::{BTreeMap, BTreeSet, HashMap, VecDeque};
@@ -22,7 +23,7 @@ pub fn compare(alloc: Global, kind: &str, sample: &Sample<'_>) -> Compared {
         "Ignored" => sample.owned::<Ignored>(alloc),
         "Value" => sample
             .owned::<Value>(alloc)
-            .and_then(|()| sample.document(alloc)),
+            .and_then(|()| sample.owned::<Document>(alloc)),
         "char" => sample.owned::<char>(alloc),
         "String" => sample.owned::<String>(alloc),
         "ByteString" => sample.owned::<ByteString>(alloc),

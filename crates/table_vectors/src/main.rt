@@ -7,7 +7,6 @@
 //! `cases-objects.txt`. What is in a file `wrong-..` is wrong, and each of it is named.
 #![tactic(auto)]
 
-mod answer;
 mod kinds;
 mod line;
 mod recorded;

@@ -5,6 +5,7 @@
 use crate::written::compact_message;
 use anyhow::Result;
 use bser_vectors::columns::columns;
+use bser_vectors::counts::CaseCounts;
 use bser_vectors::devices::Plan;
 use bser_vectors::sums::is_message;
 use bser_vectors::ways::read_by_plan;
@@ -18,18 +19,17 @@ use std::fs;
 /// Prints and writes the value of each recorded message of the list.
 pub fn compare_recordings(rt: &HostRuntime, file: &str) -> Result<()> {
     let text = fs::read_to_string(rt, file)?;
-    let mut recordings = 0u64;
-    let mut wrong = 0u64;
+    let mut counts = CaseCounts::default();
     for line in text.as_str().lines() {
-        recordings = recordings.saturating_add(1);
         let recording = RecordedMessage::parse(line);
         let message = fs::read(rt, recording.file)?;
-        if let Some(what) = recording.first_mismatch(rt.alloc(), &message)? {
-            wrong = wrong.saturating_add(1);
-            println!(rt; "{}: {what}", recording.file)?;
-        }
+        let mismatch = recording.first_mismatch(rt.alloc(), &message)?;
+        counts.add(rt, recording.file, mismatch)?;
     }
-    println!(rt; "{recordings} recorded messages, {wrong} of them wrong")?;
+    println!(rt;
+        "{} recorded messages, {} of them wrong",
+        counts.cases, counts.wrong
+    )?;
     Ok(())
 }
 
@@ -61,7 +61,7 @@ impl<'a> RecordedMessage<'a> {
     /// The compact message has to be at most as long as the recorded one, and to read back as its
     /// value, from a slice and from readers of 1, 2, 3, 7 and 4096 bytes a call and of all bytes.
     fn first_mismatch(&self, alloc: Global, message: &[u8]) -> Result<Option<&'static str>> {
-        if !is_told_in_place(alloc, message) {
+        if !is_in_place(alloc, message) {
             return Ok(Some("an event in another place"));
         }
         let value: Value = from_slice(alloc, message)?;
@@ -101,8 +101,8 @@ impl<'a> RecordedMessage<'a> {
     }
 }
 
-/// Whether the message is told, each event in its place, and the last up to the message's end.
-fn is_told_in_place(alloc: Global, message: &[u8]) -> bool {
+/// Whether the message is given as events, each in its place, and the last up to the message's end.
+fn is_in_place(alloc: Global, message: &[u8]) -> bool {
     let mut witness = Witness::new(message, usize::MAX);
     match tell::from_slice(alloc, tell::Limits::new(), message, &mut witness) {
         Ok(_) => witness.in_place && witness.end == message.len(),

@@ -1,11 +1,11 @@
-//! Refusals as a list of messages says, with what has to be told of each, and their descriptions.
+//! Refusals of messages, and their descriptions.
 //!
 //! The file `errors.tsv` has a line for each message: what it shows, the type that it is read as, the
-//! message in hexadecimal digits, the words that have to be told, the field that has to be named, or
-//! `-`, the first and the last place that may be told, and the path. The first line is the columns'
-//! names. The file `wrong-errors.tsv` has such lines of which each is wrong.
-use crate::answer::ToldAnswer;
+//! message in hexadecimal digits, the words that its description has to have, the field that has to be
+//! named, or `-`, the first and the last place that it may have, and the path. The first line has the
+//! columns' names. The file `wrong-errors.tsv` has such lines of which each is wrong.
 use anyhow::{Context, Result};
+use bser_vectors::answers::FilesAnswer;
 use bser_vectors::devices::{Plan, PlannedReader};
 use bser_vectors::refused::RefusedMessage;
 use serde_bser::de::{Deserialize, DeserializeOwned};
@@ -58,12 +58,12 @@ pub fn compare_refusals(rt: &HostRuntime, file: &str) -> Result<()> {
 fn compare_case(rt: &HostRuntime, line: &str) -> Result<u64> {
     let case = RefusedMessage::parse(rt.alloc(), line)?;
     let refused = refusal(rt.alloc(), &case, 0)?;
-    let told = refused.to_string(rt.alloc())?;
+    let text = refused.to_string(rt.alloc())?;
     let path = refused.path(rt.alloc(), &case.message)?;
-    println!(rt; "{}: {told}, in {path}", case.name)?;
+    println!(rt; "{}: {text}, in {path}", case.name)?;
     let mut wrong = 0u64;
     for pieces in PIECES {
-        if !is_right(rt, &case, pieces, told.as_str())? {
+        if !is_right(rt, &case, pieces, text.as_str())? {
             wrong = wrong.saturating_add(1);
         }
     }
@@ -76,15 +76,15 @@ fn is_right(
     rt: &HostRuntime,
     case: &RefusedMessage<'_>,
     pieces: usize,
-    told: &str,
+    expected: &str,
 ) -> Result<bool> {
     let refusal = refusal(rt.alloc(), case, pieces)?;
     let text = refusal.to_string(rt.alloc())?;
     let path = refusal
         .path(rt.alloc(), &case.message)?
         .to_string(rt.alloc())?;
-    let is_right = text.as_str() == told
-        && case.is_told(told, refusal.place())
+    let is_right = text.as_str() == expected
+        && case.is_described(expected, refusal.place())
         && refusal.field().unwrap_or("-") == case.field
         && path.as_str() == case.path;
     if !is_right {
@@ -97,7 +97,7 @@ fn is_right(
 fn refusal(alloc: Global, case: &RefusedMessage<'_>, pieces: usize) -> Result<Description> {
     match case.kind {
         "Value" => refusal_of::<Value>(alloc, &case.message, pieces),
-        "Answer" => refusal_of::<ToldAnswer>(alloc, &case.message, pieces),
+        "Answer" => refusal_of::<FilesAnswer>(alloc, &case.message, pieces),
         _ => None,
     }
     .context("a message that is accepted, or no such type")

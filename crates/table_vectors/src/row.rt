@@ -76,7 +76,7 @@ fn text_of(alloc: Global, column: &str) -> Result<String> {
     }
 }
 
-/// The parts without blanks. A part with `..` and a number behind it stands so often.
+/// The parts without blanks. A part with `..` and a number behind it is repeated so often.
 fn repeated(alloc: Global, parts: &str) -> Result<String> {
     let mut text = String::new(alloc);
     for part in parts.split_whitespace() {

@@ -5,7 +5,7 @@
 //!
 //! A list of cases has a row for each case, in columns with ` | ` between them: its name, the types
 //! that the message is read as, the levels that it may have, the message in hexadecimal digits, and the
-//! notation of the answer. Blanks in a message are passed over, `0a..3` is `0a0a0a`, and what stands
+//! notation of the answer. Blanks in a message are passed over, `0a..3` is `0a0a0a`, and what is
 //! behind ` / ` follows the message. An answer that begins with `each front` is that of each front of the
 //! message, and one that begins with `parts` is what follows, without blanks, where `[..3` is `[[[`. Empty
 //! lines, and those that begin with `#`, are no rows.

@@ -2,13 +2,10 @@
 use bser_format::errors::Error;
 use bser_messages::message::from_slice_within;
 use bser_types::deserialize::{Deserialize, DeserializeOwned};
-use bser_value::value::Value;
 use bser_vectors::devices::Plan;
-use bser_vectors::notation::code;
-use bser_vectors::notation::text::Text;
+use bser_vectors::notation::answer_text;
 use bser_vectors::shown::Shown;
 use bser_vectors::ways::read_by_plan_within;
-use serde_bser::document::Document;
 use std::alloc::{AllocError, Global};
 use std::fmt;
 
@@ -94,23 +91,6 @@ impl<'a> Sample<'a> {
         Ok(())
     }
 
-    /// Reads a `Document` in the same ways. What is compared is the value that it holds.
-    pub fn document(&self, alloc: Global) -> Compared {
-        let answer = from_slice_within::<Document>(alloc, self.levels.min(1024), self.message);
-        self.check(alloc, ReadingWay::Slice, &held(alloc, answer), self.taken)?;
-        for most in PIECES {
-            let plan = Plan::pieces(most);
-            let (answer, count) = read_by_plan_within::<Document>(
-                alloc,
-                self.levels,
-                self.message,
-                plan,
-            );
-            self.check(alloc, ReadingWay::Reader(most), &held(alloc, answer), count)?;
-        }
-        Ok(())
-    }
-
     /// Compares an answer, and how many bytes a reader gave.
     fn check<T: Shown>(
         &self,
@@ -119,7 +99,7 @@ impl<'a> Sample<'a> {
         answer: &Result<T, Error>,
         count: usize,
     ) -> Compared {
-        let mut text = notation_of(alloc, answer)?;
+        let mut text = answer_text(alloc, answer)?;
         if text.as_str() == self.answer && (answer.is_err() || count == self.taken) {
             return Ok(());
         }
@@ -127,22 +107,5 @@ impl<'a> Sample<'a> {
             write!(text, " of {count} bytes")?;
         }
         Err(Mismatch::Answer(way, text))
-    }
-}
-
-/// The value that a document holds.
-fn held(alloc: Global, answer: Result<Document, Error>) -> Result<Value, Error> {
-    Ok(answer?.to_value(alloc)?)
-}
-
-/// The notation of the answer.
-fn notation_of<T: Shown>(alloc: Global, answer: &Result<T, Error>) -> Result<String, AllocError> {
-    match answer {
-        Ok(value) => {
-            let mut text = Text::new(alloc);
-            value.put(&mut text);
-            text.end()
-        }
-        Err(error) => code(alloc, error),
     }
 }

@@ -2,8 +2,9 @@
 use anyhow::{Result, ensure};
 use bser_vectors::notation::parse_value;
 use bser_vectors::sums::is_message;
+use bser_vectors::ways::written;
 use serde_bser::device::Watched;
-use serde_bser::ser::{serialize, serialize_compact, to_vec};
+use serde_bser::ser::{serialize_compact, to_vec};
 use serde_bser::value::Value;
 use std::alloc::Global;
 
@@ -16,7 +17,7 @@ pub fn compare_written(
 ) -> Result<()> {
     let value = parse_value(alloc, notation)?;
     ensure!(
-        is_message(alloc, &canonical_message(alloc, &value)?, canonical)?,
+        is_message(alloc, &written(alloc, &value)?, canonical)?,
         "another answer, written"
     );
     ensure!(
@@ -28,14 +29,6 @@ pub fn compare_written(
         "another answer, written compactly"
     );
     Ok(())
-}
-
-/// The value's message, by a writer.
-fn canonical_message(alloc: Global, value: &Value) -> Result<Vec<u8>> {
-    match serialize(alloc, Watched::new(Vec::new(alloc)), value) {
-        Ok(writer) => Ok(writer.into_inner()),
-        Err((_, error)) => Err(error.into()),
-    }
 }
 
 /// The value's message in the compact form.

@@ -1,4 +1,4 @@
-//! A client that follows changes, over recorded messages: what it asks, what it tells and how it ends.
+//! A client that follows changes, over recorded messages: what it asks, what it logs and how it ends.
 //!
 //! It is run over the first messages of the session, whole and cut at the beginning and in the middle
 //! of each, and with events that cannot be read and many events behind them. Then it follows a folder
@@ -22,10 +22,10 @@ const ROOT: Followed<'static> = Followed {
     since: None,
 };
 
-/// The clock that the server told.
+/// The clock that the server answered.
 const CLOCK: &str = "c:1795768208:28022:1:2";
 
-/// How many events are told behind each other.
+/// How many events follow each other.
 const MANY: u64 = 2_000;
 
 /// What came of a run.
@@ -36,7 +36,7 @@ struct FollowingRun {
     log: Vec<u8>,
 }
 
-/// Prints what a client asks and tells over the messages, and how it ends where they are cut.
+/// Prints what a client asks and logs over the messages, and how it ends where they are cut.
 pub fn print_following(rt: &HostRuntime, stream: &[u8], messages: &[SentMessage]) -> Result<()> {
     let end = messages.last().context("no message")?.end;
     let stream = stream.get(..end).context("outside")?;
@@ -52,7 +52,7 @@ pub fn print_following(rt: &HostRuntime, stream: &[u8], messages: &[SentMessage]
     print_many(rt, stream, messages.last().context("no message")?)
 }
 
-/// Prints what a client asks and tells that follows a folder below a project's root.
+/// Prints what a client asks and logs that follows a folder below a project's root.
 pub fn print_below(rt: &HostRuntime, stream: &[u8]) -> Result<()> {
     let followed = Followed {
         folder: "/data/my/project/sub",
@@ -61,7 +61,7 @@ pub fn print_below(rt: &HostRuntime, stream: &[u8]) -> Result<()> {
     print_whole(rt, &run_over(rt.alloc(), followed, stream))
 }
 
-/// Prints what a client tells of an event that cannot be read, and how many lines it tells where one
+/// Prints what a client logs of an event that cannot be read, and how many lines it logs where one
 /// event comes many times behind it.
 fn print_many(rt: &HostRuntime, stream: &[u8], event: &SentMessage) -> Result<()> {
     let mut server = Vec::from_slice(rt.alloc(), stream)?;
@@ -106,7 +106,7 @@ fn run_over(alloc: Global, followed: Followed<'_>, server: &[u8]) -> FollowingRu
     }
 }
 
-/// Prints each request and each line that was told, and the status.
+/// Prints each request and each line that was logged, and the status.
 fn print_whole(rt: &HostRuntime, run: &FollowingRun) -> Result<()> {
     print_requests(rt, &run.requests)?;
     for line in str::from_utf8(&run.log)?.lines() {

@@ -1,5 +1,5 @@
 //! A line of a list of messages.
-use crate::{borrowed, owned};
+use crate::printed::{is_borrowed, is_owned};
 use anyhow::Result;
 use bser_vectors::columns::columns;
 use std::alloc::Global;
@@ -33,10 +33,10 @@ impl<'a> PrintedMessage<'a> {
     /// The first thing that is not as the line says.
     pub fn first_mismatch(&self, alloc: Global) -> Result<Option<&'static str>> {
         let message = hex::decode(alloc, self.message)?;
-        if !owned::is_printed(alloc, &message, self.answer, self.owned)? {
+        if !is_owned(alloc, &message, self.answer, self.owned)? {
             return Ok(Some("another value, owned"));
         }
-        if !borrowed::is_printed(alloc, &message, self.answer, self.borrowed)? {
+        if !is_borrowed(alloc, &message, self.answer, self.borrowed)? {
             return Ok(Some("another value, borrowed"));
         }
         Ok(None)

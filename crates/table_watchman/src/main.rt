@@ -11,17 +11,15 @@
 //!
 //! The file `session.tsv` has a line for each message of the server in `stream-server.bser`: its
 //! number in the session, its connection, where it begins, its length, `answer` or `unsolicited`,
-//! and `files` where it tells some.
+//! and `files` where it lists some.
 #![tactic(auto)]
 
-mod borrowed;
 mod following;
 mod line;
 mod needed;
-mod owned;
+mod printed;
 mod requests;
 mod session;
-mod shown;
 mod told;
 
 use crate::following::{print_below, print_following};
@@ -31,6 +29,7 @@ use crate::requests::compare_requests;
 use crate::session::compare_session;
 use crate::told::print_message;
 use anyhow::{Context, Result};
+use bser_vectors::counts::CaseCounts;
 use bser_vectors::session::sent_messages;
 use std::fs;
 
@@ -53,22 +52,17 @@ fn main(rt: HostRuntime) -> Result<()> {
 /// Reads each message of the list, and prints how many are not read as the list says.
 fn compare_lines(rt: &HostRuntime, file: &str) -> Result<()> {
     let text = fs::read_to_string(rt, file)?;
-    let mut lines = 0u64;
-    let mut wrong = 0u64;
+    let mut lines = CaseCounts::default();
     for line in text.as_str().lines() {
-        lines = lines.saturating_add(1);
         let line = PrintedMessage::parse(line);
-        if let Some(what) = line.first_mismatch(rt.alloc())? {
-            wrong = wrong.saturating_add(1);
-            println!(rt; "{}: {what}", line.name)?;
-        }
+        lines.add(rt, line.name, line.first_mismatch(rt.alloc())?)?;
     }
-    println!(rt; "{lines} messages, {wrong} of them wrong")?;
+    println!(rt; "{} messages, {} of them wrong", lines.cases, lines.wrong)?;
     Ok(())
 }
 
-/// Prints what the clock, the errors and the events of the recorded session tell, and what servers
-/// lack by their answers to `version`.
+/// Prints the clock, the errors and the events of the recorded session, and what servers lack by
+/// their answers to `version`.
 fn print_session(rt: &HostRuntime, file: &str) -> Result<()> {
     let text = fs::read_to_string(rt, file)?;
     for line in text.as_str().lines() {

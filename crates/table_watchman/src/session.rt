@@ -3,7 +3,7 @@
 //!
 //! Each connection is a client of its own. Requests are sent as soon as the answer before came, so
 //! unsolicited messages come before answers, and are kept. Then the session is followed message by
-//! message, and what is told of files is compared with tables that were folded elsewhere. One row
+//! message, and what is listed of files is compared with tables that were folded elsewhere. One row
 //! of `wrong-tables.tsv` is wrong, and is named.
 mod fold;
 mod table;
@@ -27,7 +27,7 @@ const BOUNDS: Bounds = Bounds {
 /// The bytes before the body of a message of 128 to 32,767 bytes.
 const HEADER: usize = 9;
 
-/// Compares both connections of the session, and what is told of files.
+/// Compares both connections of the session, and what is listed of files.
 pub fn compare_session(rt: &HostRuntime, stream: &[u8], messages: &[SentMessage]) -> Result<()> {
     for connection in 1..3 {
         let messages = messages_of(rt.alloc(), messages, connection)?;

@@ -1,5 +1,5 @@
 //! Tests of documents, of frames, and of structs and enums by lists: what no contract says, and what
-//! stands for a published form. These are printed texts, the examples of JSON pointers, how far a
+//! a published form says. These are printed texts, the examples of JSON pointers, how far a
 //! reader is asked for a frame, cuts and interruptions of a stream, and each form of a list once.
 #![tactic(auto)]
 

@@ -6,7 +6,7 @@ use std::collections::BTreeMap;
 /// An enum with a variant of each form.
 #[derive(Debug, PartialEq, Drop, Serialize, Deserialize)]
 #[serde(rename_all = "camelCase")]
-pub enum Kind {
+pub enum EntryKind {
     RegularFile,
     SymbolicLink(String),
     #[serde(rename = "d")]
@@ -16,7 +16,7 @@ pub enum Kind {
 
 /// A field that may be absent.
 #[derive(Debug, PartialEq, Drop, Serialize, Deserialize)]
-pub struct Version {
+pub struct BuildVersion {
     pub version: String,
     #[serde(default)]
     pub build: u32,
@@ -27,11 +27,11 @@ pub struct Version {
 pub struct Flat {
     pub clock: String,
     #[serde(flatten)]
-    pub version: Version,
+    pub version: BuildVersion,
     pub is_fresh_instance: bool,
 }
 
-/// What is told apart by its kind alone.
+/// An enum whose variants differ by their contents alone.
 #[derive(Debug, PartialEq, Drop, Serialize, Deserialize)]
 #[serde(untagged)]
 pub enum NameOrFile {
@@ -51,7 +51,7 @@ pub enum Term {
 /// An enum whose variant and payload are two fields.
 #[derive(Debug, PartialEq, Drop, Serialize, Deserialize)]
 #[serde(tag = "kind", content = "of")]
-pub enum Shape {
+pub enum Figure {
     Dot,
     Line(i64),
     Box { width: i64 },

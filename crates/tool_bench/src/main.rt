@@ -14,24 +14,24 @@
 //! it has; `document-lookup` looks up two numbers of each file as well, and prints their sum;
 //! `document-write` writes one to memory. `canon` reads a message from a reader and writes its
 //! canonical message, as `bser_canon` does. `skip` keeps nothing. `size` adds up what the message
-//! stands for, and prints it. The operations on a `reader`, and `canon`, read from a reader over
+//! means, and prints it. The operations on a `reader`, and `canon`, read from a reader over
 //! the bytes, `value-stream` from one reader over COUNT copies of them, and the others from the
 //! bytes themselves.
 #![tactic(auto)]
 
-mod derived;
 mod files;
 mod rows;
 mod table;
 
-use crate::rows::{Bytes, MeasuredFiles};
+use crate::rows::{ByteCount, MeasuredFiles};
 use anyhow::{Context, Result, bail};
 use bser_canonical::engine::canon;
+use bser_serde::{ByteBuf, Bytes};
 use serde_bser::bytestring::ByteString;
 use serde_bser::de::{Deserialize, DeserializeOwned, Ignored, Size};
 use serde_bser::device::Watched;
 use serde_bser::document::{Document, Item, Rows};
-use serde_bser::ser::{InMemory, serialize, serialize_compact, to_vec};
+use serde_bser::ser::{InMemory, Serialize, serialize, serialize_compact, to_vec};
 use serde_bser::stream::ReaderMessages;
 use serde_bser::value::Value;
 use serde_bser::{from_reader, from_slice};
@@ -105,133 +105,133 @@ fn message_of(rt: &HostRuntime, file: &str) -> Result<Vec<u8>> {
     Ok(fs::read(rt, file)?)
 }
 
-// Does the operation `count` times, and tells what came of the last time.
+// Does the operation `count` times, and answers a line on the last time.
 fn repeated(alloc: Global, operation: &str, message: &[u8], count: u32) -> Result<String> {
     match operation {
-        "serialize" => written_often(alloc, message, count),
-        "to-vec" => made_often(alloc, message, count),
-        "serialize-compact" => compact_often(alloc, message, count),
-        "value" => value_told(alloc, read_often(alloc, message, count)),
-        "value-reader" => value_told(alloc, copied_often(alloc, message, count)),
-        "value-stream" => value_told(alloc, streamed_often(alloc, message, count)),
-        "typed-lent" => files_told::<&[u8], &str>(alloc, read_often(alloc, message, count)),
-        "typed-owned" => files_told::<ByteString, String>(alloc, read_often(alloc, message, count)),
+        "serialize" => bytes_line(alloc, written_often(alloc, message, count)),
+        "to-vec" => bytes_line(alloc, made_often::<Value>(alloc, message, count)),
+        "serialize-compact" => bytes_line(alloc, compact_often(alloc, message, count)),
+        "value" => value_line(alloc, read_often(alloc, message, count)),
+        "value-reader" => value_line(alloc, copied_often(alloc, message, count)),
+        "value-stream" => value_line(alloc, streamed_often(alloc, message, count)),
+        "typed-lent" => files_line::<&[u8], &str>(alloc, read_often(alloc, message, count)),
+        "typed-owned" => files_line::<ByteString, String>(alloc, read_often(alloc, message, count)),
         "typed-reader" => {
-            files_told::<ByteString, String>(alloc, copied_often(alloc, message, count))
+            files_line::<ByteString, String>(alloc, copied_often(alloc, message, count))
         }
-        "derived-lent" => derived::lent_often(alloc, message, count),
-        "derived-owned" => derived::owned_often(alloc, message, count),
-        "derived-write" => bytes_told(alloc, &derived::written_often(alloc, message, count)?),
-        "document" => document_told(alloc, read_often(alloc, message, count)),
-        "document-reader" => document_told(alloc, copied_often(alloc, message, count)),
+        "derived-lent" => {
+            files_line::<Bytes<'_>, &str>(alloc, derived_often(alloc, message, count))
+        }
+        "derived-owned" => {
+            files_line::<ByteBuf, String>(alloc, derived_often(alloc, message, count))
+        }
+        "derived-write" => bytes_line(alloc, derived_made_often(alloc, message, count)),
+        "document" => document_line(alloc, read_often(alloc, message, count)),
+        "document-reader" => document_line(alloc, copied_often(alloc, message, count)),
         "document-lookup" => looked_up_often(alloc, message, count),
-        "document-write" => document_written_often(alloc, message, count),
-        "canon" => rewritten_often(alloc, message, count),
-        "skip" => skip_told(alloc, read_often(alloc, message, count)),
-        "size" => size_told(alloc, read_often(alloc, message, count)),
+        "document-write" => bytes_line(alloc, made_often::<Document>(alloc, message, count)),
+        "canon" => bytes_line(alloc, rewritten_often(alloc, message, count)),
+        "skip" => skip_line(alloc, read_often(alloc, message, count)),
+        "size" => size_line(alloc, read_often(alloc, message, count)),
         _ => bail!("unknown operation {operation}"),
     }
 }
 
-// Reads the message `count` times, and answers what was read last. What was read before is dropped
-// first.
+/// Makes something `count` times, and answers what was made last. What was made before is dropped
+/// first.
+fn last_of<T: Drop, F: FnMut() -> Result<T>>(count: u32, make: F) -> Result<T>
+    requires { F.IsAlwaysCallable make }
+{
+    let mut make = make;
+    let mut last = None;
+    for _ in 0..count {
+        last = None;
+        let made = make()?;
+        last = Some(made);
+    }
+    last.context("COUNT is 0")
+}
+
+// Reads the message from the slice each time.
 fn read_often<'de, T: Deserialize<&'de [u8]>>(
     alloc: Global,
     message: &'de [u8],
     count: u32,
 ) -> Result<T> {
-    let mut last = None;
-    for _ in 0..count {
-        last = None;
-        let read: T = from_slice(alloc, message)?;
-        last = Some(read);
-    }
-    last.context("COUNT is 0")
+    last_of(count, || Ok(from_slice(alloc, message)?))
 }
 
-// Reads the message `count` times, each time from a reader, and answers what was read last. What
-// was read before is dropped first.
+// Reads the message from a reader of its own each time.
 fn copied_often<T: DeserializeOwned>(alloc: Global, message: &[u8], count: u32) -> Result<T> {
-    let mut last = None;
-    for _ in 0..count {
-        last = None;
-        let mut reader = Watched::new(message);
-        let read: T = from_reader(alloc, &mut reader)?;
-        last = Some(read);
-    }
-    last.context("COUNT is 0")
+    last_of(
+        count,
+        || Ok(from_reader(alloc, &mut Watched::new(message))?),
+    )
 }
 
-// Reads `count` copies of the message, one after the other from one reader, and answers what was
-// read last. What was read before is dropped first.
+// Reads the message by a derive each time.
+fn derived_often<'de, T: serde::Deserialize<'de>>(
+    alloc: Global,
+    message: &'de [u8],
+    count: u32,
+) -> Result<T> {
+    last_of(count, || Ok(bser_serde::from_slice(alloc, message)?))
+}
+
+// Reads copies of the message, one after the other from one reader.
 fn streamed_often<T: DeserializeOwned>(alloc: Global, message: &[u8], count: u32) -> Result<T> {
     let mut copies = Vec::new(alloc);
     for _ in 0..count {
         copies.extend_from_slice(message)?;
     }
     let mut messages = ReaderMessages::new(alloc, Watched::new(copies.as_slice()));
-    let mut last = None;
-    for _ in 0..count {
-        last = None;
-        last = messages.next_message()?;
-    }
-    last.context("COUNT is 0")
+    last_of(count, || messages.next_message()?.context("too few"))
 }
 
-// Writes the message's value `count` times, each time to memory of its own, and tells of what was
-// written last.
-fn written_often(alloc: Global, message: &[u8], count: u32) -> Result<String> {
+// Writes the message's value each time, to memory of its own.
+fn written_often(alloc: Global, message: &[u8], count: u32) -> Result<Vec<u8>> {
     let value: Value = from_slice(alloc, message)?;
-    let mut last = Vec::new(alloc);
-    for _ in 0..count {
-        last = written(alloc, &value)?;
-    }
-    bytes_told(alloc, &last)
+    last_of(count, || written(alloc, &value))
 }
 
-// Makes the message of the message's document `count` times, and tells of the last one.
-fn document_written_often(alloc: Global, message: &[u8], count: u32) -> Result<String> {
-    let document: Document = from_slice(alloc, message)?;
-    let mut last = Vec::new(alloc);
-    for _ in 0..count {
-        last = to_vec(alloc, &document)?;
-    }
-    bytes_told(alloc, &last)
+// Makes the message of what is read of the message each time.
+fn made_often<'de, T: Deserialize<&'de [u8]> + Serialize>(
+    alloc: Global,
+    message: &'de [u8],
+    count: u32,
+) -> Result<Vec<u8>> {
+    let value: T = from_slice(alloc, message)?;
+    message_often(alloc, &value, count)
 }
 
-// Writes the canonical message of the message `count` times, each time to memory of its own, and
-// tells of what was written last.
-fn rewritten_often(alloc: Global, message: &[u8], count: u32) -> Result<String> {
-    let mut last = Vec::new(alloc);
-    for _ in 0..count {
+// Makes the message of the value each time.
+fn message_often<T: Serialize>(alloc: Global, value: &T, count: u32) -> Result<Vec<u8>> {
+    last_of(count, || Ok(to_vec(alloc, value)?))
+}
+
+// Makes the message of the files by a derive each time.
+fn derived_made_often(alloc: Global, message: &[u8], count: u32) -> Result<Vec<u8>> {
+    let files: MeasuredFiles<Bytes<'_>, &str> = bser_serde::from_slice(alloc, message)?;
+    last_of(count, || Ok(bser_serde::to_vec(alloc, &files)?))
+}
+
+// Writes the canonical message of the message each time, to memory of its own.
+fn rewritten_often(alloc: Global, message: &[u8], count: u32) -> Result<Vec<u8>> {
+    last_of(count, || {
         let mut writer = InMemory::new(Vec::new(alloc));
         canon(alloc, &mut Watched::new(message), &mut writer)?;
-        last = writer.into_inner();
-    }
-    bytes_told(alloc, &last)
+        Ok(writer.into_inner())
+    })
 }
 
-// Makes the message of the message's value `count` times, and tells of the last one.
-fn made_often(alloc: Global, message: &[u8], count: u32) -> Result<String> {
+// Writes the message's value in the compact form each time, to memory of its own.
+fn compact_often(alloc: Global, message: &[u8], count: u32) -> Result<Vec<u8>> {
     let value: Value = from_slice(alloc, message)?;
-    let mut last = Vec::new(alloc);
-    for _ in 0..count {
-        last = to_vec(alloc, &value)?;
-    }
-    bytes_told(alloc, &last)
-}
-
-// Writes the message's value in the compact form `count` times, each time to memory of its own, and
-// tells of what was written last.
-fn compact_often(alloc: Global, message: &[u8], count: u32) -> Result<String> {
-    let value: Value = from_slice(alloc, message)?;
-    let mut last = Vec::new(alloc);
-    for _ in 0..count {
+    last_of(count, || {
         let mut writer = Watched::new(Vec::new(alloc));
         serialize_compact(alloc, &mut writer, &value)?;
-        last = writer.into_inner();
-    }
-    bytes_told(alloc, &last)
+        Ok(writer.into_inner())
+    })
 }
 
 // The value's message in memory.
@@ -242,11 +242,11 @@ fn written(alloc: Global, value: &Value) -> Result<Vec<u8>> {
     }
 }
 
-fn value_told(alloc: Global, value: Result<Value>) -> Result<String> {
-    bytes_told(alloc, &written(alloc, &value?)?)
+fn value_line(alloc: Global, value: Result<Value>) -> Result<String> {
+    bytes_line(alloc, written(alloc, &value?))
 }
 
-fn files_told<B: Bytes + Drop, S: Bytes + Drop>(
+fn files_line<B: ByteCount + Drop, S: ByteCount + Drop>(
     alloc: Global,
     files: Result<MeasuredFiles<B, S>>,
 ) -> Result<String> {
@@ -255,7 +255,7 @@ fn files_told<B: Bytes + Drop, S: Bytes + Drop>(
     Ok(line)
 }
 
-fn document_told(alloc: Global, document: Result<Document>) -> Result<String> {
+fn document_line(alloc: Global, document: Result<Document>) -> Result<String> {
     let document = document?;
     let files = document.root().get("files").and_then(Item::len);
     let line = format!(in alloc; "{} files", files.unwrap_or(0))?;
@@ -263,7 +263,7 @@ fn document_told(alloc: Global, document: Result<Document>) -> Result<String> {
 }
 
 // Reads the message as a document `count` times, each time adds up the numbers of its files, and
-// tells of the last time.
+// answers a line on the last time.
 fn looked_up_often(alloc: Global, message: &[u8], count: u32) -> Result<String> {
     let mut sum = 0;
     for _ in 0..count {
@@ -292,7 +292,7 @@ fn numbers_in(answer: Item<'_>) -> i64 {
     sum
 }
 
-// The same of files that are the rows of a template.
+// The sizes and times of files that are the rows of a template.
 fn numbers_in_rows(rows: Rows<'_>) -> i64 {
     let mut sum: i64 = 0;
     if let (Some(size), Some(changed)) = (rows.place("size"), rows.place("mtime_ms")) {
@@ -308,20 +308,21 @@ fn number_of(field: Option<Item<'_>>) -> i64 {
     field.and_then(Item::as_i64).unwrap_or(0)
 }
 
-fn skip_told(alloc: Global, skipped: Result<Ignored>) -> Result<String> {
+fn skip_line(alloc: Global, skipped: Result<Ignored>) -> Result<String> {
     let _skipped = skipped?;
     Ok(String::from_str(alloc, "skipped")?)
 }
 
-fn size_told(alloc: Global, size: Result<Size>) -> Result<String> {
+fn size_line(alloc: Global, size: Result<Size>) -> Result<String> {
     let size = size?;
     let (values, keys, depth) = (size.values, size.key_bytes, size.depth);
     let line = format!(in alloc; "{values} values, {keys} bytes of keys, {depth} levels")?;
     Ok(line)
 }
 
-fn bytes_told(alloc: Global, bytes: &[u8]) -> Result<String> {
-    let line = format!(in alloc; "{} bytes, checksum {:016x}", bytes.len(), checksum(bytes))?;
+fn bytes_line(alloc: Global, bytes: Result<Vec<u8>>) -> Result<String> {
+    let bytes = bytes?;
+    let line = format!(in alloc; "{} bytes, checksum {:016x}", bytes.len(), checksum(&bytes))?;
     Ok(line)
 }
 

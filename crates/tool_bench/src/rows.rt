@@ -1,20 +1,22 @@
-//! The structs as which an answer of Watchman is read.
+//! The structs as which an answer of Watchman is read, by lists of fields and by derives.
 ghost use Rattle.std.specs.Prelude.{codes, refl, [], ◌∷◌};
 ghost use Rattle.bser_structs.specs.Fields.{required, optional, struct_meaning, none_lent};
 
+use bser_serde::{ByteBuf, Bytes};
 use serde_bser::bytestring::ByteString;
 use serde_bser::de::{Answer, Deserializer};
 use serde_bser::prelude::*;
 use std::alloc::Global;
 
-/// What an answer tells of a file. The name's bytes and the type's text are lent or owned.
-#[derive(Drop)]
+/// A file of an answer. The name's bytes and the type's text are lent or owned.
+#[derive(Drop, serde::Serialize, serde::Deserialize)]
 pub struct MeasuredFile<B, S> {
     pub name: B,
     pub size: u64,
     pub mtime_ms: Option<u64>,
     pub exists: Option<bool>,
     pub mode: Option<u32>,
+    #[serde(rename = "type")]
     pub kind: Option<S>,
 }
 
@@ -56,7 +58,7 @@ impl<B: OwnedShape, S: OwnedShape> OwnedShape for MeasuredFile<B, S> {
     ghost owned = { none_lent B.owned (none_lent S.owned refl) };
 }
 
-impl<B: Bytes, S: Bytes> MeasuredFile<B, S> {
+impl<B: ByteCount, S: ByteCount> MeasuredFile<B, S> {
     // What was read, added up: lengths and numbers, and 1 for true.
     fn sum(&self) -> u64 {
         let mut sum = self.size.wrapping_add(self.name.count());
@@ -72,7 +74,7 @@ impl<B: Bytes, S: Bytes> MeasuredFile<B, S> {
 }
 
 /// An answer, of which the files alone are kept.
-#[derive(Drop)]
+#[derive(Drop, serde::Serialize, serde::Deserialize)]
 pub struct MeasuredFiles<B, S> {
     pub files: Vec<MeasuredFile<B, S>>,
 }
@@ -105,7 +107,7 @@ impl<B: OwnedShape, S: OwnedShape> OwnedShape for MeasuredFiles<B, S> {
     ghost owned = { none_lent (none_lent B.owned (none_lent S.owned refl)) refl };
 }
 
-impl<B: Bytes, S: Bytes> MeasuredFiles<B, S> {
+impl<B: ByteCount, S: ByteCount> MeasuredFiles<B, S> {
     /// What was read of all files, added up: lengths and numbers, and 1 for true.
     pub fn sum(&self) -> u64 {
         let mut sum: u64 = 0;
@@ -116,32 +118,44 @@ impl<B: Bytes, S: Bytes> MeasuredFiles<B, S> {
     }
 }
 
-/// Bytes that are lent or owned.
-pub trait Bytes {
+/// ByteCount that are lent or owned.
+pub trait ByteCount {
     /// How many there are.
     fn count(&self) -> u64;
 }
 
-impl<'a> Bytes for &'a [u8] {
+impl<'a> ByteCount for &'a [u8] {
     fn count(&self) -> u64 {
         self.len() as u64
     }
 }
 
-impl<'a> Bytes for &'a str {
+impl<'a> ByteCount for &'a str {
     fn count(&self) -> u64 {
         self.len() as u64
     }
 }
 
-impl Bytes for ByteString {
+impl ByteCount for ByteString {
     fn count(&self) -> u64 {
         self.as_bytes().len() as u64
     }
 }
 
-impl Bytes for String {
+impl ByteCount for String {
     fn count(&self) -> u64 {
         self.len() as u64
+    }
+}
+
+impl<'a> ByteCount for Bytes<'a> {
+    fn count(&self) -> u64 {
+        self.0.count()
+    }
+}
+
+impl ByteCount for ByteBuf {
+    fn count(&self) -> u64 {
+        self.0.count()
     }
 }

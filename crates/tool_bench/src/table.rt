@@ -1,7 +1,7 @@
 //! The files of the answer that is measured.
 
-/// Each file's folder, its size in bytes, and when it was changed, in milliseconds since 1970. Two files
-/// stand in a line here.
+/// Each file's folder, its size in bytes, and when it was changed, in milliseconds since 1970. A line
+/// here has two files.
 pub const TABLE: &str = "\
 scm/scm/scm 853 1526814208505\nsrc/target/scm/scm/deps/target 356 1532701181848\n\
 deps/src/client/client 10059 1532442528343\ntarget/include/target/target 945 1529494495049\n\

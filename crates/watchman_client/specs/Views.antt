@@ -7,8 +7,8 @@ use Rattle.bser_frames.specs.declared.error.FrameError.{FrameError}
 use Rattle.watchman_client.specs.Kept.{IsWithin}
 use Rattle.watchman_client.specs.Kinds.{IsKind, IsWhole}
 use Rattle.watchman_client.specs.declared.bounds.Bounds.{Bounds}
-use Rattle.watchman_client.specs.declared.next.Next.{Next}
-use Rattle.watchman_client.specs.declared.next.Next.TheVariants.{End, Unsolicited, Answer}
+use Rattle.watchman_client.specs.declared.next.NextMessage.{NextMessage}
+use Rattle.watchman_client.specs.declared.next.NextMessage.TheVariants.{End, Unsolicited, Answer}
 
 -- ---- the messages that come
 
@@ -32,7 +32,7 @@ pub record HasNext {S : Type 0} (unsolicited : Bool) (h : Hand S) : Type 0 where
   pub kind : IsKind unsolicited h.stream.frame
 
 -- what comes next
-abbrev pub IsNext : {S : Type 0} → (S → Option (List ℕ)) → Hand S → Next → Type 0
+abbrev pub IsNext : {S : Type 0} → (S → Option (List ℕ)) → Hand S → NextMessage → Type 0
 IsNext remaining h End = IsAtEnd (left_of remaining h)
 IsNext remaining h Unsolicited = HasNext true h
 IsNext remaining h Answer = HasNext false h

@@ -13,8 +13,8 @@ ghost use Rattle.watchman_client.specs.Views.{view_of, room_of, HasNext, StaysWi
 use crate::bounds::Bounds;
 use crate::errors::{ClientError, fails, may_be_sent};
 use crate::incoming::Incoming;
-use crate::kept::{Kept, Unkept};
-use crate::next::{Next, next_kind};
+use crate::kept::{Kept, QueueError};
+use crate::next::{NextMessage, next_kind};
 use crate::reading::{read_answer, read_owned_answer};
 use bser_ser::Serialize;
 use bser_ser::message::serialize_to;
@@ -249,15 +249,15 @@ impl<S: Source, W: Sink> Client<S, W> {
         ensures within { StaysWithin self.old self.new }
     {
         match next_kind(self.alloc, &mut self.incoming)? {
-            Next::End => Err(ClientError::Ended),
-            Next::Answer => Ok(false),
-            Next::Unsolicited => match self.kept.push(self.bounds, self.incoming.frame()) {
+            NextMessage::End => Err(ClientError::Ended),
+            NextMessage::Answer => Ok(false),
+            NextMessage::Unsolicited => match self.kept.push(self.bounds, self.incoming.frame()) {
                 Ok(()) => {
                     self.incoming.release();
                     Ok(true)
                 }
-                Err(Unkept::Full) => Err(ClientError::Full),
-                Err(Unkept::Memory) => Err(ClientError::Memory),
+                Err(QueueError::Full) => Err(ClientError::Full),
+                Err(QueueError::Memory) => Err(ClientError::Memory),
             },
         }
     }
@@ -286,10 +286,10 @@ impl<S: Source, W: Sink> Client<S, W> {
             return Err(ClientError::Failed);
         }
         match next_kind(self.alloc, &mut self.incoming)? {
-            Next::End => Ok(false),
-            Next::Answer if self.waiting => Err(ClientError::AnswerDue),
-            Next::Answer => Err(ClientError::Unwanted),
-            Next::Unsolicited => {
+            NextMessage::End => Ok(false),
+            NextMessage::Answer if self.waiting => Err(ClientError::AnswerDue),
+            NextMessage::Answer => Err(ClientError::Unwanted),
+            NextMessage::Unsolicited => {
                 self.incoming.release();
                 self.taken = None;
                 Ok(true)

@@ -2,7 +2,7 @@
 ghost use Rattle.std.specs.Prelude.{◌≡◌};
 ghost use Rattle.watchman_client.specs.Failures.{ends, fails, may_be_sent};
 
-use crate::unreadable::Unreadable;
+use crate::answer_error::AnswerError;
 use bser_format::bytestring::ByteString;
 use bser_format::errors::Error as BserError;
 use bser_frames::error::FrameError;
@@ -49,7 +49,7 @@ pub enum ClientError {
     Server(ByteString),
     /// The answer was taken, and cannot be read as the type, for this reason.
     #[error("the answer was not read: {0}")]
-    Answer(Unreadable),
+    Answer(AnswerError),
 }
 
 /// Returns whether the error makes a client fail for good.

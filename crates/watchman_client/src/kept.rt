@@ -9,7 +9,7 @@ use std::marker::Model;
 
 /// Why a message is not kept.
 #[derive(Debug, Clone, Copy, PartialEq, Eq)]
-pub(crate) enum Unkept {
+pub(crate) enum QueueError {
     /// As many are kept as may be, or too many bytes.
     Full,
     /// No memory was left.
@@ -49,25 +49,25 @@ impl Kept {
 
     /// Keeps a copy of the message behind the others.
     #[tactic(auto, using(crate::proofs::Sizes::size_snoc, std::proofs::lemmas::Grind::common_steps))]
-    pub(crate) fn push(&mut self, bounds: Bounds, message: &[u8]) -> Result<(), Unkept>
+    pub(crate) fn push(&mut self, bounds: Bounds, message: &[u8]) -> Result<(), QueueError>
         ensures ok { OnOk result (self.new ≡ self.old ++ message.now ∷ []) }
         ensures number { OnOk result (length self.old < bounds.kept_messages) }
         ensures bytes { OnOk result
             (size_of self.new ≤ max bounds.kept_bytes (size_of self.old)) }
         ensures within { IsWithin bounds self.old → IsWithin bounds self.new }
         ensures err { OnErr result (self.new ≡ self.old) }
-        ensures full { IfErr result (λ e. e ≡ Unkept.Full
+        ensures full { IfErr result (λ e. e ≡ QueueError.Full
             → is_full bounds self.old message.now ≡ true) }
     {
         let room = bounds.kept_bytes.saturating_sub(self.bytes);
         if self.messages.len() >= bounds.kept_messages || message.len() > room {
-            return Err(Unkept::Full);
+            return Err(QueueError::Full);
         }
         let Ok(copy) = Vec::from_slice(self.alloc, message) else {
-            return Err(Unkept::Memory);
+            return Err(QueueError::Memory);
         };
         let Ok(()) = self.messages.push_back(copy) else {
-            return Err(Unkept::Memory);
+            return Err(QueueError::Memory);
         };
         self.bytes += message.len();
         Ok(())

@@ -18,48 +18,51 @@ use std::alloc::{AllocError, Global};
 
 /// What a message says of itself.
 #[derive(Drop)]
-pub(crate) struct Mark {
+pub(crate) struct Unilateral {
     /// Whether it is unsolicited.
     pub unilateral: bool,
 }
 
-impl Fields for Mark {
+impl Fields for Unilateral {
     ghost fields = { required (codes "unilateral") (λ v. v.unilateral) ⟦<bool as ReadOnly>⟧.coding
         ∷ [] };
 }
 
-impl Meant for Mark {
-    ghost meaning = { struct_meaning ⟦<Mark as Fields>⟧.fields };
+impl Meant for Unilateral {
+    ghost meaning = { struct_meaning ⟦<Unilateral as Fields>⟧.fields };
 }
 
-impl<L: LendsText> Deserialize<L> for Mark {
-    fn deserialize<R: DeRead<Lent = L>>(alloc: Global, from: &mut Deserializer<R>) -> Answer<Mark> {
-        read_struct! { alloc, from, Mark { unilateral: Required("unilateral") } }
+impl<L: LendsText> Deserialize<L> for Unilateral {
+    fn deserialize<R: DeRead<Lent = L>>(
+        alloc: Global,
+        from: &mut Deserializer<R>,
+    ) -> Answer<Unilateral> {
+        read_struct! { alloc, from, Unilateral { unilateral: Required("unilateral") } }
     }
 }
 
 /// What a server answers where it cannot do what was asked.
 #[derive(Drop)]
-pub(crate) struct Failure {
+pub(crate) struct ErrorField {
     /// Why.
     pub error: ByteString,
 }
 
-impl Fields for Failure {
+impl Fields for ErrorField {
     ghost fields = { required (codes "error") (λ v. v.error) ⟦<ByteString as ReadOnly>⟧.coding
         ∷ [] };
 }
 
-impl Meant for Failure {
-    ghost meaning = { struct_meaning ⟦<Failure as Fields>⟧.fields };
+impl Meant for ErrorField {
+    ghost meaning = { struct_meaning ⟦<ErrorField as Fields>⟧.fields };
 }
 
-impl<L: LendsText> Deserialize<L> for Failure {
+impl<L: LendsText> Deserialize<L> for ErrorField {
     fn deserialize<R: DeRead<Lent = L>>(
         alloc: Global,
         from: &mut Deserializer<R>,
-    ) -> Answer<Failure> {
-        read_struct! { alloc, from, Failure { error: Required("error") } }
+    ) -> Answer<ErrorField> {
+        read_struct! { alloc, from, ErrorField { error: Required("error") } }
     }
 }
 
@@ -69,7 +72,7 @@ impl<L: LendsText> Deserialize<L> for Failure {
 pub fn is_unsolicited(alloc: Global, message: &[u8]) -> Result<bool, AllocError>
     ensures { IfOk result (λ b. IsKind b message.now) }
 {
-    match from_slice::<Mark>(alloc, message) {
+    match from_slice::<Unilateral>(alloc, message) {
         Ok(mark) => Ok(mark.unilateral),
         Err(Error::OutOfMemory) => Err(AllocError),
         Err(_other) => Ok(false),
@@ -84,7 +87,7 @@ pub fn error_of(alloc: Global, message: &[u8]) -> Result<Option<ByteString>, All
     ensures none { IfOk result (λ o. IfNone o
         ((error : List ℕ) → TellsError error message.now → ⊥)) }
 {
-    match from_slice::<Failure>(alloc, message) {
+    match from_slice::<ErrorField>(alloc, message) {
         Ok(failure) => Ok(Some(failure.error)),
         Err(Error::OutOfMemory) => Err(AllocError),
         Err(_other) => Ok(None),

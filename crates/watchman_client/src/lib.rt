@@ -2,6 +2,7 @@
 //! messages that were not asked for are kept until they are wanted.
 #![tactic(auto)]
 
+pub mod answer_error;
 pub mod bounds;
 pub mod client;
 pub mod errors;
@@ -13,4 +14,3 @@ pub mod laws;
 mod next;
 pub mod reading;
 pub mod requests;
-pub mod unreadable;

@@ -12,7 +12,7 @@ use std::alloc::Global;
 
 /// What comes next.
 #[derive(Debug, Clone, Copy, PartialEq, Eq)]
-pub(crate) enum Next {
+pub(crate) enum NextMessage {
     /// No byte is left.
     End,
     /// An unsolicited message.
@@ -25,7 +25,7 @@ pub(crate) enum Next {
 pub(crate) fn next_kind<S: Source>(
     alloc: Global,
     incoming: &mut Incoming<S>,
-) -> Result<Next, ClientError>
+) -> Result<NextMessage, ClientError>
     ensures kept { Keeps (left_of S.remaining incoming.old) (left_of S.remaining incoming.new) }
     ensures next { IfOk result (IsNext S.remaining incoming.new) }
     ensures err { IfErr result (λ e. IsHindered S.remaining e incoming.new) }
@@ -33,11 +33,11 @@ pub(crate) fn next_kind<S: Source>(
 {
     match incoming.reach() {
         Ok(true) => match is_unsolicited(alloc, incoming.frame()) {
-            Ok(true) => Ok(Next::Unsolicited),
-            Ok(false) => Ok(Next::Answer),
+            Ok(true) => Ok(NextMessage::Unsolicited),
+            Ok(false) => Ok(NextMessage::Answer),
             Err(_) => Err(ClientError::Memory),
         },
-        Ok(false) => Ok(Next::End),
+        Ok(false) => Ok(NextMessage::End),
         Err(error) => Err(ClientError::Frame(error)),
     }
 }

@@ -5,9 +5,9 @@ ghost use Rattle.bser_messages.specs.Messages.{BeginsWith};
 ghost use Rattle.watchman_client.specs.Failures.{IsToldError, TellsNoError, Unread};
 ghost use Rattle.watchman_client.specs.Requests.{ReadsOwned, UnreadOwned};
 
+use crate::answer_error::AnswerError;
 use crate::errors::ClientError;
 use crate::kinds::error_of;
-use crate::unreadable::Unreadable;
 use bser_deserializer::deserializer::LEVELS;
 use bser_frames::owned::read_owned;
 use bser_messages::described::from_slice;
@@ -43,7 +43,7 @@ pub fn read_answer<'m, T: Deserialize<&'m [u8]>>(
     match from_slice(alloc, message) {
         Ok(value) => Ok(value),
         Err(description) => {
-            let error = Unreadable::find(alloc, description, message);
+            let error = AnswerError::find(alloc, description, message);
             Err(ClientError::Answer(error))
         }
     }
@@ -63,7 +63,7 @@ pub fn read_owned_answer<T: DeserializeOwned>(
     match read_owned(alloc, LEVELS, message) {
         Ok(value) => Ok(value),
         Err(description) => {
-            let error = Unreadable::find(alloc, description, message);
+            let error = AnswerError::find(alloc, description, message);
             Err(ClientError::Answer(error))
         }
     }

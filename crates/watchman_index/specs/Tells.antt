@@ -8,8 +8,8 @@ use Rattle.watchman_types.specs.Kinds.{kind_of}
 use Rattle.watchman_types.specs.Messages.{IsReadAs, IsUnread}
 use Rattle.watchman_types.specs.declared.error_reply.ErrorReply.{ErrorReply}
 use Rattle.watchman_types.specs.declared.header.Header.{Header}
-use Rattle.watchman_types.specs.declared.kind.Kind.{Kind}
-use Rattle.watchman_types.specs.declared.kind.Kind.TheVariants as kinds
+use Rattle.watchman_types.specs.declared.kind.MessageKind.{MessageKind}
+use Rattle.watchman_types.specs.declared.kind.MessageKind.TheVariants as kinds
 use Rattle.watchman_types.specs.declared.kind.EventKind.TheVariants as events
 use Rattle.watchman_types.specs.declared.query.QueryResult.{QueryResult}
 use Rattle.watchman_types.specs.declared.subscription.FilesChanged.{FilesChanged}
@@ -19,8 +19,8 @@ use Rattle.watchman_index.specs.declared.listed.Listed.{Listed}
 use Rattle.watchman_index.specs.declared.told.Told.{Told}
 use Rattle.watchman_index.specs.declared.told.Told.TheVariants.{Files, Clock, ServerError, Nothing}
 use Rattle.watchman_index.specs.declared.told.Told.TheVariants as told
-use Rattle.watchman_index.specs.declared.told.Unread.{Unread}
-use Rattle.watchman_index.specs.declared.told.Unread.TheVariants as unread
+use Rattle.watchman_index.specs.declared.told.ContentError.{ContentError}
+use Rattle.watchman_index.specs.declared.told.ContentError.TheVariants as unread
 use Rattle.watchman_index.specs.Told.{IsOfQuery, IsOfSubscription}
 
 -- what each message is read as
@@ -37,7 +37,7 @@ abbrev pub IsNone : {A : Type 0} → shape.Ghosts A → List ℕ → Type 0
 IsNone {A} type bytes = (v : A) → IsReadAs type bytes v → ⊥
 
 -- they begin with none that the type reads, for this reason; or there is no memory for its files
-abbrev pub IsUnreadOrFull : {A : Type 0} → shape.Ghosts A → List ℕ → Unread → Type 0
+abbrev pub IsUnreadOrFull : {A : Type 0} → shape.Ghosts A → List ℕ → ContentError → Type 0
 IsUnreadOrFull type bytes (unread.Message d) = IsUnread type bytes (cause_of d)
 IsUnreadOrFull type bytes unread.OutOfMemory = Unit {0}
 
@@ -73,7 +73,7 @@ module _ (types : Types) (bytes : List ℕ) where
   TellsClock _ = ⊥
 
   -- a message of this kind, with files or without, gives this
-  abbrev pub TellsAs : Kind → Bool → Told → Type 0
+  abbrev pub TellsAs : MessageKind → Bool → Told → Type 0
   TellsAs kinds.Answer true t = TellsQuery t
   TellsAs kinds.Answer false t = TellsClock t
   TellsAs kinds.Error _ t = TellsError t
@@ -85,7 +85,7 @@ module _ (types : Types) (bytes : List ℕ) where
   Tells t = (h : Header) × IsReadAs types.header bytes h × TellsAs (kind_of h) (is_some h.files) t
 
   -- a message of this kind, with files or without, is not read as its type
-  abbrev pub IsUnreadAs : Kind → Bool → Error → Type 0
+  abbrev pub IsUnreadAs : MessageKind → Bool → Error → Type 0
   IsUnreadAs kinds.Answer true e = IsUnread types.query bytes e
   IsUnreadAs kinds.Answer false e = ⊥
   IsUnreadAs kinds.Error _ e = IsUnread types.error bytes e
@@ -94,7 +94,7 @@ module _ (types : Types) (bytes : List ℕ) where
 
   -- why it is not known what the message gives: it is not read as a header, or not as the type of
   -- its kind; or there is no memory for what one that is no error gives
-  abbrev pub Untold : Unread → Type 0
+  abbrev pub Untold : ContentError → Type 0
   Untold (unread.Message d) =
       IsUnread types.header bytes (cause_of d)
       ⊎ ((h : Header) × IsReadAs types.header bytes h × IsUnreadAs (kind_of h) (is_some h.files) (cause_of d))

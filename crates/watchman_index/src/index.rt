@@ -11,7 +11,7 @@ ghost use Rattle.watchman_index.specs.Turns.{IsApplied, IsKept};
 
 use crate::changes::Changes;
 use crate::listing::Listing;
-use crate::origin::{Origin, Refusal};
+use crate::origin::{ApplyError, Origin};
 use crate::row::{FileState, Row};
 use serde_bser::bytestring::ByteString;
 use std::alloc::{AllocError, Global};
@@ -65,13 +65,13 @@ impl Index {
     ///
     /// A message of another root or subscription is refused, and nothing is changed. Where there is
     /// no memory, each file is as before or as after the message, which may be applied again.
-    pub fn apply(&mut self, number: u64, changes: Changes) -> Result<(), Refusal>
+    pub fn apply(&mut self, number: u64, changes: Changes) -> Result<(), ApplyError>
         ensures applied { OnOk result (IsApplied number changes self.old self.new) }
-        ensures root { result ≡ Err Refusal.OtherRoot
+        ensures root { result ≡ Err ApplyError.OtherRoot
             → ¬ Agrees self.old.origin.root changes.root }
-        ensures subscription { result ≡ Err Refusal.OtherSubscription
+        ensures subscription { result ≡ Err ApplyError.OtherSubscription
             → ¬ Agrees self.old.origin.subscription changes.subscription }
-        ensures refused { IfErr result (λ e. e ≢ Refusal.OutOfMemory → self.new ≡ self.old) }
+        ensures refused { IfErr result (λ e. e ≢ ApplyError.OutOfMemory → self.new ≡ self.old) }
         ensures partly { OnErr result (AppliesPartly number
             (listing_of changes.is_fresh_instance self.old.last_clock changes.clock)
             changes.files self.old.files self.new.files) }

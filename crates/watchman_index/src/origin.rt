@@ -19,7 +19,7 @@ pub struct Origin {
 
 /// Why a message is not applied.
 #[derive(Debug, Clone, Copy, PartialEq, Eq)]
-pub enum Refusal {
+pub enum ApplyError {
     /// It is of another root.
     OtherRoot,
     /// It is of another subscription.
@@ -28,22 +28,22 @@ pub enum Refusal {
     OutOfMemory,
 }
 
-impl From<AllocError> for Refusal {
-    ghost use Rattle.watchman_index.specs.declared.origin.Refusal.TheVariants as refusals;
+impl From<AllocError> for ApplyError {
+    ghost use Rattle.watchman_index.specs.declared.origin.ApplyError.TheVariants as refusals;
 
     ghost from_gives = { λ _ e. e ≡ refusals.OutOfMemory };
 
     fn from(_: AllocError) -> Self {
-        Refusal::OutOfMemory
+        ApplyError::OutOfMemory
     }
 }
 
-impl fmt::Display for Refusal {
+impl fmt::Display for ApplyError {
     fn fmt<W: fmt::Write>(&self, f: &mut fmt::Formatter<W>) -> fmt::Result {
         f.write_str(match self {
-            Refusal::OtherRoot => "the message is of another root",
-            Refusal::OtherSubscription => "the message is of another subscription",
-            Refusal::OutOfMemory => "out of memory",
+            ApplyError::OtherRoot => "the message is of another root",
+            ApplyError::OtherSubscription => "the message is of another subscription",
+            ApplyError::OutOfMemory => "out of memory",
         })
     }
 }
@@ -60,20 +60,20 @@ impl Origin {
     }
 
     /// Fails for a message that names another root or another subscription than is known.
-    pub fn check(&self, changes: &Changes) -> Result<(), Refusal>
+    pub fn check(&self, changes: &Changes) -> Result<(), ApplyError>
         ensures ok { OnOk result (Agrees self.now.root changes.now.root
             × Agrees self.now.subscription changes.now.subscription) }
-        ensures root { result ≡ Err Refusal.OtherRoot
+        ensures root { result ≡ Err ApplyError.OtherRoot
             → ¬ Agrees self.now.root changes.now.root }
-        ensures subscription { result ≡ Err Refusal.OtherSubscription
+        ensures subscription { result ≡ Err ApplyError.OtherSubscription
             → ¬ Agrees self.now.subscription changes.now.subscription }
-        ensures known { IfErr result (λ e. e ≢ Refusal.OutOfMemory) }
+        ensures known { IfErr result (λ e. e ≢ ApplyError.OutOfMemory) }
     {
         if !agree(&self.root, &changes.root) {
-            return Err(Refusal::OtherRoot);
+            return Err(ApplyError::OtherRoot);
         }
         if !agree(&self.subscription, &changes.subscription) {
-            return Err(Refusal::OtherSubscription);
+            return Err(ApplyError::OtherSubscription);
         }
         Ok(())
     }

@@ -21,7 +21,7 @@ use std::alloc::{AllocError, Global};
 use std::fmt;
 use watchman_types::error_reply::ErrorReply;
 use watchman_types::header::Header;
-use watchman_types::kind::{EventKind, Kind};
+use watchman_types::kind::{EventKind, MessageKind};
 use watchman_types::query::QueryResult;
 use watchman_types::subscription::{FilesChanged, Subscribed};
 use watchman_types::watch::Clock;
@@ -43,38 +43,38 @@ pub enum Told {
 
 /// Why it is not known what an index can use of a message.
 #[derive(Debug, Drop)]
-pub enum Unread {
+pub enum ContentError {
     /// It is malformed, or lists files without what an index keeps of them.
     Message(Description),
     /// No memory was left for its files.
     OutOfMemory,
 }
 
-impl From<Description> for Unread {
-    ghost use Rattle.watchman_index.specs.declared.told.Unread.TheVariants as unread;
+impl From<Description> for ContentError {
+    ghost use Rattle.watchman_index.specs.declared.told.ContentError.TheVariants as unread;
 
     ghost from_gives = { λ d e. e ≡ unread.Message d };
 
     fn from(error: Description) -> Self {
-        Unread::Message(error)
+        ContentError::Message(error)
     }
 }
 
-impl From<AllocError> for Unread {
-    ghost use Rattle.watchman_index.specs.declared.told.Unread.TheVariants as unread;
+impl From<AllocError> for ContentError {
+    ghost use Rattle.watchman_index.specs.declared.told.ContentError.TheVariants as unread;
 
     ghost from_gives = { λ _ e. e ≡ unread.OutOfMemory };
 
     fn from(_: AllocError) -> Self {
-        Unread::OutOfMemory
+        ContentError::OutOfMemory
     }
 }
 
-impl fmt::Display for Unread {
+impl fmt::Display for ContentError {
     fn fmt<W: fmt::Write>(&self, f: &mut fmt::Formatter<W>) -> fmt::Result {
         match self {
-            Unread::Message(error) => write!(f, "{error}"),
-            Unread::OutOfMemory => f.write_str("out of memory"),
+            ContentError::Message(error) => write!(f, "{error}"),
+            ContentError::OutOfMemory => f.write_str("out of memory"),
         }
     }
 }
@@ -103,15 +103,15 @@ impl ToldTypes for Told {
 ///
 /// Fails as [`from_slice`] does of a [`Header`]; where the message has `files`, as it does of a
 /// [`QueryResult`] or [`FilesChanged`] of [`Listed`] files; and where there is no memory.
-pub fn read_told(alloc: Global, bytes: &[u8]) -> Result<Told, Unread>
+pub fn read_told(alloc: Global, bytes: &[u8]) -> Result<Told, ContentError>
     ensures told { IfOk result (Tells ⟦<Told as ToldTypes>⟧.types bytes.now) }
     ensures refused { IfErr result (Untold ⟦<Told as ToldTypes>⟧.types bytes.now) }
 {
     let header: Header = from_slice(alloc, bytes)?;
     match header.kind() {
-        Kind::Answer if header.files.is_some() => query_told(alloc, bytes),
-        Kind::Event(EventKind::Files) => subscription_told(alloc, bytes),
-        Kind::Error => {
+        MessageKind::Answer if header.files.is_some() => query_told(alloc, bytes),
+        MessageKind::Event(EventKind::Files) => subscription_told(alloc, bytes),
+        MessageKind::Error => {
             let reply: ErrorReply<ByteString> = from_slice(alloc, bytes)?;
             Ok(Told::ServerError(reply.error))
         }
@@ -120,7 +120,7 @@ pub fn read_told(alloc: Global, bytes: &[u8]) -> Result<Told, Unread>
 }
 
 /// What an index can use of the answer to a query.
-fn query_told(alloc: Global, bytes: &[u8]) -> Result<Told, Unread>
+fn query_told(alloc: Global, bytes: &[u8]) -> Result<Told, ContentError>
     ensures told { IfOk result (TellsQuery ⟦<Told as ToldTypes>⟧.types bytes.now) }
     ensures refused { IfErr result (IsUnreadOrFull
         ⟦<QueryResult<ByteString, Listed> as Shape>⟧ bytes.now) }
@@ -131,7 +131,7 @@ fn query_told(alloc: Global, bytes: &[u8]) -> Result<Told, Unread>
 }
 
 /// What an index can use of a message of a subscription.
-fn subscription_told(alloc: Global, bytes: &[u8]) -> Result<Told, Unread>
+fn subscription_told(alloc: Global, bytes: &[u8]) -> Result<Told, ContentError>
     ensures told { IfOk result (TellsChanged ⟦<Told as ToldTypes>⟧.types bytes.now) }
     ensures refused { IfErr result (IsUnreadOrFull
         ⟦<FilesChanged<ByteString, Listed> as Shape>⟧ bytes.now) }
@@ -142,9 +142,9 @@ fn subscription_told(alloc: Global, bytes: &[u8]) -> Result<Told, Unread>
 }
 
 /// The clock of a message without files, if it has one.
-fn clock_told(alloc: Global, bytes: &[u8]) -> Result<Told, Unread>
+fn clock_told(alloc: Global, bytes: &[u8]) -> Result<Told, ContentError>
     ensures told { IfOk result (TellsClock ⟦<Told as ToldTypes>⟧.types bytes.now) }
-    ensures memory { IfErr result (λ e. e ≡ Unread.OutOfMemory) }
+    ensures memory { IfErr result (λ e. e ≡ ContentError.OutOfMemory) }
 {
     match subscribed_clock(alloc, bytes)? {
         Some(clock) => Ok(Told::Subscribed(clock)),

@@ -5,7 +5,7 @@ use crate::subject::{FileField, Subject};
 use serde_bser::bytestring::ByteString;
 use watchman_index::changes::Changes;
 use watchman_index::clock::{are_of_one_instance, instance_of_clock};
-use watchman_index::origin::Refusal;
+use watchman_index::origin::ApplyError;
 use watchman_index::row::FileState;
 
 /// What is known of a message before it is read. It matters for an index that was made by `init`
@@ -31,7 +31,7 @@ impl Conditions {
             return Ok(());
         };
         if matches!(&changes.root, Some(root) if *root != subject.root) {
-            return Err(IndexError::Refused(Refusal::OtherRoot));
+            return Err(IndexError::Refused(ApplyError::OtherRoot));
         }
         if changes.is_fresh_instance && changes.files.is_empty() && !self.may_be_empty {
             return Err(IndexError::NoFiles);

@@ -2,13 +2,13 @@
 
 use bser_format::errors::Error as SerError;
 use bser_frames::error::FrameError;
-use bser_json::fault::JsonError;
+use bser_from_json::fault::JsonError;
 use serde_bser::bytestring::ByteString;
 use sqlite::Error as DatabaseError;
 use std::alloc::{AllocError, AllocFailed};
 use std::{fmt, io};
-use watchman_index::origin::Refusal;
-use watchman_index::told::Unread;
+use watchman_index::origin::ApplyError;
+use watchman_index::told::ContentError;
 
 /// Why the program cannot do what it was asked for.
 #[derive(Debug, Drop)]
@@ -20,9 +20,9 @@ pub enum IndexError {
     /// The reader gives no next message.
     Frame(FrameError),
     /// A message cannot be read.
-    Message(Unread),
+    Message(ContentError),
     /// A message is not of this index.
-    Refused(Refusal),
+    Refused(ApplyError),
     /// The output failed.
     Output(io::Error),
     /// No memory was left.

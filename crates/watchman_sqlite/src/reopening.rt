@@ -27,7 +27,7 @@ pub fn add_inputs<R: Read, E: Write>(
 
 /// The answer to `subscribe`, behind which the server's client may have lost a message.
 #[derive(Drop)]
-struct Subscribed {
+struct SubscribeGap {
     clock: ByteString,
     // how many messages the index had then
     messages: u64,
@@ -41,7 +41,7 @@ struct Reopening<'r> {
     path: &'r str,
     conditions: Conditions,
     // before the first message of the subscription
-    subscribed: Option<Subscribed>,
+    subscribed: Option<SubscribeGap>,
     conn: Option<Connection<FileStore<File>>>,
 }
 
@@ -126,7 +126,7 @@ impl Taker for Reopening<'_> {
     fn take_subscribed(&mut self, clock: ByteString) -> Result<(), IndexError> {
         self.conditions.follows = false;
         let messages = self.add_answer(&clock)?;
-        self.subscribed = Some(Subscribed { clock, messages });
+        self.subscribed = Some(SubscribeGap { clock, messages });
         Ok(())
     }
 

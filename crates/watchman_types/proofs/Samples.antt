@@ -5,7 +5,7 @@ use Rattle.std.specs.Borrow.{Bor}
 use Rattle.watchman_types.specs.Capabilities.{one_is_true, says_true, first_missing}
 use Rattle.watchman_types.specs.Kinds.{kind_of}
 use Rattle.watchman_types.specs.declared.header.Header.{Header}
-use Rattle.watchman_types.specs.declared.kind.Kind.TheVariants.{Answer, Event}
+use Rattle.watchman_types.specs.declared.kind.MessageKind.TheVariants.{Answer, Event}
 use Rattle.watchman_types.specs.declared.kind.EventKind.TheVariants.{Canceled}
 
 -- a header of none of the parts

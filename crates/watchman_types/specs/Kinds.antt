@@ -2,8 +2,8 @@
 use Rattle.std.specs.Prelude.{Bool, false, Option, Some, None, if◌then◌else◌}
 use Rattle.std.specs.Option.{is_some}
 use Rattle.watchman_types.specs.declared.header.Header.{Header}
-use Rattle.watchman_types.specs.declared.kind.Kind.{Kind}
-use Rattle.watchman_types.specs.declared.kind.Kind.TheVariants.{Answer, Error, Event}
+use Rattle.watchman_types.specs.declared.kind.MessageKind.{MessageKind}
+use Rattle.watchman_types.specs.declared.kind.MessageKind.TheVariants.{Answer, Error, Event}
 use Rattle.watchman_types.specs.declared.kind.EventKind.{EventKind}
 use Rattle.watchman_types.specs.declared.kind.EventKind.TheVariants.{Log, StateEntered, StateLeft, Canceled, Files, Other}
 
@@ -23,7 +23,7 @@ event_kind_of h =
     else Other
 
 -- an event where `unilateral` is true, else an error where there is one, else the answer
-abbrev pub kind_of : Header → Kind
+abbrev pub kind_of : Header → MessageKind
 kind_of h =
     if is_true h.unilateral then Event (event_kind_of h)
     else if is_some h.error then Error

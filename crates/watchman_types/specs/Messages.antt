@@ -7,8 +7,8 @@ use Rattle.bser_types.specs.declared.deserialize.Shape as shape
 use Rattle.watchman_types.specs.Kinds.{kind_of}
 use Rattle.watchman_types.specs.declared.error_reply.ErrorReply.{ErrorReply}
 use Rattle.watchman_types.specs.declared.header.Header.{Header}
-use Rattle.watchman_types.specs.declared.kind.Kind.{Kind}
-use Rattle.watchman_types.specs.declared.kind.Kind.TheVariants as kinds
+use Rattle.watchman_types.specs.declared.kind.MessageKind.{MessageKind}
+use Rattle.watchman_types.specs.declared.kind.MessageKind.TheVariants as kinds
 use Rattle.watchman_types.specs.declared.kind.EventKind.{EventKind}
 use Rattle.watchman_types.specs.declared.kind.EventKind.TheVariants as events
 use Rattle.watchman_types.specs.declared.log.Log as log
@@ -34,7 +34,7 @@ IsUnread type bytes e = SliceRefused LEVELS type bytes e
 -- ---- kinds
 
 -- the bytes begin with a message of this kind
-abbrev pub IsOfKind : shape.Ghosts Header → List ℕ → Kind → Type 0
+abbrev pub IsOfKind : shape.Ghosts Header → List ℕ → MessageKind → Type 0
 IsOfKind header bytes kind = (h : Header) × IsReadAs header bytes h × (kind_of h ≡ kind)
 
 -- the kind of an event
@@ -47,7 +47,7 @@ kind_of_event (Files _) = events.Files
 kind_of_event Other = events.Other
 
 -- the kind of a message
-abbrev pub kind_of_message : {S F T : Type 0} → message.Message S F T → Kind
+abbrev pub kind_of_message : {S F T : Type 0} → message.Message S F T → MessageKind
 kind_of_message (Answer (Ok _)) = kinds.Answer
 kind_of_message (Answer (Err _)) = kinds.Error
 kind_of_message (Event e) = kinds.Event (kind_of_event e)

@@ -6,8 +6,8 @@ use Rattle.watchman_types.specs.Kinds.{kind_of}
 use Rattle.watchman_types.specs.Messages.{EventTypes, IsReadAs, IsUnread}
 use Rattle.watchman_types.specs.declared.error_reply.ErrorReply.{ErrorReply}
 use Rattle.watchman_types.specs.declared.header.Header.{Header}
-use Rattle.watchman_types.specs.declared.kind.Kind.{Kind}
-use Rattle.watchman_types.specs.declared.kind.Kind.TheVariants as kinds
+use Rattle.watchman_types.specs.declared.kind.MessageKind.{MessageKind}
+use Rattle.watchman_types.specs.declared.kind.MessageKind.TheVariants as kinds
 use Rattle.watchman_types.specs.declared.kind.EventKind.{EventKind}
 use Rattle.watchman_types.specs.declared.kind.EventKind.TheVariants.{Log, StateEntered, StateLeft, Canceled, Files, Other}
 
@@ -22,7 +22,7 @@ RefusesEvent types Other bytes e = ⊥
 
 -- the bytes begin with no message of this kind, and this is the error
 abbrev pub RefusesKind : {S F T : Type 0} → EventTypes S F → shape.Ghosts T
-    → shape.Ghosts (ErrorReply S) → Kind → List ℕ → Error → Type 0
+    → shape.Ghosts (ErrorReply S) → MessageKind → List ℕ → Error → Type 0
 RefusesKind types answer error kinds.Answer bytes e = IsUnread answer bytes e
 RefusesKind types answer error kinds.Error bytes e = IsUnread error bytes e
 RefusesKind types answer error (kinds.Event kind) bytes e = RefusesEvent types kind bytes e

@@ -3,7 +3,7 @@ ghost use Rattle.std.specs.Prelude.{◌≡◌, codes, [], ◌∷◌, refl};
 ghost use Rattle.serde_bser.specs.StructFields.{optional, struct_meaning};
 ghost use Rattle.watchman_types.specs.Kinds.{kind_of, event_kind_of};
 
-use crate::kind::{EventKind, Kind};
+use crate::kind::{EventKind, MessageKind};
 use serde_bser::de::{Answer, Deserializer, Ignored};
 use serde_bser::prelude::*;
 use std::alloc::Global;
@@ -70,13 +70,13 @@ impl Header {
     /// One whose `unilateral` is true is an event. All else is the answer to the outstanding
     /// request, and an error where `error` is there. The kind of an event follows from the first of
     /// these parts that it has: `log`, `state-enter`, `state-leave`, a true `canceled`, `files`.
-    pub fn kind(&self) -> Kind
+    pub fn kind(&self) -> MessageKind
         ensures { result ≡ kind_of self.now }
     {
         match (self.unilateral, &self.error) {
-            (Some(true), _) => Kind::Event(self.event_kind()),
-            (_, Some(_)) => Kind::Error,
-            (_, None) => Kind::Answer,
+            (Some(true), _) => MessageKind::Event(self.event_kind()),
+            (_, Some(_)) => MessageKind::Error,
+            (_, None) => MessageKind::Answer,
         }
     }
 

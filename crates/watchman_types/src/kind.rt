@@ -2,7 +2,7 @@
 
 /// The kind of a message.
 #[derive(Debug, Clone, Copy, PartialEq, Eq)]
-pub enum Kind {
+pub enum MessageKind {
     /// The answer to the outstanding request.
     Answer,
     /// The server's error, in the place of the answer.

@@ -5,7 +5,7 @@ ghost use Rattle.watchman_types.specs.Refusals.{RefusesEvent, RefusesKind, Refus
 
 use crate::error_reply::ErrorReply;
 use crate::header::Header;
-use crate::kind::{EventKind, Kind};
+use crate::kind::{EventKind, MessageKind};
 use crate::log::Log;
 use crate::state::{StateEntered, StateLeft};
 use crate::subscription::{Canceled, FilesChanged};
@@ -118,7 +118,7 @@ where
 /// Fails as [`from_slice`] does of the type that the kind names.
 fn read_by_kind<'de, S, F, T>(
     alloc: Global,
-    kind: Kind,
+    kind: MessageKind,
     bytes: &'de [u8],
 ) -> Result<Message<S, F, T>>
 where
@@ -132,15 +132,15 @@ where
         ⟦<ErrorReply<S> as Shape>⟧ kind bytes.now) }
 {
     match kind {
-        Kind::Answer => {
+        MessageKind::Answer => {
             let answer = from_slice(alloc, bytes)?;
             Ok(Message::Answer(Ok(answer)))
         }
-        Kind::Error => {
+        MessageKind::Error => {
             let error = from_slice(alloc, bytes)?;
             Ok(Message::Answer(Err(error)))
         }
-        Kind::Event(kind) => {
+        MessageKind::Event(kind) => {
             let event = read_event(alloc, kind, bytes)?;
             Ok(Message::Event(event))
         }

@@ -1,11 +1,11 @@
 //! The writer as a serializer of serde's.
-use crate::failure::Failure;
+use crate::write_error::WriteError;
 use crate::writer::{MOST_COUNTED, OpenMap, Put, Role, Writer, answered, refusal};
 use bser_ser::Parts;
 use serde::{Case, NameKind, Serializer};
 
 impl Serializer for Writer {
-    type Error = Failure;
+    type Error = WriteError;
 
     #[inline(always)]
     fn bool(&mut self, v: bool) -> Put {
@@ -158,7 +158,7 @@ impl Serializer for Writer {
         Ok(())
     }
 
-    fn custom(&self, message: &str) -> Failure {
+    fn custom(&self, message: &str) -> WriteError {
         refusal(self.alloc, message)
     }
 }

@@ -1,10 +1,10 @@
 //! Enums, as the name of a variant, and its payload after a colon.
 use crate::enums::{EnumRow, TestEnum};
-use crate::notation::text::Text;
+use crate::notation::writer::NotationWriter;
 use crate::shown::Shown;
 
 impl<S: Shown> Shown for TestEnum<S> {
-    fn put(&self, text: &mut Text) {
+    fn put(&self, text: &mut NotationWriter) {
         match self {
             TestEnum::TestUnit => text.put("TestUnit"),
             TestEnum::TestNewtype(value) => {
@@ -30,7 +30,7 @@ impl<S: Shown> Shown for TestEnum<S> {
 }
 
 impl<S: Shown> Shown for EnumRow<S> {
-    fn put(&self, text: &mut Text) {
+    fn put(&self, text: &mut NotationWriter) {
         text.put("<abc=");
         self.abc.put(text);
         text.put(">");

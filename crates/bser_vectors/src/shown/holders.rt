@@ -1,11 +1,11 @@
 //! Values that may be missing, boxes, tuples and maps.
-use crate::notation::text::Text;
+use crate::notation::writer::NotationWriter;
 use crate::shown::Shown;
 use std::collections::{BTreeMap, HashMap};
 use std::hash::Hash;
 
 impl<A: Shown> Shown for (A,) {
-    fn put(&self, text: &mut Text) {
+    fn put(&self, text: &mut NotationWriter) {
         text.put("(");
         self.0.put(text);
         text.put(")");
@@ -13,7 +13,7 @@ impl<A: Shown> Shown for (A,) {
 }
 
 impl<A: Shown, B: Shown> Shown for (A, B) {
-    fn put(&self, text: &mut Text) {
+    fn put(&self, text: &mut NotationWriter) {
         text.put("(");
         self.0.put(text);
         text.put(",");
@@ -23,7 +23,7 @@ impl<A: Shown, B: Shown> Shown for (A, B) {
 }
 
 impl<A: Shown, B: Shown, C: Shown> Shown for (A, B, C) {
-    fn put(&self, text: &mut Text) {
+    fn put(&self, text: &mut NotationWriter) {
         text.put("(");
         self.0.put(text);
         text.put(",");
@@ -35,7 +35,7 @@ impl<A: Shown, B: Shown, C: Shown> Shown for (A, B, C) {
 }
 
 impl<A: Shown, B: Shown, C: Shown, D: Shown> Shown for (A, B, C, D) {
-    fn put(&self, text: &mut Text) {
+    fn put(&self, text: &mut NotationWriter) {
         text.put("(");
         self.0.put(text);
         text.put(",");
@@ -49,7 +49,7 @@ impl<A: Shown, B: Shown, C: Shown, D: Shown> Shown for (A, B, C, D) {
 }
 
 impl<T: Shown> Shown for Option<T> {
-    fn put(&self, text: &mut Text) {
+    fn put(&self, text: &mut NotationWriter) {
         match self {
             None => text.put("-"),
             Some(value) => {
@@ -61,13 +61,13 @@ impl<T: Shown> Shown for Option<T> {
 }
 
 impl<T: Shown> Shown for Box<T> {
-    fn put(&self, text: &mut Text) {
+    fn put(&self, text: &mut NotationWriter) {
         Shown::put(&**self, text);
     }
 }
 
 impl<K: Shown + Ord, V: Shown> Shown for BTreeMap<K, V> {
-    fn put(&self, text: &mut Text) {
+    fn put(&self, text: &mut NotationWriter) {
         text.put("{");
         for (key, value) in self.iter() {
             key.put(text);
@@ -80,7 +80,7 @@ impl<K: Shown + Ord, V: Shown> Shown for BTreeMap<K, V> {
 }
 
 impl<K: Shown + Eq + Hash, V: Shown> Shown for HashMap<K, V> {
-    fn put(&self, text: &mut Text) {
+    fn put(&self, text: &mut NotationWriter) {
         text.put("{");
         for (key, value) in self.iter() {
             key.put(text);

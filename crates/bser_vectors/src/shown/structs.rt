@@ -1,11 +1,11 @@
 //! Structs, as `<field=value>`.
-use crate::notation::text::Text;
+use crate::notation::writer::NotationWriter;
 use crate::shown::Shown;
 use crate::shown::scalars::put_integer;
 use crate::structs::{FileInfo, Files, TemplateRow};
 
 impl<S: Shown> Shown for FileInfo<S> {
-    fn put(&self, text: &mut Text) {
+    fn put(&self, text: &mut NotationWriter) {
         text.put("<name=");
         self.name.put(text);
         text.put(",size=");
@@ -15,7 +15,7 @@ impl<S: Shown> Shown for FileInfo<S> {
 }
 
 impl<S: Shown> Shown for Files<S> {
-    fn put(&self, text: &mut Text) {
+    fn put(&self, text: &mut NotationWriter) {
         text.put("<files=");
         self.files.put(text);
         text.put(">");
@@ -23,7 +23,7 @@ impl<S: Shown> Shown for Files<S> {
 }
 
 impl<S: Shown> Shown for TemplateRow<S> {
-    fn put(&self, text: &mut Text) {
+    fn put(&self, text: &mut NotationWriter) {
         text.put("<abc=");
         put_integer(text, i128::from(self.abc));
         text.put(",def=");

@@ -52,7 +52,7 @@ pub fn compare_states(rt: &HostRuntime, recording: &mut RecordedRequests<'_>) {
     recording.compare("state-leave", &left);
 }
 
-/// What is told of the state that is entered.
+/// The metadata of the state that is entered.
 fn build_metadata(alloc: Global) -> Result<Value> {
     let numbers = [1, 200, 70_000, 1_099_511_627_776, -1];
     let mut counts = Vec::new(alloc);
@@ -72,7 +72,7 @@ fn build_metadata(alloc: Global) -> Result<Value> {
     Ok(Value::Object(entries))
 }
 
-/// What is told of the state that is left.
+/// The metadata of the state that is left.
 fn is_built(alloc: Global) -> Result<BTreeMap<String, bool>> {
     let mut entries = BTreeMap::new(alloc);
     entries.insert(String::from_str(alloc, "ok")?, false)?;

@@ -2,6 +2,7 @@
 use crate::session::messages_of;
 use crate::session::table::{FileRow, forget_unnamed, line, put};
 use anyhow::{Context, Result};
+use bser_vectors::counts::CaseCounts;
 use bser_vectors::session::SentMessage;
 use serde_bser::bytestring::ByteString;
 use serde_bser::device::Watched;
@@ -25,7 +26,7 @@ pub fn fold_session(rt: &HostRuntime, stream: &[u8], messages: &[SentMessage]) -
     compare(rt, "wrong-tables.tsv", lines.as_str())
 }
 
-/// Takes each of the messages of a connection from a client, and folds those that tell files.
+/// Takes each of the messages of a connection from a client, and folds those that list files.
 fn follow(
     alloc: Global,
     stream: &[u8],
@@ -49,25 +50,25 @@ fn follow(
             client.send(&"request")?;
             client.answer()?;
         }
-        if message.tells_files {
+        if message.lists_files {
             fold(alloc, table, message.number, client.read()?, text)?;
         }
     }
     Ok(())
 }
 
-/// Folds what a message tells, and writes the table's lines behind the text.
+/// Folds the files of a message, and writes the table's lines behind the text.
 fn fold(
     alloc: Global,
     table: &mut BTreeMap<ByteString, FileRow>,
     number: u32,
-    told: QueryResult<ByteString, File<ByteString>>,
+    listed: QueryResult<ByteString, File<ByteString>>,
     text: &mut String,
 ) -> Result<()> {
-    for file in &told.files {
+    for file in &listed.files {
         put(alloc, table, number, file)?;
     }
-    if told.is_fresh_instance {
+    if listed.is_fresh_instance {
         forget_unnamed(table, number);
     }
     for (name, row) in &*table {
@@ -79,14 +80,17 @@ fn fold(
 /// Compares the lines with those of the file, and prints those that differ.
 fn compare(rt: &HostRuntime, file: &str, lines: &str) -> Result<()> {
     let expected = fs::read_to_string(rt, file)?;
-    let mut wrong = 0u64;
+    let mut rows = CaseCounts::default();
     for (line, expected) in lines.lines().zip(expected.as_str().lines()) {
+        rows.count(line == expected);
         if line != expected {
-            wrong = wrong.saturating_add(1);
             println!(rt; "another row than {expected}")?;
         }
     }
-    let (made, rows) = (lines.lines().count(), expected.as_str().lines().count());
-    println!(rt; "{file}: {rows} rows of {made}, {wrong} of them wrong")?;
+    let (made, expected) = (lines.lines().count(), expected.as_str().lines().count());
+    println!(rt;
+        "{file}: {expected} rows of {made}, {} of them wrong",
+        rows.wrong
+    )?;
     Ok(())
 }

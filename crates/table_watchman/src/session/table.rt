@@ -1,4 +1,4 @@
-//! What is known of all files, by what messages told of them.
+//! What is known of all files, by the messages that list them.
 use anyhow::{Result, bail};
 use serde_bser::bytestring::ByteString;
 use std::alloc::Global;
@@ -8,7 +8,7 @@ use watchman_types::file_type::FileType;
 
 /// What is known of a file.
 #[derive(Clone, Copy, PartialEq)]
-struct FileState {
+struct FoldedState {
     exists: bool,
     size: u64,
     mode: u32,
@@ -19,16 +19,16 @@ struct FileState {
 /// What is known of a file, and by which messages.
 #[derive(Clone, Copy)]
 pub struct FileRow {
-    state: FileState,
-    /// The message that told of it last.
+    state: FoldedState,
+    /// The last message that says something of it.
     last: u32,
     /// The message by which it came to differ last.
     changed: u32,
-    /// Whether `last` told of it by not naming it.
+    /// Whether `last` says it by not naming it.
     unnamed: bool,
 }
 
-/// Puts what the message of this number tells of a file.
+/// Puts what the message of this number says of a file.
 pub fn put(
     alloc: Global,
     table: &mut BTreeMap<ByteString, FileRow>,
@@ -41,7 +41,7 @@ pub fn put(
     let (Some(mode), Some(kind), Some(mtime_ms)) = (file.mode, file.kind, file.mtime_ms) else {
         bail!("no mode, type or time");
     };
-    let state = FileState {
+    let state = FoldedState {
         exists,
         size,
         mode,
@@ -62,7 +62,7 @@ pub fn put(
     Ok(())
 }
 
-/// Files that exist and are not told by the message of this number, which tells all, are gone.
+/// Files that exist and are not in the message of this number, which lists all, are gone.
 pub fn forget_unnamed(table: &mut BTreeMap<ByteString, FileRow>, number: u32) {
     for (_name, row) in table.iter_mut() {
         if row.state.exists && row.last != number {

@@ -1,4 +1,4 @@
-//! Streams of messages of which some are broken, over a reader that tells how far it was asked.
+//! Streams of messages of which some are broken, over a reader that keeps how far it was asked.
 mod asked;
 mod interrupted;
 mod lines;
@@ -13,10 +13,7 @@ use serde_bser::value::Value;
 use std::alloc::{AllocError, Global};
 use std::process::Abort;
 
-/// The number 5, a message of 10 bytes.
-const FIVE: &[u8] = b"\x00\x02\0\0\0\0\x03\x02\x03\x05";
-
-/// Messages as bytes, from a reader that tells how far it was asked.
+/// Messages as bytes, from a reader that keeps how far it was asked.
 type AskedFrames<'a> = Frames<Watched<AskedReader<'a>>>;
 
 /// The messages of these bytes, whose bodies have at most `most` bytes.

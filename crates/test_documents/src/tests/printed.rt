@@ -1,5 +1,5 @@
 //! What is printed of documents.
-use super::document;
+use super::{ARRAYS, EQUAL_KEYS, FALLING_ROWS, KINDS, document};
 use serde_bser::document::Document;
 use std::alloc::Global;
 use std::process::Abort;
@@ -8,16 +8,10 @@ use std::process::Abort;
 /// template with keys that fall and a skipped field; a key that begins with a dollar sign; and an
 /// object of a value of each kind, whose keys neither rise nor fall.
 const PRINTED: [(&[u8], &str); 5] = [
+    (ARRAYS, "[[null], true]"),
+    (EQUAL_KEYS, "{\"k\": 2}"),
     (
-        b"\x00\x02\0\0\0\0\x03\x08\x00\x03\x02\x00\x03\x01\x0a\x08",
-        "[[null], true]",
-    ),
-    (
-        b"\x00\x02\0\0\0\0\x03\x0f\x01\x03\x02\x02\x03\x01k\x03\x01\x02\x03\x01k\x03\x02",
-        "{\"k\": 2}",
-    ),
-    (
-        b"\x00\x02\0\0\0\0\x03\x13\x0b\x00\x03\x02\x02\x03\x01b\x02\x03\x01a\x03\x02\x03\x01\x0c\x0a\x08",
+        FALLING_ROWS,
         "[{\"a\": null, \"b\": 1}, {\"a\": true, \"b\": null}]",
     ),
     (
@@ -25,7 +19,7 @@ const PRINTED: [(&[u8], &str); 5] = [
         "{\"$$a\": 1}",
     ),
     (
-        b"\x00\x02\x00\x00\x00\x00\x03\x4e\x01\x03\x09\x02\x03\x01t\x0d\x03\x03a\"\n\x02\x03\x01b\x02\x03\x03/\xff'\x02\x03\x01i\x04\x2c\x01\x02\x03\x01r\x07\x00\x00\x00\x00\x00\x00\xf8\xbf\x02\x03\x01n\x07\x01\x00\x00\x00\x00\x00\xf8\x7f\x02\x03\x01y\x08\x02\x03\x01f\x09\x02\x03\x01z\x0a\x02\x03\x01a\x00\x03\x00",
+        KINDS,
         "{\"a\": [], \"b\": {\"$bytes\": \"2fff27\"}, \"f\": false, \"i\": 300, \"n\": {\"$real\": \"7ff8000000000001\"}, \"r\": -1.5, \"t\": \"a\\\"\\n\", \"y\": true, \"z\": null}",
     ),
 ];

@@ -1,12 +1,7 @@
 //! The rows of a template, whose fields are found by place.
-use super::document;
+use super::{ROWS, document};
 use serde_bser::document::{Item, Rows};
 use std::process::Abort;
-
-/// Two rows over the keys "a", "b" and "a" again: an array of an integer, a skipped field and 3,
-/// then 4, true and 5.
-const ROWS: &[u8] =
-    b"\x00\x02\0\0\0\0\x03\x1f\x0b\x00\x03\x03\x02\x03\x01a\x02\x03\x01b\x02\x03\x01a\x03\x02\x00\x03\x01\x03\x07\x0c\x03\x03\x03\x04\x08\x03\x05";
 
 /// The numbers of the rows by the places of their fields, of which there are three.
 const NUMBERS: [[Option<i64>; 4]; 2] = [

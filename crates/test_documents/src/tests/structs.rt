@@ -9,12 +9,13 @@ mod returned;
 mod rows;
 mod variants;
 
+use super::{check_debug, check_written};
 use bser_vectors::devices::Plan;
 use bser_vectors::ways::read_by_plan;
 use serde_bser::errors::Result;
 use serde_bser::from_slice;
 use serde_bser::prelude::*;
-use serde_bser::ser::{Serialize, to_vec};
+use serde_bser::ser::Serialize;
 use std::alloc::Global;
 use std::fmt::Debug;
 use std::process::Abort;
@@ -22,19 +23,13 @@ use std::process::Abort;
 /// A message, and how `Debug` prints what it is read as, or its refusal.
 type Case<'a> = (&'a [u8], &'a str);
 
-/// Checks how the answer is printed.
-fn check_printed<T: Debug>(rt: &impl Abort, alloc: Global, answer: &Result<T>, printed: &str) {
-    let found = format!(in alloc; "{answer:?}").expect(rt, "memory is left");
-    assert_eq!(rt; found.as_str(), printed);
-}
-
 /// Checks what each message is read as from a slice.
 fn check_lent<'a, T>(rt: &impl Abort, alloc: Global, cases: &[Case<'a>])
 where
     T: Deserialize<&'a [u8]> + Debug,
 {
     for (bytes, printed) in cases {
-        check_printed::<T>(rt, alloc, &from_slice(alloc, bytes), printed);
+        check_debug::<Result<T>>(rt, alloc, from_slice(alloc, bytes), printed);
     }
 }
 
@@ -44,25 +39,19 @@ where
     T: DeserializeOwned + Deserialize<&'a [u8]> + Debug,
 {
     for (bytes, printed) in cases {
-        check_printed::<T>(rt, alloc, &from_slice(alloc, bytes), printed);
+        check_debug::<Result<T>>(rt, alloc, from_slice(alloc, bytes), printed);
         let answer = read_by_plan(alloc, bytes, Plan::pieces(1)).0;
-        check_printed::<T>(rt, alloc, &answer, printed);
+        check_debug::<Result<T>>(rt, alloc, answer, printed);
     }
 }
 
-/// Checks that this message is written for the value.
-fn check_message<T: Serialize>(rt: &impl Abort, alloc: Global, value: &T, bytes: &[u8]) {
-    let found = to_vec(alloc, value).expect(rt, "the value is written");
-    assert_eq!(rt; found.as_slice(), bytes);
-}
-
 /// Checks that each message is written again for what it is read as.
-fn check_written<'a, T>(rt: &impl Abort, alloc: Global, cases: &[Case<'a>])
+fn check_written_again<'a, T>(rt: &impl Abort, alloc: Global, cases: &[Case<'a>])
 where
     T: Deserialize<&'a [u8]> + Serialize,
 {
     for (bytes, _) in cases {
         let value: T = from_slice(alloc, bytes).expect(rt, "the message is read");
-        check_message(rt, alloc, &value, bytes);
+        check_written(rt, alloc, &value, bytes);
     }
 }

@@ -7,7 +7,6 @@ mod strings;
 mod values;
 mod writing;
 
-use super::{CANONICAL_ROWS, COMPACT_ROWS, ROWS};
 use bser_vectors::devices::{Plan, PlannedWriter};
 use serde_bser::device::Watched;
 use serde_bser::errors::Error;
@@ -64,7 +63,7 @@ fn check_written(
     writer: &Watched<PlannedWriter>,
     message: &[u8],
 ) -> Tested {
-    let taken = writer.get_ref().taken();
+    let taken = writer.get_ref().taken.as_slice();
     match answer {
         Ok(()) => check_bytes(rt, taken, message),
         Err(error) => wanted_after(rt, error, taken, message),

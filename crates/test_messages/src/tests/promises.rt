@@ -1,6 +1,7 @@
 //! Each law is answered with memory, so that none speaks of errors alone.
-use super::{ROWS, check_bytes, check_read, value_of};
+use super::{check_bytes, check_read, value_of};
 use bser_source::device::Watched;
+use bser_vectors::messages::ROWS;
 use laws::agreement::read_both_ways;
 use laws::bounds::read_within_bounds;
 use laws::least::{compactly_rewritten, rewritten};

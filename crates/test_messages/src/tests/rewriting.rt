@@ -2,16 +2,15 @@
 //! written of errors.
 mod process;
 
-use super::{COMPACT_ROWS, ROWS, check_bytes, check_printed};
+use super::{check_bytes, check_debug};
 use bser_canonical::engine::canon;
 use bser_canonical::program::run;
 use bser_source::device::{Sink, Watched};
 use bser_vectors::devices::{Plan, PlannedReader, PlannedWriter, Then};
+use bser_vectors::messages::{COMPACT_ROWS, NULL, ROWS};
 use std::alloc::Global;
 use std::io::ErrorKind;
 use std::process::Abort;
-
-const NULL: &[u8] = b"\x00\x02\x00\x00\x00\x00\x03\x01\x0a";
 
 /// A writer whose every call fails.
 fn full(alloc: Global) -> Watched<PlannedWriter> {
@@ -56,7 +55,7 @@ type Outcome = (u8, &'static [u8], &'static [u8], &'static [u8]);
 
 /// Runs the program with these words as arguments, and checks the outcome.
 fn check_run(rt: &impl Abort, alloc: Global, words: &[&str], input: &[u8], outcome: &Outcome) {
-    let (status, left, written, told) = *outcome;
+    let (status, left, written, reported) = *outcome;
     let mut output = memory(alloc);
     let mut errors = memory(alloc);
     check_status(
@@ -69,7 +68,7 @@ fn check_run(rt: &impl Abort, alloc: Global, words: &[&str], input: &[u8], outco
         (status, left),
     );
     check_bytes(rt, output.get_ref().as_slice(), written);
-    check_bytes(rt, errors.get_ref().as_slice(), told);
+    check_bytes(rt, errors.get_ref().as_slice(), reported);
 }
 
 /// The outcome where an argument is not known: nothing is read.
@@ -130,7 +129,7 @@ fn check_broken(rt: &impl Abort, alloc: Global, given: usize, most: usize) {
     let mut writer = memory(alloc);
     let answer = canon(alloc, &mut reader, &mut writer);
     let fault = "Err(DeReaderError { source: Reader(Kind(BrokenPipe)) })";
-    check_printed(rt, alloc, &answer, fault);
+    check_debug(rt, alloc, answer, fault);
     assert!(rt; writer.get_ref().is_empty(), "after {given} bytes");
 }
 

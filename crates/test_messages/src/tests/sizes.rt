@@ -1,4 +1,4 @@
-//! What a message stands for.
+//! The size of what a message means.
 //!
 //! The numbers were computed by hand, and for the recorded message by another program.
 use crate::tests::{Parts, repeated};

@@ -6,9 +6,6 @@ mod slices;
 mod telling;
 
 use bser_messages::limits::Limits;
-use std::alloc::Global;
-use std::fmt::Debug;
-use std::process::Abort;
 
 /// A server's answer to `version`: an object of 4.9.0 under `version`, of 29 bytes.
 const VERSION: &[u8] =
@@ -30,14 +27,3 @@ const FIVE: Limits = Limits {
     levels: 128,
     bytes: 5,
 };
-
-/// Checks that what was found is what was expected.
-fn check_equal<T: PartialEq + Debug + Copy>(rt: &impl Abort, found: T, expected: T) {
-    assert_eq!(rt; found, expected);
-}
-
-/// Checks how an answer is printed.
-fn check_answer<T: Debug + Drop>(rt: &impl Abort, alloc: Global, answer: T, expected: &str) {
-    let answer = format!(in alloc; "{answer:?}").expect(rt, "memory is left");
-    check_equal(rt, answer.as_str(), expected);
-}

@@ -1,16 +1,12 @@
 //! The message at the start of some bytes, as it is found before a type looks at it.
 use bser_serde::message::body_of;
-use std::alloc::Global;
-use std::process::Abort;
+use bser_vectors::messages::{NULL, nested_arrays};
 
 /// A template of one key, whose rows have each scalar, a skipped field, strings and containers.
 const ROWS: &[u8] = b"\x00\x02\x00\x00\x00\x00\x03\x3e\x0b\x00\x03\x01\x02\x03\x01a\x03\x0d\
 \x0a\x08\x09\x0c\x03\x01\x04\x01\x00\x05\x01\x00\x00\x00\x06\x01\x00\x00\x00\x00\x00\x00\x00\
 \x07\x00\x00\x00\x00\x00\x00\xf0\x3f\x02\x03\x01\xff\x0d\x03\x01a\x00\x03\x01\x0a\
 \x01\x03\x01\x02\x03\x01a\x0a";
-
-/// Null, a body of one byte.
-const NULL: &[u8] = b"\x00\x02\x00\x00\x00\x00\x03\x01\x0a";
 
 /// An array of an array.
 const NESTED: &[u8] = b"\x00\x02\x00\x00\x00\x00\x03\x07\x00\x03\x01\x00\x03\x01\x0a";
@@ -43,7 +39,7 @@ const WRONG: [&[u8]; 16] = [
     b"\x00\x02\x00\x00\x00\x00\x03\x16\x0b\x00\x03\x01\x02\x03\x01a\x03\x01\x0d\x03\x09aaaaaaaa\xff",
 ];
 
-/// How many bytes stand before the body, and how many it has.
+/// How many bytes are before the body, and how many it has.
 fn found(message: &[u8]) -> Option<(usize, usize)> {
     let body = body_of(message, 128, usize::MAX)?;
     Some((body.start, body.len))
@@ -81,25 +77,13 @@ const LIMITED: [(&[u8], usize, usize, bool); 8] = [
     (ROWS, 1, 62, false),
 ];
 
-/// An array in an array, so many levels deep, with nothing in the innermost one.
-fn nested(rt: &impl Abort, alloc: Global, levels: u16) -> Vec<u8> {
-    let [low, high] = levels.saturating_mul(3).to_le_bytes();
-    let head = [0x00, 0x02, 0x00, 0x00, 0x00, 0x00, 0x04, low, high];
-    let mut message = Vec::from_slice(alloc, &head).expect(rt, "memory");
-    for level in 0..levels {
-        let array = [0x00, 0x03, u8::from(level.saturating_add(1) < levels)];
-        message.extend_from_slice(&array).expect(rt, "memory");
-    }
-    message
-}
-
 #[test]
 fn limited(rt: HostRuntime) {
     for (message, levels, most, is_found) in &LIMITED {
         let body = body_of(message, *levels, *most);
         assert!(rt; body.is_some() == *is_found, "{levels} {most}");
     }
-    let deep = nested(&rt, rt.alloc(), 1024);
+    let deep = nested_arrays(rt.alloc(), 1024).expect(&rt, "memory");
     assert!(rt; body_of(&deep, 1024, usize::MAX).is_some());
     assert!(rt; body_of(&deep, 1023, usize::MAX).is_none());
 }

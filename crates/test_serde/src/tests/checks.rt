@@ -1,5 +1,5 @@
 //! What the tests compare.
-use bser_serde::{Refusal, from_reader, from_slice, to_vec, to_writer};
+use bser_serde::{ReadError, from_reader, from_slice, to_vec, to_writer};
 use serde::{Deserialize, DeserializeOwned, Serialize};
 use serde_bser::device::Watched;
 use serde_bser::document::Document;
@@ -31,18 +31,18 @@ pub fn check_refused<'de, T: Deserialize<'de>>(
     rt: &impl Abort,
     alloc: Global,
     message: &'de [u8],
-    told: &str,
+    expected: &str,
 ) {
     match from_slice::<T>(alloc, message) {
         Ok(_value) => assert!(rt; false),
-        Err(refusal) => check_told(rt, alloc, &refusal, told),
+        Err(refusal) => check_text(rt, alloc, &refusal, expected),
     }
 }
 
 /// Checks how a refusal prints.
-pub fn check_told(rt: &impl Abort, alloc: Global, refusal: &Refusal, told: &str) {
+pub fn check_text(rt: &impl Abort, alloc: Global, refusal: &ReadError, expected: &str) {
     let text = refusal.to_string(alloc).expect(rt, "memory");
-    assert_eq!(rt; text.as_str(), told);
+    assert_eq!(rt; text.as_str(), expected);
 }
 
 /// A text of its own.

@@ -1,20 +1,20 @@
 //! Structs and enums of each form, written and read back.
 use crate::tests::checks::{check_written, owned};
-use crate::types::{Flat, Kind, NameOrFile, Scores, Shape, Term, Version};
+use crate::types::{BuildVersion, EntryKind, Figure, Flat, NameOrFile, Scores, Term};
 use std::collections::BTreeMap;
 
 #[test]
 fn variants(rt: HostRuntime) {
     let alloc = rt.alloc();
-    let folder = Kind::Folder {
+    let folder = EntryKind::Folder {
         depth: 3,
         root: None,
     };
-    let link = Kind::SymbolicLink(owned(&rt, alloc, "there"));
+    let link = EntryKind::SymbolicLink(owned(&rt, alloc, "there"));
     for (kind, shown) in [
-        (Kind::RegularFile, "\"regularFile\""),
+        (EntryKind::RegularFile, "\"regularFile\""),
         (link, "{\"symbolicLink\": \"there\"}"),
-        (Kind::Pair(-5, true), "{\"pair\": [-5, true]}"),
+        (EntryKind::Pair(-5, true), "{\"pair\": [-5, true]}"),
         (folder, "{\"d\": {\"depth\": 3, \"root\": null}}"),
     ] {
         check_written(&rt, alloc, &kind, shown);
@@ -31,15 +31,15 @@ fn tags(rt: HostRuntime) {
     ] {
         check_written(&rt, alloc, &term, shown);
     }
-    for (shape, shown) in [
-        (Shape::Dot, "{\"kind\": \"Dot\"}"),
-        (Shape::Line(-9), "{\"kind\": \"Line\", \"of\": -9}"),
+    for (figure, shown) in [
+        (Figure::Dot, "{\"kind\": \"Dot\"}"),
+        (Figure::Line(-9), "{\"kind\": \"Line\", \"of\": -9}"),
         (
-            Shape::Box { width: 70000 },
+            Figure::Box { width: 70000 },
             "{\"kind\": \"Box\", \"of\": {\"width\": 70000}}",
         ),
     ] {
-        check_written(&rt, alloc, &shape, shown);
+        check_written(&rt, alloc, &figure, shown);
     }
 }
 
@@ -63,7 +63,7 @@ fn untagged(rt: HostRuntime) {
 #[test]
 fn flattened(rt: HostRuntime) {
     let alloc = rt.alloc();
-    let version = Version {
+    let version = BuildVersion {
         version: owned(&rt, alloc, "4.9"),
         build: 7,
     };

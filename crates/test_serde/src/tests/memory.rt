@@ -31,7 +31,7 @@ fn check_memory(rt: &impl Abort, error: &Error) {
 fn written_or_out_of_memory(rt: HostRuntime) {
     let alloc = rt.alloc();
     let name = [b'x'; 130];
-    let told = LentClock {
+    let clock = LentClock {
         the_clock: "c:1:2",
         file: FileRef {
             name: Bytes(&name),
@@ -39,7 +39,7 @@ fn written_or_out_of_memory(rt: HostRuntime) {
         },
         numbers: &[1, -2, 300, -70_000, 5_000_000_000],
     };
-    match to_vec(alloc, &told) {
+    match to_vec(alloc, &clock) {
         Ok(message) => assert!(rt; message.as_slice().starts_with(&BEGINNING)),
         Err(error) => check_memory(&rt, &error),
     }

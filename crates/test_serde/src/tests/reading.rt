@@ -1,6 +1,7 @@
 //! Reading where an allocation fails.
+use crate::tests::PEOPLE;
 use crate::types::ByteFile;
-use bser_serde::{ByteBuf, Misfit, Reason, Refusal, from_reader, from_slice};
+use bser_serde::{ByteBuf, Misfit, ReadError, Reason, from_reader, from_slice};
 use serde::Deserialize;
 use serde_bser::device::Watched;
 use std::collections::BTreeMap;
@@ -12,11 +13,6 @@ struct Owner {
     name: Option<String>,
     age: u8,
 }
-
-/// Three rows, of which the last has no name.
-const PEOPLE: &[u8] =
-    b"\x00\x02\x00\x00\x00\x00\x03\x28\x0b\x00\x03\x02\x02\x03\x04name\x02\x03\x03age\
-\x03\x03\x02\x03\x04fred\x03\x14\x02\x03\x04pete\x03\x1e\x0c\x03\x19";
 
 /// Checks that the rows were read.
 fn check_people(rt: &impl Abort, people: &[Owner]) {
@@ -32,8 +28,8 @@ fn check_people(rt: &impl Abort, people: &[Owner]) {
 }
 
 /// Checks that the error is that an allocation failed, which is so only where one is made to.
-fn check_memory(rt: &impl Abort, refusal: &Refusal) {
-    assert!(rt; matches!(refusal, Refusal::OutOfMemory));
+fn check_memory(rt: &impl Abort, refusal: &ReadError) {
+    assert!(rt; matches!(refusal, ReadError::OutOfMemory));
 }
 
 /// Checks where the misfit is: behind so many bytes, and in a field of the first row.
@@ -60,7 +56,7 @@ fn rows_or_out_of_memory(rt: HostRuntime) {
 fn misfit_or_out_of_memory(rt: HostRuntime) {
     match from_slice::<Vec<BTreeMap<String, ByteBuf>>>(rt.alloc(), PEOPLE) {
         Ok(_people) => assert!(rt; false),
-        Err(Refusal::Misfit(misfit)) => check_place(&rt, &misfit, 34),
+        Err(ReadError::Misfit(misfit)) => check_place(&rt, &misfit, 34),
         Err(refusal) => check_memory(&rt, &refusal),
     }
 }
@@ -69,7 +65,7 @@ fn misfit_or_out_of_memory(rt: HostRuntime) {
 fn missing_or_out_of_memory(rt: HostRuntime) {
     match from_slice::<Vec<ByteFile>>(rt.alloc(), PEOPLE) {
         Ok(_files) => assert!(rt; false),
-        Err(Refusal::Misfit(misfit)) => {
+        Err(ReadError::Misfit(misfit)) => {
             assert!(rt; matches!(misfit.reason, Reason::Missing(_)));
             check_place(&rt, &misfit, 36);
         }

@@ -1,6 +1,6 @@
 //! How messages and values are refused.
-use crate::tests::checks::{check_refused, check_told, owned};
-use crate::types::{ByteFile, Strict, Version};
+use crate::tests::checks::{check_refused, check_text, owned};
+use crate::types::{BuildVersion, ByteFile, Strict};
 use bser_serde::{ByteBuf, from_frame, from_reader, to_vec};
 use serde_bser::bytestring::ByteString;
 use serde_bser::device::Watched;
@@ -35,8 +35,8 @@ fn misfits(rt: HostRuntime) {
         VERSION,
         "wrong type: a text where an integer is wanted, at byte 21, in version",
     );
-    let told = "a value that the type does not hold, at byte 8, in .";
-    check_refused::<()>(&rt, alloc, FALSE, told);
+    let text = "a value that the type does not hold, at byte 8, in .";
+    check_refused::<()>(&rt, alloc, FALSE, text);
 }
 
 /// A template with the keys `name` and `age` and a row of 20 years.
@@ -64,15 +64,15 @@ fn misfits_in_rows(rt: HostRuntime) {
 #[test]
 fn malformed(rt: HostRuntime) {
     let alloc = rt.alloc();
-    check_refused::<Version>(&rt, alloc, &VERSION[..20], "end of input, at byte 20");
+    check_refused::<BuildVersion>(&rt, alloc, &VERSION[..20], "end of input, at byte 20");
     let mut reader = Watched::new(&VERSION[..0]);
-    match from_reader::<_, Version>(alloc, &mut reader) {
+    match from_reader::<_, BuildVersion>(alloc, &mut reader) {
         Ok(_version) => assert!(rt; false),
-        Err(refusal) => check_told(&rt, alloc, &refusal, "no message is left"),
+        Err(refusal) => check_text(&rt, alloc, &refusal, "no message is left"),
     }
-    match from_frame::<Version>(alloc, VERSION) {
+    match from_frame::<BuildVersion>(alloc, VERSION) {
         Ok(_version) => assert!(rt; false),
-        Err(refusal) => check_told(
+        Err(refusal) => check_text(
             &rt,
             alloc,
             &refusal,
@@ -88,8 +88,8 @@ fn unwritten(rt: HostRuntime) {
         Ok(_message) => assert!(rt; false),
         Err(error) => {
             let text = error.to_string(alloc).expect(&rt, "memory");
-            let told = "while serializing BSER: integer too big: 18446744073709551615";
-            assert!(rt; text.as_str() == told);
+            let expected = "while serializing BSER: integer too big: 18446744073709551615";
+            assert!(rt; text.as_str() == expected);
         }
     }
     let mut by_number = BTreeMap::new(alloc);

@@ -1,13 +1,9 @@
 //! Byte strings, borrowed texts, rows of a template, and reals by their bits.
+use crate::tests::PEOPLE;
 use crate::tests::checks::{check_written, owned};
 use crate::types::{ByteFile, ByteFiles, FileRef, Person};
 use bser_serde::{ByteBuf, Bytes, from_frame, from_slice, to_vec};
 use serde_bser::bytestring::ByteString;
-
-/// A template with the keys `name` and `age`, from the Watchman project's page on the format.
-const PEOPLE: &[u8] =
-    b"\x00\x02\x00\x00\x00\x00\x03\x28\x0b\x00\x03\x02\x02\x03\x04name\x02\x03\x03age\
-\x03\x03\x02\x03\x04fred\x03\x14\x02\x03\x04pete\x03\x1e\x0c\x03\x19";
 
 #[test]
 fn byte_strings(rt: HostRuntime) {

@@ -1,13 +1,19 @@
 //! What the tests of all modules check: texts, bytes and messages.
-use bser_format::errors::Result;
 use bser_ser::Serialize;
-use bser_ser::message::{serialize, to_vec};
-use bser_source::device::Watched;
+use bser_ser::message::to_vec;
+use bser_vectors::notation::parse_value;
+use bser_vectors::ways::written;
+use serde_bser::value::Value;
 use std::alloc::Global;
 use std::fmt::{Debug, Display};
 use std::process::Abort;
 
-/// The bytes are the same.
+/// The value that the text spells in the notation.
+pub fn spelled(rt: &impl Abort, alloc: Global, text: &str) -> Value {
+    parse_value(alloc, text).expect(rt, "the text is a value")
+}
+
+/// The bytes are those expected.
 pub fn check_bytes(rt: &impl Abort, found: &[u8], expected: &[u8]) {
     assert_eq!(rt; found, expected);
 }
@@ -36,14 +42,6 @@ pub fn check_debug<T: Debug + Drop>(rt: &impl Abort, alloc: Global, value: T, te
     check_same(rt, printed.as_str(), text);
 }
 
-/// A message in memory.
-pub fn message<T: Serialize>(alloc: Global, value: &T) -> Result<Vec<u8>> {
-    match serialize(alloc, Watched::new(Vec::new(alloc)), value) {
-        Ok(writer) => Ok(writer.into_inner()),
-        Err((_, error)) => Err(error),
-    }
-}
-
 /// The value is written as a message of these bytes, to a writer and in a vector.
 pub fn check_written<T: Serialize + Drop>(
     rt: &impl Abort,
@@ -51,7 +49,7 @@ pub fn check_written<T: Serialize + Drop>(
     value: T,
     expected: &[u8],
 ) {
-    let found = message(alloc, &value).expect(rt, "the value is written");
+    let found = written(alloc, &value).expect(rt, "the value is written");
     check_bytes(rt, &found, expected);
     let made = to_vec(alloc, &value).expect(rt, "the value is written");
     check_bytes(rt, &made, expected);

@@ -39,7 +39,7 @@ fn puts_a_message_of_a_template_with_a_skip(rt: HostRuntime) {
     );
 }
 
-/// The value's message in memory that is told how long it is.
+/// The value's message in memory that gets its length before.
 fn kept<T: Serialize>(alloc: Global, value: &T) -> Result<Vec<u8>> {
     match serialize(alloc, InMemory::new(Vec::new(alloc)), value) {
         Ok(memory) => Ok(memory.into_inner()),

@@ -2,12 +2,13 @@
 mod lists;
 mod types;
 
-use self::types::{RealBits, TestStruct, WrittenEnum};
+use self::types::{TestStruct, WrittenEnum};
 use super::checks::{check_bytes, check_debug, check_written};
 use bser_format::bytestring::ByteString;
 use bser_format::errors::Error;
 use bser_ser::Serializer;
 use bser_source::device::{Sink, Watched};
+use bser_types::impls::RealBits;
 use bser_vectors::devices::{Plan, PlannedWriter, Then};
 use std::alloc::{AllocError, Global};
 use std::collections::BTreeMap;
@@ -26,7 +27,7 @@ fn with_hello(rt: &impl Abort, alloc: Global, plan: Plan) -> Planning {
 
 /// The writer has taken these bytes.
 fn check_taken(rt: &impl Abort, writer: Watched<PlannedWriter>, expected: &[u8]) {
-    check_bytes(rt, writer.get_ref().taken(), expected);
+    check_bytes(rt, writer.get_ref().taken.as_slice(), expected);
 }
 
 #[test]

@@ -4,6 +4,7 @@ use Rattle.json.proofs.Printed.Floats.{IsNumber-plain}
 use Rattle.json.specs.Token as tokens
 use Rattle.std.specs.Float.{float_is_finite}
 use Rattle.bser_json.specs.Said.{PutsSaid, SaysNumber}
+use Rattle.bser_json.proofs.PrintedNumbers.{plain_is_real}
 use Rattle.bser_json.proofs.Saying.{one_said}
 use Rattle.bser_json.proofs.writing.put_float.Goals as goal
 
@@ -18,4 +19,4 @@ returns-then-is_finite g c =
     let text = c.format_finite.result.now in
     let finite : float_is_finite c.args.number ≡ true = search rules in
     subst (λ b. OnOk r (PutsSaid g.W.Write.contents (SaysNumber c.args.bits c.args.number b) x y)) (sym finite)
-    (one_said g.W.Write.contents r (SaysNumber c.args.bits c.args.number true) (tokens.number text ∷ []) x y (text, refl, c.format_finite.ensures.parses) c.token.ensures)
+    (one_said g.W.Write.contents r (SaysNumber c.args.bits c.args.number true) (tokens.number text ∷ []) x y (text, refl, IsNumber-plain text c.format_finite.ensures.plain, plain_is_real text c.format_finite.ensures.plain, c.format_finite.ensures.parses) c.token.ensures)

@@ -1,4 +1,4 @@
-//! A reader that tells how far it was asked.
+//! A reader that keeps how far it was asked.
 use bser_vectors::devices::{Plan, PlannedReader};
 use std::io;
 use std::io::Read;

@@ -1,6 +1,7 @@
 //! A stream that is cut or interrupted at each byte, and memory that runs out.
-use super::{AskedFrames, FIVE, check_lines, frames_of};
+use super::{AskedFrames, check_lines, frames_of};
 use bser_vectors::devices::{Plan, Then};
+use bser_vectors::messages::FIVE;
 use serde_bser::stream::FrameError;
 use std::alloc::Global;
 use std::io::ErrorKind;

@@ -1,20 +1,13 @@
 //! What is read from a frame.
-use super::{FIVE, frames_of};
+use super::frames_of;
+use crate::tests::check_debug;
 use bser_vectors::devices::Plan;
+use bser_vectors::messages::FIVE;
 use serde_bser::de::Ignored;
-use std::alloc::Global;
-use std::fmt::Debug;
-use std::process::Abort;
 
 /// An array of the texts ab and c, and the number 5.
 const TEXTS: &[u8] =
     b"\x00\x02\0\0\0\0\x03\x0c\x00\x03\x02\x0d\x03\x02ab\x0d\x03\x01c\x00\x02\0\0\0\0\x03\x02\x03\x05";
-
-/// Checks how an answer is printed.
-fn check_answer<T: Debug + Drop>(rt: &impl Abort, alloc: Global, answer: T, expected: &str) {
-    let printed = format!(in alloc; "{answer:?}").expect(rt, "memory is left");
-    assert_eq!(rt; printed.as_str(), expected);
-}
 
 #[test]
 fn two_types_are_borrowed_from_one_frame(rt: HostRuntime) {
@@ -39,10 +32,10 @@ fn messages_are_read_in_one_call(rt: HostRuntime) {
         &rt,
         "memory is left",
     ));
-    check_answer(&rt, alloc, shown, expected);
+    check_debug(&rt, alloc, shown, expected);
     assert!(rt; frames.read::<Ignored>().is_ok());
-    check_answer(&rt, alloc, frames.next_message::<i64>(), "Ok(Some(5))");
+    check_debug(&rt, alloc, frames.next_message::<i64>(), "Ok(Some(5))");
     assert_eq!(rt; frames.frame(), FIVE);
     assert_eq!(rt; frames.position(), 20);
-    check_answer(&rt, alloc, frames.next_message::<i64>(), "Ok(None)");
+    check_debug(&rt, alloc, frames.next_message::<i64>(), "Ok(None)");
 }

@@ -1,9 +1,10 @@
 //! Structs by one list: files, names, numbers, rows and a query.
 use super::files::KnownFile;
 use super::named::NamedFile;
-use super::queries::Query;
+use super::queries::FileQuery;
 use super::rows::LentRow;
-use super::{Case, check_lent, check_message, check_owned, check_written};
+use super::{Case, check_lent, check_owned, check_written_again};
+use crate::tests::check_written;
 use serde_bser::de::ObjectOr;
 use std::alloc::Global;
 use std::process::Abort;
@@ -27,7 +28,7 @@ static FILES: [Case<'static>; 2] = [
 #[test]
 fn a_struct_is_read_as_it_is_written_and_what_is_none_is_null_or_left_out(rt: HostRuntime) {
     check_owned::<KnownFile>(&rt, rt.alloc(), &FILES);
-    check_written::<KnownFile>(&rt, rt.alloc(), &FILES);
+    check_written_again::<KnownFile>(&rt, rt.alloc(), &FILES);
 }
 
 /// A file, as it is written.
@@ -41,8 +42,8 @@ static NAMED_FILES: [Case<'static>; 1] = [(
 fn a_name_is_lent_or_owned(rt: HostRuntime) {
     check_lent::<NamedFile<&str>>(&rt, rt.alloc(), &NAMED_FILES);
     check_owned::<NamedFile<String>>(&rt, rt.alloc(), &NAMED_FILES);
-    check_written::<NamedFile<&str>>(&rt, rt.alloc(), &NAMED_FILES);
-    check_written::<NamedFile<String>>(&rt, rt.alloc(), &NAMED_FILES);
+    check_written_again::<NamedFile<&str>>(&rt, rt.alloc(), &NAMED_FILES);
+    check_written_again::<NamedFile<String>>(&rt, rt.alloc(), &NAMED_FILES);
 }
 
 /// Two rows of a template.
@@ -82,13 +83,13 @@ fn files_are_names_or_objects_or_rows(rt: HostRuntime) {
         check_lent::<Vec<Listed<&str>>>(&rt, rt.alloc(), cases);
         check_owned::<Vec<Listed<String>>>(&rt, rt.alloc(), cases);
     }
-    check_written::<Vec<Listed<String>>>(&rt, rt.alloc(), &NAMES_AND_FILES);
+    check_written_again::<Vec<Listed<String>>>(&rt, rt.alloc(), &NAMES_AND_FILES);
 }
 
 /// Checks that this message is written for a query of the names.
 fn check_query(rt: &impl Abort, alloc: Global, since: Option<&str>, bytes: &[u8]) {
     let fields = &["name"];
-    check_message(rt, alloc, &Query { fields, since }, bytes);
+    check_written(rt, alloc, &FileQuery { fields, since }, bytes);
 }
 
 #[test]

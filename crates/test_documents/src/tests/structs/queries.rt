@@ -10,19 +10,19 @@ use std::alloc::Global;
 
 /// The fields that an answer is to have, and from when on.
 #[derive(Drop)]
-pub struct Query<'a> {
+pub struct FileQuery<'a> {
     pub fields: &'a [&'a str],
     pub since: Option<&'a str>,
 }
 
-impl<'a> Fields for Query<'a> {
+impl<'a> Fields for FileQuery<'a> {
     ghost fields = { required (codes "fields") (λ v. v.fields) ⟦<&'a [&'a str] as WriteOnly>⟧.coding
         ∷ optional (codes "since") (λ v. v.since) ⟦<&'a str as WriteOnly>⟧.coding
         ∷ [] };
 }
 
-impl<'a> Serialize for Query<'a> {
-    ghost meaning = { fields_tree ⟦<Query<'a> as Fields>⟧.fields };
+impl<'a> Serialize for FileQuery<'a> {
+    ghost meaning = { fields_tree ⟦<FileQuery<'a> as Fields>⟧.fields };
 
     fn serialize<W: Sink>(&self, alloc: Global, out: &mut Serializer<W>) -> Result<()> {
         put_struct!(alloc, out, self, {

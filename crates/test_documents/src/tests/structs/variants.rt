@@ -1,6 +1,6 @@
 //! An enum from names and objects, and the messages written for it.
 use super::choices::Choice;
-use super::{Case, check_owned, check_written};
+use super::{Case, check_owned, check_written_again};
 
 /// A choice of each form, as it is written.
 static CHOICES: [Case<'static>; 5] = [
@@ -31,5 +31,5 @@ static CHOICES: [Case<'static>; 5] = [
 #[test]
 fn a_variant_of_each_form_is_read_as_it_is_written(rt: HostRuntime) {
     check_owned::<Choice<String>>(&rt, rt.alloc(), &CHOICES);
-    check_written::<Choice<String>>(&rt, rt.alloc(), &CHOICES);
+    check_written_again::<Choice<String>>(&rt, rt.alloc(), &CHOICES);
 }

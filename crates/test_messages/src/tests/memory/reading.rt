@@ -1,6 +1,7 @@
 //! Messages that are read as types that take memory, and as such that take none.
-use super::{ROWS, Tested, wanted};
+use super::{Tested, wanted};
 use bser_vectors::devices::Plan;
+use bser_vectors::messages::{FALLING_KEYS, NULL, PAIR, PI, ROWS, ROWS_NOTATION, TOM};
 use bser_vectors::notation::parse_value;
 use bser_vectors::structs::TemplateRow;
 use bser_vectors::ways::read_by_plan;
@@ -44,15 +45,12 @@ fn check_read<'a, T: Deserialize<&'a [u8]> + DeserializeOwned + PartialEq + Debu
 /// The number 128.
 const NUMBER: &[u8] = b"\x00\x02\0\0\0\0\x03\x03\x04\x80\x00";
 
-/// The text Tom.
-const TEXT: &[u8] = b"\x00\x02\0\0\0\0\x03\x06\x0d\x03\x03Tom";
-
 #[test]
 fn a_number_is_boxed_and_a_text_is_copied(rt: HostRuntime) -> Tested {
     let alloc = rt.alloc();
     check_read(&rt, alloc, NUMBER, &Box::new(alloc, 128i64)?)?;
-    check_read(&rt, alloc, TEXT, &String::from_str(alloc, "Tom")?)?;
-    check_read(&rt, alloc, TEXT, &ByteString::from_text(alloc, "Tom")?)
+    check_read(&rt, alloc, TOM, &String::from_str(alloc, "Tom")?)?;
+    check_read(&rt, alloc, TOM, &ByteString::from_text(alloc, "Tom")?)
 }
 
 /// An array of the numbers 3, 2 and 3.
@@ -68,11 +66,7 @@ fn numbers_are_listed_and_gathered(rt: HostRuntime) -> Tested {
     check_read(&rt, rt.alloc(), NUMBERS, &set)
 }
 
-/// An object with the key "b" of 1, and then "a" of 2.
-const OBJECT: &[u8] =
-    b"\x00\x02\0\0\0\0\x03\x0f\x01\x03\x02\x0d\x03\x01b\x03\x01\x0d\x03\x01a\x03\x02";
-
-/// Its entries.
+/// The entries of [`FALLING_KEYS`].
 static ENTRIES: [(&str, i64); 2] = [("a", 2), ("b", 1)];
 
 #[test]
@@ -81,16 +75,12 @@ fn an_object_is_a_hashed_map(rt: HostRuntime) -> Tested {
     for (key, number) in &ENTRIES {
         map.insert(String::from_str(rt.alloc(), key)?, *number)?;
     }
-    check_read(&rt, rt.alloc(), OBJECT, &map)
+    check_read(&rt, rt.alloc(), FALLING_KEYS, &map)
 }
-
-/// The two rows in the notation.
-const ROWS_SHOWN: &str =
-    "[{616263:i123,646566:b626172,676869:n},{616263:i456,646566:n,676869:i789}]";
 
 #[test]
 fn a_template_is_a_value_or_ignored_or_refused_for_memory(rt: HostRuntime) -> Tested {
-    let value = parse_value(rt.alloc(), ROWS_SHOWN)?;
+    let value = parse_value(rt.alloc(), ROWS_NOTATION)?;
     check_read(&rt, rt.alloc(), ROWS, &value)?;
     check_read(&rt, rt.alloc(), ROWS, &Ignored)
 }
@@ -136,11 +126,9 @@ fn scalars_and_lent_strings_take_no_memory(rt: HostRuntime) -> Tested {
     check_lent::<i64>(&rt, alloc, NUMBER, 128);
     check_lent::<u8>(&rt, alloc, NUMBER, 128);
     check_lent::<bool>(&rt, alloc, b"\x00\x02\0\0\0\0\x03\x01\x08", true);
-    check_lent::<()>(&rt, alloc, b"\x00\x02\0\0\0\0\x03\x01\x0a", ());
-    let real = b"\x00\x02\0\0\0\0\x03\x09\x07\x18\x2d\x44\x54\xfb\x21\x09\x40";
-    check_lent(&rt, alloc, real, RealBits(0x4009_21fb_5444_2d18));
-    let pair = b"\x00\x02\0\0\0\0\x03\x09\x00\x03\x02\x03\x07\x0d\x03\x01x";
-    check_lent::<(i64, &str)>(&rt, alloc, pair, (7, "x"));
+    check_lent::<()>(&rt, alloc, NULL, ());
+    check_lent(&rt, alloc, PI, RealBits(0x4009_21fb_5444_2d18));
+    check_lent::<(i64, &str)>(&rt, alloc, PAIR, (7, "x"));
     drop(String::from_str(alloc, "x")?);
     Ok(())
 }

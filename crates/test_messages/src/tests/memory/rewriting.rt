@@ -1,7 +1,8 @@
 //! Messages that are rewritten.
-use super::{CANONICAL_ROWS, COMPACT_ROWS, ROWS, Tested, check_written, taking};
+use super::{Tested, check_written, taking};
 use bser_canonical::engine::{canon, canon_compact};
 use bser_vectors::devices::{Plan, PlannedReader};
+use bser_vectors::messages::{CANONICAL_ROWS, COMPACT_ROWS, ROWS};
 use serde_bser::device::Watched;
 
 /// A reader of the rows that gives three bytes a call.

@@ -1,5 +1,6 @@
 //! Values that are made and copied.
-use super::{ROWS, Tested};
+use super::Tested;
+use bser_vectors::messages::ROWS;
 use serde_bser::errors::Result;
 use serde_bser::from_slice;
 use serde_bser::value::Value;

@@ -1,7 +1,6 @@
 //! Messages that are written, and the bytes that a writer has of them.
-use super::{
-    CANONICAL_ROWS, ROWS, Tested, check_bytes, check_written, taking, wanted, wanted_after,
-};
+use super::{Tested, check_bytes, check_written, taking, wanted, wanted_after};
+use bser_vectors::messages::{CANONICAL_ROWS, NESTED_ROWS, ROWS};
 use serde_bser::device::Watched;
 use serde_bser::document::Document;
 use serde_bser::errors::{Error, Result};
@@ -20,8 +19,8 @@ fn check_serialized<T: Serialize>(
     message: &[u8],
 ) -> Tested {
     match serialize(alloc, taking(alloc, 5), value) {
-        Ok(writer) => check_bytes(rt, writer.get_ref().taken(), message),
-        Err((writer, error)) => wanted_after(rt, error, writer.get_ref().taken(), message),
+        Ok(writer) => check_bytes(rt, writer.get_ref().taken.as_slice(), message),
+        Err((writer, error)) => wanted_after(rt, error, writer.get_ref().taken.as_slice(), message),
     }
 }
 
@@ -45,7 +44,7 @@ fn more_than_is_kept_pending_is_serialized(rt: HostRuntime) -> Tested {
 fn a_number_that_is_too_great_is_named(rt: HostRuntime) -> Tested {
     match serialize(rt.alloc(), taking(rt.alloc(), 5), &[1, u64::MAX]) {
         Err((writer, Error::SerU64TooBig { v: u64::MAX })) => {
-            check_bytes(&rt, writer.get_ref().taken(), b"")
+            check_bytes(&rt, writer.get_ref().taken.as_slice(), b"")
         }
         Err((_, error)) => wanted(&rt, error),
         Ok(_) => panic!(rt; "a number that is too great was written"),
@@ -66,10 +65,6 @@ fn a_vector_is_written(rt: HostRuntime) -> Tested {
     check_vector(&rt, to_vec(rt.alloc(), &("Tom", 7)), pair)
 }
 
-/// Two rows of one field each, which are templates of two rows.
-const NESTED: &[u8] =
-    b"\x00\x02\0\0\0\0\x03\x26\x0b\x00\x03\x01\x0d\x03\x01a\x03\x02\x0b\x00\x03\x01\x0d\x03\x01b\x03\x02\x03\x01\x03\x02\x0b\x00\x03\x01\x0d\x03\x01b\x03\x02\x03\x03\x03\x04";
-
 /// Checks that the value is written to a writer of five bytes a call, which has a beginning of the
 /// message where memory was refused.
 fn check_beginning<T: Serialize>(rt: &impl Abort, alloc: Global, value: &T) -> Tested {
@@ -87,10 +82,10 @@ fn a_message_that_is_refused_for_memory_leaves_a_beginning(rt: HostRuntime) -> T
 
 #[test]
 fn a_compact_message_that_is_refused_for_memory_leaves_a_beginning(rt: HostRuntime) -> Tested {
-    let value: Value = from_slice(rt.alloc(), NESTED)?;
+    let value: Value = from_slice(rt.alloc(), NESTED_ROWS)?;
     let mut writer = taking(rt.alloc(), 5);
     let answer = serialize_compact(rt.alloc(), &mut writer, &value);
-    check_written(&rt, answer, &writer, NESTED)
+    check_written(&rt, answer, &writer, NESTED_ROWS)
 }
 
 /// A serializer into memory.

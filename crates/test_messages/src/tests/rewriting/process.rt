@@ -1,8 +1,9 @@
 //! Tests of the program over what a process gives it.
-use super::{NULL, memory};
+use super::memory;
 use crate::tests::check_bytes;
 use bser_canonical::process::{Arguments, Finish, process};
 use bser_source::device::{Sink, Watched};
+use bser_vectors::messages::NULL;
 use std::alloc::Global;
 use std::env::FillError;
 use std::io;
@@ -11,11 +12,11 @@ use std::process::{Abort, ExitCode};
 
 /// Arguments that a test gives.
 #[derive(Clone, Copy, Drop)]
-struct Given<'a> {
+struct TestArguments<'a> {
     words: &'a [&'a [u8]],
 }
 
-impl Arguments for Given<'_> {
+impl Arguments for TestArguments<'_> {
     ghost use Rattle.std.specs.Prelude.{None};
 
     ghost given = { λ _. None };
@@ -60,9 +61,15 @@ fn check_ending<W: Sink + Finish + Drop>(
 ) {
     let mut errors = memory(alloc);
     let mut reader = Watched::new(input);
-    let code = process(alloc, &Given { words }, &mut reader, writer, &mut errors);
-    let told = errors.get_ref().as_slice();
-    assert_eq!(rt; (code, told), (ExitCode::from(expected.0), expected.1));
+    let code = process(
+        alloc,
+        &TestArguments { words },
+        &mut reader,
+        writer,
+        &mut errors,
+    );
+    let reported = errors.get_ref().as_slice();
+    assert_eq!(rt; (code, reported), (ExitCode::from(expected.0), expected.1));
 }
 
 /// The status and the line.
@@ -120,7 +127,7 @@ fn a_process_ends_with_status_0_1_or_2(rt: HostRuntime) {
 
 #[test]
 fn a_fault_of_the_last_flush_ends_with_status_1(rt: HostRuntime) {
-    let told = b"bser_canon: IO Error\n";
+    let reported = b"bser_canon: IO Error\n";
     let writer = Watched::new(Unflushed);
-    check_ending(&rt, rt.alloc(), &[], NULL, writer, (1, told));
+    check_ending(&rt, rt.alloc(), &[], NULL, writer, (1, reported));
 }

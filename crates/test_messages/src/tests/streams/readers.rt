@@ -1,18 +1,14 @@
 //! The messages of a reader that gives one byte a call.
-use super::{FIVE, HUGE, MIXED, NUMBERS, check_answer, check_equal};
+use super::{FIVE, HUGE, MIXED, NUMBERS};
+use crate::tests::{check_debug, check_equal, one_by_one};
 use bser_messages::limits::Limits;
 use bser_messages::next::{from_reader_limited, next_message, next_message_limited};
 use bser_messages::reader_messages::ReaderMessages;
 use bser_source::device::{Source, Watched};
-use bser_vectors::devices::{Plan, PlannedReader};
+use bser_vectors::devices::PlannedReader;
 use std::alloc::Global;
 use std::process::Abort;
 use std::rt::HostRuntime;
-
-/// A reader that gives these bytes one by one.
-fn one_by_one(bytes: &[u8]) -> Watched<PlannedReader<'_>> {
-    Watched::new(PlannedReader::new(bytes, Plan::pieces(1)))
-}
 
 /// Checks the answers to the next messages as numbers, and how many are taken after each.
 fn check_next<R: Source>(
@@ -22,7 +18,7 @@ fn check_next<R: Source>(
     answers: &[(&str, u64)],
 ) {
     for (expected, taken) in answers {
-        check_answer(rt, alloc, messages.next_message::<i64>(), expected);
+        check_debug(rt, alloc, messages.next_message::<i64>(), expected);
         check_equal(rt, messages.taken(), *taken);
     }
 }
@@ -40,7 +36,7 @@ fn the_messages_of_a_reader_are_read_in_turn(rt: HostRuntime) {
     check_next(&rt, rt.alloc(), &mut messages, &answers);
     assert!(rt; !messages.is_failed());
     let first = next_message::<_, i64>(rt.alloc(), &mut one_by_one(NUMBERS));
-    check_answer(&rt, rt.alloc(), first, "Ok(Some(300))");
+    check_debug(&rt, rt.alloc(), first, "Ok(Some(300))");
 }
 
 /// Checks that the messages end with a refusal, after which nothing more is read.
@@ -52,11 +48,11 @@ fn check_failed(
     taken: u64,
 ) {
     check_next(rt, alloc, &mut messages, answers);
-    let left = messages.get_ref().get_ref().left().len();
+    let left = messages.get_ref().get_ref().left.len();
     assert!(rt; messages.is_failed());
     let failed = ("Err(DeReaderError { source: Failed })", taken);
     check_next(rt, alloc, &mut messages, &[failed]);
-    check_equal(rt, messages.into_inner().get_ref().left().len(), left);
+    check_equal(rt, messages.into_inner().get_ref().left.len(), left);
 }
 
 #[test]
@@ -78,12 +74,12 @@ fn check_within(rt: &impl Abort, alloc: Global, most: usize, expected: (&str, &s
     };
     let mut reader = one_by_one(NUMBERS);
     let number = from_reader_limited::<_, i64>(alloc, limits, &mut reader);
-    check_answer(rt, alloc, number, expected.0);
-    check_equal(rt, reader.get_ref().left().len(), left);
+    check_debug(rt, alloc, number, expected.0);
+    check_equal(rt, reader.get_ref().left.len(), left);
     let mut reader = one_by_one(NUMBERS);
     let number = next_message_limited::<_, i64>(alloc, limits, &mut reader);
-    check_answer(rt, alloc, number, expected.1);
-    check_equal(rt, reader.get_ref().left().len(), left);
+    check_debug(rt, alloc, number, expected.1);
+    check_equal(rt, reader.get_ref().left.len(), left);
 }
 
 #[test]
@@ -95,5 +91,5 @@ fn nothing_of_a_body_above_the_limit_is_read(rt: HostRuntime) {
     let mut messages = ReaderMessages::with_limits(alloc, FIVE, one_by_one(HUGE));
     let refused = "Err(DeTooLong { announced: 4294967296, most: 5 })";
     check_next(&rt, alloc, &mut messages, &[(refused, 0)]);
-    check_equal(&rt, messages.into_inner().get_ref().left().len(), 2);
+    check_equal(&rt, messages.into_inner().get_ref().left.len(), 2);
 }

@@ -1,5 +1,6 @@
 //! The messages of a slice.
-use super::{NUMBERS, VERSION, check_answer, check_equal};
+use super::{NUMBERS, VERSION};
+use crate::tests::{check_debug, check_equal};
 use bser_messages::slice_messages::SliceMessages;
 use std::collections::BTreeMap;
 use std::rt::HostRuntime;
@@ -16,12 +17,12 @@ static ANSWERS: [(&str, usize); 4] = [
 fn the_messages_of_a_slice_are_read_in_turn_and_lend_their_texts(rt: HostRuntime) {
     let mut messages = SliceMessages::new(rt.alloc(), NUMBERS);
     for (expected, taken) in &ANSWERS {
-        check_answer(&rt, rt.alloc(), messages.next_message::<i64>(), expected);
+        check_debug(&rt, rt.alloc(), messages.next_message::<i64>(), expected);
         let found = (messages.taken(), Some(messages.rest()));
         check_equal(&rt, found, (*taken, NUMBERS.get(*taken..)));
     }
     let mut messages = SliceMessages::new(rt.alloc(), VERSION);
     let object = messages.next_message::<BTreeMap<&str, &str>>();
     let expected = "Ok(Some({\"version\": \"4.9.0\"}))";
-    check_answer(&rt, rt.alloc(), object, expected);
+    check_debug(&rt, rt.alloc(), object, expected);
 }

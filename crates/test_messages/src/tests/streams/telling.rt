@@ -1,12 +1,12 @@
-//! Messages that are told to a builder, which counts the events and looks at their places.
+//! Messages whose events go to a builder, which counts them and looks at their places.
 ghost use Rattle.std.specs.Prelude.{◌≤◌};
 
 use super::{FIVE, MIXED, NUMBERS, VERSION};
-use crate::tests::ROWS;
+use crate::tests::one_by_one;
 use bser_source::device::{Source, Watched};
-use bser_vectors::devices::{Plan, PlannedReader};
+use bser_vectors::messages::ROWS;
 use bser_vectors::witness::Witness;
-use serde_bser::tell::{Header, Limits, Untold, from_slice, next_message};
+use serde_bser::tell::{Header, Limits, TellError, from_slice, next_message};
 use std::alloc::{AllocError, Global};
 use std::process::Abort;
 use std::rt::HostRuntime;
@@ -14,7 +14,7 @@ use std::rt::HostRuntime;
 /// Any number of events.
 const ALL: usize = usize::MAX;
 
-/// What the headers of messages of one digit's length tell, where the body has so many bytes.
+/// The header of a message whose body has so many bytes, below 128.
 fn short_header(len: usize) -> Header {
     Header {
         capabilities: 0,
@@ -23,8 +23,8 @@ fn short_header(len: usize) -> Header {
     }
 }
 
-/// Checks that so many events of a message are told, each in its place, and the last before the
-/// message's end.
+/// Checks that the builder takes so many events of a message, each in its place, and the last
+/// before the message's end.
 fn check_told(rt: &impl Abort, alloc: Global, message: &[u8], events: usize) {
     let mut witness = Witness::new(message, ALL);
     let answer = from_slice(alloc, Limits::new(), message, &mut witness);
@@ -45,9 +45,9 @@ fn each_event_is_told_in_its_place(rt: HostRuntime) {
 fn check_error<T: Drop>(
     rt: &impl Abort,
     alloc: Global,
-    answer: Result<T, Untold>,
+    answer: Result<T, TellError>,
     expected: &str,
-) -> Untold {
+) -> TellError {
     match answer {
         Ok(_) => rt.abort(),
         Err(error) => {
@@ -78,7 +78,7 @@ fn long_strings(alloc: Global) -> Result<Vec<u8>, AllocError> {
     Ok(message)
 }
 
-/// How many events are taken, and how that is told.
+/// How many events are taken, and how the error is printed.
 static STOPPED: [(usize, &str); 2] = [
     (1, "stopped by the builder, at byte 5016"),
     (2, "stopped by the builder, at byte 10020"),
@@ -101,24 +101,19 @@ fn long_strings_of_a_reader_are_told_in_their_places(rt: HostRuntime) {
     }
 }
 
-/// A reader that gives these bytes one by one.
-fn one_by_one(bytes: &[u8]) -> Watched<PlannedReader<'_>> {
-    Watched::new(PlannedReader::new(bytes, Plan::pieces(1)))
-}
-
-/// Tells the reader's next message, to a builder that takes at most `most` events.
+/// Gives the reader's next message to a builder that takes at most `most` events.
 fn tell_next<S: Source>(
     alloc: Global,
     limits: Limits,
     reader: &mut S,
     most: usize,
-) -> Result<Option<Header>, Untold>
+) -> Result<Option<Header>, TellError>
     requires { limits.levels ≤ 1024 }
 {
     next_message(alloc, limits, reader, &mut Witness::new(b"", most))
 }
 
-/// Checks that the next message is told, and what its header tells.
+/// Checks that the builder takes the next message, and what its header is.
 fn check_next<S: Source>(rt: &impl Abort, alloc: Global, reader: &mut S, expected: Option<Header>) {
     let answer = tell_next(alloc, Limits::new(), reader, ALL);
     assert!(rt; answer.expect(rt, "the message is told") == expected);

@@ -179,7 +179,7 @@ static CALLS: [(usize, u64); 3] = [(99, 2), (1, 14), (3, 5)];
 fn a_reader_is_called_as_often_as_bytes_are_needed_and_keeps_what_follows(rt: HostRuntime) {
     for (most, calls) in &CALLS {
         let reader = check_reader(&rt, rt.alloc(), &NUMBER_STEPS, NUMBER, (*most, 99));
-        assert_eq!(rt; (reader.calls(), reader.left()), (*calls, b"ZZ".as_slice()));
+        assert_eq!(rt; (reader.calls, reader.left), (*calls, b"ZZ".as_slice()));
     }
     // a fault waits for the call that needs the byte
     check_reader(&rt, rt.alloc(), &INTERRUPTED, NUMBER, (99, 13));

@@ -74,22 +74,22 @@ fn check_source<R: DeRead + Drop>(rt: &impl Abort, alloc: Global, steps: &[Step]
 
 /// A slice, or a reader of at most so many bytes a call, which is interrupted after so many bytes.
 #[derive(Clone, Copy)]
-enum Source {
+enum SourceKind {
     Slice,
     Reader(usize, usize),
 }
 
 fn check_steps(rt: &impl Abort, alloc: Global, (source, bytes, steps): Case) {
     match source {
-        Source::Slice => check_source(rt, alloc, steps, SliceRead::new(bytes)),
-        Source::Reader(most, whole) => {
+        SourceKind::Slice => check_source(rt, alloc, steps, SliceRead::new(bytes)),
+        SourceKind::Reader(most, whole) => {
             check_source(rt, alloc, steps, source_of(bytes, most, whole));
         }
     }
 }
 
 /// A source, its bytes, and what it answers.
-type Case = (Source, &'static [u8], &'static [Step]);
+type Case = (SourceKind, &'static [u8], &'static [Step]);
 
 /// What is buffered is taken first.
 const WINDOW: [Step; 7] = [
@@ -105,7 +105,7 @@ const WINDOW: [Step; 7] = [
 static CASES: [Case; 9] = [
     // an empty slice ends each time
     (
-        Source::Slice,
+        SourceKind::Slice,
         b"",
         &[
             (SourceCall::Next, "Err(Eof)"),
@@ -114,19 +114,19 @@ static CASES: [Case; 9] = [
     ),
     // an empty reader ends and then has failed
     (
-        Source::Reader(9, 9),
+        SourceKind::Reader(9, 9),
         b"",
         &[
             (SourceCall::Next, "Err(Eof)"),
             (SourceCall::Peek, "Err(Failed)"),
         ],
     ),
-    (Source::Slice, b"abcdef", &WINDOW),
-    (Source::Reader(1, 9), b"abcdef", &WINDOW),
-    (Source::Reader(9, 9), b"abcdef", &WINDOW),
+    (SourceKind::Slice, b"abcdef", &WINDOW),
+    (SourceKind::Reader(1, 9), b"abcdef", &WINDOW),
+    (SourceKind::Reader(9, 9), b"abcdef", &WINDOW),
     // a slice lends and a reader copies
     (
-        Source::Slice,
+        SourceKind::Slice,
         b"abc",
         &[
             (SourceCall::Bytes(2), "Some(\"ab\")"),
@@ -134,7 +134,7 @@ static CASES: [Case; 9] = [
         ],
     ),
     (
-        Source::Reader(9, 9),
+        SourceKind::Reader(9, 9),
         b"abc",
         &[
             (SourceCall::Bytes(2), "Some(\"ab\")"),
@@ -143,7 +143,7 @@ static CASES: [Case; 9] = [
     ),
     // a scratch grows only as bytes arrive
     (
-        Source::Reader(9, 9),
+        SourceKind::Reader(9, 9),
         b"abc",
         &[
             (SourceCall::Refusal(1 << 62), "Some(Eof)"),
@@ -152,7 +152,7 @@ static CASES: [Case; 9] = [
     ),
     // an interruption is a fault
     (
-        Source::Reader(9, 2),
+        SourceKind::Reader(9, 2),
         b"\x00\x02\x00",
         &[
             (SourceCall::Next, "Ok(0)"),

@@ -1,6 +1,7 @@
 //! Whole messages, call by call.
 use super::steps::{Call, REFUSED, Step, check_steps};
 use bser_deserializer::deserializer::Due;
+use bser_vectors::messages::ROWS;
 
 /// An object of null, true, false, 128, a real, the bytes ff fe, the text `hi`, an empty array and a
 /// number of eight bytes, under the keys `n`, `t`, `f`, `i`, `r`, `b`, `s`, `a` and, under the tag of
@@ -46,10 +47,6 @@ const STEPS_OF_SCALARS: [Step; 35] = [
     (Call::Levels, "128"),
     (Call::End, "Ok(())"),
 ];
-
-/// The rows 123, `bar`, null and 456, a skip, 789 under the keys `abc`, `def` and `ghi`.
-const ROWS: &[u8] =
-    b"\x00\x02\x00\x00\x00\x00\x05\x28\x00\x00\x00\x0b\x00\x03\x03\x02\x03\x03abc\x02\x03\x03def\x02\x03\x03ghi\x03\x02\x03\x7b\x02\x03\x03bar\x0a\x04\xc8\x01\x0c\x04\x15\x03";
 
 /// The steps of [`ROWS`].
 const STEPS_OF_ROWS: [Step; 26] = [

@@ -67,14 +67,14 @@ pub const REFUSED: &str = "Err(Refused)";
 
 /// What is open, and what is open outside of it.
 #[derive(Drop)]
-struct Open {
+struct OpenHeads {
     items: Option<SeqHead>,
     outer_items: Option<SeqHead>,
     pairs: Option<MapHead>,
     outer_pairs: Option<MapHead>,
 }
 
-fn are_items<R: DeRead>(open: &mut Open, from: &mut Deserializer<R>, text: &str) -> bool {
+fn are_items<R: DeRead>(open: &mut OpenHeads, from: &mut Deserializer<R>, text: &str) -> bool {
     open.outer_items = open.items;
     open.items = from.open_items().ok();
     match open.items {
@@ -83,7 +83,7 @@ fn are_items<R: DeRead>(open: &mut Open, from: &mut Deserializer<R>, text: &str)
     }
 }
 
-fn are_pairs<R: DeRead>(open: &mut Open, from: &mut Deserializer<R>, text: &str) -> bool {
+fn are_pairs<R: DeRead>(open: &mut OpenHeads, from: &mut Deserializer<R>, text: &str) -> bool {
     open.outer_pairs = open.pairs;
     open.pairs = from.open_pairs().ok();
     match open.pairs {
@@ -92,8 +92,8 @@ fn are_pairs<R: DeRead>(open: &mut Open, from: &mut Deserializer<R>, text: &str)
     }
 }
 
-/// Closes the items that are open, or else the entries, and tells whether there are some.
-fn is_closed<R: DeRead>(is_items: bool, open: &mut Open, from: &mut Deserializer<R>) -> bool {
+/// Closes the items that are open, or else the entries, and answers whether there are some.
+fn is_closed<R: DeRead>(is_items: bool, open: &mut OpenHeads, from: &mut Deserializer<R>) -> bool {
     if is_items {
         let Some(head) = open.items else {
             return false;
@@ -163,8 +163,8 @@ fn make_due<R: DeRead>(due: Due, from: &mut Deserializer<R>) {
     }
 }
 
-/// Whether this is told so. What is made due has no answer.
-fn is_told<R: DeRead>((call, text): Step, from: &mut Deserializer<R>) -> bool {
+/// Whether the deserializer's state is so. What is made due has no answer.
+fn is_state<R: DeRead>((call, text): Step, from: &mut Deserializer<R>) -> bool {
     match call {
         Call::Await(due) => make_due(due, from),
         Call::AwaitName(place) => from.await_name(place),
@@ -178,7 +178,7 @@ fn is_told<R: DeRead>((call, text): Step, from: &mut Deserializer<R>) -> bool {
     true
 }
 
-/// Whether the value is read so, or else whether this is told so.
+/// Whether the value is read so, or else whether the state is so.
 fn is_read<R: DeRead>(alloc: Global, (call, text): Step, from: &mut Deserializer<R>) -> bool
 where
     R::Lent: LendsText,
@@ -194,7 +194,7 @@ where
         Call::Text => is_text(alloc, from, text),
         Call::ByteString => is_printed(from.read_byte_string(alloc), text),
         Call::String => is_printed(from.read_string(alloc), text),
-        _ => is_told((call, text), from),
+        _ => is_state((call, text), from),
     }
 }
 
@@ -203,7 +203,7 @@ pub fn steps_taken<R: DeRead>(alloc: Global, steps: &[Step], from: &mut Deserial
 where
     R::Lent: LendsText,
 {
-    let mut open = Open {
+    let mut open = OpenHeads {
         items: None,
         outer_items: None,
         pairs: None,

@@ -9,7 +9,7 @@ use std::collections::{BTreeMap, HashMap};
 /// An array that announces 2^40 items and has 1, in a body that is said to have as many bytes more.
 const ITEMS: &[u8] = b"\x00\x02\0\0\0\0\x06\x0c\0\0\0\0\x01\0\0\x00\x06\0\0\0\0\0\x01\0\0\x03\x01";
 
-/// The same of no item.
+/// An array that announces so many items and has none.
 const NO_ITEM: &[u8] = b"\x00\x02\0\0\0\0\x06\x0c\0\0\0\0\x01\0\0\x00\x06\0\0\0\0\0\x01\0\0";
 
 /// An object that announces 2^40 entries and has 1 under "a".

@@ -1,4 +1,4 @@
-//! What is told of a refusal: the field, what was found, and the place.
+//! How a refusal is described: the field, what was found, and the place.
 use bser_vectors::devices::{Plan, PlannedReader};
 use bser_vectors::structs::FileInfo;
 use serde_bser::describe;
@@ -8,27 +8,30 @@ use std::alloc::Global;
 use std::process::Abort;
 
 /// The field, what was found, and the place.
-type Told = (Option<&'static str>, Option<Finding>, usize);
+type Described = (Option<&'static str>, Option<Finding>, usize);
 
-/// Checks what the description tells.
-fn check_told(rt: &impl Abort, refusal: Option<Description>, told: Told) {
+/// Checks the description.
+fn check_description(rt: &impl Abort, refusal: Option<Description>, expected: Described) {
     let refusal = refusal.expect(rt, "the message is refused");
-    assert_eq!(rt; (refusal.field(), refusal.finding(), refusal.place()), told);
+    assert_eq!(rt;
+        (refusal.field(), refusal.finding(), refusal.place()),
+        expected
+    );
 }
 
-/// Checks what is told of the message that a reader of this plan gives, read as a file.
-fn check_reader(rt: &impl Abort, alloc: Global, message: &[u8], plan: Plan, told: Told) {
+/// Checks how the message that a reader of this plan gives is refused as a file.
+fn check_reader(rt: &impl Abort, alloc: Global, message: &[u8], plan: Plan, expected: Described) {
     let mut reader = Watched::new(PlannedReader::new(message, plan));
     let refusal = describe::from_reader::<_, FileInfo<String>>(alloc, &mut reader).err();
-    check_told(rt, refusal, told);
+    check_description(rt, refusal, expected);
 }
 
-/// Checks what is told of the message, read as a file from a slice and from readers.
-fn check_file(rt: &impl Abort, alloc: Global, message: &[u8], told: Told) {
+/// Checks how the message is refused as a file, from a slice and from readers.
+fn check_file(rt: &impl Abort, alloc: Global, message: &[u8], expected: Described) {
     let refusal = describe::from_slice::<FileInfo<String>>(alloc, message).err();
-    check_told(rt, refusal, told);
-    check_reader(rt, alloc, message, Plan::pieces(1), told);
-    check_reader(rt, alloc, message, Plan::whole(), told);
+    check_description(rt, refusal, expected);
+    check_reader(rt, alloc, message, Plan::pieces(1), expected);
+    check_reader(rt, alloc, message, Plan::whole(), expected);
 }
 
 /// A file x whose size is true.
@@ -46,8 +49,8 @@ const TWICE: &[u8] =
 /// A file x that has no size.
 const MISSING: &[u8] = b"\x00\x02\0\0\0\0\x03\x0e\x01\x03\x01\x0d\x03\x04name\x0d\x03\x01x";
 
-/// Messages, and what is told of each.
-static REFUSED: [(&[u8], Told); 4] = [
+/// Messages, and how the refusal of each is described.
+static REFUSED: [(&[u8], Described); 4] = [
     (
         TRUE,
         (
@@ -66,8 +69,8 @@ static REFUSED: [(&[u8], Told); 4] = [
 
 #[test]
 fn a_refusal_tells_its_field_what_was_found_and_the_place(rt: HostRuntime) {
-    for (message, told) in &REFUSED {
-        check_file(&rt, rt.alloc(), message, *told);
+    for (message, expected) in &REFUSED {
+        check_file(&rt, rt.alloc(), message, *expected);
     }
 }
 

@@ -1,6 +1,7 @@
 //! Types that are read from readers that fault.
 use super::checks::check_equal;
 use bser_vectors::devices::{Plan, Then};
+use bser_vectors::messages::{PI, ROWS};
 use bser_vectors::structs::TemplateRow;
 use bser_vectors::ways::read_by_plan;
 use serde_bser::de::{DeserializeOwned, Ignored};
@@ -10,12 +11,6 @@ use std::alloc::Global;
 use std::collections::BTreeMap;
 use std::io::ErrorKind;
 use std::process::Abort;
-
-/// Two rows of three fields, with a null and a skipped field.
-const ROWS: &[u8] =
-    b"\x00\x02\0\0\0\0\x05\x28\0\0\0\x0b\x00\x03\x03\x02\x03\x03abc\x02\x03\x03def\x02\x03\x03ghi\x03\x02\x03\x7b\x02\x03\x03bar\x0a\x04\xc8\x01\x0c\x04\x15\x03";
-
-const REAL: &[u8] = b"\x00\x02\0\0\0\0\x03\x09\x07\x18\x2d\x44\x54\xfb\x21\x09\x40";
 
 /// The kind of the reader's fault, where it is handed on.
 fn fault<T>(answer: &Result<T>) -> Option<ErrorKind> {
@@ -56,7 +51,7 @@ static FAULTS: [(Then, ErrorKind); 3] = [
     ),
 ];
 
-/// The same of each of the faults, from readers that give at most so many bytes a call.
+/// Checks each of the faults, of readers that give at most so many bytes a call.
 fn check_faults<T: DeserializeOwned>(rt: &impl Abort, alloc: Global, message: &[u8]) {
     for fault in &FAULTS {
         for most in &[1, 3, usize::MAX] {
@@ -68,7 +63,7 @@ fn check_faults<T: DeserializeOwned>(rt: &impl Abort, alloc: Global, message: &[
 #[test]
 fn a_fault_at_each_byte_is_handed_on(rt: HostRuntime) {
     let alloc = rt.alloc();
-    check_faults::<Value>(&rt, alloc, REAL);
+    check_faults::<Value>(&rt, alloc, PI);
     check_faults::<Value>(&rt, alloc, ROWS);
     check_faults::<Vec<TemplateRow<String>>>(&rt, alloc, ROWS);
     check_faults::<Vec<BTreeMap<String, Ignored>>>(&rt, alloc, ROWS);

@@ -1,6 +1,7 @@
 //! Maps in the order of their hashes, read from whole messages.
 use super::checks::check_equal;
 use bser_vectors::devices::Plan;
+use bser_vectors::messages::FALLING_KEYS;
 use bser_vectors::ways::read_by_plan;
 use serde_bser::bytestring::ByteString;
 use serde_bser::de::{Deserialize, MapKey};
@@ -9,10 +10,6 @@ use serde_bser::from_slice;
 use std::alloc::Global;
 use std::collections::HashMap;
 use std::process::Abort;
-
-/// An object with the key "b" of 1, and then "a" of 2.
-const FALLING: &[u8] =
-    b"\x00\x02\0\0\0\0\x03\x0f\x01\x03\x02\x0d\x03\x01b\x03\x01\x0d\x03\x01a\x03\x02";
 
 /// An object with the key "a" twice, of 1 and then 2.
 const TWICE: &[u8] =
@@ -49,10 +46,18 @@ fn check_rows<'a, K: MapKey + Deserialize<&'a [u8]>>(
 }
 
 /// What is under "a".
-const UNDER_A: &[Row<'_>] = &[(FALLING, 2, Some(2)), (TWICE, 1, Some(2)), (EMPTY, 0, None)];
+const UNDER_A: &[Row<'_>] = &[
+    (FALLING_KEYS, 2, Some(2)),
+    (TWICE, 1, Some(2)),
+    (EMPTY, 0, None),
+];
 
 /// What is under "b".
-const UNDER_B: &[Row<'_>] = &[(FALLING, 2, Some(1)), (TWICE, 1, None), (EMPTY, 0, None)];
+const UNDER_B: &[Row<'_>] = &[
+    (FALLING_KEYS, 2, Some(1)),
+    (TWICE, 1, None),
+    (EMPTY, 0, None),
+];
 
 #[test]
 fn a_lent_key_finds_its_value_by_hash(rt: HostRuntime) {

@@ -1,6 +1,7 @@
 //! The printed texts of refused messages.
 use super::checks::check_equal;
 use bser_vectors::enums::TestEnum;
+use bser_vectors::messages::NULL;
 use serde_bser::errors::Result;
 use serde_bser::from_slice;
 use serde_bser::value::Value;
@@ -41,11 +42,10 @@ fn a_refused_message_is_named(rt: HostRuntime) {
     for (message, text) in &REFUSED {
         check_printed(&rt, alloc, &from_slice::<Value>(alloc, message), text);
     }
-    let null = b"\x00\x02\0\0\0\0\x03\x01\x0a";
     check_printed(
         &rt,
         alloc,
-        &from_slice::<TestEnum<&str>>(alloc, null),
+        &from_slice::<TestEnum<&str>>(alloc, NULL),
         "while deserializing BSER: invalid start byte for enum 'TestEnum': BSER_NULL",
     );
 }

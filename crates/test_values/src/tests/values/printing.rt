@@ -1,5 +1,5 @@
 //! Printing.
-use super::checks::{check_found, check_text, spelled};
+use crate::tests::checks::{check_debug, check_text, spelled};
 use serde_bser::value::Value;
 
 /// Values in the notation, and how they are printed.
@@ -9,7 +9,7 @@ static PRINTED: [(&str, &str); 26] = [
         "{61:[],62:b2fff27,66:f,69:i300,6e:r7ff8000000000001,72:rbff8000000000000,74:s61220a,79:t,7a:n}",
         "{\"a\": [], \"b\": {\"$bytes\": \"2fff27\"}, \"f\": false, \"i\": 300, \"n\": {\"$real\": \"7ff8000000000001\"}, \"r\": -1.5, \"t\": \"a\\\"\\n\", \"y\": true, \"z\": null}",
     ),
-    // parts stand between commas
+    // commas are between parts
     (
         "[i-9223372036854775808,[n],s]",
         "[-9223372036854775808, [null], \"\"]",
@@ -48,8 +48,7 @@ static PRINTED: [(&str, &str); 26] = [
 fn a_value_is_one_line_of_json(rt: HostRuntime) {
     for (text, printed) in &PRINTED {
         let value = spelled(&rt, rt.alloc(), text);
-        let found = value.to_string(rt.alloc()).expect(&rt, "memory is left");
-        check_text(&rt, found.as_str(), printed);
+        check_text(&rt, rt.alloc(), value, printed);
     }
 }
 
@@ -71,8 +70,8 @@ fn debug_prints_a_value(rt: HostRuntime) {
     );
     let printed =
         "Object({\"items\": Array([ByteString(\"\\\\xff\"), Integer(-5), Real(1), Bool(true), Null, Utf8String(\"Tom\")])})";
-    check_found(&rt, rt.alloc(), value, printed);
+    check_debug(&rt, rt.alloc(), value, printed);
     for (number, value) in &NUMBERS {
-        check_found(&rt, rt.alloc(), Value::from_usize(*number), value);
+        check_debug(&rt, rt.alloc(), Value::from_usize(*number), value);
     }
 }

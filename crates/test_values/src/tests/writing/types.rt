@@ -9,6 +9,7 @@ use bser_format::bytestring::ByteString;
 use bser_format::errors::Result;
 use bser_ser::{Serialize, Serializer};
 use bser_source::device::Sink;
+use bser_types::impls::RealBits;
 use std::alloc::Global;
 
 /// Variants of each form.
@@ -53,20 +54,6 @@ impl Serialize for WrittenEnum {
                 def.serialize(alloc, out)
             }
         }
-    }
-}
-
-/// A real, given by its 64 bits.
-#[derive(Drop)]
-pub struct RealBits(pub u64);
-
-impl Serialize for RealBits {
-    ghost use Rattle.bser_format.specs.Tree.{real};
-
-    ghost meaning = { λ v. Ok (real v.0) };
-
-    fn serialize<W: Sink>(&self, _alloc: Global, out: &mut Serializer<W>) -> Result<()> {
-        out.put_real_bits(self.0)
     }
 }
 

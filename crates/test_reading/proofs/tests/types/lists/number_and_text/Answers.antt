@@ -1,4 +1,4 @@
--- Such a tuple needs no memory, so where a message stands nothing is refused.
+-- Such a tuple needs no memory, so nothing of a message is refused.
 use Rattle.std.proofs.Common.{IsOk, Result, Ok, Err, IfErr, refl}
 use Rattle.test_reading.proofs.tests.types.lists.number_and_text.Goals as goal
 

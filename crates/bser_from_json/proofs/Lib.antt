@@ -1,0 +1,5 @@
+pub mod Numbers
+pub mod Keys
+pub mod TokenCount
+pub mod Seeking
+pub mod Outcomes

@@ -1,0 +1,51 @@
+-- What the tokens that are left come to.
+use Rattle.std.specs.Prelude.{◌≡◌, ℕ, suc, ◌+◌, List, [], ◌∷◌, length, true, false, Result, Ok, Err, ⊤}
+use Rattle.json.specs.Token as tokens
+use Rattle.json.specs.Reads.{token_of}
+use Rattle.json.specs.declared.token.Token.{Token}
+use Rattle.bser_format.specs.Tree.{Tree}
+use Rattle.bser_value.specs.ValueView.{tree_of}
+use Rattle.bser_value.specs.declared.value.Value.{Value}
+use Rattle.bser_from_json.specs.declared.reading.Strings.{Strings}
+use Rattle.bser_from_json.specs.declared.tokens.TokenError.{TokenError}
+use Rattle.bser_from_json.specs.declared.tokens.TokenError.TheVariants as refusals
+use Rattle.bser_from_json.specs.declared.tokens.Tokens.{Tokens}
+use Rattle.bser_from_json.specs.Made.{Around, Due, Step, Outcome, makes, refuses, lacks, follow, is_bad, most_levels, nothing, put, run}
+
+-- what is due comes to this with the tokens that are left
+abbrev pub due_to : Strings → Tokens → Due → Outcome
+due_to s left d = run s left.taken d left.reader
+
+-- the same behind what the token did that was taken last
+abbrev pub step_to : Strings → Tokens → Step → Outcome
+step_to s left step = follow left.taken step (due_to s left)
+
+-- the refusal is the outcome. There may always be no memory
+abbrev pub IsRefused : Outcome → TokenError → Type 0
+IsRefused o (refusals.At f n) = o ≡ refuses f n
+IsRefused o (refusals.Lacks n) = o ≡ lacks n
+IsRefused o refusals.OutOfMemory = ⊤
+
+-- the outcome is that of the value, or it is the refusal
+abbrev pub ComesTo : Outcome → (Tree → Outcome) → Result Value TokenError → Type 0
+ComesTo o then (Ok v) = o ≡ then (tree_of v)
+ComesTo o then (Err e) = IsRefused o e
+
+-- the value is put inside of any containers that leave so many levels, or the outcome is the refusal
+abbrev pub ComesInside : Strings → ℕ → (List Around → Outcome) → Tokens → Result Value TokenError → Type 0
+ComesInside s levels from left r = (os : List Around) → length os + levels ≡ most_levels → ComesTo (from os) (λ u. due_to s left (put u os)) r
+
+-- no token comes next: none is left, or the text has none there
+abbrev pub LacksToken : List tokens.Token → Type 0
+LacksToken [] = ⊤
+LacksToken (t ∷ ts) = is_bad t ≡ true
+
+-- the next token was taken, or there is none
+abbrev pub Takes : Tokens → Tokens → Result Token TokenError → Type 0
+Takes old new (Ok t) = (old.reader ≡ token_of t ∷ new.reader) × (is_bad (token_of t) ≡ false) × (new.taken ≡ suc old.taken)
+Takes old new (Err e) = (e ≡ refusals.Lacks old.taken) × LacksToken old.reader
+
+-- no token follows a value that is made, or it is refused
+abbrev pub EndsThere : Tokens → Result (Unit {0}) TokenError → Type 0
+EndsThere old (Ok v) = old.reader ≡ []
+EndsThere old (Err e) = (s : Strings) (u : Tree) → IsRefused (due_to s old (nothing u)) e

@@ -1,0 +1,5 @@
+pub mod Errors
+pub mod Left
+pub mod Made
+pub mod Places
+pub mod Scalars

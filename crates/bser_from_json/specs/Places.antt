@@ -1,0 +1,79 @@
+-- Where the tokens of a text begin, and why none does.
+use Rattle.std.specs.Prelude.{ℕ, ◌+◌, ◌-◌, List, [], ◌∷◌, drop, length, Bool, true, false, Option, Some, None, not, ◌&&◌, ◌||◌, ◌==◌, nat_lt, nat_le, nat_eq, codes, if◌then◌else◌}
+use Rattle.std.specs.List.{starts_with}
+use Rattle.json.specs.Word.{is_operator, is_space}
+use Rattle.bser_from_json.specs.declared.fault.JsonFault.{JsonFault}
+use Rattle.bser_from_json.specs.declared.fault.JsonFault.TheVariants as faults
+use Rattle.bser_from_json.specs.declared.places.TextState.{TextState}
+use Rattle.bser_from_json.specs.declared.places.TextState.TheVariants.{Nothing, Word, Text, Escape}
+use Rattle.bser_from_json.specs.declared.places.Seek.{Seek}
+
+-- whether a token, a comma or a colon begins with the byte
+abbrev pub begins : TextState → ℕ → Bool
+begins Nothing x = not (is_space x)
+begins Word x = is_operator x
+begins Text x = false
+begins Escape x = false
+
+-- what the byte leaves open: nothing, a word, a string, or an escape in one
+abbrev pub behind : TextState → ℕ → TextState
+behind Nothing x = if x == 34 then Text else if is_space x || is_operator x then Nothing else Word
+behind Word x = if is_space x || is_operator x then Nothing else Word
+behind Text x = if x == 34 then Nothing else if x == 92 then Escape else Text
+behind Escape x = Text
+
+-- whether what begins with this byte ends a value
+abbrev pub ends_a_value : ℕ → Bool
+ends_a_value c = not ((c == 123) || ((c == 91) || ((c == 58) || (c == 44))))
+
+-- a colon goes with the string before it, and a comma with what ends a value
+abbrev pub goes_with : ℕ → ℕ → Bool
+goes_with last x = if x == 58 then last == 34 else if x == 44 then ends_a_value last else false
+
+-- what is looked for is behind the byte, or begins with it
+abbrev pub past : Seek → ℕ → Option Seek
+past s x =
+    if begins s.inside x then
+    (if goes_with s.last x then Some (record { inside = behind s.inside x; last = x; left = s.left })
+    else if s.left == 0 then None else Some (record { inside = behind s.inside x; last = x; left = s.left - 1 }))
+    else Some (record { inside = behind s.inside x; last = s.last; left = s.left })
+
+abbrev pub place_or : ℕ → Option Seek → (Seek → ℕ) → ℕ
+place_or i (Some s) on = on s
+place_or i None on = i
+
+-- where it begins, from byte i on
+unfoldable pub place_from : Seek → ℕ → List ℕ → ℕ
+place_from s i [] = i
+place_from s i (x ∷ xs) = place_or i (past s x) (λ t. place_from t (i + 1) xs)
+
+-- where the token begins that so many stand before, each with its comma or colon
+abbrev pub token_place : List ℕ → ℕ → ℕ
+token_place text n = place_from (record { inside = Nothing; last = 44; left = n }) 0 text
+
+-- ---- why no token begins here
+
+-- `u` and the digits of a surrogate
+abbrev pub begins_surrogate : List ℕ → Bool
+begins_surrogate (u ∷ d ∷ x ∷ xs) = (u == 117) && (((d == 100) || (d == 68)) && (((x == 56) || (x == 57)) || ((nat_le 97 x && nat_le x 102) || (nat_le 65 x && nat_le x 70))))
+begins_surrogate _ = false
+
+-- why what stands behind a quote is no string; behind a backslash, or not
+abbrev pub string_fault : Bool → List ℕ → JsonFault
+string_fault escaped [] = faults.EndsEarly
+string_fault escaped (x ∷ xs) =
+    if escaped && begins_surrogate (x ∷ xs) then faults.LoneSurrogate
+    else if not escaped && (x == 34) then faults.NotJson
+    else if not escaped && nat_lt x 32 then faults.ControlCharacter
+    else string_fault (not escaped && (x == 92)) xs
+
+abbrev pub is_word_of : List ℕ → List ℕ → Bool
+is_word_of w r = starts_with nat_eq r w
+
+-- `NaN` and infinities are named
+abbrev pub is_no_number : List ℕ → Bool
+is_no_number r = is_word_of (codes "NaN") r || (is_word_of (codes "Infinity") r || is_word_of (codes "-Infinity") r)
+
+abbrev pub first_fault : List ℕ → JsonFault
+first_fault [] = faults.EndsEarly
+first_fault (x ∷ xs) = if is_no_number (x ∷ xs) then faults.NotANumber else if x == 34 then string_fault false xs else faults.NotJson

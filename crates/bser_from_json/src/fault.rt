@@ -1,0 +1,216 @@
+//! What is wrong with a JSON text, and where.
+ghost use Rattle.std.specs.Prelude.{◌≡◌, ◌≤◌, length, false};
+ghost use Rattle.json.specs.Word.{is_space};
+ghost use Rattle.bser_from_json.specs.Places.{begins_surrogate, first_fault, string_fault};
+
+use memchr::{memchr_iter, memrchr};
+use std::alloc::AllocError;
+use std::fmt;
+
+/// Why a text is not taken.
+#[derive(Debug, Clone, Copy, PartialEq, Eq)]
+pub enum JsonFault {
+    NotUtf8,
+    NotJson,
+    EndsEarly,
+    LoneSurrogate,
+    ControlCharacter,
+    NotANumber,
+    IntegerTooGreat,
+    RealTooGreat,
+    EqualKeys,
+    UnknownMark,
+    WrongBytes,
+    WrongReal,
+    MarkWithMembers,
+    TooDeep,
+}
+
+impl fmt::Display for JsonFault {
+    fn fmt<W: fmt::Write>(&self, f: &mut fmt::Formatter<W>) -> fmt::Result {
+        f.write_str(match self {
+            JsonFault::NotUtf8 => "not UTF-8",
+            JsonFault::NotJson => "not JSON",
+            JsonFault::EndsEarly => "the text ends early",
+            JsonFault::LoneSurrogate => "a lone surrogate",
+            JsonFault::ControlCharacter => "a control character in a string",
+            JsonFault::NotANumber => "NaN and infinity are not JSON",
+            JsonFault::IntegerTooGreat => "an integer that 64 bits with a sign do not hold",
+            JsonFault::RealTooGreat => "a number beyond the greatest real",
+            JsonFault::EqualKeys => "a key that the object has already",
+            JsonFault::UnknownMark =>
+                "a key with one $, and neither {\"$bytes\":..} nor {\"$real\":..}",
+            JsonFault::WrongBytes =>
+                "bytes that are not an even number of hexadecimal digits in a string",
+            JsonFault::WrongReal => "a real that is not sixteen hexadecimal digits in a string",
+            JsonFault::MarkWithMembers => "a member beside $bytes or $real, which stand alone",
+            JsonFault::TooDeep => "more than 128 levels",
+        })
+    }
+}
+
+/// A place in a text, from line 1 and column 1 on. A column is a character.
+#[derive(Debug, Clone, Copy, PartialEq, Eq)]
+pub struct Place {
+    pub line: usize,
+    pub column: usize,
+}
+
+/// The place of the byte that so many stand before.
+pub fn place_of(text: &[u8], offset: usize) -> Place {
+    Place::START.after(&text[..offset.min(text.len())])
+}
+
+impl Place {
+    /// The first of a text.
+    pub(crate) const START: Place = Place { line: 1, column: 1 };
+
+    /// The place behind bytes that begin here.
+    pub(crate) fn after(self, bytes: &[u8]) -> Place {
+        match memrchr(b'\n', bytes) {
+            Some(last) => Place {
+                line: self.line.saturating_add(newlines(bytes)),
+                column: characters(&bytes[last + 1..]).saturating_add(1),
+            },
+            None => Place {
+                line: self.line,
+                column: self.column.saturating_add(characters(bytes)),
+            },
+        }
+    }
+
+    /// The place of a text that begins here, where in that text it is `inner`.
+    pub(crate) fn around(self, inner: Place) -> Place {
+        if inner.line > 1 {
+            return Place {
+                line: self.line.saturating_add(inner.line - 1),
+                column: inner.column,
+            };
+        }
+        Place {
+            line: self.line,
+            column: self.column.saturating_add(inner.column.saturating_sub(1)),
+        }
+    }
+}
+
+/// How many newlines the bytes have. Where they are few, this looks at few bytes one by one.
+fn newlines(bytes: &[u8]) -> usize {
+    let mut count: usize = 0;
+    for _newline in memchr_iter(b'\n', bytes) {
+        count = count.saturating_add(1);
+    }
+    count
+}
+
+/// How many characters the bytes have, or would have as UTF-8.
+fn characters(bytes: &[u8]) -> usize {
+    bytes.iter().filter(|byte| **byte & 0xc0 != 0x80).count()
+}
+
+impl fmt::Display for Place {
+    fn fmt<W: fmt::Write>(&self, f: &mut fmt::Formatter<W>) -> fmt::Result {
+        write!(f, "line {}, column {}", self.line, self.column)
+    }
+}
+
+/// How many bytes of blanks begin here.
+pub(crate) fn blanks(bytes: &[u8]) -> usize
+    ensures { result ≤ length bytes.now }
+{
+    for at in 0..bytes.len() {
+        if !is_blank(bytes[at]) {
+            return at;
+        }
+    }
+    bytes.len()
+}
+
+/// Whether JSON passes over the byte between tokens.
+pub(crate) fn is_blank(byte: u8) -> bool
+    ensures { result ≡ is_space byte }
+{
+    matches!(byte, b' ' | b'\t' | b'\n' | b'\r')
+}
+
+/// Why no token begins here.
+pub(crate) fn fault_of(rest: &[u8]) -> JsonFault
+    ensures { result ≡ first_fault rest.now }
+{
+    let Some((first, behind)) = rest.split_first() else {
+        return JsonFault::EndsEarly;
+    };
+    if rest.starts_with(b"NaN") || rest.starts_with(b"Infinity") || rest.starts_with(b"-Infinity") {
+        return JsonFault::NotANumber;
+    }
+    if *first == b'"' {
+        return string_fault(behind);
+    }
+    JsonFault::NotJson
+}
+
+/// Why a string is none, of which this stands behind its first quote.
+fn string_fault(rest: &[u8]) -> JsonFault
+    ensures { result ≡ string_fault false rest.now }
+{
+    let mut rest = rest;
+    let mut is_escaped = false;
+    'bytes: while let Some((byte, behind)) = rest.split_first() {
+        if is_escaped && begins_surrogate(rest) {
+            return JsonFault::LoneSurrogate;
+        }
+        if !is_escaped && *byte == b'"' {
+            return JsonFault::NotJson;
+        }
+        if !is_escaped && *byte < b' ' {
+            return JsonFault::ControlCharacter;
+        }
+        is_escaped = !is_escaped && *byte == b'\\';
+        rest = behind;
+    }
+    JsonFault::EndsEarly
+}
+
+/// Whether these bytes, behind a backslash, are a surrogate's.
+fn begins_surrogate(bytes: &[u8]) -> bool
+    ensures { result ≡ begins_surrogate bytes.now }
+{
+    match bytes {
+        [
+            b'u',
+            b'd' | b'D',
+            b'8' | b'9' | b'a'..=b'f' | b'A'..=b'F',
+            ..
+        ] => true,
+        _ => false,
+    }
+}
+
+/// Why there is no value.
+#[derive(Debug, Clone, Copy, PartialEq, Eq)]
+pub enum JsonError {
+    /// The text is not taken, for what begins at this place.
+    Text { fault: JsonFault, place: Place },
+    /// There is no memory.
+    OutOfMemory,
+}
+
+impl fmt::Display for JsonError {
+    fn fmt<W: fmt::Write>(&self, f: &mut fmt::Formatter<W>) -> fmt::Result {
+        match self {
+            JsonError::Text { fault, place } => write!(f, "{place}: {fault}"),
+            JsonError::OutOfMemory => f.write_str("out of memory"),
+        }
+    }
+}
+
+impl From<AllocError> for JsonError {
+    ghost use Rattle.bser_from_json.specs.declared.fault.JsonError.TheVariants.{OutOfMemory};
+    ghost use Rattle.std.specs.Prelude.{◌≡◌};
+
+    ghost from_gives = { λ _ e. e ≡ OutOfMemory };
+
+    fn from(_error: AllocError) -> Self {
+        JsonError::OutOfMemory
+    }
+}

@@ -1,0 +1,11 @@
+//! JSON texts, and the messages that are made of them.
+#![tactic(auto)]
+
+pub mod fault;
+mod incoming;
+pub mod meaning;
+mod places;
+pub mod reading;
+mod split;
+pub mod texts;
+mod tokens;

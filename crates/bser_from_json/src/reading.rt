@@ -1,0 +1,242 @@
+//! The value of a JSON text.
+ghost use Rattle.std.specs.Prelude.{◌≡◌, suc, [], List, length, ◌≤◌, IfOk, IfErr};
+ghost use Rattle.json.specs.Lex.{tokens};
+ghost use Rattle.json.specs.Reads.{token_of};
+ghost use Rattle.json.specs.Token.{begin_array};
+ghost use Rattle.bser_value.specs.ValueView.{tree_of};
+ghost use Rattle.bser_from_json.specs.Made.{
+  Around,
+  Outcome,
+  a_first_member,
+  a_string,
+  a_value,
+  made,
+  makes,
+  mark_in,
+  member_step,
+  put,
+  value_step,
+};
+ghost use Rattle.bser_from_json.specs.Errors.{IsErrorOf, Names};
+ghost use Rattle.bser_from_json.specs.Left.{ComesInside, ComesTo, IsRefused, due_to, step_to};
+
+use crate::fault::{JsonError, JsonFault, fault_of, place_of};
+use crate::meaning::{Mark, new_name, number_of, string_of};
+use crate::places::token_place;
+use crate::tokens::{TokenError, Tokens};
+use bser_deserializer::deserializer::LEVELS;
+use bser_value::value::Value;
+use json::{Reader, Scratch, Token};
+use std::alloc::Global;
+use std::collections::BTreeMap;
+
+/// Under which tag strings are written.
+#[derive(Debug, Clone, Copy, PartialEq, Eq)]
+pub enum Strings {
+    /// As texts.
+    Texts,
+    /// As byte strings.
+    Bytes,
+}
+
+/// Reads the value of `text`, which begins at byte `start` of `whole`. An error's place is in
+/// `whole`.
+///
+/// It takes the forms that JSON texts have here for what JSON cannot say. Else it is an error where
+/// the text is no JSON, an integer needs more than 64 bits, an object has equal keys, or a key
+/// begins with one `$`.
+pub fn value_of<'t>(
+    alloc: Global,
+    strings: Strings,
+    whole: &'t str,
+    text: &'t str,
+    start: usize,
+) -> Result<Value, JsonError>
+    ensures made { IfOk result (λ v. made strings (tokens text.now) ≡ makes (tree_of v)) }
+    ensures refused { IfErr result
+        (IsErrorOf text.now (made strings (tokens text.now))) }
+{
+    let mut scratch = Scratch::new(alloc);
+    let reader = Reader::new(text, &mut scratch)?;
+    let mut tokens = Tokens::new(reader);
+    let reading = Reading { alloc, strings };
+    match reading.whole(&mut tokens) {
+        Ok(value) => Ok(value),
+        Err(refusal) => Err(error_of(refusal, whole, text, start)),
+    }
+}
+
+/// The error of a refusal in a text that begins at byte `start` of `whole`.
+fn error_of(refusal: TokenError, whole: &str, text: &str, start: usize) -> JsonError
+    ensures { (o : Outcome) → IsRefused o refusal → IsErrorOf text.now o result }
+{
+    let bytes = text.as_bytes();
+    match refusal {
+        TokenError::OutOfMemory => JsonError::OutOfMemory,
+        TokenError::At(fault, number) => {
+            let offset = token_place(bytes, number.saturating_sub(1));
+            error_at(fault, whole, start.saturating_add(offset))
+        }
+        TokenError::Lacks(count) => {
+            let offset = token_place(bytes, count);
+            error_at(
+                fault_of(&bytes[offset..]),
+                whole,
+                start.saturating_add(offset),
+            )
+        }
+    }
+}
+
+/// A fault at the byte of the whole that so many stand before.
+fn error_at(fault: JsonFault, whole: &str, offset: usize) -> JsonError
+    ensures { Names fault result }
+{
+    let place = place_of(whole.as_bytes(), offset);
+    JsonError::Text { fault, place }
+}
+
+/// How a text is read.
+#[derive(Clone, Copy)]
+struct Reading {
+    alloc: Global,
+    strings: Strings,
+}
+
+impl Reading {
+    /// The one value of a text.
+    fn whole(&self, tokens: &mut Tokens<'_>) -> Result<Value, TokenError>
+        ensures { ComesTo (due_to self.now.strings tokens.old (a_value [])) makes result }
+    {
+        let first = tokens.next()?;
+        let value = self.value(tokens, first, LEVELS)?;
+        tokens.end()?;
+        Ok(value)
+    }
+
+    /// The value that begins with the token that was taken last, and may nest so many levels.
+    #[cycle(value)]
+    fn value(
+        &self,
+        tokens: &mut Tokens<'_>,
+        first: Token<'_>,
+        levels: usize,
+    ) -> Result<Value, TokenError>
+        ensures comes { ComesInside self.now.strings levels
+            (λ os. step_to self.now.strings tokens.old
+            (value_step self.now.strings os (token_of first.entry))) tokens.new result }
+        ensures fewer { length tokens.new.reader ≤ length tokens.old.reader }
+    {
+        match first {
+            Token::Null => Ok(Value::Null),
+            Token::Bool(truth) => Ok(Value::Bool(truth)),
+            Token::String(text) => Ok(string_of(self.alloc, self.strings, text)?),
+            Token::Number(text) => match number_of(text) {
+                Ok(number) => Ok(number),
+                Err(fault) => Err(tokens.refuse(fault)),
+            },
+            Token::BeginArray => self.array(tokens, levels),
+            Token::BeginObject => self.object(tokens, levels),
+            Token::Key(_) | Token::EndArray | Token::EndObject | Token::Bad => {
+                Err(tokens.refuse(JsonFault::NotJson))
+            }
+        }
+    }
+
+    /// An array, whose bracket was taken last.
+    #[cycle(value)]
+    fn array(&self, tokens: &mut Tokens<'_>, levels: usize) -> Result<Value, TokenError>
+        ensures comes { ComesInside self.now.strings levels
+            (λ os. step_to self.now.strings tokens.old
+            (value_step self.now.strings os begin_array)) tokens.new result }
+        ensures fewer { length tokens.new.reader ≤ length tokens.old.reader }
+    {
+        if levels == 0 {
+            return Err(tokens.refuse(JsonFault::TooDeep));
+        }
+        let mut items = Vec::new(self.alloc);
+        loop {
+            let token = tokens.next()?;
+            if let Token::EndArray = token {
+                return Ok(Value::Array(items));
+            }
+            items.push(self.value(tokens, token, levels - 1)?)?;
+        }
+    }
+
+    /// An object or what is marked, whose bracket was taken last.
+    #[cycle(value)]
+    fn object(&self, tokens: &mut Tokens<'_>, levels: usize) -> Result<Value, TokenError>
+        ensures comes { ComesInside self.now.strings levels
+            (λ os. due_to self.now.strings tokens.old (a_first_member os)) tokens.new result }
+        ensures fewer { length tokens.new.reader ≤ length tokens.old.reader }
+    {
+        let begun = tokens.taken();
+        let first = tokens.next()?;
+        if let Some(mark) = mark_in(first) {
+            return self.marked(tokens, mark);
+        }
+        if levels == 0 {
+            return Err(TokenError::At(JsonFault::TooDeep, begun));
+        }
+        self.members(tokens, first, levels - 1)
+    }
+
+    /// An object with the members that begin with the token that was taken last.
+    #[cycle(value)]
+    fn members(
+        &self,
+        tokens: &mut Tokens<'_>,
+        first: Token<'_>,
+        levels: usize,
+    ) -> Result<Value, TokenError>
+        ensures comes { ComesInside self.now.strings (suc levels)
+            (λ os. step_to self.now.strings tokens.old (member_step [] os (token_of first.entry)))
+            tokens.new result }
+        ensures fewer { length tokens.new.reader ≤ length tokens.old.reader }
+    {
+        let mut entries = BTreeMap::new(self.alloc);
+        let mut next = first;
+        loop {
+            let key = match next {
+                Token::EndObject => return Ok(Value::Object(entries)),
+                Token::Key(key) => key,
+                _ => return Err(tokens.refuse(JsonFault::NotJson)),
+            };
+            let name = match new_name(key, &entries) {
+                Ok(name) => String::from_str(self.alloc, name)?,
+                Err(fault) => return Err(tokens.refuse(fault)),
+            };
+            let token = tokens.next()?;
+            let value = self.value(tokens, token, levels)?;
+            entries.insert(name, value)?;
+            next = tokens.next()?;
+        }
+    }
+
+    /// What is marked, behind its key.
+    fn marked(&self, tokens: &mut Tokens<'_>, mark: Mark) -> Result<Value, TokenError>
+        ensures comes { (os : List Around) → ComesTo (due_to self.now.strings tokens.old (a_string mark os))
+            (λ u. due_to self.now.strings tokens.new (put u os)) result }
+        ensures fewer { length tokens.new.reader ≤ length tokens.old.reader }
+    {
+        let token = tokens.next()?;
+        let Some(value) = mark.value(self.alloc, token)? else {
+            return Err(tokens.refuse(mark.fault()));
+        };
+        match tokens.next()? {
+            Token::EndObject => Ok(value),
+            _ => Err(tokens.refuse(JsonFault::MarkWithMembers)),
+        }
+    }
+}
+
+/// What the token marks, if it is the key of a mark.
+fn mark_in(token: Token<'_>) -> Option<Mark>
+    ensures { result ≡ mark_in (token_of token.entry) }
+{
+    match token {
+        Token::Key(key) => Mark::of(key),
+        _ => None,
+    }
+}
