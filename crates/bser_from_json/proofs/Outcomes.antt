@@ -1,15 +1,14 @@
 -- What is made of the tokens of a text, one after the other.
-use Rattle.std.proofs.Common.{◌≡◌, ℕ, suc, ◌+◌, ◌-◌, ◌<◌, ◌≤◌, List, [], ◌∷◌, ◌++◌, length, Bool, true, false, Option, Some, None, Result, Ok, Err, refl, sym, ap, subst, ◌∙◌, arith, lt-ltb, ltb-true, if◌then◌else◌}
+use Rattle.std.proofs.Common.{◌≡◌, ℕ, suc, ◌+◌, ◌-◌, List, [], ◌∷◌, length, Bool, true, false, Some, None, Result, Ok, Err, refl, sym, ap, subst, ◌∙◌, arith, lt-ltb, ltb-true, if◌then◌else◌}
 use Rattle.json.specs.Token as tokens
 use Rattle.json.specs.Reads.{token_of}
 use Rattle.json.specs.declared.token.Token.{Token}
 use Rattle.json.specs.declared.token.Token.TheVariants as kinds
 use Rattle.std.specs.Borrow.{Bor}
 use Rattle.bser_format.specs.Tree.{Tree, array, object, items_of, entries_of}
-use Rattle.bser_value.specs.ValueView.{tree_of}
 use Rattle.bser_value.specs.declared.value.Value.{Value}
-use Rattle.bser_from_json.specs.Left.{ComesInside, ComesTo, IsRefused, LacksToken, Takes, due_to, step_to}
-use Rattle.bser_from_json.specs.Made.{Around, in_array, in_object, Due, Step, goes_on, stops, stops_before, Outcome, makes, refuses, lacks, made, a_value, a_first_member, a_string, end_step, mark_in, member_step, name_of, named_step, new_name, unless_mark, an_end, an_item, end_due, mark_fault, marked_made, at_end, follow, has_level, is_bad, item_step, most_levels, nothing, put, run, step, value_step}
+use Rattle.bser_from_json.specs.Left.{ComesTo, IsRefused, LacksToken, Takes, due_to, step_to}
+use Rattle.bser_from_json.specs.Made.{Around, in_array, in_object, Due, goes_on, stops, stops_before, Outcome, makes, refuses, lacks, made, a_value, a_first_member, a_string, end_step, mark_in, member_step, name_of, named_step, new_name, unless_mark, an_end, an_item, end_due, mark_fault, marked_made, at_end, follow, has_level, is_bad, item_step, most_levels, nothing, put, run, step, value_step}
 use Rattle.bser_from_json.specs.declared.fault.JsonFault.{JsonFault}
 use Rattle.bser_from_json.specs.declared.fault.JsonFault.TheVariants as faults
 use Rattle.bser_from_json.specs.declared.meaning.Mark.{Mark}

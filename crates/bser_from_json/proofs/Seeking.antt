@@ -1,5 +1,5 @@
 -- Where a token begins, from a byte on.
-use Rattle.std.proofs.Common.{◌≡◌, ℕ, ◌+◌, ◌<◌, ◌≤◌, List, [], ◌∷◌, length, drop, get_or, add-one, Some, None, refl, sym}
+use Rattle.std.proofs.Common.{◌≡◌, ℕ, ◌+◌, ◌<◌, List, [], ◌∷◌, length, drop, get_or, add-one, Some, None, refl, sym}
 use Rattle.std.proofs.Math.Seq.{drop-cons}
 use Rattle.bser_from_json.specs.Places.{past, place_from}
 use Rattle.bser_from_json.specs.declared.places.Seek.{Seek}

@@ -1,23 +1,27 @@
--- The error of a text.
-use Rattle.std.specs.Prelude.{◌≡◌, ℕ, ◌-◌, List, drop, Option, Some, None, ⊤}
+-- The error of a text, and its place.
+use Rattle.std.specs.Prelude.{◌≡◌, ℕ, ◌+◌, ◌-◌, List, drop, Option, Some, None, ⊤}
+use Rattle.bser_from_json.specs.Lines.{place_in}
 use Rattle.bser_from_json.specs.Made.{Outcome, makes, refuses, lacks}
 use Rattle.bser_from_json.specs.Places.{first_fault, token_place}
 use Rattle.bser_from_json.specs.declared.fault.JsonFault.{JsonFault}
 use Rattle.bser_from_json.specs.declared.fault.JsonError.{JsonError}
 use Rattle.bser_from_json.specs.declared.fault.JsonError.TheVariants as errors
+use Rattle.bser_from_json.specs.declared.fault.Place.{Place}
 
--- the fault that an outcome is in its text. Where a token lacks, the bytes there say why
-abbrev pub fault_in : List ℕ → Outcome → Option JsonFault
+-- the fault that an outcome is in its text, and how many bytes stand before it. Where a token lacks, the
+-- bytes there say why
+abbrev pub fault_in : List ℕ → Outcome → Option (JsonFault × ℕ)
 fault_in text (makes u) = None
-fault_in text (refuses f n) = Some f
-fault_in text (lacks n) = Some (first_fault (drop (token_place text n) text))
+fault_in text (refuses f n) = Some (f, token_place text (n - 1))
+fault_in text (lacks n) = Some (first_fault (drop (token_place text n) text), token_place text n)
 
--- the error has this fault
-abbrev pub Names : JsonFault → JsonError → Type 0
-Names f (errors.Text g p) = g ≡ f
-Names f errors.OutOfMemory = ⊥
+-- the error is this fault at this place
+abbrev pub IsAt : JsonFault → Place → JsonError → Type 0
+IsAt f p (errors.Text g q) = (g ≡ f) × (q ≡ p)
+IsAt f p errors.OutOfMemory = ⊥
 
--- the error has the fault of the outcome. There may always be no memory
-abbrev pub IsErrorOf : List ℕ → Outcome → JsonError → Type 0
-IsErrorOf text o (errors.Text f p) = fault_in text o ≡ Some f
-IsErrorOf text o errors.OutOfMemory = ⊤
+-- the error is the outcome's fault, at its line and column where the text begins behind `start` bytes of the
+-- whole. There may always be no memory
+abbrev pub IsErrorOf : List ℕ → List ℕ → ℕ → Outcome → JsonError → Type 0
+IsErrorOf whole text start o (errors.Text f p) = (n : ℕ) × (fault_in text o ≡ Some (f, n)) × (p ≡ place_in whole (start + n))
+IsErrorOf whole text start o errors.OutOfMemory = ⊤

@@ -10,7 +10,7 @@ use Rattle.bser_from_json.specs.declared.reading.Strings.{Strings}
 use Rattle.bser_from_json.specs.declared.tokens.TokenError.{TokenError}
 use Rattle.bser_from_json.specs.declared.tokens.TokenError.TheVariants as refusals
 use Rattle.bser_from_json.specs.declared.tokens.Tokens.{Tokens}
-use Rattle.bser_from_json.specs.Made.{Around, Due, Step, Outcome, makes, refuses, lacks, follow, is_bad, most_levels, nothing, put, run}
+use Rattle.bser_from_json.specs.Made.{Around, Due, Step, Outcome, refuses, lacks, follow, is_bad, most_levels, nothing, put, run}
 
 -- what is due comes to this with the tokens that are left
 abbrev pub due_to : Strings → Tokens → Due → Outcome

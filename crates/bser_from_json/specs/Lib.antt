@@ -1,5 +1,6 @@
 pub mod Errors
 pub mod Left
+pub mod Lines
 pub mod Made
 pub mod Places
 pub mod Scalars

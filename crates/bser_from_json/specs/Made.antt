@@ -1,5 +1,5 @@
 -- What is made of a JSON text, token by token.
-use Rattle.std.specs.Prelude.{ℕ, ℤ, pos, negsuc, suc, ◌+◌, ◌-◌, ◌^◌, List, [], ◌∷◌, ◌++◌, length, drop, Bool, true, false, not, ◌&&◌, ◌||◌, ◌==◌, nat_lt, Option, Some, None, Result, Ok, Err, Float, codes, is_some, to_bits, slice_index, if◌then◌else◌}
+use Rattle.std.specs.Prelude.{ℕ, ℤ, pos, negsuc, suc, ◌-◌, ◌^◌, List, [], ◌∷◌, ◌++◌, length, drop, Bool, true, false, not, ◌&&◌, ◌||◌, ◌==◌, nat_lt, Option, Some, None, Result, Ok, Err, Float, codes, is_some, to_bits, slice_index, if◌then◌else◌}
 use Rattle.std.specs.BTreeMap.{insert_entry}
 use Rattle.std.specs.Char.{digit_value}
 use Rattle.std.specs.Cmp.Lexicographic.{slice_cmp}

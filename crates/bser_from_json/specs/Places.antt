@@ -1,5 +1,5 @@
 -- Where the tokens of a text begin, and why none does.
-use Rattle.std.specs.Prelude.{ℕ, ◌+◌, ◌-◌, List, [], ◌∷◌, drop, length, Bool, true, false, Option, Some, None, not, ◌&&◌, ◌||◌, ◌==◌, nat_lt, nat_le, nat_eq, codes, if◌then◌else◌}
+use Rattle.std.specs.Prelude.{ℕ, ◌+◌, ◌-◌, List, [], ◌∷◌, Bool, false, Option, Some, None, not, ◌&&◌, ◌||◌, ◌==◌, nat_lt, nat_le, nat_eq, codes, if◌then◌else◌}
 use Rattle.std.specs.List.{starts_with}
 use Rattle.json.specs.Word.{is_operator, is_space}
 use Rattle.bser_from_json.specs.declared.fault.JsonFault.{JsonFault}

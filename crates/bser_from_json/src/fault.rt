@@ -1,9 +1,10 @@
 //! What is wrong with a JSON text, and where.
-ghost use Rattle.std.specs.Prelude.{◌≡◌, ◌≤◌, length, false};
+ghost use Rattle.std.specs.Prelude.{◌≡◌, ◌≤◌, count_by, length, false};
 ghost use Rattle.json.specs.Word.{is_space};
+ghost use Rattle.bser_from_json.specs.Lines.{behind_bytes, begins_character, place_in};
 ghost use Rattle.bser_from_json.specs.Places.{begins_surrogate, first_fault, string_fault};
 
-use memchr::{memchr_iter, memrchr};
+use memchr::memchr;
 use std::alloc::AllocError;
 use std::fmt;
 
@@ -57,7 +58,9 @@ pub struct Place {
 }
 
 /// The place of the byte that so many stand before.
-pub fn place_of(text: &[u8], offset: usize) -> Place {
+pub fn place_of(text: &[u8], offset: usize) -> Place
+    ensures { result ≡ place_in text.now offset }
+{
     Place::START.after(&text[..offset.min(text.len())])
 }
 
@@ -66,16 +69,22 @@ impl Place {
     pub(crate) const START: Place = Place { line: 1, column: 1 };
 
     /// The place behind bytes that begin here.
-    pub(crate) fn after(self, bytes: &[u8]) -> Place {
-        match memrchr(b'\n', bytes) {
-            Some(last) => Place {
-                line: self.line.saturating_add(newlines(bytes)),
-                column: characters(&bytes[last + 1..]).saturating_add(1),
-            },
-            None => Place {
-                line: self.line,
-                column: self.column.saturating_add(characters(bytes)),
-            },
+    pub(crate) fn after(self, bytes: &[u8]) -> Place
+        ensures { result ≡ behind_bytes self bytes.now }
+    {
+        let mut place = self;
+        let mut rest = bytes;
+        while let Some(end) = memchr(b'\n', rest) {
+            place = Place {
+                line: place.line.saturating_add(1),
+                column: 1,
+            };
+            let (_line, behind) = rest.split_at(end);
+            rest = &behind[1..];
+        }
+        Place {
+            line: place.line,
+            column: place.column.saturating_add(characters(rest)),
         }
     }
 
@@ -94,18 +103,17 @@ impl Place {
     }
 }
 
-/// How many newlines the bytes have. Where they are few, this looks at few bytes one by one.
-fn newlines(bytes: &[u8]) -> usize {
-    let mut count: usize = 0;
-    for _newline in memchr_iter(b'\n', bytes) {
-        count = count.saturating_add(1);
+/// How many characters the bytes have, or would have as UTF-8.
+fn characters(bytes: &[u8]) -> usize
+    ensures { result ≡ count_by begins_character bytes.now }
+{
+    let mut count = 0;
+    for byte in bytes {
+        if !matches!(*byte, 0x80..=0xbf) {
+            count += 1;
+        }
     }
     count
-}
-
-/// How many characters the bytes have, or would have as UTF-8.
-fn characters(bytes: &[u8]) -> usize {
-    bytes.iter().filter(|byte| **byte & 0xc0 != 0x80).count()
 }
 
 impl fmt::Display for Place {

@@ -1,5 +1,5 @@
 //! The value of a JSON text.
-ghost use Rattle.std.specs.Prelude.{◌≡◌, suc, [], List, length, ◌≤◌, IfOk, IfErr};
+ghost use Rattle.std.specs.Prelude.{◌≡◌, ◌+◌, suc, [], List, length, ◌≤◌, IfOk, IfErr};
 ghost use Rattle.json.specs.Lex.{tokens};
 ghost use Rattle.json.specs.Reads.{token_of};
 ghost use Rattle.json.specs.Token.{begin_array};
@@ -17,8 +17,9 @@ ghost use Rattle.bser_from_json.specs.Made.{
   put,
   value_step,
 };
-ghost use Rattle.bser_from_json.specs.Errors.{IsErrorOf, Names};
+ghost use Rattle.bser_from_json.specs.Errors.{IsAt, IsErrorOf};
 ghost use Rattle.bser_from_json.specs.Left.{ComesInside, ComesTo, IsRefused, due_to, step_to};
+ghost use Rattle.bser_from_json.specs.Lines.{place_in};
 
 use crate::fault::{JsonError, JsonFault, fault_of, place_of};
 use crate::meaning::{Mark, new_name, number_of, string_of};
@@ -54,7 +55,7 @@ pub fn value_of<'t>(
 ) -> Result<Value, JsonError>
     ensures made { IfOk result (λ v. made strings (tokens text.now) ≡ makes (tree_of v)) }
     ensures refused { IfErr result
-        (IsErrorOf text.now (made strings (tokens text.now))) }
+        (IsErrorOf whole.now text.now start (made strings (tokens text.now))) }
 {
     let mut scratch = Scratch::new(alloc);
     let reader = Reader::new(text, &mut scratch)?;
@@ -68,31 +69,27 @@ pub fn value_of<'t>(
 
 /// The error of a refusal in a text that begins at byte `start` of `whole`.
 fn error_of(refusal: TokenError, whole: &str, text: &str, start: usize) -> JsonError
-    ensures { (o : Outcome) → IsRefused o refusal → IsErrorOf text.now o result }
+    ensures { (o : Outcome) → IsRefused o refusal → IsErrorOf whole.now text.now start o result }
 {
     let bytes = text.as_bytes();
     match refusal {
         TokenError::OutOfMemory => JsonError::OutOfMemory,
         TokenError::At(fault, number) => {
             let offset = token_place(bytes, number.saturating_sub(1));
-            error_at(fault, whole, start.saturating_add(offset))
+            error_at(fault, whole, start, offset)
         }
         TokenError::Lacks(count) => {
             let offset = token_place(bytes, count);
-            error_at(
-                fault_of(&bytes[offset..]),
-                whole,
-                start.saturating_add(offset),
-            )
+            error_at(fault_of(&bytes[offset..]), whole, start, offset)
         }
     }
 }
 
-/// A fault at the byte of the whole that so many stand before.
-fn error_at(fault: JsonFault, whole: &str, offset: usize) -> JsonError
-    ensures { Names fault result }
+/// A fault behind so many bytes of a text that begins at byte `start` of `whole`.
+fn error_at(fault: JsonFault, whole: &str, start: usize, offset: usize) -> JsonError
+    ensures { IsAt fault (place_in whole.now (start + offset)) result }
 {
-    let place = place_of(whole.as_bytes(), offset);
+    let place = place_of(whole.as_bytes(), start.saturating_add(offset));
     JsonError::Text { fault, place }
 }
 

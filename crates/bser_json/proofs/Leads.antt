@@ -1,8 +1,8 @@
 -- From what is due to what is due behind some tokens.
-use Rattle.std.proofs.Common.{◌≡◌, ℕ, suc, ◌+◌, List, [], ◌∷◌, ◌++◌, Bool, true, false, Option, Some, None, refl, sym, ap, subst, ◌∙◌, append_assoc, append-nil, true≢false}
+use Rattle.std.proofs.Common.{◌≡◌, ℕ, suc, List, [], ◌∷◌, ◌++◌, Bool, true, false, None, refl, sym, ap, subst, ◌∙◌, append_assoc, append-nil, true≢false}
 use Rattle.json.specs.Token as tokens
 use Rattle.bser_format.specs.Tree.{Tree}
-use Rattle.bser_from_json.specs.Made.{Around, in_array, in_object, Due, a_value, an_item, a_first_member, a_member, a_string, an_end, nothing, Step, goes_on, stops, stops_before, put, has_level, mark_in, follow, is_bad, run, step, made, makes}
+use Rattle.bser_from_json.specs.Made.{Around, in_array, Due, a_value, an_item, a_first_member, a_member, nothing, goes_on, has_level, mark_in, is_bad, run, step, made, makes}
 use Rattle.bser_from_json.specs.declared.reading.Strings.{Strings}
 
 -- these tokens lead from what is due to what is due behind them

@@ -1,6 +1,5 @@
 pub mod Scalars
-pub mod Spilling
-pub mod Indenting
+pub mod LaidOut
 pub mod Saying
 pub mod Parts
 pub mod RowsSaid

@@ -1,17 +1,18 @@
 -- A printed text has the tokens that were printed.
-use Rattle.std.proofs.Common.{◌≡◌, ℕ, zero, suc, ◌+◌, ◌-◌, ◌*◌, List, [], ◌∷◌, ◌++◌, map, replicate, Bool, true, false, Option, Some, None, Float, codes, refl, sym, ap, subst, ◌∙◌, arith, append_assoc, inl, inr, if◌then◌else◌}
+use Rattle.std.proofs.Common.{◌≡◌, ℕ, zero, suc, ◌*◌, List, [], ◌∷◌, ◌++◌, map, replicate, Bool, true, false, Option, Some, None, Float, codes, refl, sym, ap, subst, ◌∙◌, append_assoc, inl, inr}
 use Rattle.std.specs.Float.{float_is_finite}
 use Rattle.std.specs.Str.{is_utf8}
-use Rattle.json.specs.Layout.{Last, nothing, bracket, name, value, gap, is_value, line, depth_at, piece, pretty, pretty_from, step}
+use Rattle.json.specs.Layout.{Last, nothing, bracket, name, value, gap, is_value, depth_at, pretty, pretty_from, step}
 use Rattle.json.specs.Lex.{tokens}
-use Rattle.json.specs.Print.{ArePrintable, IsPrintable, begins, ends, print, separator, token_text}
+use Rattle.json.specs.Print.{ArePrintable, IsPrintable, begins, separator, token_text}
 use Rattle.json.specs.Spaced.{AreGaps, IsGap, print_spaced}
 use Rattle.json.specs.Token as token
 use Rattle.json.proofs.Printed.Decimals.{IsNumber-signed_decimal}
-use Rattle.json.proofs.Printed.Tokens.{tokens-print, tokens-print_spaced}
+use Rattle.json.proofs.Printed.Tokens.{tokens-print_spaced}
 use Rattle.bser_format.specs.Tree.{Tree, null, boolean, integer, real, bytes, text, array, object, template, Items, no_items, item, Entries, no_entries, entry}
 use Rattle.bser_format.specs.RealText.{float_of}
 use Rattle.bser_format.specs.ValueTree.{IsValueTree, ItemsAreValueTrees, EntriesAreValueTrees}
+use Rattle.bser_json.proofs.LaidOut.{ends_then}
 use Rattle.bser_json.specs.Said.{Says, SaysItems, SaysEntries, SaysMarked, SaysString, SaysNumber, SaysFloat}
 
 -- ---- on several lines
@@ -39,18 +40,6 @@ is_gap value b n = (inr refl, spaces (2 * n))
 are_gaps : (s : Last × ℕ) (ts : List token.Token) → AreGaps (spaced s ts)
 are_gaps s [] = tt
 are_gaps s (t ∷ ts) = (is_gap s.0 (begins t) (depth_at s.1 t), are_gaps (step s t) ts)
-
-ends_then : (s : Last × ℕ) (t : token.Token) → is_value (step s t).0 ≡ ends t
-ends_then s token.begin_object = refl
-ends_then s token.end_object = refl
-ends_then s token.begin_array = refl
-ends_then s token.end_array = refl
-ends_then s (token.key k) = refl
-ends_then s (token.string k) = refl
-ends_then s (token.number k) = refl
-ends_then s (token.boolean b) = refl
-ends_then s token.null = refl
-ends_then s token.bad = refl
 
 laid : (s : Last × ℕ) (ts : List token.Token) → pretty_from s ts ≡ print_spaced (is_value s.0) (spaced s ts)
 unfolding pretty_from print_spaced

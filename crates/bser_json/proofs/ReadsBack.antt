@@ -1,5 +1,5 @@
 -- What is printed of a value makes it again.
-use Rattle.std.proofs.Common.{◌≡◌, ℕ, suc, ◌+◌, ◌<◌, ◌≤◌, max, List, [], ◌∷◌, ◌++◌, length, Bool, true, false, not, Option, Some, None, Ok, Float, codes, refl, sym, ap, subst, ◌∙◌, arith, append_assoc, append-nil, lt-ltb, if◌then◌else◌, ◌^◌}
+use Rattle.std.proofs.Common.{◌≡◌, ℕ, suc, ◌+◌, ◌<◌, ◌≤◌, max, List, [], ◌∷◌, ◌++◌, length, Bool, true, false, Option, Some, None, Float, codes, refl, sym, ap, subst, ◌∙◌, arith, append_assoc, append-nil, lt-ltb, if◌then◌else◌, ◌^◌}
 use Rattle.std.specs.Float.{float_is_finite}
 use Rattle.std.specs.Fmt.{signed_decimal}
 use Rattle.std.specs.Int.{w64, to_be_bytes}

@@ -12,38 +12,18 @@ use Rattle.bser_document.specs.Holds.{HoldsItem}
 use Rattle.bser_document.specs.Pairs.{HoldsEntries, FindsEntries}
 use Rattle.bser_document.specs.Sorted.{Lists}
 use Rattle.bser_document.specs.Walks.{HoldsItems, FindsItems, GivesItem}
-use Rattle.bser_json.specs.Indented.{PrintsLines}
-use Rattle.bser_json.specs.Pending.{PrintsLine}
-use Rattle.bser_json.specs.Printed.{Prints, PrintsText, Puts}
+use Rattle.bser_json.specs.Printed.{Prints, Puts}
 use Rattle.bser_json.specs.Said.{Says, SaysItems, SaysEntries, SaysKey, PutsSaid, said_key}
-use Rattle.bser_json.specs.declared.printing.Layout.TheVariants as layouts
-use Rattle.bser_json.specs.declared.indented.Indented.{Indented}
-use Rattle.bser_json.specs.declared.pending.Pending.{Pending}
 use Rattle.bser_json.specs.declared.printing.Printing.{Printing}
-use Rattle.bser_json.specs.declared.printing.Text.TheVariants as texts
 
 -- ---- tokens
 
-line_puts : {W : Type 0} (contents : W → Option (List ℕ)) (x y : Printing W) (p q : Pending) (t : tokens.Token) → x.text ≡ texts.Line p → y.text ≡ texts.Line q → ((start : Option (List ℕ)) (ts : List tokens.Token) → PrintsLine start (contents x.out) ts p → PrintsLine start (contents y.out) (ts ++ t ∷ []) q) → Puts contents (t ∷ []) x y
-line_puts contents x y p q t old new put start layouts.Line ts h =
-    subst (PrintsText start (contents y.out) layouts.Line (ts ++ t ∷ [])) (sym new) (put start ts (subst (PrintsText start (contents x.out) layouts.Line ts) old h))
-line_puts contents x y p q t old new put start layouts.Pretty ts h = absurd (subst (PrintsText start (contents x.out) layouts.Pretty ts) old h)
-
-pub put_line : {W E : Type 0} (contents : W → Option (List ℕ)) (r : Result (Unit {0}) E) (x y : Printing W) (p q : Pending) (t : tokens.Token) → x.text ≡ texts.Line p → y.text ≡ texts.Line q → ((start : Option (List ℕ)) (ts : List tokens.Token) → PrintsLine start (contents x.out) ts p → OnOk r (PrintsLine start (contents y.out) (ts ++ t ∷ []) q)) → OnOk r (Puts contents (t ∷ []) x y)
-put_line contents (Ok v) x y p q t old new put = line_puts contents x y p q t old new put
-put_line contents (Err e) x y p q t old new put = tt
-
-lines_puts : {W : Type 0} (contents : W → Option (List ℕ)) (x y : Printing W) (p q : Indented) (t : tokens.Token) → x.text ≡ texts.Pretty p → y.text ≡ texts.Pretty q → ((start : Option (List ℕ)) (ts : List tokens.Token) → PrintsLines start (contents x.out) ts p → PrintsLines start (contents y.out) (ts ++ t ∷ []) q) → Puts contents (t ∷ []) x y
-lines_puts contents x y p q t old new put start layouts.Line ts h = absurd (subst (PrintsText start (contents x.out) layouts.Line ts) old h)
-lines_puts contents x y p q t old new put start layouts.Pretty ts h =
-    subst (PrintsText start (contents y.out) layouts.Pretty (ts ++ t ∷ [])) (sym new) (put start ts (subst (PrintsText start (contents x.out) layouts.Pretty ts) old h))
-
-pub put_lines : {W E : Type 0} (contents : W → Option (List ℕ)) (r : Result (Unit {0}) E) (x y : Printing W) (p q : Indented) (t : tokens.Token) → x.text ≡ texts.Pretty p → y.text ≡ texts.Pretty q → ((start : Option (List ℕ)) (ts : List tokens.Token) → PrintsLines start (contents x.out) ts p → OnOk r (PrintsLines start (contents y.out) (ts ++ t ∷ []) q)) → OnOk r (Puts contents (t ∷ []) x y)
-put_lines contents (Ok v) x y p q t old new put = lines_puts contents x y p q t old new put
-put_lines contents (Err e) x y p q t old new put = tt
-
 pub puts_then : {W : Type 0} (contents : W → Option (List ℕ)) (a b : List tokens.Token) (x y z : Printing W) → Puts contents a x y → Puts contents b y z → Puts contents (a ++ b) x z
 puts_then contents a b x y z p q start layout ts h = subst (λ l. Prints contents start layout l z) (append_assoc ts a b) (q start layout (ts ++ a) (p start layout ts h))
+
+pub puts_last : {W E : Type 0} (contents : W → Option (List ℕ)) (r : Result (Unit {0}) E) (a b : List tokens.Token) (x y z : Printing W) → Puts contents a x y → OnOk r (Puts contents b y z) → OnOk r (Puts contents (a ++ b) x z)
+puts_last contents (Ok v) a b x y z p q = puts_then contents a b x y z p q
+puts_last contents (Err e) a b x y z p q = tt
 
 -- ---- what a call says where it succeeds
 

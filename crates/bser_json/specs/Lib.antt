@@ -1,5 +1,3 @@
-pub mod Indented
-pub mod Pending
 pub mod Printed
 pub mod Retagged
 pub mod Said

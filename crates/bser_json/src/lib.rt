@@ -1,9 +1,8 @@
 //! The JSON text that is printed of a message.
 #![tactic(auto)]
 
-mod indented;
 pub mod laws;
-mod pending;
 mod pieces;
 pub mod printing;
+mod text;
 pub mod writing;

@@ -48,7 +48,7 @@ impl<W: Write> Printing<W> {
         let mut rest = text;
         while !rest.is_empty() {
             let (piece, behind) = rest.split_at(piece_end(rest));
-            self.put_part(alloc, piece)?;
+            self.put_part(piece)?;
             rest = behind;
         }
         self.end_string()
@@ -66,7 +66,7 @@ impl<W: Write> Printing<W> {
         while !rest.is_empty() {
             let (piece, behind) = rest.split_at(rest.len().min(PIECE));
             let digits = hex::encode(alloc, piece)?;
-            self.put_part(alloc, digits.as_str())?;
+            self.put_part(digits.as_str())?;
             rest = behind;
         }
         self.end_string()

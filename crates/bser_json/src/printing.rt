@@ -1,19 +1,22 @@
 //! A JSON text that is written token by token, on one line or on several.
 ghost use Rattle.std.specs.Prelude.{◌≡◌, [], ◌∷◌, ◌++◌, List, Option, ℕ, IfOk, OnOk};
 ghost use Rattle.std.specs.Io.KnownBytes.{Appends};
-ghost use Rattle.json.specs.Print.{IsPrintable};
+ghost use Rattle.json.specs.Layout.{after};
+ghost use Rattle.json.specs.Print.{IsPrintable, begins};
 ghost use Rattle.json.specs.Reads.{token_of};
 ghost use Rattle.json.specs.Token as tokens;
-ghost use Rattle.bser_json.specs.Printed.{Prints, Puts, laid_out};
+ghost use Rattle.bser_json.specs.Printed.{Prints, Puts, WritesKept, laid_out, last_of};
 ghost use Rattle.bser_json.specs.Strings.{AddsPart, BeginsString, EndsString};
 ghost use Rattle.bser_json.specs.declared.printing.Layout as layouts;
 
-use crate::indented::{Indented, with_token};
-use crate::pending::Pending;
+use crate::text::{put_escaped, put_gap, put_token};
 use bser_views::print_error::PrintError;
 use json::Token;
 use std::alloc::{AllocError, Global};
 use std::io::Write;
+
+/// How many bytes are kept at most before they are written, but for a token's.
+const MOST_BYTES: usize = 8192;
 
 /// How a JSON text is laid out.
 #[derive(Debug, Clone, Copy, PartialEq, Eq)]
@@ -24,32 +27,41 @@ pub enum Layout {
     Pretty,
 }
 
+/// What was put last.
+#[derive(Clone, Copy, Drop)]
+pub(crate) enum Last {
+    Nothing,
+    Bracket,
+    Key,
+    Value,
+}
+
 /// A JSON text, as far as it is put, and the writer that takes it.
 #[derive(Drop)]
 pub(crate) struct Printing<W> {
+    alloc: Global,
     out: W,
-    text: Text,
-}
-
-/// What of a text is not written.
-#[derive(Drop)]
-enum Text {
-    /// The end of a text on one line.
-    Line(Pending),
-    /// The end of a text on several lines.
-    Pretty(Indented),
+    layout: Layout,
+    // the end of the text, which is not written
+    text: Vec<u8>,
+    last: Last,
+    // how many brackets are open
+    depth: usize,
 }
 
 impl<W: Write + Drop> Printing<W> {
-    /// An empty text. The error is that there is no memory.
-    pub(crate) fn new(alloc: Global, layout: Layout, out: W) -> Result<Self, AllocError>
-        ensures { IfOk result (Prints W.contents (W.contents out) layout []) }
+    /// An empty text.
+    pub(crate) fn new(alloc: Global, layout: Layout, out: W) -> Self
+        ensures { Prints W.contents (W.contents out) layout [] result }
     {
-        let text = match layout {
-            Layout::Line => Text::Line(Pending::new(alloc)?),
-            Layout::Pretty => Text::Pretty(Indented::new(alloc)),
-        };
-        Ok(Printing { out, text })
+        Printing {
+            alloc,
+            out,
+            layout,
+            text: Vec::new(alloc),
+            last: Last::Nothing,
+            depth: 0,
+        }
     }
 
     /// Writes what is not written, and gives the writer back.
@@ -58,58 +70,98 @@ impl<W: Write + Drop> Printing<W> {
             → Prints W.contents start layout ts self
             → IfOk result (λ out. Appends start (W.contents out) (laid_out layout ts)) }
     {
-        let Printing { mut out, text } = self;
-        match text {
-            Text::Line(mut pending) => pending.write_to(&mut out)?,
-            Text::Pretty(mut indented) => indented.write_to(&mut out)?,
-        }
+        let Printing { mut out, text, .. } = self;
+        out.write_all(&text)?;
         Ok(out)
     }
 }
 
 impl<W: Write> Printing<W> {
     /// Puts a token. What is put is written where it is enough.
+    #[inline(always)]
     pub(crate) fn token(&mut self, token: Token<'_>) -> Result<(), PrintError>
         requires { IsPrintable (token_of token) }
         ensures { OnOk result (Puts W.contents (token_of token.entry ∷ []) self.old self.new) }
     {
-        match &mut self.text {
-            Text::Line(pending) => pending.put(token, &mut self.out),
-            Text::Pretty(indented) => indented.put(token, &mut self.out),
-        }
+        let opens = begins(token);
+        let depth = if opens {
+            self.depth
+        } else {
+            self.depth.saturating_sub(1)
+        };
+        put_gap(&mut self.text, self.layout, self.last, opens, depth)?;
+        put_token(&mut self.text, self.alloc, token)?;
+        let (last, depth) = after(token, depth);
+        self.last = last;
+        self.depth = depth;
+        self.write_much()
     }
-    /// Writes what is put, and what stands before the first byte of a string.
+
+    /// Begins a string.
     pub(crate) fn begin_string(&mut self) -> Result<(), PrintError>
         ensures { OnOk result (BeginsString W.contents self.old self.new) }
     {
-        match &mut self.text {
-            Text::Line(pending) => pending.begin_string(&mut self.out),
-            Text::Pretty(indented) => indented.begin_string(&mut self.out),
-        }
+        put_gap(&mut self.text, self.layout, self.last, true, self.depth)?;
+        self.text.extend_from_slice(b"\"")?;
+        self.last = Last::Value;
+        Ok(())
     }
 
-    /// Writes what stands for the next part of the string that was begun.
-    pub(crate) fn put_part(&mut self, alloc: Global, part: &str) -> Result<(), PrintError>
+    /// Puts what stands for the next part of the string that was begun.
+    pub(crate) fn put_part(&mut self, part: &str) -> Result<(), PrintError>
         ensures { OnOk result (AddsPart W.contents part.now self.old self.new) }
     {
-        let quoted = with_token(Vec::new(alloc), Token::String(part))?;
-        self.out.write_all(within_quotes(&quoted))?;
-        Ok(())
+        put_escaped(&mut self.text, self.alloc, part)?;
+        self.write_much()
     }
 
     /// Ends the string that was begun.
     pub(crate) fn end_string(&mut self) -> Result<(), PrintError>
         ensures { OnOk result (EndsString W.contents self.old self.new) }
     {
-        self.out.write_all(b"\"")?;
+        self.text.extend_from_slice(b"\"")?;
+        Ok(())
+    }
+
+    /// Writes what is put where it is enough.
+    #[inline(always)]
+    fn write_much(&mut self) -> Result<(), PrintError>
+        ensures { OnOk result (WritesKept W.contents self.old self.new) }
+    {
+        if self.text.len() < MOST_BYTES {
+            return Ok(());
+        }
+        self.write()
+    }
+
+    /// Writes what is put.
+    #[cold]
+    #[inline(never)]
+    fn write(&mut self) -> Result<(), PrintError>
+        ensures { OnOk result (WritesKept W.contents self.old self.new) }
+    {
+        self.out.write_all(&self.text)?;
+        self.text.clear();
         Ok(())
     }
 }
 
-/// What stands between the quotes of a string.
-fn within_quotes(text: &[u8]) -> &[u8]
-    ensures { (s : List ℕ) → text.now ≡ 34 ∷ (s ++ 34 ∷ []) → result.now ≡ s }
+/// Whether the token is not one that closes a container.
+#[inline(always)]
+fn begins(token: Token<'_>) -> bool
+    ensures { result ≡ begins (token_of token.entry) }
 {
-    let end = text.len().saturating_sub(1);
-    &text[end.min(1)..end]
+    !matches!(token, Token::EndObject | Token::EndArray)
+}
+
+/// What is last behind a token at this depth, and how many brackets are open then.
+#[inline(always)]
+fn after(token: Token<'_>, depth: usize) -> (Last, usize)
+    ensures { (last_of result.0, result.1) ≡ after (token_of token.entry) depth }
+{
+    match token {
+        Token::BeginObject | Token::BeginArray => (Last::Bracket, depth.saturating_add(1)),
+        Token::Key(_) => (Last::Key, depth),
+        _ => (Last::Value, depth),
+    }
 }

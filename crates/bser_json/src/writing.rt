@@ -60,7 +60,7 @@ pub fn write_json<W: Write + Drop>(
     ensures { (u : Tree) → HoldsItem item.entry u
         → IfOk result (λ new. WritesText layout u (W.contents out) (W.contents new)) }
 {
-    let mut printing = Printing::new(alloc, layout, out)?;
+    let mut printing = Printing::new(alloc, layout, out);
     put_item(alloc, item, MOST_AROUND, &mut printing)?;
     printing.finish()
 }

@@ -1,5 +1,4 @@
 pub mod Told
-pub mod Compared
 pub mod Checked
 pub mod Rows
 pub mod Pieces

@@ -1,25 +1,11 @@
 -- The messages that types with derives are written as.
-use Rattle.std.specs.Prelude.{◌≡◌, ℕ, List, [], ◌++◌}
-use Rattle.bser_format.specs.Tree.{Tree}
-use Rattle.bser_format.specs.Canonical.{canonical_body, canonical_message}
-use Rattle.bser_format.specs.Expand.{IsTemplateFree}
-use Rattle.bser_format.specs.Message.{IsMessage}
-use Rattle.bser_format.specs.Pieces.{null_piece, bool_piece, integer_piece, real_piece, text_piece, bytes_piece, key_piece, array_head, object_head}
+use Rattle.std.specs.Prelude.{◌≡◌, ℕ, List}
 use Rattle.bser_format.specs.declared.errors.Error.{Error}
 use Rattle.bser_format.specs.declared.errors.Error.TheVariants.{Io}
-use Rattle.bser_events.specs.Events as told
-use Rattle.bser_events.specs.Events.{Event}
-use Rattle.bser_deserializer.specs.declared.deserializer.TheConstants.{LEVELS}
 use Rattle.bser_ser.specs.Stopped.{Tells, Takes, TookFront, Accounts}
-use Rattle.bser_serde.specs.declared.spelled.Compared.{Compared}
-
--- the text is a message of at most 128 levels, without capabilities and without templates, each
--- integer, length and count in its least width
-pub record IsLeastMessage (text : List ℕ) : Type 0 where
-  pub tree : Tree
-  pub message : IsMessage LEVELS 0 tree text
-  pub plain : IsTemplateFree tree
-  pub least : text ≡ canonical_message tree
+use Rattle.bser_draft.specs.Written.{IsLeastMessage}
+use Rattle.bser_serde.specs.declared.writer.Written.{Written}
+use Rattle.bser_serde.specs.declared.writer.Written.TheVariants.{Message, Counts}
 
 -- ---- writers
 
@@ -37,40 +23,9 @@ abbrev pub Unwritten : {S : Type 0} → Tells S → S → S → Error → Type 0
 Unwritten sink old new (Io fault) = BrokeLeast sink old new (Io fault)
 Unwritten sink old new _ = new ≡ old
 
--- ---- what is told, compared
+-- ---- what one going through a value makes
 
--- it is no part of a template
-abbrev pub IsPlain : Event → Type 0
-IsPlain (told.open_template n) = ⊥
-IsPlain (told.open_rows n) = ⊥
-IsPlain told.skip = ⊥
-IsPlain _ = Unit {0}
-
--- the shortest bytes of what is told, where it is no part of a template
-abbrev pub least_piece : Event → List ℕ
-least_piece told.null = null_piece
-least_piece (told.boolean v) = bool_piece v
-least_piece (told.integer v) = integer_piece v
-least_piece (told.real r) = real_piece r
-least_piece (told.bytes s) = bytes_piece s
-least_piece (told.text s) = text_piece s
-least_piece (told.key s) = key_piece s
-least_piece (told.open_array n) = array_head n
-least_piece (told.open_object n) = object_head n
-least_piece _ = []
-
--- the bytes that are left
-abbrev pub rest_of : Compared → List ℕ
-rest_of c = c.rest.now
-
--- an event that is no part of a template was told, and its shortest bytes were passed
-pub record Passes (a : Compared) (e : Event) (b : Compared) : Type 0 where
-  pub plain : IsPlain e
-  pub passed : rest_of a ≡ least_piece e ++ rest_of b
-
--- the bytes are a message as above, but for the widths, and the body is its least
-pub record IsLeastBody (bytes body : List ℕ) : Type 0 where
-  pub tree : Tree
-  pub message : IsMessage LEVELS 0 tree bytes
-  pub plain : IsTemplateFree tree
-  pub least : body ≡ canonical_body tree
+-- what was made is a message, if it is one
+abbrev pub IsLeastOrCounted : Written → Type 0
+IsLeastOrCounted (Message message) = IsLeastMessage message.items
+IsLeastOrCounted (Counts counts) = Unit {0}

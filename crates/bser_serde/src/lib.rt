@@ -10,7 +10,6 @@ mod heads;
 pub mod message;
 mod read_error;
 mod reading;
-mod spelled;
 mod values;
 mod write_error;
 mod writer;

@@ -1,31 +1,21 @@
 //! The parts of a value on their way to a message.
+ghost use Rattle.std.specs.Prelude.{IfOk};
+ghost use Rattle.bser_draft.specs.Written.{IsLeastMessage};
+ghost use Rattle.bser_serde.specs.Written.{IsLeastOrCounted};
+
 mod serializer;
+mod unwritten;
 
 use crate::write_error::WriteError;
-use bser_ser::{Parts, PutRefused};
+use bser_draft::{Draft, DraftError};
 use serde::{Case, NameKind, Serialize};
-use serde_bser::errors::{Collection, Complaint, Error, Message, Result};
-use serde_bser::ser::{InMemory, Serializer as Puts};
+use serde_bser::errors::{Complaint, Error, Result};
 use std::alloc::Global;
 
 /// What a part of a value came to.
 type Put = std::result::Result<(), WriteError>;
 
-/// The most items or entries that a message can count.
-const MOST_COUNTED: usize = i64::MAX as usize;
-
-/// A map that is open.
-#[derive(Clone, Copy, Drop)]
-enum OpenMap {
-    /// Its number of entries was given.
-    Given,
-    /// Its entries are counted here.
-    Counted(usize),
-    /// Its entries go into the map around it.
-    Merged,
-}
-
-/// What the next value is.
+/// What the next value is, where none may come.
 #[derive(Clone, Copy, PartialEq, Eq, Drop)]
 enum Role {
     Value,
@@ -34,129 +24,119 @@ enum Role {
     Flat,
 }
 
-/// Puts the parts of a value into memory, without a header.
+/// A map that is open, and is no object of the draft with its own count.
+#[derive(Clone, Copy, Drop)]
+struct OpenMap {
+    /// How many containers of the draft are open in it.
+    depth: usize,
+    form: MapForm,
+}
+
+/// What such a map is.
+#[derive(Clone, Copy, Drop)]
+enum MapForm {
+    /// Its entries go into the map around it.
+    Merged,
+    /// Its entries are counted: it is the map of this number that does not know how many it has.
+    Counted(usize),
+}
+
+/// Puts the parts of a value into a draft of its message.
 ///
-/// A map may not know how many entries it has. Then 0 is put, and the entries are counted, for a
-/// second writer that knows the counts.
+/// A map may not know how many entries it has. Then they are counted, for a second writer that
+/// knows the counts.
 #[derive(Drop)]
-pub(crate) struct Writer {
-    out: Puts<InMemory>,
+struct Writer {
+    draft: Draft,
     role: Role,
-    /// Whether the innermost map that is open does not know its number of entries.
-    is_counting: bool,
-    open: Vec<OpenMap>,
+    maps: Vec<OpenMap>,
     /// The entries of each map that does not know their number, in the order of their beginnings.
     counts: Vec<usize>,
-    /// Those that an earlier writer counted, and how many of these were used.
+    /// Those that an earlier writer counted.
     known: Vec<usize>,
-    used: usize,
     alloc: Global,
 }
 
-/// A value has no form in a message, for this reason.
-#[cold]
-#[inline(never)]
-fn refusal(alloc: Global, reason: &str) -> WriteError {
-    match String::from_str(alloc, reason) {
-        Ok(text) => {
-            let msg = Message::Made(text);
-            WriteError::of(alloc, Error::SerCustom { msg })
-        }
-        Err(_) => WriteError::MEMORY,
-    }
-}
-
-/// What a put came to. It is refused where there is no memory.
-#[inline(always)]
-fn answered(put: std::result::Result<(), PutRefused>) -> Put {
-    match put {
-        Ok(()) => Ok(()),
-        Err(PutRefused) => Err(WriteError::MEMORY),
-    }
+/// What a writer made.
+#[derive(Drop)]
+pub(crate) enum Written {
+    /// The message.
+    Message(Vec<u8>),
+    /// The entries of the maps that do not know their number.
+    Counts(Vec<usize>),
 }
 
 impl Writer {
-    /// Puts into memory. `known` are the counts of an earlier writer of the same value.
-    pub(crate) fn new(alloc: Global, known: Vec<usize>) -> Writer {
-        Writer {
-            out: Puts::new(alloc, InMemory::new(Vec::new(alloc))),
+    /// `known` are the counts of an earlier writer of the same value.
+    fn new(alloc: Global, known: Vec<usize>) -> Result<Writer> {
+        Ok(Writer {
+            draft: Draft::new(alloc)?,
             role: Role::Value,
-            is_counting: false,
-            open: Vec::new(alloc),
+            maps: Vec::new(alloc),
             counts: Vec::new(alloc),
             known,
-            used: 0,
             alloc,
+        })
+    }
+
+    /// The message, or the counts where they were not known.
+    fn finish(self) -> Result<Written>
+        ensures { IfOk result IsLeastOrCounted }
+    {
+        let Writer { draft, counts, .. } = self;
+        if draft.is_rough() {
+            return Ok(Written::Counts(counts));
+        }
+        match draft.finish() {
+            Ok(message) => Ok(Written::Message(message)),
+            Err(refused) => Err(refused.into_error()),
         }
     }
 
-    /// What was put, and the counts of the maps that did not know them.
-    pub(crate) fn finish(self) -> Result<(Vec<u8>, Vec<usize>)> {
-        let Writer { out, counts, .. } = self;
-        match out.finish() {
-            Ok(memory) => Ok((memory.into_inner(), counts)),
-            Err(_) => Err(Error::OutOfMemory),
+    /// What a put of the draft came to.
+    #[inline(always)]
+    fn answer(&self, put: std::result::Result<(), DraftError>) -> Put {
+        match put {
+            Ok(()) => Ok(()),
+            Err(refused) => Err(self.refused(refused)),
         }
     }
 
-    /// The value that comes is no map and no text.
+    /// A value may come.
     #[inline(always)]
     fn expect_value(&self) -> Put {
-        if self.role == Role::Value {
+        if self.draft.is_value_due() {
             return Ok(());
         }
         Err(self.unexpected())
     }
 
-    /// The value that comes is a map or a text, and should not be.
-    #[cold]
-    #[inline(never)]
-    fn unexpected(&self) -> WriteError {
-        if self.role == Role::Key {
-            return refusal(self.alloc, "a key that is no text");
-        }
-        refusal(self.alloc, "a flattened value that is no object")
-    }
-
-    /// Counts an entry of the innermost map that is not merged.
-    #[inline(never)]
-    fn count_entry(&mut self) {
-        let mut level = self.open.len();
-        for _ in 0..self.open.len() {
-            level = level.saturating_sub(1);
-            match self.open.get(level) {
-                Some(OpenMap::Merged) => {}
-                Some(OpenMap::Counted(place)) => {
-                    if let Some(count) = self.counts.get_mut(*place) {
-                        *count = count.saturating_add(1);
-                    }
-                    return;
-                }
-                _ => return,
-            }
-        }
-    }
-
     /// Puts a key.
     #[inline(always)]
     fn put_key(&mut self, key: &str) -> Put {
-        if self.is_counting {
-            self.count_entry();
+        let put = self.draft.put_key(key);
+        self.answer(put)
+    }
+
+    /// Puts a key where one is due as a value.
+    #[cold]
+    #[inline(never)]
+    fn put_due_key(&mut self, key: &str) -> Put {
+        if self.role != Role::Key {
+            return Err(self.unexpected());
         }
-        answered(self.out.add_text_key(key))
+        self.role = Role::Value;
+        self.put_key(key)
     }
 
     /// Puts a text, or a key where one is due.
     #[inline(always)]
     fn put_str(&mut self, text: &str) -> Put {
-        match self.role {
-            Role::Value => answered(self.out.add_text(text)),
-            Role::Key => {
-                self.role = Role::Value;
-                self.put_key(text)
-            }
-            Role::Flat => Err(self.unexpected()),
+        if !self.draft.is_value_due() {
+            return self.put_due_key(text);
         }
+        let put = self.draft.put_text(text);
+        self.answer(put)
     }
 
     /// Puts a key in this case.
@@ -183,31 +163,15 @@ impl Writer {
         }
     }
 
-    /// Puts the head of a map, which is open then.
-    #[inline(always)]
-    fn open_map(&mut self, count: usize, open: OpenMap) -> Put {
-        if count > MOST_COUNTED {
-            return Err(self.too_many());
-        }
-        answered(self.out.add_map(count))?;
-        self.push(open)
-    }
-
-    /// A map is open.
-    #[inline(always)]
-    fn push(&mut self, open: OpenMap) -> Put {
-        self.is_counting = !matches!(open, OpenMap::Given);
-        match self.open.push(open) {
-            Ok(()) => Ok(()),
-            Err(_) => Err(WriteError::MEMORY),
-        }
-    }
-
-    /// Begins a map whose entries go into the one that is open.
+    /// Begins a map whose entries go into the one that is open, where one is due.
+    #[cold]
     #[inline(never)]
-    fn merge(&mut self) -> Put {
+    fn begin_merged(&mut self) -> Put {
+        if self.role != Role::Flat {
+            return Err(self.unexpected());
+        }
         self.role = Role::Value;
-        self.push(OpenMap::Merged)
+        self.keep_open(MapForm::Merged)
     }
 
     /// Begins a map that does not know how many entries it has.
@@ -217,62 +181,72 @@ impl Writer {
         if self.counts.push(0).is_err() {
             return Err(WriteError::MEMORY);
         }
-        let count = match self.known.get(self.used) {
-            Some(count) => *count,
-            None => 0,
+        match self.known.get(place) {
+            Some(count) => {
+                let put = self.draft.open_object(*count);
+                self.answer(put)
+            }
+            None => {
+                let put = self.draft.open_uncounted();
+                self.answer(put)?;
+                self.keep_open(MapForm::Counted(place))
+            }
+        }
+    }
+
+    /// A map of this form is open.
+    fn keep_open(&mut self, form: MapForm) -> Put {
+        let depth = self.draft.depth();
+        match self.maps.push(OpenMap { depth, form }) {
+            Ok(()) => Ok(()),
+            Err(_) => Err(WriteError::MEMORY),
+        }
+    }
+
+    /// Ends the innermost of the maps that are merged or counted.
+    #[inline(never)]
+    fn end_kept_open(&mut self) -> Put {
+        let Some(
+            OpenMap {
+                form: MapForm::Counted(place),
+                ..
+            },
+        ) = self.maps.pop()
+        else {
+            return Ok(());
         };
-        self.used = self.used.saturating_add(1);
-        self.open_map(count, OpenMap::Counted(place))
-    }
-
-    /// A count has no form in a message.
-    #[cold]
-    #[inline(never)]
-    fn too_many(&self) -> WriteError {
-        WriteError::of(self.alloc, Error::ser_custom(Complaint::CountTooGreat))
-    }
-
-    /// An unsigned integer has no form in a message.
-    #[cold]
-    #[inline(never)]
-    fn too_big(&self, v: u64) -> WriteError {
-        WriteError::of(self.alloc, Error::SerU64TooBig { v })
-    }
-
-    /// An integer of 128 bits has no form in a message.
-    #[cold]
-    #[inline(never)]
-    fn out_of_range(&self) -> WriteError {
-        WriteError::of(self.alloc, Error::ser_custom(Complaint::IntegerOutOfRange))
-    }
-
-    /// An array does not know how many items it has.
-    #[cold]
-    #[inline(never)]
-    fn uncounted(&self) -> WriteError {
-        let kind = Collection::Sequence;
-        WriteError::of(self.alloc, Error::SerNeedSize { kind })
+        match self.draft.close_uncounted() {
+            Ok(entries) => {
+                if let Some(count) = self.counts.get_mut(place) {
+                    *count = entries;
+                }
+                Ok(())
+            }
+            Err(refused) => Err(self.refused(refused)),
+        }
     }
 }
 
-/// The body of a value's message. Its counts are right if each `Serialize` on the way gives them
-/// right.
-pub(crate) fn body_of<T: Serialize>(alloc: Global, value: &T) -> Result<Vec<u8>> {
-    let (body, counts) = written(alloc, value, Vec::new(alloc))?;
-    if counts.is_empty() {
-        return Ok(body);
+/// The message of a value. A value with maps that do not know how many entries they have is gone
+/// through twice.
+pub(crate) fn message_of<T: Serialize>(alloc: Global, value: &T) -> Result<Vec<u8>>
+    ensures { IfOk result (λ message. IsLeastMessage message.items) }
+{
+    let known = match write_once(alloc, value, Vec::new(alloc))? {
+        Written::Message(message) => return Ok(message),
+        Written::Counts(known) => known,
+    };
+    match write_once(alloc, value, known)? {
+        Written::Message(message) => Ok(message),
+        Written::Counts(_) => Err(Error::ser_custom(Complaint::ValueOpen)),
     }
-    let (body, _counts) = written(alloc, value, counts)?;
-    Ok(body)
 }
 
-/// What a writer that knows these counts puts of a value, and the counts of its maps.
-fn written<T: Serialize>(
-    alloc: Global,
-    value: &T,
-    known: Vec<usize>,
-) -> Result<(Vec<u8>, Vec<usize>)> {
-    let mut writer = Writer::new(alloc, known);
+/// What a writer that knows these counts makes of a value.
+fn write_once<T: Serialize>(alloc: Global, value: &T, known: Vec<usize>) -> Result<Written>
+    ensures { IfOk result IsLeastOrCounted }
+{
+    let mut writer = Writer::new(alloc, known)?;
     match value.serialize(&mut writer) {
         Ok(()) => writer.finish(),
         Err(failure) => Err(failure.into_error()),

@@ -1,6 +1,6 @@
 //! Types of each form that derives have.
 use bser_serde::{ByteBuf, Bytes};
-use serde::{Deserialize, Serialize};
+use serde::{Described, Deserialize, Serialize, Serializer};
 use std::collections::BTreeMap;
 
 /// An enum with a variant of each form.
@@ -102,4 +102,26 @@ pub struct Scores {
     pub is_exact: Option<bool>,
     pub pair: (i8, char),
     pub nothing: (),
+}
+
+/// Null in arrays, one in another, each of which announces so many items and has one.
+#[derive(Drop)]
+pub struct NestedNull {
+    pub announced: usize,
+    pub levels: usize,
+}
+
+impl Described for NestedNull {}
+
+impl Serialize for NestedNull {
+    fn serialize<S: Serializer>(&self, out: &mut S) -> Result<(), S::Error> {
+        for _ in 0..self.levels {
+            out.begin_seq(Some(self.announced))?;
+        }
+        out.unit()?;
+        for _ in 0..self.levels {
+            out.end_seq()?;
+        }
+        Ok(())
+    }
 }

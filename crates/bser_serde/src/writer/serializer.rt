@@ -1,7 +1,7 @@
 //! The writer as a serializer of serde's.
 use crate::write_error::WriteError;
-use crate::writer::{MOST_COUNTED, OpenMap, Put, Role, Writer, answered, refusal};
-use bser_ser::Parts;
+use crate::writer::unwritten::refusal;
+use crate::writer::{Put, Role, Writer};
 use serde::{Case, NameKind, Serializer};
 
 impl Serializer for Writer {
@@ -9,22 +9,24 @@ impl Serializer for Writer {
 
     #[inline(always)]
     fn bool(&mut self, v: bool) -> Put {
-        self.expect_value()?;
-        answered(self.out.add_bool(v))
+        let put = self.draft.put_bool(v);
+        self.answer(put)
     }
 
     #[inline(always)]
     fn i64(&mut self, v: i64) -> Put {
-        self.expect_value()?;
-        answered(self.out.add_i64(v))
+        let put = self.draft.put_i64(v);
+        self.answer(put)
     }
 
     #[inline(always)]
     fn u64(&mut self, v: u64) -> Put {
-        self.expect_value()?;
         match i64::try_from(v) {
-            Ok(v) => answered(self.out.add_i64(v)),
-            Err(_) => Err(self.too_big(v)),
+            Ok(v) => self.i64(v),
+            Err(_) => {
+                self.expect_value()?;
+                Err(self.too_big(v))
+            }
         }
     }
 
@@ -47,9 +49,9 @@ impl Serializer for Writer {
     }
 
     fn f64(&mut self, v: f64) -> Put {
-        self.expect_value()?;
         let bits = std::num::f64_to_bits_with_nan(v);
-        answered(self.out.add_real_bits(bits))
+        let put = self.draft.put_real_bits(bits);
+        self.answer(put)
     }
 
     fn char(&mut self, v: char) -> Put {
@@ -64,24 +66,24 @@ impl Serializer for Writer {
 
     #[inline(always)]
     fn bytes(&mut self, v: &[u8]) -> Put {
-        if self.role == Role::Key {
+        if !self.draft.is_value_due() {
             return match str::from_utf8(v) {
-                Ok(key) => self.put_str(key),
+                Ok(key) => self.put_due_key(key),
                 Err(_) => Err(self.unexpected()),
             };
         }
-        self.expect_value()?;
-        answered(self.out.add_bytes(v))
+        let put = self.draft.put_bytes(v);
+        self.answer(put)
     }
 
     #[inline(always)]
     fn unit(&mut self) -> Put {
-        if self.role == Role::Flat {
+        if !self.draft.is_value_due() && self.role == Role::Flat {
             self.role = Role::Value;
             return Ok(());
         }
-        self.expect_value()?;
-        answered(self.out.add_null())
+        let put = self.draft.put_null();
+        self.answer(put)
     }
 
     fn str_cased(&mut self, name: &str, case: Case) -> Put {
@@ -98,35 +100,41 @@ impl Serializer for Writer {
         self.expect_value()?;
         match len {
             None => Err(self.uncounted()),
-            Some(count) if count > MOST_COUNTED => Err(self.too_many()),
-            Some(count) => answered(self.out.add_seq(count)),
+            Some(count) => {
+                let put = self.draft.open_array(count);
+                self.answer(put)
+            }
         }
     }
 
     fn end_seq(&mut self) -> Put {
-        Ok(())
+        let put = self.draft.close();
+        self.answer(put)
     }
 
     #[inline(always)]
     fn begin_map(&mut self, len: Option<usize>) -> Put {
-        if self.role == Role::Flat {
-            return self.merge();
+        if !self.draft.is_value_due() {
+            return self.begin_merged();
         }
-        self.expect_value()?;
         match len {
             None => self.begin_counted(),
-            Some(count) => self.open_map(count, OpenMap::Given),
+            Some(count) => {
+                let put = self.draft.open_object(count);
+                self.answer(put)
+            }
         }
     }
 
     #[inline(always)]
     fn end_map(&mut self) -> Put {
-        let _closed = self.open.pop();
-        self.is_counting = matches!(
-            self.open.last(),
-            Some(OpenMap::Counted(_) | OpenMap::Merged)
-        );
-        Ok(())
+        if let Some(map) = self.maps.last() {
+            if map.depth == self.draft.depth() {
+                return self.end_kept_open();
+            }
+        }
+        let put = self.draft.close();
+        self.answer(put)
     }
 
     #[inline(always)]
@@ -150,7 +158,10 @@ impl Serializer for Writer {
     }
 
     fn end_key(&mut self) -> Put {
-        self.expect_value()
+        if self.role == Role::Key {
+            return Err(self.unexpected());
+        }
+        Ok(())
     }
 
     fn flatten_next(&mut self) -> Put {

@@ -39,6 +39,17 @@ pub fn check_refused<'de, T: Deserialize<'de>>(
     }
 }
 
+/// Checks that a value has no message, and how the error prints.
+pub fn check_unwritten<T: Serialize>(rt: &impl Abort, alloc: Global, value: &T, expected: &str) {
+    match to_vec(alloc, value) {
+        Ok(_message) => assert!(rt; false),
+        Err(error) => {
+            let text = error.to_string(alloc).expect(rt, "memory");
+            assert_eq!(rt; text.as_str(), expected);
+        }
+    }
+}
+
 /// Checks how a refusal prints.
 pub fn check_text(rt: &impl Abort, alloc: Global, refusal: &ReadError, expected: &str) {
     let text = refusal.to_string(alloc).expect(rt, "memory");

@@ -1,8 +1,7 @@
 //! How messages and values are refused.
-use crate::tests::checks::{check_refused, check_text, owned};
-use crate::types::{BuildVersion, ByteFile, Strict};
+use crate::tests::checks::{check_refused, check_text, check_unwritten};
+use crate::types::{BuildVersion, ByteFile, NestedNull, Strict};
 use bser_serde::{ByteBuf, from_frame, from_reader, to_vec};
-use serde_bser::bytestring::ByteString;
 use serde_bser::device::Watched;
 use std::collections::BTreeMap;
 
@@ -84,22 +83,35 @@ fn malformed(rt: HostRuntime) {
 #[test]
 fn unwritten(rt: HostRuntime) {
     let alloc = rt.alloc();
-    match to_vec(alloc, &u64::MAX) {
-        Ok(_message) => assert!(rt; false),
-        Err(error) => {
-            let text = error.to_string(alloc).expect(&rt, "memory");
-            let expected = "while serializing BSER: integer too big: 18446744073709551615";
-            assert!(rt; text.as_str() == expected);
-        }
-    }
+    let too_big = "while serializing BSER: integer too big: 18446744073709551615";
+    check_unwritten(&rt, alloc, &u64::MAX, too_big);
     let mut by_number = BTreeMap::new(alloc);
     let inserted: Result<_, _> = by_number.insert(7u8, true);
     assert!(rt; inserted.is_ok());
-    match to_vec(alloc, &by_number) {
-        Ok(_message) => assert!(rt; false),
-        Err(error) => {
-            let text = error.to_string(alloc).expect(&rt, "memory");
-            assert!(rt; text.as_str() == "error while serializing BSER: a key that is no text");
-        }
+    let no_text = "error while serializing BSER: a key that is no text";
+    check_unwritten(&rt, alloc, &by_number, no_text);
+}
+
+#[test]
+fn arrays_that_nest(rt: HostRuntime) {
+    let alloc = rt.alloc();
+    for announced in [0usize, 2] {
+        let levels = 1;
+        let miscounted = NestedNull { announced, levels };
+        let open = "error while serializing BSER: value still open";
+        check_unwritten(&rt, alloc, &miscounted, open);
     }
+    let announced = 1;
+    let deepest = NestedNull {
+        announced,
+        levels: 128,
+    };
+    let message = to_vec(alloc, &deepest).expect(&rt, "a message");
+    assert!(rt; message.len() == 9 + 128 * 3 + 1);
+    let deeper = NestedNull {
+        announced,
+        levels: 129,
+    };
+    let too_deep = "while deserializing BSER: recursion limit exceeded with array";
+    check_unwritten(&rt, alloc, &deeper, too_deep);
 }

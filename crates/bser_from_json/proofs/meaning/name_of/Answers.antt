@@ -1,7 +1,7 @@
 -- Without a dollar sign a key is its name.
-use Rattle.std.proofs.Common.{◌≡◌, ℕ, List, [], ◌∷◌, ◌++◌, Bool, true, false, ◌==◌, Ok, refl, ap, eqb-true}
+use Rattle.std.proofs.Common.{◌≡◌, ℕ, List, [], ◌∷◌, Bool, true, false, ◌==◌, refl, ap, eqb-true}
 use lib.Utf8
-use Rattle.bser_from_json.specs.Made.{begins_with_dollar, name_of}
+use Rattle.bser_from_json.specs.Made.{begins_with_dollar}
 use Rattle.bser_from_json.proofs.meaning.name_of.Goals as goal
 
 no_dollar : (k : List ℕ) → ((rest : List ℕ) → k ≡ 36 ∷ rest → ⊥) → begins_with_dollar k ≡ false

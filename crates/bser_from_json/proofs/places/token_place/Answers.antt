@@ -1,5 +1,5 @@
 -- A byte after the other is passed.
-use Rattle.std.proofs.Common.{◌≡◌, ◌≤◌, drop, length, ap, sym, ◌∙◌, arith}
+use Rattle.std.proofs.Common.{◌≡◌, drop, length, sym, ◌∙◌, arith}
 use Rattle.std.proofs.lemmas.List.{drop_all}
 use Rattle.bser_from_json.proofs.Seeking.{drop_next, place_end, place_here, place_later}
 use Rattle.bser_from_json.proofs.places.token_place.Goals as goal

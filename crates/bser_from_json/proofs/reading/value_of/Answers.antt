@@ -12,7 +12,7 @@ use Rattle.bser_from_json.proofs.reading.value_of.Goals as goal
 pub returns-in_err-reader-clause-refused : goal.returns-in_err-reader-clause-refused
 returns-in_err-reader-clause-refused c =
     let p = err_from_is_err_and c.from_residual.result c.from_residual.ensures.1 in
-    rw p.1 (subst (IsErrorOf c.args.text.now (made c.args.strings (tokens c.args.text.now))) (sym p.2) tt)
+    rw p.1 (subst (IsErrorOf c.args.whole.now c.args.text.now c.args.start (made c.args.strings (tokens c.args.text.now))) (sym p.2) tt)
 
 pub new-tokens-requires : goal.new-tokens-requires
 new-tokens-requires c = omega (arith, ap length c.in_ok-reader.ensures.ok, tokens-le c.args.text.now)

@@ -1,5 +1,5 @@
 -- A string, where the bytes are UTF-8.
-use Rattle.std.proofs.Common.{◌≡◌, List, [], ◌∷◌, codes, sym, ap, subst}
+use Rattle.std.proofs.Common.{[], ◌∷◌, codes, sym, ap, subst}
 use Rattle.std.proofs.lemmas.Bool.{false_from_ne_true}
 use Rattle.std.proofs.lemmas.Str.{IsUtf8-from_is_utf8, is_utf8-from_IsUtf8}
 use Rattle.std.specs.Str.{is_utf8}

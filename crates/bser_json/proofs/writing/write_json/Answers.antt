@@ -17,4 +17,4 @@ returns g c u h =
     let start = g.W.Write.contents c.args.out in
     let p = c.in_ok-put_item.ensures u h in
     text_written g.W.Write.contents c.finish.result c.args.layout u start p.0 p.1
-    (c.finish.ensures start c.args.layout p.0 (p.2 start c.args.layout [] c.in_ok-printing.ensures))
+    (c.finish.ensures start c.args.layout p.0 (p.2 start c.args.layout [] c.new-printing.ensures))

@@ -1,7 +1,6 @@
 -- What each token makes.
-use Rattle.std.proofs.Common.{◌≡◌, ℕ, ◌+◌, ◌-◌, List, [], ◌∷◌, length, map, Some, None, rules, refl, sym, ap, ◌∙◌, arith, nat_cmp}
+use Rattle.std.proofs.Common.{◌≡◌, ◌+◌, ◌-◌, ◌∷◌, length, map, rules, refl, sym, ap, ◌∙◌, arith, nat_cmp}
 use Rattle.std.proofs.lemmas.Result.{err_from_is_err_and}
-use Rattle.json.specs.Reads.{token_of}
 use Rattle.json.specs.declared.token.Token.TheVariants as kinds
 use Rattle.std.specs.BTreeMap.{insert_entry}
 use Rattle.std.specs.Cmp.Lexicographic.{slice_cmp}
@@ -9,7 +8,7 @@ use Rattle.bser_format.specs.Tree.{object}
 use Rattle.bser_value.specs.ValueView.{entry_trees, tree_of}
 use Rattle.bser_value.proofs.Views.{entries_view-pairs, map_one, pairs-insert_entry, tree_of-Array, tree_of-Object}
 use Rattle.bser_from_json.specs.Left.{due_to}
-use Rattle.bser_from_json.specs.Made.{Around, in_array, in_object, a_first_member, a_member, a_value, an_item, most_levels, put}
+use Rattle.bser_from_json.specs.Made.{in_array, in_object, a_first_member, a_member, a_value, an_item, most_levels, put}
 use Rattle.bser_from_json.proofs.Outcomes.{array_begun, array_ended, comes_same, first_marks, first_taken, first_too_deep, item_taken, lacking, member_named, no_room, object_ended, refused_is, refused_same, room, taken}
 use Rattle.bser_from_json.proofs.reading.Reading.+value.Goals as goal
 

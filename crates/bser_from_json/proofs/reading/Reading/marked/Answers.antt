@@ -1,5 +1,5 @@
 -- A mark's string, and its end.
-use Rattle.std.proofs.Common.{◌≡◌, Some, None, rules, refl, sym, ap, subst, ◌∙◌}
+use Rattle.std.proofs.Common.{◌≡◌, Some, None, rules, refl, sym, subst, ◌∙◌}
 use Rattle.std.proofs.lemmas.Result.{err_from_is_err_and}
 use Rattle.json.specs.Reads.{token_of}
 use Rattle.json.specs.declared.token.Token.TheVariants as kinds

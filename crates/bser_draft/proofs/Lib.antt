@@ -1,0 +1,4 @@
+mod Coming
+pub mod Scalars
+pub mod Steps
+pub mod Whole

@@ -1,0 +1,4 @@
+pub mod ToCome
+pub mod Steps
+pub mod Begun
+pub mod Written
