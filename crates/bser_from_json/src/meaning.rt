@@ -3,7 +3,7 @@ ghost use Rattle.std.specs.Prelude.{◌≡◌, IfOk, option_map};
 ghost use Rattle.std.specs.List.{list_any};
 ghost use Rattle.json.specs.Reads.{token_of};
 ghost use Rattle.bser_value.specs.ValueView.{tree_of, entry_trees};
-ghost use Rattle.bser_from_json.specs.Made.{integer_made, is_point_or_e, is_whole, digits_made, marked_made, mark_fault, mark_of, name_of, new_name, number_made, string_made};
+ghost use Rattle.bser_from_json.specs.Made.{integer_made, is_point_or_e, is_whole, digits_made, marked_made, mark_fault, mark_key, mark_of, name_of, new_name, number_made, string_made};
 ghost use Rattle.bser_from_json.specs.Scalars.{IsMade, IsNamed};
 ghost use Rattle.bser_from_json.specs.declared.meaning.Mark.TheVariants as marks;
 
@@ -26,14 +26,26 @@ pub enum Mark {
 }
 
 impl Mark {
+    /// Returns the key of the object that is this mark.
+    pub fn key(self) -> &'static str
+        ensures { result.now ≡ mark_key self }
+    {
+        match self {
+            Mark::Bytes => "$bytes",
+            Mark::Real => "$real",
+        }
+    }
+
     /// What the key marks, if it does.
     pub(crate) fn of(key: &str) -> Option<Mark>
         ensures { result ≡ mark_of key.now }
     {
-        match key {
-            "$bytes" => Some(Mark::Bytes),
-            "$real" => Some(Mark::Real),
-            _ => None,
+        if key == Mark::Bytes.key() {
+            Some(Mark::Bytes)
+        } else if key == Mark::Real.key() {
+            Some(Mark::Real)
+        } else {
+            None
         }
     }
 

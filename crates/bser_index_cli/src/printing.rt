@@ -1,5 +1,6 @@
 //! Prints what an index has of files.
 
+use bser_from_json::meaning::Mark;
 use bser_views::quoted::Quoted;
 use json::Writer;
 use serde_bser::bytestring::ByteString;
@@ -138,7 +139,7 @@ fn put_bytes(alloc: Global, json: &mut Writer, bytes: &[u8]) -> Result<(), Index
     }
     let digits = hex::encode(alloc, bytes)?;
     json.begin_object()?;
-    json.key("$bytes")?;
+    json.key(Mark::Bytes.key())?;
     json.string(digits.as_str())?;
     json.end_object()?;
     Ok(())

@@ -9,3 +9,4 @@ pub mod PrintedKeys
 pub mod Leads
 pub mod PrintedTokens
 pub mod ReadsBack
+pub mod Escaping

@@ -13,6 +13,8 @@ use Rattle.bser_format.specs.Tree.{Tree, null, boolean, integer, real, bytes, te
 use Rattle.bser_format.specs.RealText.{float_of}
 use Rattle.bser_format.specs.ValueTree.{IsValueTree, ItemsAreValueTrees, EntriesAreValueTrees}
 use Rattle.bser_json.proofs.LaidOut.{ends_then}
+use Rattle.bser_from_json.specs.declared.meaning.Mark.{Mark}
+use Rattle.bser_from_json.specs.declared.meaning.Mark.TheVariants as marks
 use Rattle.bser_json.specs.Said.{Says, SaysItems, SaysEntries, SaysMarked, SaysString, SaysNumber, SaysFloat}
 
 -- ---- on several lines
@@ -76,13 +78,13 @@ more : (t : token.Token) (ts : List token.Token) → IsPrintable t → ArePrinta
 unfolding ArePrintable
 more t ts h k = (h, k)
 
-marked_prints : (k bs : List ℕ) (ts : List token.Token) → SaysMarked k bs ts → ArePrintable ts
+marked_prints : (m : Mark) (bs : List ℕ) (ts : List token.Token) → SaysMarked m bs ts → ArePrintable ts
 unfolding ArePrintable
-marked_prints k bs ts h = subst ArePrintable (sym h.0) (tt, (tt, (tt, (tt, tt))))
+marked_prints m bs ts h = subst ArePrintable (sym h.0) (tt, (tt, (tt, (tt, tt))))
 
 bytes_print : (b : Bool) (bs : List ℕ) (ts : List token.Token) → SaysString b bs ts → ArePrintable ts
 bytes_print true bs ts h = subst ArePrintable (sym h) (one (token.string bs) tt)
-bytes_print false bs ts h = marked_prints (codes "$bytes") bs ts h
+bytes_print false bs ts h = marked_prints marks.Bytes bs ts h
 
 number_prints : (bits : ℕ) (x : Float) (b : Bool) (ts : List token.Token) → SaysNumber bits x b ts → ArePrintable ts
 number_prints bits x true ts h = subst ArePrintable (sym h.1) (one (token.number h.0) h.2)

@@ -34,21 +34,21 @@ use Rattle.bser_json.proofs.Leads.{Leads, BeginsOpen, leads_one, leads_then, lea
 
 -- ---- what is marked
 
-bytes_marked : (s : Strings) (os : List Around) (bs : List ℕ) (ts : List tokens.Token) → said.SaysMarked (codes "$bytes") bs ts → Leads s (a_value os) ts (put (bytes bs) os)
+bytes_marked : (s : Strings) (os : List Around) (bs : List ℕ) (ts : List tokens.Token) → said.SaysMarked marks.Bytes bs ts → Leads s (a_value os) ts (put (bytes bs) os)
 bytes_marked s os bs ts h =
-    leads_same s (a_value os) (put (bytes bs) os) ts (said.marked (codes "$bytes") bs) h.0
-    (leads_then s (a_value os) (a_first_member os) (put (bytes bs) os) (tokens.begin_object ∷ []) (tokens.key (codes "$bytes") ∷ tokens.string (encode_lower bs) ∷ tokens.end_object ∷ []) (leads_one s (a_value os) (a_first_member os) tokens.begin_object refl refl)
-    (leads_then s (a_first_member os) (a_string marks.Bytes os) (put (bytes bs) os) (tokens.key (codes "$bytes") ∷ []) (tokens.string (encode_lower bs) ∷ tokens.end_object ∷ []) (leads_one s (a_first_member os) (a_string marks.Bytes os) (tokens.key (codes "$bytes")) refl refl)
+    leads_same s (a_value os) (put (bytes bs) os) ts (said.marked marks.Bytes bs) h.0
+    (leads_then s (a_value os) (a_first_member os) (put (bytes bs) os) (tokens.begin_object ∷ []) (tokens.key (made.mark_key marks.Bytes) ∷ tokens.string (encode_lower bs) ∷ tokens.end_object ∷ []) (leads_one s (a_value os) (a_first_member os) tokens.begin_object refl refl)
+    (leads_then s (a_first_member os) (a_string marks.Bytes os) (put (bytes bs) os) (tokens.key (made.mark_key marks.Bytes) ∷ []) (tokens.string (encode_lower bs) ∷ tokens.end_object ∷ []) (leads_one s (a_first_member os) (a_string marks.Bytes os) (tokens.key (made.mark_key marks.Bytes)) refl refl)
     (leads_then s (a_string marks.Bytes os) (an_end (bytes bs) os) (put (bytes bs) os) (tokens.string (encode_lower bs) ∷ []) (tokens.end_object ∷ [])
     (leads_one s (a_string marks.Bytes os) (an_end (bytes bs) os) (tokens.string (encode_lower bs)) refl (ap (made.end_due marks.Bytes os) (bytes_back bs h.1)))
     (leads_one s (an_end (bytes bs) os) (put (bytes bs) os) tokens.end_object refl refl))))
 
-bits_marked : (s : Strings) (os : List Around) (bits : ℕ) (ts : List tokens.Token) → bits < 2 ^ 64 → said.SaysMarked (codes "$real") (to_be_bytes w64 bits) ts → Leads s (a_value os) ts (put (real bits) os)
+bits_marked : (s : Strings) (os : List Around) (bits : ℕ) (ts : List tokens.Token) → bits < 2 ^ 64 → said.SaysMarked marks.Real (to_be_bytes w64 bits) ts → Leads s (a_value os) ts (put (real bits) os)
 bits_marked s os bits ts small h =
     let digits = encode_lower (to_be_bytes w64 bits) in
-    leads_same s (a_value os) (put (real bits) os) ts (said.marked (codes "$real") (to_be_bytes w64 bits)) h.0
-    (leads_then s (a_value os) (a_first_member os) (put (real bits) os) (tokens.begin_object ∷ []) (tokens.key (codes "$real") ∷ tokens.string digits ∷ tokens.end_object ∷ []) (leads_one s (a_value os) (a_first_member os) tokens.begin_object refl refl)
-    (leads_then s (a_first_member os) (a_string marks.Real os) (put (real bits) os) (tokens.key (codes "$real") ∷ []) (tokens.string digits ∷ tokens.end_object ∷ []) (leads_one s (a_first_member os) (a_string marks.Real os) (tokens.key (codes "$real")) refl refl)
+    leads_same s (a_value os) (put (real bits) os) ts (said.marked marks.Real (to_be_bytes w64 bits)) h.0
+    (leads_then s (a_value os) (a_first_member os) (put (real bits) os) (tokens.begin_object ∷ []) (tokens.key (made.mark_key marks.Real) ∷ tokens.string digits ∷ tokens.end_object ∷ []) (leads_one s (a_value os) (a_first_member os) tokens.begin_object refl refl)
+    (leads_then s (a_first_member os) (a_string marks.Real os) (put (real bits) os) (tokens.key (made.mark_key marks.Real) ∷ []) (tokens.string digits ∷ tokens.end_object ∷ []) (leads_one s (a_first_member os) (a_string marks.Real os) (tokens.key (made.mark_key marks.Real)) refl refl)
     (leads_then s (a_string marks.Real os) (an_end (real bits) os) (put (real bits) os) (tokens.string digits ∷ []) (tokens.end_object ∷ [])
     (leads_one s (a_string marks.Real os) (an_end (real bits) os) (tokens.string digits) refl (ap (made.end_due marks.Real os) (bits_back bits small h.1)))
     (leads_one s (an_end (real bits) os) (put (real bits) os) tokens.end_object refl refl))))

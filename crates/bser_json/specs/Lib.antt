@@ -1,3 +1,4 @@
+pub mod Alike
 pub mod Printed
 pub mod Retagged
 pub mod Said

@@ -1,5 +1,5 @@
 -- What is printed of a tree, as tokens of JSON.
-use Rattle.std.specs.Prelude.{◌≡◌, ℕ, List, [], ◌∷◌, ◌++◌, Option, Some, None, Bool, true, false, Float, codes}
+use Rattle.std.specs.Prelude.{◌≡◌, ℕ, List, [], ◌∷◌, ◌++◌, Option, Some, None, Bool, true, false, Float}
 use Rattle.std.specs.Float.{binary64, float_is_finite}
 use Rattle.std.specs.Fmt.{signed_decimal}
 use Rattle.std.specs.Int.{w64, to_be_bytes}
@@ -12,22 +12,24 @@ use Rattle.json.specs.Token as tokens
 use Rattle.bser_format.specs.QuotedText.{key_mark}
 use Rattle.bser_format.specs.RealText.{float_of}
 use Rattle.bser_format.specs.Tree.{Tree, null, boolean, integer, real, bytes, text, array, object, template, Items, no_items, item, Entries, no_entries, entry}
-use Rattle.bser_from_json.specs.Made.{is_whole}
+use Rattle.bser_from_json.specs.Made.{is_whole, mark_key}
 use Rattle.bser_json.specs.Printed.{laid_out, Puts}
+use Rattle.bser_from_json.specs.declared.meaning.Mark.{Mark}
+use Rattle.bser_from_json.specs.declared.meaning.Mark.TheVariants as marks
 use Rattle.bser_json.specs.declared.printing.Layout.{Layout}
 use Rattle.bser_json.specs.declared.printing.Printing.{Printing}
 
--- an object of this key and the bytes in hexadecimal
-abbrev pub marked : List ℕ → List ℕ → List tokens.Token
-marked k bs = tokens.begin_object ∷ tokens.key k ∷ tokens.string (encode_lower bs) ∷ tokens.end_object ∷ []
+-- the object of a mark, with the bytes in hexadecimal
+abbrev pub marked : Mark → List ℕ → List tokens.Token
+marked m bs = tokens.begin_object ∷ tokens.key (mark_key m) ∷ tokens.string (encode_lower bs) ∷ tokens.end_object ∷ []
 
-abbrev pub SaysMarked : List ℕ → List ℕ → List tokens.Token → Type 0
-SaysMarked k bs ts = (ts ≡ marked k bs) × IsBytes bs
+abbrev pub SaysMarked : Mark → List ℕ → List tokens.Token → Type 0
+SaysMarked m bs ts = (ts ≡ marked m bs) × IsBytes bs
 
 -- a byte string: as a string where it is UTF-8, else marked
 abbrev pub SaysString : Bool → List ℕ → List tokens.Token → Type 0
 SaysString true bs ts = ts ≡ tokens.string bs ∷ []
-SaysString false bs ts = SaysMarked (codes "$bytes") bs ts
+SaysString false bs ts = SaysMarked marks.Bytes bs ts
 
 abbrev pub SaysBytes : List ℕ → List tokens.Token → Type 0
 SaysBytes bs ts = SaysString (is_utf8 bs) bs ts
@@ -36,12 +38,12 @@ SaysBytes bs ts = SaysString (is_utf8 bs) bs ts
 -- highest byte first
 abbrev pub SaysNumber : ℕ → Float → Bool → List tokens.Token → Type 0
 SaysNumber bits x true ts = (s : List ℕ) × (ts ≡ tokens.number s ∷ []) × IsNumber s × (is_whole s ≡ false) × (parse_float binary64 s ≡ Some x)
-SaysNumber bits x false ts = SaysMarked (codes "$real") (to_be_bytes w64 bits) ts
+SaysNumber bits x false ts = SaysMarked marks.Real (to_be_bytes w64 bits) ts
 
 -- the same of a real, where the bits may be those of no number
 abbrev pub SaysFloat : ℕ → Option Float → List tokens.Token → Type 0
 SaysFloat bits (Some x) ts = SaysNumber bits x (float_is_finite x) ts
-SaysFloat bits None ts = SaysMarked (codes "$real") (to_be_bytes w64 bits) ts
+SaysFloat bits None ts = SaysMarked marks.Real (to_be_bytes w64 bits) ts
 
 -- a real by its bits
 abbrev pub SaysReal : ℕ → List tokens.Token → Type 0

@@ -33,6 +33,7 @@ use bser_document::items::Items;
 use bser_document::order::{RowFields, ordered_keys};
 use bser_document::rows::Rows;
 use bser_format::real::float_of;
+use bser_from_json::meaning::Mark;
 use bser_views::print_error::PrintError;
 use json::Token;
 use std::alloc::{AllocError, Global};
@@ -43,11 +44,12 @@ use std::io::Write;
 /// one container, and two where it is a template and one of its rows.
 const MOST_AROUND: usize = 2 * MOST_LEVELS;
 
-/// Writes the value as a JSON text, as `{}` prints it, in this layout, and gives the writer back. An
-/// object has each key once, in rising order, with its last value; a template is an array of objects,
-/// and a skipped field null. A byte string in UTF-8 is a string. What JSON cannot say has a form of its
-/// own: bytes that are no UTF-8 are `{"$bytes":"61ff"}`, an infinity and a NaN are
-/// `{"$real":"7ff8000000000000"}` by their bits, and a key that begins with `$` gets one `$` more.
+/// Writes the value as a JSON text in this layout, and gives the writer back. An object has each key
+/// once, in rising order, with its last value; a template is an array of objects, and a skipped field
+/// null. A byte string in UTF-8 is a string. What JSON cannot say has a form of its own: bytes that are
+/// no UTF-8 are `{"$bytes":"61ff"}`, an infinity and a NaN are `{"$real":"7ff8000000000000"}` by their
+/// bits, and a key that begins with `$` gets one `$` more. But for spaces and the texts of finite reals
+/// that is what `{}` prints.
 ///
 /// The text is written as it is made, that of a long string too. The errors are that there is no
 /// memory, and those of the writer, which then has taken some of the text.
@@ -284,7 +286,7 @@ fn put_bytes<W: Write>(alloc: Global, bytes: &[u8], out: &mut Printing<W>) -> Re
 {
     match std::str::from_utf8(bytes) {
         Ok(text) => out.string(alloc, text),
-        Err(_) => put_marked(alloc, "$bytes", bytes, out),
+        Err(_) => put_marked(alloc, Mark::Bytes, bytes, out),
     }
 }
 
@@ -294,7 +296,7 @@ fn put_real<W: Write>(alloc: Global, bits: u64, out: &mut Printing<W>) -> Result
 {
     match float_of(bits) {
         Some(number) => put_float(alloc, bits, number, out),
-        None => put_marked(alloc, "$real", &bits.to_be_bytes(), out),
+        None => put_marked(alloc, Mark::Real, &bits.to_be_bytes(), out),
     }
 }
 
@@ -312,20 +314,20 @@ fn put_float<W: Write>(
         let mut buffer = ryu::Buffer::new();
         return out.token(Token::Number(buffer.format_finite(number)));
     }
-    put_marked(alloc, "$real", &bits.to_be_bytes(), out)
+    put_marked(alloc, Mark::Real, &bits.to_be_bytes(), out)
 }
 
-/// Puts an object of this key and the bytes in hexadecimal.
+/// Puts what is marked, with the bytes in hexadecimal.
 fn put_marked<W: Write>(
     alloc: Global,
-    key: &str,
+    mark: Mark,
     bytes: &[u8],
     out: &mut Printing<W>,
 ) -> Result<(), PrintError>
-    ensures { OnOk result (PutsSaid W.contents (SaysMarked key.now bytes.now) out.old out.new) }
+    ensures { OnOk result (PutsSaid W.contents (SaysMarked mark bytes.now) out.old out.new) }
 {
     out.token(Token::BeginObject)?;
-    out.token(Token::Key(key))?;
+    out.token(Token::Key(mark.key()))?;
     out.hexadecimal(alloc, bytes)?;
     out.token(Token::EndObject)
 }

@@ -2,16 +2,18 @@
 //! then on messages whose answers were made elsewhere, of which is printed how many agree.
 //!
 //! `messages.tsv` has recorded messages with their JSON, and `wrong-messages.tsv` such lines of which
-//! each is wrong, and is named; `scripts/command_table` makes the first. `refused.tsv` has messages that
-//! are malformed, with what has to be reported of them and where, and `wrong-refused.tsv` wrong lines. A
-//! message is cut behind each of its bytes. Of files that come byte by byte is compared what is written
-//! before each read. Then commands are run on a short message whose value is long.
+//! each is wrong, and is named; `scripts/command_table` makes the first. What `{}` prints of a message is
+//! compared with its JSON, of some files too. `refused.tsv` has messages that are malformed, with what
+//! has to be reported of them and where, and `wrong-refused.tsv` wrong lines. A message is cut behind
+//! each of its bytes. Of files that come byte by byte is compared what is written before each read. Then
+//! commands are run on a short message whose value is long.
 #![tactic(auto)]
 
 mod amplifying;
 mod commands;
 mod frames;
 mod message;
+mod printed;
 mod refusal;
 mod run;
 mod waiting;
@@ -20,6 +22,7 @@ use crate::amplifying::print_amplifying;
 use crate::commands::COMMANDS;
 use crate::frames::compare_frames;
 use crate::message::compare_messages;
+use crate::printed::compare_printed;
 use crate::refusal::{compare_cuts, compare_refusals};
 use crate::run::print_session;
 use crate::waiting::compare_waits;
@@ -29,6 +32,7 @@ fn main(rt: HostRuntime) -> Result<()> {
     print_session(&rt)?;
     compare_messages(&rt, "messages.tsv")?;
     compare_messages(&rt, "wrong-messages.tsv")?;
+    compare_printed(&rt, &["reals.bser", "dollar.bser", "odd-names.bser", "nul.bser"])?;
     compare_refusals(&rt, "refused.tsv")?;
     compare_refusals(&rt, "wrong-refused.tsv")?;
     compare_frames(&rt, "refused.tsv")?;

@@ -3,6 +3,7 @@
 //! A line of a list has the file that a message is in, how many bytes lie before it there, how many it
 //! has, its JSON, the message that is made of that JSON, its canonical message, and its compact
 //! message, or `-` where that is not known. A text is itself, or as every message `#LENGTH:SHA256`.
+use crate::printed::is_printed_as;
 use crate::run::output_of;
 use anyhow::{Context, Result};
 use bser_vectors::columns::columns;
@@ -71,6 +72,9 @@ impl<'a> KnownMessage<'a> {
         }
         if output_of(rt, &["get", ""], message)? != json {
             return Ok(Some("another JSON by a pointer"));
+        }
+        if !is_printed_as(rt.alloc(), message, &json)? {
+            return Ok(Some("another text by `{}`"));
         }
         if !is_message(
             rt.alloc(),
