@@ -10,7 +10,7 @@ use Rattle.bser_ser.specs.Sent.{writer_of, pending_of, Adds}
 use Rattle.bser_ser.specs.Stopped.{Tells}
 use Rattle.bser_ser.specs.declared.message.TheConstants.{SHORTEST_HEADER}
 use Rattle.bser_ser.specs.declared.serializer.Serializer.{Serializer}
-use Rattle.bser_draft.specs.declared.containers.Containers.{Containers}
+use Rattle.bser_draft.specs.declared.containers.OpenContainers.{OpenContainers}
 use Rattle.bser_deserializer.specs.declared.deserializer.TheConstants.{LEVELS}
 use Rattle.bser_draft.specs.ToCome.{IsLeast, Comes, ComesOfAll}
 use Rattle.bser_draft.specs.Steps.{outer_of, holding, less_value, Stays, TakesValue, TakesKey, Enters, Leaves}
@@ -36,14 +36,14 @@ moved old new p x y is gap =
 
 -- ---- parts
 
-value_put : (c d : Containers) (old new p : List ℕ) → new ≡ old ++ p → IsLeast c.inner.levels p → c.inner.values ≢ 0 → TakesValue c d → Begun old c → Begun new d
+value_put : (c d : OpenContainers) (old new p : List ℕ) → new ≡ old ++ p → IsLeast c.inner.levels p → c.inner.values ≢ 0 → TakesValue c d → Begun old c → Begun new d
 value_put c d old new p is h due t b = record {
   gap = gap_stays old new p is b.gap;
   least = λ fine x y cx cy. subst (λ z. ∥ IsLeast LEVELS z ∥₁) (moved old new p x y is b.gap)
       (b.least (sym t.rough ∙ fine) (p ++ x) y (value_comes c.inner p x due h (subst (λ o. Comes o x) t.inner cx)) (subst (λ os. ComesOfAll os y) t.outer cy));
 }
 
-key_put : (c d : Containers) (old new key : List ℕ) → new ≡ old ++ key_piece key → length key < 2 ^ 63 → c.inner.values ≡ 0 → c.inner.entries ≢ 0 → TakesKey c d → Begun old c → Begun new d
+key_put : (c d : OpenContainers) (old new key : List ℕ) → new ≡ old ++ key_piece key → length key < 2 ^ 63 → c.inner.values ≡ 0 → c.inner.entries ≢ 0 → TakesKey c d → Begun old c → Begun new d
 key_put c d old new key is short none due t b = record {
   gap = gap_stays old new (key_piece key) is b.gap;
   least = λ fine x y cx cy. subst (λ z. ∥ IsLeast LEVELS z ∥₁) (moved old new (key_piece key) x y is b.gap)
@@ -51,7 +51,7 @@ key_put c d old new key is short none due t b = record {
 }
 
 -- the head of a container that was opened, with which what comes of it makes a value
-head_put : (c d : Containers) (values entries : ℕ) (old new head : List ℕ) → new ≡ old ++ head → ((x : List ℕ) → Comes (holding values entries (c.inner.levels - 1)) x → IsLeast c.inner.levels (head ++ x)) → Enters c d values entries → Begun old c → Begun new d
+head_put : (c d : OpenContainers) (values entries : ℕ) (old new head : List ℕ) → new ≡ old ++ head → ((x : List ℕ) → Comes (holding values entries (c.inner.levels - 1)) x → IsLeast c.inner.levels (head ++ x)) → Enters c d values entries → Begun old c → Begun new d
 head_put c d values entries old new head is makes t b = record {
   gap = gap_stays old new head is b.gap;
   least = λ fine x y cx cy.
@@ -61,20 +61,20 @@ head_put c d values entries old new head is makes t b = record {
       (b.least (sym t.rough ∙ fine) ((head ++ x) ++ i.inner) i.outer (value_comes c.inner (head ++ x) i.inner t.due (makes x (subst (λ o. Comes o x) t.inner cx)) i.of_inner) i.of_outer);
 }
 
-pub array_opened : (c d : Containers) (count : ℕ) (old new : List ℕ) → new ≡ old ++ array_head count → count < 2 ^ 63 → Enters c d count 0 → Begun old c → Begun new d
+pub array_opened : (c d : OpenContainers) (count : ℕ) (old new : List ℕ) → new ≡ old ++ array_head count → count < 2 ^ 63 → Enters c d count 0 → Begun old c → Begun new d
 array_opened c d count old new is short t b = head_put c d count 0 old new (array_head count) is (λ x h. array_comes c.inner.levels count x t.level short h) t b
 
-pub object_opened : (c d : Containers) (count : ℕ) (old new : List ℕ) → new ≡ old ++ object_head count → count < 2 ^ 63 → Enters c d 0 count → Begun old c → Begun new d
+pub object_opened : (c d : OpenContainers) (count : ℕ) (old new : List ℕ) → new ≡ old ++ object_head count → count < 2 ^ 63 → Enters c d 0 count → Begun old c → Begun new d
 object_opened c d count old new is short t b = head_put c d 0 count old new (object_head count) is (λ x h. object_comes c.inner.levels count x t.level short h) t b
 
-pub left : (c d : Containers) (bytes : List ℕ) → Leaves c d → Begun bytes c → Begun bytes d
+pub left : (c d : OpenContainers) (bytes : List ℕ) → Leaves c d → Begun bytes c → Begun bytes d
 left c d bytes t b = record {
   gap = b.gap;
   least = λ fine x y cx cy.
       b.least (sym t.rough ∙ fine) [] (x ++ y) (nothing_comes c.inner t.no_values t.no_entries) (subst (λ os. ComesOfAll os (x ++ y)) (sym t.outer) (comes_inside (outer_of d) d.inner x y cx cy));
 }
 
-pub stayed : (c d : Containers) (old new : List ℕ) → new ≡ old → Stays c d → Begun old c → Begun new d
+pub stayed : (c d : OpenContainers) (old new : List ℕ) → new ≡ old → Stays c d → Begun old c → Begun new d
 stayed c d old new same t b = record {
   gap = subst (λ z. SHORTEST_HEADER ≤ length z) (sym same) b.gap;
   least = λ fine x y cx cy. subst (λ z. ∥ IsLeast LEVELS (body_of z ++ (x ++ y)) ∥₁) (sym same)
@@ -82,7 +82,7 @@ stayed c d old new same t b = record {
 }
 
 -- no message comes of it any more
-rough : (d : Containers) (new : List ℕ) → SHORTEST_HEADER ≤ length new → d.is_rough ≡ true → Begun new d
+rough : (d : OpenContainers) (new : List ℕ) → SHORTEST_HEADER ≤ length new → d.is_rough ≡ true → Begun new d
 rough d new gap is = record { gap = gap; least = λ fine x y cx cy. absurd (false≢true (sym fine ∙ is)) }
 
 -- ---- parts that may be refused
@@ -96,39 +96,39 @@ module _ {A E : Type 0} where
   grown sink took (Ok v) a b p h = put_more a b h.0.taken p (took (writer_of a) (writer_of b) h.0.taken h.0.took_it) h.0.grew
   grown sink took (Err e) a b p h = put_more a b h.0.taken [] (took (writer_of a) (writer_of b) h.0.taken h.0.took_it) h.0.grew ∙ append-nil (put_in a)
 
-  pub value_tried : (r : Result A E) (c d : Containers) (old new p : List ℕ) → Grows r old new p → MatchResult r (λ _. TakesValue c d) (λ _. Stays c d) → IsLeast c.inner.levels p → c.inner.values ≢ 0 → ∥ Begun old c ∥₁ → ∥ Begun new d ∥₁
+  pub value_tried : (r : Result A E) (c d : OpenContainers) (old new p : List ℕ) → Grows r old new p → MatchResult r (λ _. TakesValue c d) (λ _. Stays c d) → IsLeast c.inner.levels p → c.inner.values ≢ 0 → ∥ Begun old c ∥₁ → ∥ Begun new d ∥₁
   value_tried (Ok v) c d old new p is t h due b = ∥∥₁_map b (value_put c d old new p is h due t)
   value_tried (Err e) c d old new p is t h due b = ∥∥₁_map b (stayed c d old new is t)
 
-  pub key_tried : (r : Result A E) (c d : Containers) (old new key : List ℕ) → Grows r old new (key_piece key) → MatchResult r (λ _. TakesKey c d) (λ _. Stays c d) → length key < 2 ^ 63 → c.inner.values ≡ 0 → c.inner.entries ≢ 0 → ∥ Begun old c ∥₁ → ∥ Begun new d ∥₁
+  pub key_tried : (r : Result A E) (c d : OpenContainers) (old new key : List ℕ) → Grows r old new (key_piece key) → MatchResult r (λ _. TakesKey c d) (λ _. Stays c d) → length key < 2 ^ 63 → c.inner.values ≡ 0 → c.inner.entries ≢ 0 → ∥ Begun old c ∥₁ → ∥ Begun new d ∥₁
   key_tried (Ok v) c d old new key is t short none due b = ∥∥₁_map b (key_put c d old new key is short none due t)
   key_tried (Err e) c d old new key is t short none due b = ∥∥₁_map b (stayed c d old new is t)
 
   -- the head of a container, without which no message comes
-  abbrev pub Settles : Result A E → Containers → Containers → Type 0
+  abbrev pub Settles : Result A E → OpenContainers → OpenContainers → Type 0
   Settles r d e = MatchResult r (λ _. Stays d e) (λ _. e.is_rough ≡ true)
 
-  head_tried : (r : Result A E) (c d e : Containers) (old new head : List ℕ) → Grows r old new head → (new ≡ old ++ head → Begun old c → Begun new d) → Settles r d e → ∥ Begun old c ∥₁ → ∥ Begun new e ∥₁
+  head_tried : (r : Result A E) (c d e : OpenContainers) (old new head : List ℕ) → Grows r old new head → (new ≡ old ++ head → Begun old c → Begun new d) → Settles r d e → ∥ Begun old c ∥₁ → ∥ Begun new e ∥₁
   head_tried (Ok v) c d e old new head is opened t b = ∥∥₁_map b (λ h. stayed d e new new refl t (opened is h))
   head_tried (Err f) c d e old new head is opened t b = ∥∥₁_map b (λ h. rough e new (subst (λ z. SHORTEST_HEADER ≤ length z) (sym is) h.gap) t)
 
-  pub array_tried : (r : Result A E) (c d e : Containers) (count : ℕ) (old new : List ℕ) → Grows r old new (array_head count) → count < 2 ^ 63 → Enters c d count 0 → Settles r d e → ∥ Begun old c ∥₁ → ∥ Begun new e ∥₁
+  pub array_tried : (r : Result A E) (c d e : OpenContainers) (count : ℕ) (old new : List ℕ) → Grows r old new (array_head count) → count < 2 ^ 63 → Enters c d count 0 → Settles r d e → ∥ Begun old c ∥₁ → ∥ Begun new e ∥₁
   array_tried r c d e count old new is short t s b = head_tried r c d e old new (array_head count) is (λ put h. array_opened c d count old new put short t h) s b
 
-  pub object_tried : (r : Result A E) (c d e : Containers) (count : ℕ) (old new : List ℕ) → Grows r old new (object_head count) → count < 2 ^ 63 → Enters c d 0 count → Settles r d e → ∥ Begun old c ∥₁ → ∥ Begun new e ∥₁
+  pub object_tried : (r : Result A E) (c d e : OpenContainers) (count : ℕ) (old new : List ℕ) → Grows r old new (object_head count) → count < 2 ^ 63 → Enters c d 0 count → Settles r d e → ∥ Begun old c ∥₁ → ∥ Begun new e ∥₁
   object_tried r c d e count old new is short t s b = head_tried r c d e old new (object_head count) is (λ put h. object_opened c d count old new put short t h) s b
 
   -- a container of another count
-  pub roughly_tried : (r : Result A E) (c d e : Containers) (old new head : List ℕ) → Grows r old new head → d.is_rough ≡ true → Settles r d e → ∥ Begun old c ∥₁ → ∥ Begun new e ∥₁
+  pub roughly_tried : (r : Result A E) (c d e : OpenContainers) (old new head : List ℕ) → Grows r old new head → d.is_rough ≡ true → Settles r d e → ∥ Begun old c ∥₁ → ∥ Begun new e ∥₁
   roughly_tried (Ok v) c d e old new head is r t b = ∥∥₁_map b (λ h. rough e new (gap_stays old new head is h.gap) (t.rough ∙ r))
   roughly_tried (Err f) c d e old new head is r t b = ∥∥₁_map b (λ h. rough e new (subst (λ z. SHORTEST_HEADER ≤ length z) (sym is) h.gap) t)
 
-  pub close_tried : (r : Result A E) (c d : Containers) (bytes : List ℕ) → OnOk r (Leaves c d) → OnErr r (Stays c d) → ∥ Begun bytes c ∥₁ → ∥ Begun bytes d ∥₁
+  pub close_tried : (r : Result A E) (c d : OpenContainers) (bytes : List ℕ) → OnOk r (Leaves c d) → OnErr r (Stays c d) → ∥ Begun bytes c ∥₁ → ∥ Begun bytes d ∥₁
   close_tried (Ok v) c d bytes ok err b = ∥∥₁_map b (left c d bytes ok)
   close_tried (Err e) c d bytes ok err b = ∥∥₁_map b (stayed c d bytes bytes refl err)
 
-pub kept : (c d : Containers) (bytes : List ℕ) → Stays c d → ∥ Begun bytes c ∥₁ → ∥ Begun bytes d ∥₁
+pub kept : (c d : OpenContainers) (bytes : List ℕ) → Stays c d → ∥ Begun bytes c ∥₁ → ∥ Begun bytes d ∥₁
 kept c d bytes t b = ∥∥₁_map b (stayed c d bytes bytes refl t)
 
-pub roughened : (c d : Containers) (bytes : List ℕ) → d.is_rough ≡ true → ∥ Begun bytes c ∥₁ → ∥ Begun bytes d ∥₁
+pub roughened : (c d : OpenContainers) (bytes : List ℕ) → d.is_rough ≡ true → ∥ Begun bytes c ∥₁ → ∥ Begun bytes d ∥₁
 roughened c d bytes is b = ∥∥₁_map b (λ h. rough d bytes h.gap is)

@@ -16,7 +16,7 @@ use Rattle.bser_format.proofs.Messages.{message_exact}
 use Rattle.bser_format.proofs.Sound.{IsBytes}
 use Rattle.bser_ser.specs.Message.{front_of}
 use Rattle.bser_ser.specs.declared.message.TheConstants.{SHORTEST_HEADER}
-use Rattle.bser_draft.specs.declared.containers.Containers.{Containers}
+use Rattle.bser_draft.specs.declared.containers.OpenContainers.{OpenContainers}
 use Rattle.bser_deserializer.specs.declared.deserializer.TheConstants.{LEVELS}
 use Rattle.bser_draft.specs.ToCome.{IsLeast, Comes, ComesOfAll}
 use Rattle.bser_draft.specs.Steps.{IsNew, IsDone}
@@ -26,7 +26,7 @@ use Rattle.bser_draft.proofs.Coming.{nothing_comes, first_comes}
 
 -- ---- the beginning
 
-pub begun_new : (c : Containers) (put : List ℕ) → length put ≡ SHORTEST_HEADER → IsNew LEVELS c → ∥ Begun put c ∥₁
+pub begun_new : (c : OpenContainers) (put : List ℕ) → length put ≡ SHORTEST_HEADER → IsNew LEVELS c → ∥ Begun put c ∥₁
 begun_new c put gap new = ∣ record {
   gap = omega (arith, gap);
   least = λ fine x y cx cy.
@@ -104,7 +104,7 @@ read_back b body all short is h =
 pub with_header : (put b : List ℕ) (len : ℤ) → len ≡ pos (length put - SHORTEST_HEADER) → b ≡ front_of len ++ body_of put → HasBody b (body_of put)
 with_header put b len is whole = whole ∙ ap (λ k. front_of k ++ body_of put) (is ∙ ap pos (sym (length-drop SHORTEST_HEADER put)))
 
-pub finished : (c : Containers) (put b : List ℕ) → c.is_rough ≡ false → IsDone c → HasBody b (body_of put) → IsBytes b → length b < 2 ^ 63 → ∥ Begun put c ∥₁ → IsLeastMessage b
+pub finished : (c : OpenContainers) (put b : List ℕ) → c.is_rough ≡ false → IsDone c → HasBody b (body_of put) → IsBytes b → length b < 2 ^ 63 → ∥ Begun put c ∥₁ → IsLeastMessage b
 finished c put b fine done front all short h =
     let body : List ℕ = body_of put in
     let least : ∥ IsLeast LEVELS body ∥₁ = ∥∥₁_elim h ∥∥₁_prop (λ g. subst (λ z. ∥ IsLeast LEVELS z ∥₁) (append-nil body) (g.least fine [] [] (nothing_comes c.inner done.no_values done.no_entries) (subst (λ os. ComesOfAll os []) (sym done.outer) refl))) in

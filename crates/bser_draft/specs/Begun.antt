@@ -6,7 +6,7 @@ use Rattle.bser_ser.specs.Message.{front_of}
 use Rattle.bser_ser.specs.Sent.{writer_of, pending_of}
 use Rattle.bser_ser.specs.declared.message.TheConstants.{SHORTEST_HEADER}
 use Rattle.bser_ser.specs.declared.serializer.Serializer.{Serializer}
-use Rattle.bser_draft.specs.declared.containers.Containers.{Containers}
+use Rattle.bser_draft.specs.declared.containers.OpenContainers.{OpenContainers}
 use Rattle.bser_deserializer.specs.declared.deserializer.TheConstants.{LEVELS}
 use Rattle.bser_draft.specs.Steps.{outer_of}
 use Rattle.bser_draft.specs.ToCome.{IsLeast, Comes, ComesOfAll}
@@ -28,6 +28,6 @@ abbrev pub HasBody : List ℕ → List ℕ → Type 0
 HasBody text body = text ≡ front_of (pos (length body)) ++ body
 
 -- a gap is there, and what comes of the containers that are open makes a least body of what is behind it
-pub record Begun (bytes : List ℕ) (c : Containers) : Type 0 where
+pub record Begun (bytes : List ℕ) (c : OpenContainers) : Type 0 where
   pub gap : SHORTEST_HEADER ≤ length bytes
   pub least : c.is_rough ≡ false → (x y : List ℕ) → Comes c.inner x → ComesOfAll (outer_of c) y → ∥ IsLeast LEVELS (body_of bytes ++ (x ++ y)) ∥₁

@@ -9,7 +9,7 @@ use std::alloc::Global;
 
 /// The containers that are open.
 #[derive(Drop)]
-pub(crate) struct Containers {
+pub(crate) struct OpenContainers {
     /// The innermost one.
     pub(crate) inner: Container,
     /// Those around it, the outermost first.
@@ -19,12 +19,12 @@ pub(crate) struct Containers {
     pub(crate) is_rough: bool,
 }
 
-impl Containers {
+impl OpenContainers {
     /// A value of so many levels is due: the one item of an array around it.
-    pub(crate) fn new(alloc: Global, levels: usize) -> Containers
+    pub(crate) fn new(alloc: Global, levels: usize) -> OpenContainers
         ensures { IsNew levels result }
     {
-        Containers {
+        OpenContainers {
             inner: Container {
                 values: 1,
                 entries: 0,

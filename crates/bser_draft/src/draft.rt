@@ -5,7 +5,7 @@ ghost use Rattle.bser_source.specs.Window.{AreOctets};
 ghost use Rattle.bser_draft.specs.Begun.{Begun, put_in, body_of, Puts, HasBody};
 ghost use Rattle.bser_draft.specs.Written.{IsLeastMessage};
 
-use crate::containers::Containers;
+use crate::containers::OpenContainers;
 use crate::draft_error::{DraftError, Put};
 use bser_deserializer::deserializer::LEVELS;
 use bser_ser::message::{SHORTEST_HEADER, gap, put_in_gap};
@@ -24,7 +24,7 @@ const MOST_COUNTED: usize = i64::MAX as usize;
 pub struct Draft {
     /// The parts, behind a gap for a header.
     out: Serializer<InMemory>,
-    containers: Containers,
+    containers: OpenContainers,
     ghost begun: { ∥ Begun (put_in out) containers ∥₁ },
 }
 
@@ -36,7 +36,7 @@ impl Draft {
         let gap = gap(alloc)?;
         Ok(Draft {
             out: Serializer::new(alloc, InMemory::new(gap)),
-            containers: Containers::new(alloc, LEVELS),
+            containers: OpenContainers::new(alloc, LEVELS),
         })
     }
 

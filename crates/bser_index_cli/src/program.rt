@@ -31,7 +31,7 @@ pub const UNKNOWN_ARGUMENT: u8 = 2;
 
 /// The streams of a run.
 #[derive(Drop)]
-struct Streams<'s, R, W, E> {
+struct IndexStreams<'s, R, W, E> {
     input: &'s mut R,
     out: &'s mut W,
     errors: &'s mut E,
@@ -55,7 +55,7 @@ pub fn run_index<R: Read, W: Write + Drop, E: Write>(
     let done = obey(
         rt,
         words,
-        Streams {
+        IndexStreams {
             input,
             out: &mut out,
             errors: &mut *errors,
@@ -80,12 +80,12 @@ fn failed<E: Write>(fault: &io::Error, errors: &mut E) -> u8 {
 fn obey<R: Read, W: Write, E: Write>(
     rt: &HostRuntime,
     words: &[String],
-    streams: Streams<'_, R, W, E>,
+    streams: IndexStreams<'_, R, W, E>,
 ) -> io::Result<u8> {
     let matches = match command(rt.alloc())?.try_get_matches_from(words) {
         Ok(matches) => matches,
         Err(error) => {
-            let Streams { out, errors, .. } = streams;
+            let IndexStreams { out, errors, .. } = streams;
             return put_usage(&error, out, errors);
         }
     };
@@ -117,9 +117,9 @@ fn run_action<R: Read, W: Write, E: Write>(
     path: &str,
     action: Action<'_>,
     names: &[&str],
-    streams: Streams<'_, R, W, E>,
+    streams: IndexStreams<'_, R, W, E>,
 ) -> io::Result<u8> {
-    let Streams { input, out, errors } = streams;
+    let IndexStreams { input, out, errors } = streams;
     let done = act(
         rt,
         path,
@@ -159,7 +159,7 @@ struct ReadingAction<'r, R, W, E> {
 impl<R: Read, W: Write, E: Write> Inquiry for ReadingAction<'_, R, W, E> {
     fn ask<S: Alter>(&mut self, conn: &mut Connection<S>) -> Result<bool, IndexError> {
         let (rt, path, action, names) = (self.rt, self.path, self.action, self.names);
-        let streams = Streams {
+        let streams = IndexStreams {
             input: &mut *self.input,
             out: &mut *self.out,
             errors: &mut *self.errors,
@@ -185,7 +185,7 @@ fn act<'r, R: Read, W: Write, E: Write>(
             return Ok(true);
         }
         Action::Add(may_be_empty) => {
-            let streams = Streams {
+            let streams = IndexStreams {
                 input: &mut *input,
                 out: &mut *out,
                 errors: &mut *errors,
@@ -214,7 +214,7 @@ fn read<S: Alter, R: Read, W: Write, E: Write>(
     conn: &mut Connection<S>,
     action: Action<'_>,
     names: &[&str],
-    streams: Streams<'_, R, W, E>,
+    streams: IndexStreams<'_, R, W, E>,
 ) -> Result<bool, IndexError> {
     match action {
         Action::Verify => verify(rt, conn, names, streams),
@@ -233,9 +233,9 @@ fn answer<S: Alter, R: Read, W: Write, E: Write>(
     path: &str,
     conn: &mut Connection<S>,
     question: Question<'_>,
-    streams: Streams<'_, R, W, E>,
+    streams: IndexStreams<'_, R, W, E>,
 ) -> Result<bool, IndexError> {
-    let Streams { input, out, errors } = streams;
+    let IndexStreams { input, out, errors } = streams;
     match question {
         Question::Clock => {
             let is_known = print_last_clock(conn, out)?;
@@ -319,10 +319,10 @@ fn add<R: Read, W: Write, E: Write>(
     path: &str,
     may_be_empty: bool,
     names: &[&str],
-    streams: Streams<'_, R, W, E>,
+    streams: IndexStreams<'_, R, W, E>,
 ) -> Result<bool, IndexError> {
     check_path(rt, path)?;
-    let Streams { input, out, errors } = streams;
+    let IndexStreams { input, out, errors } = streams;
     let (totals, closed) = add_inputs(rt, path, may_be_empty, names, input, errors);
     print_totals(totals, out)?;
     closed?;
@@ -349,9 +349,9 @@ fn verify<S: Alter, R: Read, W: Write, E: Write>(
     rt: &HostRuntime,
     conn: &mut Connection<S>,
     names: &[&str],
-    streams: Streams<'_, R, W, E>,
+    streams: IndexStreams<'_, R, W, E>,
 ) -> Result<bool, IndexError> {
-    let Streams { input, out, errors } = streams;
+    let IndexStreams { input, out, errors } = streams;
     let mut folder = Folder::new(rt.alloc(), conn)?;
     let totals = take_inputs(rt.alloc(), rt, names, input, &mut folder, errors);
     if totals.refused > 0 {

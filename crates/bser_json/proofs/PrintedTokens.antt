@@ -1,6 +1,7 @@
 -- A printed text has the tokens that were printed.
 use Rattle.std.proofs.Common.{◌≡◌, ℕ, zero, suc, ◌*◌, List, [], ◌∷◌, ◌++◌, map, replicate, Bool, true, false, Option, Some, None, Float, codes, refl, sym, ap, subst, ◌∙◌, append_assoc, inl, inr}
 use Rattle.std.specs.Float.{float_is_finite}
+use Rattle.std.specs.Int.{to_be_bytes, w64}
 use Rattle.std.specs.Str.{is_utf8}
 use Rattle.json.specs.Layout.{Last, nothing, bracket, name, value, gap, is_value, depth_at, pretty, pretty_from, step}
 use Rattle.json.specs.Lex.{tokens}
@@ -88,11 +89,11 @@ bytes_print false bs ts h = marked_prints marks.Bytes bs ts h
 
 number_prints : (bits : ℕ) (x : Float) (b : Bool) (ts : List token.Token) → SaysNumber bits x b ts → ArePrintable ts
 number_prints bits x true ts h = subst ArePrintable (sym h.1) (one (token.number h.0) h.2)
-number_prints bits x false ts h = marked_prints _ _ ts h
+number_prints bits x false ts h = marked_prints marks.Real (to_be_bytes w64 bits) ts h
 
 real_prints : (bits : ℕ) (o : Option Float) (ts : List token.Token) → SaysFloat bits o ts → ArePrintable ts
 real_prints bits (Some x) ts h = number_prints bits x (float_is_finite x) ts h
-real_prints bits None ts h = marked_prints _ _ ts h
+real_prints bits None ts h = marked_prints marks.Real (to_be_bytes w64 bits) ts h
 
 mutual
   pub said_prints : (u : Tree) (ts : List token.Token) → IsValueTree u → Says u ts → ArePrintable ts

@@ -12,8 +12,9 @@ use Rattle.bser_format.proofs.Sound.{IsBytes}
 use Rattle.bser_format.proofs.Frames.{parts}
 use Rattle.bser_format.proofs.TextLaws.{reads_text_key_messages}
 use Rattle.bser_bunser.proofs.Readers.{after_four, head_after_magic, head_there}
-use Rattle.bser_serde.specs.HasMessage.{HasMessage}
-use Rattle.bser_events.specs.Takes.{Takes, counting}
+use Rattle.bser_serde.specs.HasMessage.{HasMessage, HasHeader, IsFilled}
+use Rattle.bser_serde.specs.declared.message.Headed.{Headed}
+use Rattle.bser_events.specs.Takes.{counting}
 use Rattle.bser_events.proofs.AtStart.{behind, front_cut}
 
 -- a slice's bytes are bytes
@@ -48,39 +49,45 @@ body_length n c k t a rest body b m front h =
     let whole : b ≡ p.head ++ (p.body ++ rest) = front ∙ ap (λ l. l ++ rest) p.whole ∙ append_assoc p.head p.body rest in
     same_length c k (length p.body) body (p.body ++ rest) b h (ap head whole ∙ head_there c (length p.body) p.head p.start (p.body ++ rest))
 
-begun : (levels most len : ℕ) (b x body rest : List ℕ) → IsBytes b → b ≡ 0x00 ∷ 0x02 ∷ x → 4 ≤ length x → counting NegativeLength (behind 4 x) ≡ reads len body
-    → length body ≤ length b → Takes (with_text_keys levels) body rest → length rest + len ≡ length body → len ≤ most → length b < 2 ^ 63
-    → HasMessage levels most b (length b - length body) len
-begun levels most len b x body rest all is long count within value same short small =
-    let c = from_le_bytes w32 (take 4 x) in
-    let h : head b ≡ reads (c, len) body = ap head is ∙ header x body len long count in
-    let t = value.0 in
-    let read : message (with_text_keys levels) b ≡ reads (c, t) rest =
-    ap (and_then (λ h e. and_then (λ z. ends_at b e h.1 (h.0, z)) (with_text_keys levels e))) h
-    ∙ ap (and_then (λ z. ends_at b body len (c, z))) value.1
-    ∙ ends_there (length b - length body) len (length b - length rest) (c, t) rest (omega (arith, within, same, small)) (omega (arith, within, same)) in
-    let exact = (reads_text_key_messages levels c b rest t all).0 read in
-    let long = body_length levels c len t exact.0 rest body b exact.2 exact.1 h in
+-- where a header is, and a value fills the body, there is a message
+pub has_message : (levels most : ℕ) (b : List ℕ) (body : Headed) → IsBytes b → length b < 2 ^ 63 → HasHeader most b body → IsFilled levels body
+    → HasMessage levels most b body.start body.len
+has_message levels most b body all small h f =
+    let c = h.capabilities in
+    let t = f.value.0 in
+    let within = h.whole in
+    let same = f.whole in
+    let start = length b - length body.bytes.now in
+    let read : message (with_text_keys levels) b ≡ reads (c, t) f.rest =
+    ap (and_then (λ k e. and_then (λ z. ends_at b e k.1 (k.0, z)) (with_text_keys levels e))) h.read
+    ∙ ap (and_then (λ z. ends_at b body.bytes.now body.len (c, z))) f.value.1
+    ∙ ends_there start body.len (length b - length f.rest) (c, t) f.rest (omega (arith, within, same, small)) (omega (arith, within, same)) in
+    let exact = (reads_text_key_messages levels c b f.rest t all).0 read in
+    let long = body_length levels c body.len t exact.0 f.rest body.bytes.now b exact.2 exact.1 h.read in
     record {
       text = exact.0;
-      rest = rest;
+      rest = f.rest;
       capabilities = c;
       tree = t;
       front = exact.1;
       message = exact.2;
-      short = subst (λ k. k ≤ most) (sym long) short;
+      short = subst (λ k. k ≤ most) (sym long) h.short;
       keys = exact.3;
       body = long;
-      whole = omega (arith, within, same, ap length exact.1, length-append exact.0 rest);
+      whole = omega (arith, within, same, ap length exact.1, length-append exact.0 f.rest);
     }
 
-pub begins : (levels most len : ℕ) (b body rest : List ℕ) → IsBytes b → 6 ≤ length b → get_or b 0 0 ≡ 0x00 → get_or b 1 0 ≡ 0x02
-    → ((k : Complaint) → counting k (behind 6 b) ≡ reads len body) → length body ≤ length b → Takes (with_text_keys levels) body rest
-    → length rest + len ≡ length body → len ≤ most → length b < 2 ^ 63
-    → HasMessage levels most b (length b - length body) len
-begins levels most len [] body rest all long first second count within value same short small = absurd (omega (arith, long))
-begins levels most len (a ∷ []) body rest all long first second count within value same short small = absurd (omega (arith, long))
-begins levels most len (a ∷ d ∷ x) body rest all long first second count within value same short small =
+-- the header's first two bytes, its capabilities and the length that it says
+pub has_header : (most : ℕ) (b : List ℕ) (body : Headed) → 6 ≤ length b → get_or b 0 0 ≡ 0x00 → get_or b 1 0 ≡ 0x02
+    → ((k : Complaint) → counting k (behind 6 b) ≡ reads body.len body.bytes.now) → body.len ≤ most → body.start + length body.bytes.now ≡ length b
+    → HasHeader most b body
+has_header most [] body long first second count short whole = absurd (omega (arith, long))
+has_header most (a ∷ []) body long first second count short whole = absurd (omega (arith, long))
+has_header most (a ∷ d ∷ x) body long first second count short whole =
     let is : a ∷ d ∷ x ≡ 0x00 ∷ 0x02 ∷ x = ap (λ k. k ∷ d ∷ x) first ∙ ap (λ k. 0x00 ∷ k ∷ x) second in
-    let there : behind 4 x ≡ behind 6 (a ∷ d ∷ x) = take_rest x 4 ∙ sym (take_rest (a ∷ d ∷ x) 6) in
-    begun levels most len (a ∷ d ∷ x) x body rest all is (omega (arith, long)) (ap (counting NegativeLength) there ∙ count NegativeLength) within value same short small
+    let there : behind 4 x ≡ behind 6 (a ∷ d ∷ x) = take_rest x 4 ∙ sym (take_rest (a ∷ d ∷ x) 6) in record {
+      capabilities = from_le_bytes w32 (take 4 x);
+      read = ap head is ∙ header x body.bytes.now body.len (omega (arith, long)) (ap (counting NegativeLength) there ∙ count NegativeLength);
+      short = short;
+      whole = whole;
+    }

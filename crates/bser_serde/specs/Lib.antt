@@ -1,5 +1,4 @@
 pub mod Messages
 pub mod Refusals
 pub mod Written
-pub mod Takes
 pub mod HasMessage

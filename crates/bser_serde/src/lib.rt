@@ -6,20 +6,22 @@
 #![tactic(auto)]
 
 mod bytes;
-mod heads;
+mod copied;
+mod faults;
 pub mod message;
+mod misfit;
 mod read_error;
 mod reading;
-mod values;
+mod wanted;
 mod write_error;
 mod writer;
 mod writing;
 
 pub use crate::bytes::{ByteBuf, Bytes};
+pub use crate::misfit::{Misfit, Reason};
 pub use crate::read_error::ReadError;
 pub use crate::reading::{
     from_frame, from_reader, from_reader_limited, from_slice, from_slice_limited,
 };
 pub use crate::writing::{to_vec, to_writer};
-pub use bser_serde_format::misfit::{Misfit, Reason};
 pub use serde_bser::describe::Path;

@@ -1,7 +1,7 @@
 //! Why no value was read.
 ghost use Rattle.bser_serde.specs.Refusals.{IsUntold};
 
-use bser_serde_format::misfit::Misfit;
+use crate::misfit::Misfit;
 use serde_bser::describe::Description;
 use serde_bser::errors::Error;
 use serde_bser::tell::{Reason, TellError};

@@ -1,24 +1,29 @@
 //! Whole messages that are read.
-ghost use Rattle.std.specs.Prelude.{◌≡◌, ◌≤◌, OnOk, IfErr};
+ghost use Rattle.std.specs.Prelude.{◌≡◌, ◌≤◌, Some, OnOk, IfErr, IfSome};
 ghost use Rattle.bser_deserializer.specs.declared.deserializer.TheConstants.{MOST_LEVELS};
 ghost use Rattle.bser_messages.specs.Limited.{usual_limits};
+ghost use Rattle.bser_serde.specs.HasMessage.{IsFilled};
 ghost use Rattle.bser_serde.specs.Messages.{BeginsWithMessage, IsWellFormed, TookMessage};
 ghost use Rattle.bser_serde.specs.Refusals.{SliceUnread, FrameUnread, NextUnread, IsUnfit};
 
-use crate::message::body_of;
+use crate::copied::Copied;
+use crate::faults::{FormatError, Named, Unread};
+use crate::message::{Headed, head_of};
+use crate::misfit::{Misfit, Reason};
 use crate::read_error::{ReadError, refusal_of};
-use bser_serde_format::copied::Copied;
-use bser_serde_format::faults::{FormatError, Site, Unread};
-use bser_serde_format::misfit::{Misfit, Reason};
-use bser_serde_format::steps::steps_to;
-use bser_serde_format::walk::Walk;
-use serde::{Deserialize, DeserializeOwned, Deserializer};
+use crate::wanted::{Lent, Owned, WantedValue};
+use bser_deserializer::deserializer::MOST_LEVELS;
+use bser_messages::path::{Spot, path_to};
+use bser_serde_format::kept::{KeptWalk, KnownBody};
+use bser_serde_format::naming::Unnamed;
+use serde::{Deserialize, DeserializeOwned};
 use serde_bser::de::Ignored;
 use serde_bser::describe::{Path, Step};
 use serde_bser::device::Source;
 use serde_bser::tell;
 use serde_bser::tell::Limits;
 use std::alloc::{AllocError, Global};
+use std::marker::Brand;
 
 /// Reads a value from the message at the start of `bytes`, of at most 128 levels. What follows the
 /// message is ignored.
@@ -35,7 +40,6 @@ pub fn from_slice<'de, T: Deserialize<'de>>(alloc: Global, bytes: &'de [u8]) -> 
 /// Reads a value from the message at the start of `bytes`, within these limits.
 ///
 /// As [`from_slice`], with the limit's levels for 128, and bodies of at most its bytes.
-#[tactic(auto, using(crate::proofs::Told::unfit_slice, crate::proofs::Checked::checked_slice))]
 pub fn from_slice_limited<'de, T: Deserialize<'de>>(
     alloc: Global,
     limits: Limits,
@@ -45,11 +49,10 @@ pub fn from_slice_limited<'de, T: Deserialize<'de>>(
     ensures found { OnOk result (BeginsWithMessage limits bytes.now) }
     ensures refused { IfErr result (SliceUnread limits bytes.now) }
 {
-    if let Some(body) = body_of(bytes, limits.levels, limits.bytes) {
-        return match read(alloc, body.start, bytes) {
-            Ok(value) => Ok(value),
-            Err(refusal) => Err(refusal),
-        };
+    if let Some(body) = head_of(bytes, limits.bytes) {
+        if let Some(value) = value_of(alloc, Lent::of(bytes), body, limits.levels) {
+            return Ok(value);
+        }
     }
     told_slice(alloc, limits, bytes)
 }
@@ -68,7 +71,7 @@ fn told_slice<'de, T: Deserialize<'de>>(
     ensures refused { IfErr result (SliceUnread limits bytes.now) }
 {
     match tell::from_slice(alloc, limits, bytes, &mut Ignored) {
-        Ok(header) => match read(alloc, header.start, bytes) {
+        Ok(header) => match read(alloc, Lent::of(bytes), header.start, bytes) {
             Ok(value) => Ok(value),
             Err(refusal) => Err(refusal),
         },
@@ -79,18 +82,16 @@ fn told_slice<'de, T: Deserialize<'de>>(
 /// Reads a value from a frame: one message of at most 128 levels, and no byte behind it.
 ///
 /// As [`from_slice`]. Bytes behind the message are [`ReadError::BytesLeft`].
-#[tactic(auto, using(crate::proofs::Checked::whole_frame, crate::proofs::Checked::unfit_frame))]
 pub fn from_frame<'de, T: Deserialize<'de>>(alloc: Global, frame: &'de [u8]) -> Result<T, ReadError>
     ensures found { OnOk result (IsWellFormed usual_limits frame.now) }
     ensures refused { IfErr result (FrameUnread usual_limits frame.now) }
 {
     let limits = Limits::new();
-    if let Some(body) = body_of(frame, limits.levels, limits.bytes) {
-        if body.start.saturating_add(body.len) == frame.len() {
-            return match read(alloc, body.start, frame) {
-                Ok(value) => Ok(value),
-                Err(refusal) => Err(refusal),
-            };
+    if let Some(body) = head_of(frame, limits.bytes) {
+        if body.len == body.bytes.len() {
+            if let Some(value) = value_of(alloc, Lent::of(frame), body, limits.levels) {
+                return Ok(value);
+            }
         }
     }
     told_frame(alloc, frame)
@@ -110,7 +111,7 @@ fn told_frame<'de, T: Deserialize<'de>>(alloc: Global, frame: &'de [u8]) -> Resu
             if taken != frame.len() {
                 return Err(ReadError::BytesLeft(taken));
             }
-            match read(alloc, header.start, frame) {
+            match read(alloc, Lent::of(frame), header.start, frame) {
                 Ok(value) => Ok(value),
                 Err(refusal) => Err(refusal),
             }
@@ -150,60 +151,90 @@ pub fn from_reader_limited<S: Source, T: DeserializeOwned>(
 {
     let mut copied = Copied::new(alloc);
     match tell::next_message(alloc, limits, reader, &mut copied) {
-        Ok(Some(header)) => match read_owned(alloc, header.start, copied.as_slice()) {
-            Ok(value) => Ok(value),
-            Err(refusal) => Err(refusal),
-        },
+        Ok(Some(header)) => {
+            copied.put_header(&header);
+            let message = copied.as_slice();
+            match read(alloc, Owned::of(message), header.start, message) {
+                Ok(value) => Ok(value),
+                Err(refusal) => Err(refusal),
+            }
+        }
         Ok(None) => Err(ReadError::Ended),
         Err(untold) => Err(refusal_of(untold)),
     }
 }
 
-/// Reads a value from a well-formed message whose body begins behind `start` bytes.
-fn read<'de, T: Deserialize<'de>>(
+/// Reads a value in one pass, where all of the message was gone past.
+#[inline(always)]
+fn value_of<W: WantedValue>(
     alloc: Global,
-    start: usize,
-    message: &'de [u8],
-) -> Result<T, ReadError>
-    ensures { IfErr result IsUnfit }
+    wanted: W,
+    body: Headed<'_>,
+    levels: usize,
+) -> Option<W::Value>
+    ensures { IfSome result (λ _. IsFilled levels body.entry) }
 {
-    let mut walk = Walk::new(alloc, message, start);
-    match T::deserialize(alloc, &mut Deserializer::new(message, &mut walk)) {
-        Ok(value) => Ok(value),
-        Err(fault) => Err(unfit(alloc, fault, start, message)),
-    }
+    filled::<W, Brand>(alloc, wanted, body, levels)
 }
 
-/// Reads a value that owns what it holds from such a message.
-fn read_owned<T: DeserializeOwned>(
+/// The same, of a body that has a name.
+#[inline(always)]
+fn filled<W: WantedValue, K: KnownBody>(
     alloc: Global,
+    wanted: W,
+    body: Headed<'_>,
+    levels: usize,
+) -> Option<W::Value>
+    requires bytes { K.bytes ≡ Some body.bytes.now }
+    requires levels { K.levels ≡ levels }
+    ensures { IfSome result (λ _. IsFilled levels body.entry) }
+{
+    let mut kept: KeptWalk<'_, Unnamed, K> = KeptWalk::new(alloc, body.bytes, levels, Unnamed);
+    let Ok(value) = wanted.read(alloc, &mut kept) else {
+        return None;
+    };
+    let left = kept.left()?;
+    if left.checked_add(body.len)? != body.bytes.len() {
+        return None;
+    }
+    Some(value)
+}
+
+/// Reads a value from a well-formed message whose body begins behind `start` bytes.
+#[cold]
+#[inline(never)]
+fn read<W: WantedValue>(
+    alloc: Global,
+    wanted: W,
     start: usize,
     message: &[u8],
-) -> Result<T, ReadError>
+) -> Result<W::Value, ReadError>
     ensures { IfErr result IsUnfit }
 {
-    let mut walk = Walk::new(alloc, message, start);
-    match T::deserialize_owned(alloc, &mut Deserializer::new(message, &mut walk)) {
+    let bytes = message.get(start..).unwrap_or(&[]);
+    let names = Named::new(alloc, message, start);
+    let mut kept: KeptWalk<'_, Named<'_>, Brand> = KeptWalk::new(alloc, bytes, MOST_LEVELS, names);
+    match wanted.read(alloc, &mut kept) {
         Ok(value) => Ok(value),
-        Err(fault) => Err(unfit(alloc, fault, start, message)),
+        Err(fault) => Err(unfit(alloc, fault, message)),
     }
 }
 
 /// Why the type does not read the message.
 #[cold]
 #[inline(never)]
-fn unfit(alloc: Global, fault: FormatError, start: usize, message: &[u8]) -> ReadError
+fn unfit(alloc: Global, fault: FormatError, message: &[u8]) -> ReadError
     ensures { IsUnfit result }
 {
     match fault {
         FormatError::Memory => ReadError::OutOfMemory,
         FormatError::Misfit(unread) => {
-            let Unread { reason, site } = Box::into_inner(unread);
-            match steps_of(alloc, &reason, start, message, site) {
-                Ok(steps) => ReadError::Misfit(Misfit {
+            let Unread { reason, spot } = Box::into_inner(unread);
+            match path_of(alloc, &reason, message, spot) {
+                Ok(path) => ReadError::Misfit(Misfit {
                     reason,
-                    place: site.place,
-                    path: Path { steps },
+                    place: spot.place,
+                    path,
                 }),
                 Err(_) => ReadError::OutOfMemory,
             }
@@ -211,17 +242,12 @@ fn unfit(alloc: Global, fault: FormatError, start: usize, message: &[u8]) -> Rea
     }
 }
 
-/// The steps to what the type does not read. A missing field is the last of them.
-fn steps_of(
-    alloc: Global,
-    reason: &Reason,
-    start: usize,
-    message: &[u8],
-    site: Site,
-) -> Result<Vec<Step>, AllocError> {
-    let mut steps = steps_to(alloc, message, start, site)?;
+/// The way to what the type does not read. A missing field is the last step of it.
+fn path_of(alloc: Global, reason: &Reason, message: &[u8], spot: Spot) -> Result<Path, AllocError> {
+    let mut path = path_to(alloc, message, spot)?;
     if let Reason::Missing(name) = reason {
-        steps.push(Step::Key(String::from_str(alloc, name.as_str())?))?;
+        path.steps
+            .push(Step::Key(String::from_str(alloc, name.as_str())?))?;
     }
-    Ok(steps)
+    Ok(path)
 }

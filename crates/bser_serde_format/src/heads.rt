@@ -1,113 +1,128 @@
-//! What begins at a place of a well-formed message.
-use bser_bunser::prefix::{Prefix, Token, is_key_tag, length_prefix, token_prefix};
-use bser_format::header::{
-    BSER_ARRAY, BSER_BYTESTRING, BSER_FALSE, BSER_INT8, BSER_INT16, BSER_INT32, BSER_INT64,
-    BSER_NULL, BSER_OBJECT, BSER_REAL, BSER_TEMPLATE, BSER_TRUE, BSER_UTF8STRING,
-};
-use serde_bser::document::Kind;
+//! Scalars and strings at the start of bytes, and what follows them.
+ghost use Rattle.std.specs.Prelude.{◌≡◌, ◌<◌, ℕ, true, length, slice_index, IfSome};
+ghost use Rattle.bser_format.specs.DueReaders.{is_key_tag};
+ghost use Rattle.bser_format.specs.Named.{reads, with_text_keys};
+ghost use Rattle.bser_format.specs.Tree.{integer};
+ghost use Rattle.bser_serde_format.specs.Takes.{Cut, CutString, IsString, size_of_scalar};
 
-/// Where the bytes of a string stand.
-#[derive(Clone, Copy, Drop)]
-pub(crate) struct Span {
-    /// How many bytes of the message stand before them.
-    pub(crate) at: usize,
-    /// How many bytes stand before what follows them.
-    pub(crate) end: usize,
-}
+use bser_bunser::prefix::{Prefix, int_prefix, is_key_tag};
+use bser_events::fronts::{CountFront, count};
+use bser_format::header::{BSER_INT8, BSER_UTF8STRING};
+use bser_source::text::as_text;
 
-/// A count, and how many bytes of the message stand before what follows it.
-#[derive(Clone, Copy, Drop)]
-pub(crate) struct Count {
-    pub(crate) count: usize,
-    pub(crate) end: usize,
-}
+/// The most bytes that a scalar has.
+pub(crate) const LONGEST_SCALAR: usize = 9;
 
-/// The bytes from this place on.
+/// The fewest bytes that a string has with its tag and its length.
+const SHORTEST_STRING: usize = 3;
+
+/// How many bytes has a scalar with each tag, and a skipped field. 0 of all other tags.
+const SIZES: [u8; 14] = [0, 0, 0, 2, 3, 5, 9, 9, 1, 1, 1, 0, 1, 0];
+
+/// How many bytes has a scalar with this tag, or a skipped field. 0 of all other tags.
 #[inline(always)]
-pub(crate) fn rest(bytes: &[u8], at: usize) -> &[u8] {
-    match bytes.get(at..) {
-        Some(rest) => rest,
-        None => &[],
+pub(crate) fn scalar_size(tag: u8) -> usize
+    ensures { result ≡ size_of_scalar tag }
+{
+    if tag > BSER_UTF8STRING {
+        return 0;
     }
+    usize::from(SIZES[usize::from(tag)])
 }
 
-/// The byte at this place, as the tag of a value.
+/// What follows so many bytes, which are a string's. None where there are fewer, or a text is no
+/// UTF-8.
 #[inline(always)]
-pub(crate) fn tag_at(bytes: &[u8], at: usize) -> u8 {
-    match bytes.get(at) {
-        Some(tag) => *tag,
-        None => BSER_NULL,
+pub(crate) fn string(bytes: &[u8], is_text: bool, len: usize) -> Option<&[u8]>
+    ensures { IfSome result (λ rest. Cut is_text len bytes.now rest.now) }
+{
+    if bytes.len() < len {
+        return None;
     }
-}
-
-/// The scalar or the head that begins at this place, and how many bytes it has.
-#[inline(always)]
-pub(crate) fn token_at(bytes: &[u8], at: usize) -> Option<(Token, usize)> {
-    match token_prefix(rest(bytes, at)) {
-        Prefix::Found { value, len } => Some((value, len)),
-        _ => None,
+    if is_text && as_text(&bytes[..len]).is_none() {
+        return None;
     }
+    Some(&bytes[len..])
 }
 
-/// The length or the count at this place.
+/// What follows a string behind its tag.
 #[inline(always)]
-pub(crate) fn count_at(bytes: &[u8], at: usize) -> Option<Count> {
-    match length_prefix(rest(bytes, at)) {
-        Prefix::Found { value, len } => Some(Count {
-            count: value,
-            end: at.saturating_add(len),
+pub(crate) fn counted_string(bytes: &[u8], is_text: bool) -> Option<&[u8]>
+    ensures { IfSome result (λ rest. CutString is_text bytes.now rest.now) }
+{
+    let CountFront { count: len, rest } = count(bytes)?;
+    string(rest, is_text, len)
+}
+
+/// An integer, and what follows it.
+#[derive(Clone, Copy)]
+pub(crate) struct Number<'b> {
+    pub(crate) value: i64,
+    pub(crate) rest: &'b [u8],
+}
+
+/// The integer that these bytes begin with, and what follows it. None where none is there.
+#[inline(always)]
+pub(crate) fn integer_at(bytes: &[u8]) -> Option<Number<'_>>
+    ensures { IfSome result (λ n. (levels : ℕ)
+        → with_text_keys levels bytes.now ≡ reads (integer n.value) n.rest.now) }
+{
+    match int_prefix(bytes) {
+        Prefix::Found { value, len } => Some(Number {
+            value,
+            rest: &bytes[len..],
         }),
         _ => None,
     }
 }
 
-/// The string that begins at this place, or none where something else does. Most have a length of
-/// one byte.
-#[inline(always)]
-pub(crate) fn string_at(bytes: &[u8], at: usize) -> Option<Span> {
-    let rest = rest(bytes, at);
-    if rest.len() > 2 && is_key_tag(rest[0]) && rest[1] == BSER_INT8 && rest[2] < 128 {
-        let start = at.wrapping_add(3);
-        return Some(Span {
-            at: start,
-            end: start.wrapping_add(usize::from(rest[2])),
-        });
-    }
-    any_string_at(bytes, at)
+/// A string, and what follows it.
+#[derive(Clone, Copy)]
+pub(crate) struct Str<'b> {
+    /// Whether it has the tag of a text. Nothing says that it is UTF-8.
+    pub(crate) is_text: bool,
+    pub(crate) string: &'b [u8],
+    pub(crate) rest: &'b [u8],
 }
 
-/// The same, whatever integer its length is.
-#[inline(never)]
-fn any_string_at(bytes: &[u8], at: usize) -> Option<Span> {
-    if !is_key_tag(tag_at(bytes, at)) {
+/// The string that these bytes begin with, and what follows it. Most have a length of one byte.
+#[inline(always)]
+pub(crate) fn string_at(bytes: &[u8]) -> Option<Str<'_>>
+    ensures { IfSome result (λ s. IsString s.is_text bytes.now s.string.now s.rest.now) }
+{
+    if bytes.len() < SHORTEST_STRING || !is_key_tag(bytes[0]) {
         return None;
     }
-    let length = count_at(bytes, at.saturating_add(1))?;
-    Some(Span {
-        at: length.end,
-        end: length.end.saturating_add(length.count),
-    })
+    if bytes[1] == BSER_INT8 {
+        return string_behind(bytes);
+    }
+    any_string_behind(bytes)
 }
 
-/// The bytes that stand there.
+/// The string behind its tag, whatever integer its length is.
+#[inline(never)]
+fn any_string_behind(bytes: &[u8]) -> Option<Str<'_>>
+    requires some { 0 < length bytes.now }
+    requires tag { is_key_tag (slice_index bytes.now 0) ≡ true }
+    ensures { IfSome result (λ s. IsString s.is_text bytes.now s.string.now s.rest.now) }
+{
+    string_behind(bytes)
+}
+
+/// The string behind its tag.
 #[inline(always)]
-pub(crate) fn bytes_of(bytes: &[u8], span: Span) -> &[u8] {
-    match bytes.get(span.at..span.end) {
-        Some(string) => string,
-        None => &[],
+fn string_behind(bytes: &[u8]) -> Option<Str<'_>>
+    requires some { 0 < length bytes.now }
+    requires tag { is_key_tag (slice_index bytes.now 0) ≡ true }
+    ensures { IfSome result (λ s. IsString s.is_text bytes.now s.string.now s.rest.now) }
+{
+    let CountFront { count: len, rest } = count(&bytes[1..])?;
+    if rest.len() < len {
+        return None;
     }
-}
-
-/// What kind of value has this tag.
-pub(crate) fn kind_of(tag: u8) -> Kind {
-    match tag {
-        BSER_TRUE | BSER_FALSE => Kind::Bool,
-        BSER_INT8 | BSER_INT16 | BSER_INT32 | BSER_INT64 => Kind::Integer,
-        BSER_REAL => Kind::Real,
-        BSER_BYTESTRING => Kind::Bytes,
-        BSER_UTF8STRING => Kind::Text,
-        BSER_ARRAY | BSER_TEMPLATE => Kind::Array,
-        BSER_OBJECT => Kind::Object,
-        _ => Kind::Null,
-    }
+    Some(Str {
+        is_text: bytes[0] == BSER_UTF8STRING,
+        string: &rest[..len],
+        rest: &rest[len..],
+    })
 }

@@ -1,12 +1,13 @@
-//! A well-formed message as a format of the kit's `serde`.
+//! A message as a format of the kit's `serde`, which is checked as it is read.
 #![tactic(auto)]
 
-pub mod copied;
-pub mod faults;
+mod containers;
 mod format;
 mod heads;
-pub mod misfit;
-mod passing;
-pub mod steps;
-mod table;
+pub mod kept;
+mod marks;
+pub mod naming;
+mod open;
+mod skipping;
+pub mod values;
 pub mod walk;

@@ -1,381 +1,365 @@
-//! A walk over a well-formed message.
-use crate::faults::FormatError;
-use crate::heads::{Span, bytes_of, count_at, rest, string_at, tag_at, token_at};
-use crate::misfit::Reason;
-use crate::table::TemplateParts;
-use bser_bunser::prefix::{Prefix, Token, int_prefix};
-use bser_format::header::{BSER_ARRAY, BSER_OBJECT, BSER_TEMPLATE, BSER_UTF8STRING};
+//! A walk over a value, part by part, which checks what it goes past.
+ghost use Rattle.std.specs.Prelude.{◌≡◌, ◌<◌, true, length, IsUtf8};
+ghost use Rattle.bser_serde_format.specs.Left.{TakesOne, IsAtRow, Remains, Starts, Steps};
+
+use crate::heads::{Number, Str, integer_at, string_at};
+use crate::open::{Form, Open};
+use bser_bunser::prefix::{Prefix, Token, token_prefix};
+use bser_format::header::{
+    BSER_FALSE, BSER_NULL, BSER_OBJECT, BSER_SKIP, BSER_TRUE, BSER_UTF8STRING,
+};
 use bser_source::text::as_text;
-use serde_bser::describe::Wanted;
 use std::alloc::Global;
 
-/// What is said to be read last at the end of a container.
-pub(crate) const ENDED: usize = usize::MAX;
-
-/// What a container is.
-#[derive(Clone, Copy, Drop)]
-enum Form {
-    /// An array or an object.
-    Parts,
-    /// A template, between two rows.
-    Rows,
-    /// A template, in one of its rows.
-    Row,
+/// Why a step is not made. Each but the last three says what is wanted where something else comes.
+#[derive(Clone, Copy, PartialEq, Eq, Drop)]
+pub enum StepError {
+    Truth,
+    Integer,
+    Real,
+    Text,
+    Array,
+    Object,
+    /// The string that comes is no UTF-8.
+    NotUtf8,
+    /// The bytes are not well-formed there, or nothing may be read.
+    Malformed,
+    /// An allocation failed.
+    Memory,
 }
 
-/// A container that is open.
+/// A key, and how many bytes follow it.
 #[derive(Clone, Copy, Drop)]
-pub(crate) struct Open {
-    form: Form,
-    /// How many items, entries or rows are not begun yet.
-    left: usize,
-    /// The template's keys in `keys`, and that of the field that comes next.
-    pub(crate) first: usize,
-    pub(crate) end: usize,
-    next: usize,
+pub(crate) struct Key<'m> {
+    pub(crate) text: &'m str,
+    pub(crate) behind: usize,
 }
 
-/// What is read next.
+/// How long a string is that was read, and how many bytes follow it.
 #[derive(Clone, Copy, Drop)]
-pub(crate) enum NextPart {
-    /// The value that comes next.
-    Value,
-    /// The row whose fields come next.
-    Row,
-    /// This key, as a value.
-    Key(Span),
+pub(crate) struct Span {
+    pub(crate) len: usize,
+    pub(crate) behind: usize,
 }
 
-/// A place to come back to.
+/// A number that is read as a float.
 #[derive(Clone, Copy, Drop)]
-pub struct Rewind {
-    at: usize,
-    due: NextPart,
-    open: Open,
-    outer: usize,
-    keys: usize,
+pub(crate) enum ReadReal {
+    Bits(u64),
+    Integer(i64),
 }
 
-/// A key of a template that is open.
-#[derive(Clone, Copy, Drop)]
-struct RowKey<'m> {
-    span: Span,
-    text: &'m str,
-}
-
-/// A message, and how far it was read.
+/// A value, and how far it was read.
 #[derive(Drop)]
 pub struct Walk<'m> {
-    pub(crate) alloc: Global,
-    pub(crate) bytes: &'m [u8],
-    /// How many bytes of the message stand before what comes next.
-    pub(crate) at: usize,
-    /// How many stand before what was read last, or [`ENDED`].
-    pub(crate) last: usize,
-    pub(crate) due: NextPart,
+    /// The bytes from what comes next on.
+    pub(crate) rest: &'m [u8],
     /// The innermost container that is open.
-    pub(crate) open: Open,
-    /// Those around it, and one around the message.
-    outer: Vec<Open>,
+    pub(crate) inner: Open,
+    /// The key that is to be read as a value, where `inner` holds values behind it.
+    pub(crate) key: Key<'m>,
+    /// The containers around it, the outermost first. The first so many are not closed.
+    pub(crate) outer: Vec<Open>,
+    pub(crate) floor: usize,
     /// The keys of the templates that are open.
-    keys: Vec<RowKey<'m>>,
+    pub(crate) keys: Vec<Key<'m>>,
+}
+
+/// What comes next.
+#[derive(Clone, Copy, Drop)]
+pub struct Ahead {
+    /// How many bytes are left.
+    pub left: usize,
+    /// The tag of what comes. A row is an object, and a key a text.
+    pub tag: u8,
+    /// How many levels are open. A template has two, and a row is none.
+    pub depth: usize,
+    /// Whether a row comes.
+    pub is_row: bool,
+    /// Whether the innermost container is a template, and none of its rows is open.
+    pub is_between: bool,
 }
 
 impl<'m> Walk<'m> {
-    /// Before the body of a message, which begins behind `start` bytes.
-    pub fn new(alloc: Global, bytes: &'m [u8], start: usize) -> Walk<'m> {
+    /// Before a value of at most so many levels, which these bytes begin with.
+    #[tactic(auto, using(crate::proofs::Parts::starts))]
+    pub fn new(alloc: Global, bytes: &'m [u8], levels: usize) -> Walk<'m>
+        ensures { Starts levels bytes.now result }
+    {
         Walk {
-            alloc,
-            bytes,
-            at: start,
-            last: start,
-            due: NextPart::Value,
-            open: Open {
-                form: Form::Parts,
-                left: 0,
-                first: 0,
-                end: 0,
-                next: usize::MAX,
+            rest: bytes,
+            inner: Open {
+                form: Form::Array,
+                left: 1,
+                held: 0,
+                more: 0,
+                levels,
+                width: 0,
+                end: usize::MAX,
+            },
+            key: Key {
+                text: "",
+                behind: 0,
             },
             outer: Vec::new(alloc),
+            floor: 0,
             keys: Vec::new(alloc),
         }
     }
 
-    /// How many containers are open.
-    pub(crate) fn depth(&self) -> usize {
-        self.outer.len()
+    /// Whether the value was read.
+    pub fn is_done(&self) -> bool
+        ensures { result ≡ true → Remains self.now self.now.rest.now }
+    {
+        self.outer.is_empty() && self.inner.is_spent()
     }
 
-    /// The tag of what is read next. A row is an object, and a key a text.
+    /// How many bytes are left.
     #[inline(always)]
-    pub(crate) fn here(&self) -> u8 {
-        match self.due {
-            NextPart::Value => tag_at(self.bytes, self.at),
-            NextPart::Row => BSER_OBJECT,
-            NextPart::Key(_) => BSER_UTF8STRING,
-        }
+    pub fn left(&self) -> usize
+        ensures { result ≡ length self.now.rest.now }
+    {
+        self.rest.len()
     }
 
-    /// The scalar or the head that comes, unless a row or a key does.
-    #[inline(never)]
-    pub(crate) fn token(&self) -> Option<(Token, usize)> {
-        match self.due {
-            NextPart::Value => token_at(self.bytes, self.at),
-            _ => None,
-        }
-    }
-
-    /// Goes past what comes, which ends there.
+    /// Whether a row of a template comes.
     #[inline(always)]
-    fn pass_to(&mut self, end: usize) {
-        self.last = self.at;
-        self.at = end;
-    }
-
-    /// Goes past so many bytes, which are what comes.
-    #[inline(always)]
-    pub(crate) fn pass(&mut self, len: usize) {
-        self.pass_to(self.at.wrapping_add(len));
-    }
-
-    /// The integer that comes.
-    #[inline(always)]
-    pub(crate) fn integer(&mut self) -> Result<i64, FormatError> {
-        if let NextPart::Value = self.due {
-            if let Prefix::Found { value, len } = int_prefix(rest(self.bytes, self.at)) {
-                self.pass(len);
-                return Ok(value);
-            }
-        }
-        Err(self.stray(Wanted::Integer))
-    }
-
-    /// Where the string or the key is that comes.
-    #[inline(always)]
-    pub(crate) fn string_span(&mut self) -> Result<Span, FormatError> {
-        match self.due {
-            NextPart::Value => match string_at(self.bytes, self.at) {
-                Some(span) => {
-                    self.pass_to(span.end);
-                    Ok(span)
-                }
-                None => Err(self.stray(Wanted::Text)),
-            },
-            NextPart::Row => Err(self.stray(Wanted::Text)),
-            NextPart::Key(span) => {
-                self.due = NextPart::Value;
-                Ok(span)
-            }
-        }
-    }
-
-    /// The bytes that come, as a string or a key.
-    #[inline(always)]
-    pub(crate) fn string_bytes(&mut self) -> Result<&'m [u8], FormatError> {
-        let span = self.string_span()?;
-        Ok(bytes_of(self.bytes, span))
-    }
-
-    /// The text that comes.
-    #[inline(always)]
-    pub(crate) fn text(&mut self) -> Result<&'m str, FormatError> {
-        match as_text(self.string_bytes()?) {
-            Some(text) => Ok(text),
-            None => Err(self.behind(Reason::NotUtf8)),
-        }
-    }
-
-    /// The key that stands there, which is UTF-8.
-    #[inline(always)]
-    fn key(&self, span: Span) -> &'m str {
-        as_text(bytes_of(self.bytes, span)).unwrap_or("")
-    }
-
-    /// Opens a container.
-    #[inline(always)]
-    fn enter(&mut self, open: Open) -> Result<(), FormatError> {
-        match self.outer.push(self.open) {
-            Ok(()) => {
-                self.open = open;
-                Ok(())
-            }
-            Err(_) => Err(FormatError::Memory),
-        }
-    }
-
-    /// Opens the array or the object that comes.
-    #[inline(always)]
-    fn enter_parts(&mut self) -> Result<(), FormatError> {
-        let (left, end) = match count_at(self.bytes, self.at.saturating_add(1)) {
-            Some(count) => (count.count, count.end),
-            None => (0, self.bytes.len()),
-        };
-        self.pass_to(end);
-        let keys = self.keys.len();
-        self.enter(Open {
-            form: Form::Parts,
-            left,
-            first: keys,
-            end: keys,
-            next: usize::MAX,
-        })
-    }
-
-    /// Begins an array, or a template.
-    #[inline(always)]
-    pub(crate) fn open_array(&mut self) -> Result<(), FormatError> {
-        match self.here() {
-            BSER_ARRAY => self.enter_parts(),
-            BSER_TEMPLATE => self.enter_rows(),
-            _ => Err(self.stray(Wanted::Array)),
-        }
-    }
-
-    /// Opens the template that comes.
-    #[inline(never)]
-    fn enter_rows(&mut self) -> Result<(), FormatError> {
-        let Some(table) = TemplateParts::at(self.bytes, self.at) else {
-            return Err(self.stray(Wanted::Array));
-        };
-        let first = self.keys.len();
-        let mut at = table.keys;
-        for _ in 0..table.len {
-            if let Some(span) = string_at(self.bytes, at) {
-                at = span.end;
-                let text = self.key(span);
-                if self.keys.push(RowKey { span, text }).is_err() {
-                    return Err(FormatError::Memory);
-                }
-            }
-        }
-        self.pass_to(table.fields);
-        let end = self.keys.len();
-        self.enter(Open {
-            form: Form::Rows,
-            left: table.rows,
-            first,
-            end,
-            next: end,
-        })
-    }
-
-    /// Whether another item of the array, or row of the template, comes. At the end it is closed.
-    #[inline(always)]
-    pub(crate) fn has_item(&mut self) -> bool {
-        if self.open.left == 0 {
-            self.close();
-            return false;
-        }
-        self.open.left = self.open.left.saturating_sub(1);
-        if let Form::Rows = self.open.form {
-            self.due = NextPart::Row;
-        }
-        true
+    pub(crate) fn is_at_row(&self) -> bool
+        ensures { result ≡ true → IsAtRow self.now.inner }
+    {
+        self.inner.form == Form::Rows && self.inner.left == 0 && self.inner.more != 0
     }
 
     /// Whether the innermost container is a template, and none of its rows is open.
-    pub(crate) fn is_between_rows(&self) -> bool {
-        matches!(self.open.form, Form::Rows)
-    }
-
-    /// Closes the innermost container.
-    #[inline(never)]
-    fn close(&mut self) {
-        self.last = ENDED;
-        self.keys.truncate(self.open.first);
-        if let Some(open) = self.outer.pop() {
-            self.open = open;
-        }
-    }
-
-    /// Begins an object, or a row.
     #[inline(always)]
-    pub(crate) fn open_object(&mut self) -> Result<(), FormatError> {
-        if let NextPart::Row = self.due {
-            self.due = NextPart::Value;
-            self.open.form = Form::Row;
-            self.open.next = self.open.first;
-            return Ok(());
-        }
-        if self.here() == BSER_OBJECT {
-            return self.enter_parts();
-        }
-        Err(self.stray(Wanted::Object))
+    pub(crate) fn is_between(&self) -> bool {
+        self.inner.form == Form::Rows
     }
 
-    /// The key of the next field, where a row is open and a field is left of it. The innermost
-    /// template has the last of the keys.
+    /// The tag of what comes. A row is an object, and a key a text.
     #[inline(always)]
-    fn next_field(&mut self) -> Option<RowKey<'m>> {
-        let key = *self.keys.get(self.open.next)?;
-        self.open.next = self.open.next.wrapping_add(1);
-        self.last = self.at;
-        Some(key)
+    pub(crate) fn tag(&self) -> u8 {
+        if self.inner.held != 0 {
+            return BSER_UTF8STRING;
+        }
+        if self.is_at_row() {
+            return BSER_OBJECT;
+        }
+        match self.rest.first() {
+            Some(tag) => *tag,
+            None => BSER_NULL,
+        }
     }
 
-    /// Where the next key of the object stands, or none at its end, where it is closed, and at the
-    /// end of a row.
+    /// What comes next.
+    pub fn ahead(&self) -> Ahead {
+        Ahead {
+            left: self.rest.len(),
+            tag: self.tag(),
+            depth: self.depth(),
+            is_row: self.is_at_row(),
+            is_between: self.is_between(),
+        }
+    }
+
+    /// How many levels the innermost container has.
+    pub(crate) fn levels(&self) -> usize {
+        self.inner.depth()
+    }
+
+    /// How many levels are open. A template has two, and a row is none.
+    fn depth(&self) -> usize {
+        let mut depth = self.inner.depth();
+        for open in &self.outer {
+            depth = depth.saturating_add(open.depth());
+        }
+        depth.saturating_sub(1)
+    }
+
+    /// Goes past a value, behind which this comes.
     #[inline(always)]
-    fn next_entry_key(&mut self) -> Option<Span> {
-        if let Form::Row = self.open.form {
-            self.open.form = Form::Rows;
-            return None;
-        }
-        if self.open.left == 0 {
-            self.close();
-            return None;
-        }
-        self.open.left = self.open.left.saturating_sub(1);
-        let span = string_at(self.bytes, self.at)?;
-        self.pass_to(span.end);
-        Some(span)
+    pub(crate) fn pass(&mut self, rest: &'m [u8])
+        requires some { 0 < self.old.inner.left }
+        requires one { TakesOne self.old.inner.form self.old.inner.levels self.old.rest.now rest.now }
+        ensures { Steps self.old self.new }
+    {
+        self.rest = rest;
+        self.inner.left -= 1;
     }
 
-    /// The next key of the object or the row, or none at the end, where it is closed.
+    /// Reads a truth value.
     #[inline(always)]
-    pub(crate) fn key_text(&mut self) -> Option<&'m str> {
-        if let Some(key) = self.next_field() {
-            return Some(key.text);
+    #[tactic(auto, using(crate::proofs::Firsts::true_one, crate::proofs::Firsts::false_one))]
+    pub(crate) fn truth(&mut self) -> Result<bool, StepError>
+        ensures { Steps self.old self.new }
+    {
+        let rest = self.rest;
+        if self.inner.left == 0 || rest.is_empty() {
+            return Err(StepError::Truth);
         }
-        let span = self.next_entry_key()?;
-        Some(self.key(span))
+        match rest[0] {
+            BSER_TRUE => {
+                self.pass(&rest[1..]);
+                Ok(true)
+            }
+            BSER_FALSE => {
+                self.pass(&rest[1..]);
+                Ok(false)
+            }
+            _ => Err(StepError::Truth),
+        }
     }
 
-    /// Has the next key of the object or the row read as a value, and answers false at the end,
-    /// where it is closed.
-    pub(crate) fn has_entry(&mut self) -> bool {
-        let span = match self.next_field() {
-            Some(key) => Some(key.span),
-            None => self.next_entry_key(),
-        };
-        match span {
-            Some(span) => {
-                self.due = NextPart::Key(span);
+    /// Reads null, or a missing field, if one comes.
+    #[inline(always)]
+    #[tactic(auto, using(crate::proofs::Firsts::null_one, crate::proofs::Firsts::skip_one))]
+    pub(crate) fn unit(&mut self) -> bool
+        ensures { Steps self.old self.new }
+    {
+        let rest = self.rest;
+        if self.inner.left == 0 || rest.is_empty() {
+            return false;
+        }
+        match rest[0] {
+            BSER_NULL => {
+                self.pass(&rest[1..]);
                 true
             }
-            None => false,
+            BSER_SKIP if self.inner.form == Form::Row => {
+                self.pass(&rest[1..]);
+                true
+            }
+            _ => false,
         }
     }
 
-    /// A place to come back to, before the value that is read next.
-    pub(crate) fn place(&self) -> Rewind {
-        Rewind {
-            at: self.at,
-            due: self.due,
-            open: self.open,
-            outer: self.outer.len(),
-            keys: self.keys.len(),
+    /// Reads an integer.
+    #[inline(always)]
+    pub(crate) fn integer(&mut self) -> Result<i64, StepError>
+        ensures { Steps self.old self.new }
+    {
+        if self.inner.left == 0 {
+            return Err(StepError::Integer);
+        }
+        match integer_at(self.rest) {
+            Some(Number { value, rest }) => {
+                self.pass(rest);
+                Ok(value)
+            }
+            None => Err(StepError::Integer),
         }
     }
 
-    /// Goes back there. What was open there still is, and nothing was read last.
-    pub(crate) fn go_back(&mut self, mark: Rewind) {
-        self.at = mark.at;
-        self.last = mark.at;
-        self.due = mark.due;
-        self.open = mark.open;
-        self.outer.truncate(mark.outer);
-        self.keys.truncate(mark.keys);
+    /// Reads a real or an integer.
+    #[inline(never)]
+    pub(crate) fn real(&mut self) -> Result<ReadReal, StepError>
+        ensures { Steps self.old self.new }
+    {
+        let rest = self.rest;
+        if self.inner.left == 0 {
+            return Err(StepError::Real);
+        }
+        match token_prefix(rest) {
+            Prefix::Found { value: token, len } => match token {
+                Token::Real(bits) => {
+                    self.pass(&rest[len..]);
+                    Ok(ReadReal::Bits(bits))
+                }
+                Token::Int(number) => {
+                    self.pass(&rest[len..]);
+                    Ok(ReadReal::Integer(number))
+                }
+                _ => Err(StepError::Real),
+            },
+            _ => Err(StepError::Real),
+        }
     }
+
+    /// Reads the key that is to be read as a value.
+    #[cold]
+    #[inline(never)]
+    fn key_due(&mut self) -> Result<Key<'m>, StepError>
+        requires { self.old.inner.left ≡ 0 }
+        ensures { Steps self.old self.new }
+    {
+        if self.inner.held == 0 {
+            return Err(StepError::Text);
+        }
+        self.inner.left = self.inner.held;
+        self.inner.held = 0;
+        Ok(self.key)
+    }
+
+    /// Reads a string or a key, as a text.
+    #[inline(always)]
+    pub(crate) fn text(&mut self) -> Result<&'m str, StepError>
+        ensures { Steps self.old self.new }
+    {
+        if self.inner.left == 0 {
+            return Ok(self.key_due()?.text);
+        }
+        let Some(Str { string, rest, .. }) = string_at(self.rest) else {
+            return Err(StepError::Text);
+        };
+        let Some(text) = as_text(string) else {
+            return Err(StepError::NotUtf8);
+        };
+        self.pass(rest);
+        Ok(text)
+    }
+
+    /// Reads a string or a key. That of a text is UTF-8.
+    #[inline(always)]
+    pub(crate) fn string(&mut self) -> Result<&'m [u8], StepError>
+        ensures { Steps self.old self.new }
+    {
+        if self.inner.left == 0 {
+            return Ok(self.key_due()?.text.as_bytes());
+        }
+        let Some(
+            Str {
+                is_text,
+                string,
+                rest,
+            },
+        ) = string_at(self.rest)
+        else {
+            return Err(StepError::Text);
+        };
+        if !may_be(string, is_text) {
+            return Err(StepError::NotUtf8);
+        }
+        self.pass(rest);
+        Ok(string)
+    }
+
+    /// The same, as where it stands.
+    #[inline(always)]
+    pub(crate) fn span(&mut self) -> Result<Span, StepError>
+        ensures { Steps self.old self.new }
+    {
+        if self.inner.left == 0 {
+            let Key { text, behind } = self.key_due()?;
+            return Ok(Span {
+                len: text.len(),
+                behind,
+            });
+        }
+        let len = self.string()?.len();
+        Ok(Span {
+            len,
+            behind: self.rest.len(),
+        })
+    }
+}
+
+/// Whether the string is UTF-8, where it is a text.
+#[inline(always)]
+fn may_be(string: &[u8], is_text: bool) -> bool
+    ensures { result ≡ true → is_text ≡ true → IsUtf8 string.now }
+{
+    if is_text {
+        return as_text(string).is_some();
+    }
+    true
 }
