@@ -22,7 +22,10 @@ pub fn compare_printed(rt: &HostRuntime, files: &[&str]) -> Result<()> {
         };
         printed.add(rt, format_args!("{file}"), mismatch)?;
     }
-    println!(rt; "{} files printed, {} of them wrong", printed.cases, printed.wrong)?;
+    println!(rt;
+        "{} files printed, {} of them wrong",
+        printed.cases, printed.wrong
+    )?;
     Ok(())
 }
 
@@ -95,7 +98,7 @@ impl Compared {
         let number = mem::replace(&mut self.number, Vec::new(self.alloc));
         let text = str::from_utf8(&number)?;
         match text.parse::<f64>() {
-            Ok(real) if text.contains(['.', 'e', 'E']) => {
+            Ok(real) if !real.is_nan() && text.contains(['.', 'e', 'E']) => {
                 let bits = format!(in self.alloc; "{:016x}", real.to_bits())?;
                 self.text.extend_from_slice(bits.as_bytes())?;
             }
