@@ -1,12 +1,12 @@
 //! Messages written again.
 
+use crate::kept::ShowDocument;
 use bser_document::document::Document;
 use bser_format::errors::Error;
-use bser_messages::limits::Limits;
 use bser_ser::message::serialize_to;
-use bser_source::device::{Source, Watched};
+use bser_source::device::Watched;
 use bser_value::compact::serialize_compact;
-use bser_views::messages::{View, ViewError};
+use bser_views::messages::ViewError;
 use std::alloc::Global;
 use std::io::Write;
 
@@ -16,25 +16,21 @@ pub(crate) struct Canon {
     pub(crate) is_compact: bool,
 }
 
-impl View for Canon {
-    fn show_next<S: Source, W: Write>(
-        &mut self,
+impl ShowDocument for Canon {
+    fn show<W: Write>(
+        &self,
         alloc: Global,
-        _start: u64,
-        reader: &mut S,
+        document: &Document,
         out: &mut W,
-    ) -> Result<bool, ViewError> {
-        let Some(document) = Document::next_message(alloc, Limits::new(), reader)? else {
-            return Ok(false);
-        };
+    ) -> Result<(), ViewError> {
         let mut sink = Watched::new(out);
         let written = if self.is_compact {
             serialize_compact(alloc, &mut sink, &document.to_value(alloc)?)
         } else {
-            serialize_to(alloc, &mut sink, &document)
+            serialize_to(alloc, &mut sink, document)
         };
         match written {
-            Ok(()) => Ok(true),
+            Ok(()) => Ok(()),
             Err(Error::Io(fault)) => Err(ViewError::Output(fault)),
             Err(error) => Err(ViewError::Unwritten(error)),
         }

@@ -3,6 +3,7 @@
 
 mod canon;
 mod command;
+mod kept;
 mod lines;
 mod order;
 mod pointer;

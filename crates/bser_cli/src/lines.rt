@@ -1,12 +1,11 @@
 //! Messages shown as JSON.
 
+use crate::kept::ShowDocument;
 use bser_document::document::Document;
 use bser_document::item::Item;
 use bser_json::printing::Layout;
 use bser_json::writing::write_json;
-use bser_messages::limits::Limits;
-use bser_source::device::Source;
-use bser_views::messages::{View, ViewError};
+use bser_views::messages::ViewError;
 use std::alloc::Global;
 use std::io::Write;
 
@@ -17,21 +16,14 @@ pub struct Json {
     pub layout: Layout,
 }
 
-impl View for Json {
-    fn show_next<S: Source, W: Write>(
-        &mut self,
+impl ShowDocument for Json {
+    fn show<W: Write>(
+        &self,
         alloc: Global,
-        _start: u64,
-        reader: &mut S,
+        document: &Document,
         out: &mut W,
-    ) -> Result<bool, ViewError> {
-        match Document::next_message(alloc, Limits::new(), reader)? {
-            Some(document) => {
-                put_line(alloc, document.root(), self.layout, out)?;
-                Ok(true)
-            }
-            None => Ok(false),
-        }
+    ) -> Result<(), ViewError> {
+        put_line(alloc, document.root(), self.layout, out)
     }
 }
 

@@ -2,14 +2,13 @@
 ghost use Rattle.std.specs.Prelude.{◌≡◌, is_some};
 ghost use Rattle.bser_document.specs.Pointer.{tokens};
 
+use crate::kept::ShowDocument;
 use bser_document::document::Document;
 use bser_document::item::Item;
 use bser_json::printing::Layout;
 use bser_json::writing::write_json;
-use bser_messages::limits::Limits;
-use bser_source::device::Source;
 use bser_views::lack::Lack;
-use bser_views::messages::{View, ViewError};
+use bser_views::messages::ViewError;
 use std::alloc::Global;
 use std::io::Write;
 
@@ -40,28 +39,23 @@ pub struct Get<'a> {
     pub layout: Layout,
 }
 
-impl View for Get<'_> {
-    fn show_next<S: Source, W: Write>(
-        &mut self,
+impl ShowDocument for Get<'_> {
+    fn show<W: Write>(
+        &self,
         alloc: Global,
-        _start: u64,
-        reader: &mut S,
+        document: &Document,
         out: &mut W,
-    ) -> Result<bool, ViewError> {
-        let Some(document) = Document::next_message(alloc, Limits::new(), reader)? else {
-            return Ok(false);
-        };
+    ) -> Result<(), ViewError> {
         match self.each {
             Some(each) => {
                 let container = value_at(document.root(), each)?;
-                self.put_each(alloc, container, out)?;
+                self.put_each(alloc, container, out)
             }
             None => {
                 let value = value_at(document.root(), self.pointer)?;
-                self.put(alloc, value, out)?;
+                self.put(alloc, value, out)
             }
         }
-        Ok(true)
     }
 }
 

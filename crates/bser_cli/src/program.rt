@@ -2,6 +2,7 @@
 
 use crate::canon::Canon;
 use crate::command::command;
+use crate::kept::KeptView;
 use crate::order::{Task, order_of};
 use bser_format::errors::Error as MessageError;
 use bser_from_json::texts::{TextError, Writing, write_messages};
@@ -92,12 +93,12 @@ impl<F: Files> Bser<'_, F> {
     ) -> io::Result<bool> {
         match task {
             Task::Show(mut view) => self.show_all(inputs, &mut view, streams),
-            Task::Json(mut view) => self.show_all(inputs, &mut view, streams),
+            Task::Json(json) => self.show_all(inputs, &mut KeptView::new(json), streams),
             Task::Summary => self.show_all(inputs, &mut Summary, streams),
-            Task::Get(mut view) => self.show_all(inputs, &mut view, streams),
+            Task::Get(get) => self.show_all(inputs, &mut KeptView::new(get), streams),
             Task::Canon { is_compact } => {
-                let mut view = Canon { is_compact };
-                self.show_all(inputs, &mut view, streams)
+                let canon = Canon { is_compact };
+                self.show_all(inputs, &mut KeptView::new(canon), streams)
             }
             Task::FromJson(writing) => self.write_all(inputs, writing, streams),
         }

@@ -25,12 +25,25 @@ pub struct DocumentBuilder {
 const NO_NODE: usize = usize::MAX;
 
 impl DocumentBuilder {
-    /// Begins with nothing read.
-    pub fn new(alloc: Global) -> Self
+    /// Begins with nothing read, in the memory that the nodes of this document have, if there is one.
+    /// The bytes of its strings are given back, since a long string is taken in memory of its own.
+    pub fn new(alloc: Global, before: Option<Document>) -> Self
         ensures { Views result [] }
     {
+        let Some(document) = before else {
+            return DocumentBuilder {
+                nodes: Vec::new(alloc),
+                strings: Vec::new(alloc),
+                innermost: NO_NODE,
+            };
+        };
+        let Document {
+            mut nodes,
+            strings: _,
+        } = document;
+        nodes.clear();
         DocumentBuilder {
-            nodes: Vec::new(alloc),
+            nodes,
             strings: Vec::new(alloc),
             innermost: NO_NODE,
         }

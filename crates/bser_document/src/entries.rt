@@ -1,10 +1,10 @@
 //! The entries of an object, one after the other, and the value at a key.
-ghost use Rattle.std.specs.Prelude.{◌≡◌, ℕ, List, length, Option, None, cond};
+ghost use Rattle.std.specs.Prelude.{◌≡◌, ℕ, List, length, Option, None, Some, cond};
 ghost use Rattle.bser_format.specs.SameTree.{same_bytes};
 ghost use Rattle.bser_format.specs.Tree.{Tree};
 ghost use Rattle.bser_value.specs.Contents.{as_object, get};
 ghost use Rattle.bser_document.specs.Holds.{HoldsItem};
-ghost use Rattle.bser_document.specs.Pairs.{HoldsEntries, FindsEntries, FindsItem, IsKeyAt, last_from, picked};
+ghost use Rattle.bser_document.specs.Pairs.{HoldsEntries, FindsEntries, FindsItem, IsKeyAt, last_from};
 
 use crate::document::{Document, DocumentNode};
 use crate::item::Item;
@@ -90,7 +90,7 @@ impl<'d> Entries<'d> {
         let mut found = None;
         for _ in 0..self.left {
             match rest.next() {
-                Some(entry) => found = pick(found, entry, key),
+                Some(entry) => found = pick(found, entry, entry.key == key),
                 None => return found,
             }
         }
@@ -148,14 +148,14 @@ impl Document {
     }
 }
 
-/// The entry's value where it has the key, and else what was found before.
+/// The entry's value where it is wanted, and else what was found before.
 #[inline(always)]
-fn pick<'d>(found: Option<Item<'d>>, entry: Entry<'d>, key: &str) -> Option<Item<'d>>
-    ensures { result ≡ picked key.now found.entry entry.entry }
+pub(crate) fn pick<'d>(
+    found: Option<Item<'d>>,
+    entry: Entry<'d>,
+    is_wanted: bool,
+) -> Option<Item<'d>>
+    ensures { result ≡ cond is_wanted (Some entry.entry.value) found.entry }
 {
-    if entry.key == key {
-        Some(entry.value)
-    } else {
-        found
-    }
+    if is_wanted { Some(entry.value) } else { found }
 }

@@ -35,7 +35,7 @@ impl Document {
         ensures place { IfErr result HasPlace }
         ensures given { IfErr result (λ e. e.given ≡ length bytes.now) }
     {
-        let mut builder = DocumentBuilder::new(alloc);
+        let mut builder = DocumentBuilder::new(alloc, None);
         match telling::from_slice(alloc, limits, bytes, &mut builder) {
             Ok(_header) => Ok(builder.into_document()),
             Err(untold) => Err(untold),
@@ -63,7 +63,31 @@ impl Document {
         ensures late { IfErr result StopsLate }
         ensures place { IfErr result HasPlace }
     {
-        let mut builder = DocumentBuilder::new(alloc);
+        Document::next_message_in(alloc, None, limits, reader)
+    }
+
+    /// Keeps the reader's next message as [`next_message`](Document::next_message) does, in the
+    /// memory of a document that is no longer wanted.
+    ///
+    /// So of messages that follow each other one takes new memory for its nodes only where it has
+    /// more than those before it. After an error, and where no byte is left, the memory is given back.
+    pub fn next_message_in<S: Source>(
+        alloc: Global,
+        before: Option<Document>,
+        limits: Limits,
+        reader: &mut S,
+    ) -> Result<Option<Document>, TellError>
+        requires { limits.levels ≤ MOST_LEVELS }
+        ensures found { IfOk result
+            (IsNextKept limits (S.remaining reader.old) (S.remaining reader.new)) }
+        ensures kept { OnOk result (Same S.failures reader.old reader.new) }
+        ensures failed { IfErr result (λ e.
+            NextUntold limits false S.Source reader.old reader.new e.reason) }
+        ensures header { IfErr result (KnowsHeader (S.remaining reader.old)) }
+        ensures late { IfErr result StopsLate }
+        ensures place { IfErr result HasPlace }
+    {
+        let mut builder = DocumentBuilder::new(alloc, before);
         match telling::next_message(alloc, limits, reader, &mut builder) {
             Ok(Some(_header)) => Ok(Some(builder.into_document())),
             Ok(None) => Ok(None),

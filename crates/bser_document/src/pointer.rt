@@ -3,10 +3,10 @@ ghost use Rattle.std.specs.Prelude.{◌≡◌, ℕ, List, None, Some, option_and
 ghost use Rattle.bser_format.specs.SameTree.{same_bytes};
 ghost use Rattle.bser_format.specs.Tree.{Tree};
 ghost use Rattle.bser_document.specs.Holds.{HoldsItem};
-ghost use Rattle.bser_document.specs.Pairs.{HoldsEntries, FindsItem, last_from, picked};
+ghost use Rattle.bser_document.specs.Pairs.{HoldsEntries, FindsItem, last_from};
 ghost use Rattle.bser_document.specs.Pointer.{pointed, descendant, between_slashes, child, item_there, token_text, BeginsText, is_plain, ReadsIndex};
 
-use crate::entries::{Entries, Entry};
+use crate::entries::{Entries, pick};
 use crate::item::Item;
 
 impl<'d> Item<'d> {
@@ -74,21 +74,13 @@ impl<'d> Entries<'d> {
         let mut found = None;
         for _ in 0..self.len() {
             match rest.next() {
-                Some(entry) => found = pick(found, entry, token),
+                Some(entry) => {
+                    let is_named = is_text_of(token.as_bytes(), entry.key.as_bytes());
+                    found = pick(found, entry, is_named);
+                }
                 None => return found,
             }
         }
-        found
-    }
-}
-
-/// The entry's value where its key is the token's text, and else what was found before.
-fn pick<'d>(found: Option<Item<'d>>, entry: Entry<'d>, token: &str) -> Option<Item<'d>>
-    ensures { result ≡ picked (token_text token.now) found.entry entry.entry }
-{
-    if is_text_of(token.as_bytes(), entry.key.as_bytes()) {
-        Some(entry.value)
-    } else {
         found
     }
 }

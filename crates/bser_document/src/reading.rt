@@ -25,7 +25,7 @@ impl Document {
         ensures found { IfOk result (ReadsDocument from.old from.new) }
         ensures refused { OnErr result (RefusesAs asking_value owned from.old from.new) }
     {
-        let mut builder = DocumentBuilder::new(alloc);
+        let mut builder = DocumentBuilder::new(alloc, None);
         from.read_any(&mut builder)?;
         Ok(builder.into_document())
     }

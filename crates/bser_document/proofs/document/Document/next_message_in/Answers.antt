@@ -1,7 +1,7 @@
 -- The message that was told is kept.
 use Rattle.std.proofs.Common.{rules}
 use Rattle.bser_document.proofs.Messages.{message_told, next_kept, next_told}
-use Rattle.bser_document.proofs.document.Document.next_message.Goals as goal
+use Rattle.bser_document.proofs.document.Document.next_message_in.Goals as goal
 
 pub into_document-requires : goal.into_document-requires
 into_document-requires g c =
