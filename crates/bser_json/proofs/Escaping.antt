@@ -92,9 +92,8 @@ mark_stays (Some c) = by (c == 0x24)
 
 pub strings_alike : StringsAlike
 strings_alike s u =
-    let same = escaped s u in
-    (
+    let same = escaped s u in (
       ap (λ l. 34 ∷ (l ++ 34 ∷ [])) same,
       ap (λ l. (34 ∷ (l ++ 34 ∷ [])) ++ 58 ∷ []) (escape-append (key_mark s) s ∙ ap₂ (λ (a b : List ℕ). a ++ b) (mark_stays (slice_get s 0)) same)
-      ∙ grind (arith, append_assoc)
+          ∙ grind (arith, append_assoc),
     )

@@ -32,7 +32,10 @@ fn main(rt: HostRuntime) -> Result<()> {
     print_session(&rt)?;
     compare_messages(&rt, "messages.tsv")?;
     compare_messages(&rt, "wrong-messages.tsv")?;
-    compare_printed(&rt, &["reals.bser", "dollar.bser", "odd-names.bser", "nul.bser"])?;
+    compare_printed(
+        &rt,
+        &["reals.bser", "dollar.bser", "odd-names.bser", "nul.bser"],
+    )?;
     compare_refusals(&rt, "refused.tsv")?;
     compare_refusals(&rt, "wrong-refused.tsv")?;
     compare_frames(&rt, "refused.tsv")?;

@@ -1,6 +1,7 @@
-//! Tests of writing and of values, of what no contract says: printed texts of values, byte strings,
-//! tags and errors, the faults of writers and what they leave, how often a reader is called, refused
-//! memory, and each type that is written once.
+//! Tests of reading, of writing and of values, of what no contract says: how often a reader is
+//! called and what it keeps, its faults and those of writers and what these leave, refused memory,
+//! places and printed texts. First of the byte sources, then of what is read over a window, of the
+//! calls that read a message's parts, and of each type that is read or written.
 #![tactic(auto)]
 
 #[cfg(test)]
