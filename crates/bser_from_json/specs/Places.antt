@@ -53,19 +53,42 @@ token_place text n = place_from (record { inside = Nothing; last = 44; left = n 
 
 -- ---- why no token begins here
 
--- `u` and the digits of a surrogate
-abbrev pub begins_surrogate : List ℕ → Bool
-begins_surrogate (u ∷ d ∷ x ∷ xs) = (u == 117) && (((d == 100) || (d == 68)) && (((x == 56) || (x == 57)) || ((nat_le 97 x && nat_le x 102) || (nat_le 65 x && nat_le x 70))))
-begins_surrogate _ = false
+-- `u`, and two digits, the second of which is such a one
+abbrev pub begins_escape : (ℕ → Bool) → List ℕ → Bool
+begins_escape is (u ∷ d ∷ x ∷ xs) = (u == 117) && (((d == 100) || (d == 68)) && is x)
+begins_escape is _ = false
 
--- why what stands behind a quote is no string; behind a backslash, or not
-abbrev pub string_fault : Bool → List ℕ → JsonFault
-string_fault escaped [] = faults.EndsEarly
-string_fault escaped (x ∷ xs) =
-    if escaped && begins_surrogate (x ∷ xs) then faults.LoneSurrogate
+-- the second digit of the first half of a pair of surrogates, and of the second half
+abbrev pub is_high : ℕ → Bool
+is_high x = ((x == 56) || (x == 57)) || (((x == 97) || (x == 98)) || ((x == 65) || (x == 66)))
+
+abbrev pub is_low : ℕ → Bool
+is_low x = (nat_le 99 x && nat_le x 102) || (nat_le 67 x && nat_le x 70)
+
+-- behind a backslash: the first half of a pair, or the second, or both
+abbrev pub begins_high : List ℕ → Bool
+begins_high = begins_escape is_high
+
+abbrev pub begins_low : List ℕ → Bool
+begins_low = begins_escape is_low
+
+abbrev pub begins_pair : List ℕ → Bool
+begins_pair (u ∷ d ∷ x ∷ y ∷ z ∷ s ∷ xs) = (s == 92) && (begins_high (u ∷ d ∷ x ∷ y ∷ z ∷ s ∷ xs) && begins_low xs)
+begins_pair _ = false
+
+-- a half of a pair without the other, where the first half of one was before it or not
+abbrev pub begins_lone : Bool → List ℕ → Bool
+begins_lone paired xs = (begins_high xs && not (begins_pair xs)) || (begins_low xs && not paired)
+
+-- why what stands behind a quote is no string; behind a backslash or not, behind the first half of
+-- a pair or not
+abbrev pub string_fault : Bool → Bool → List ℕ → JsonFault
+string_fault escaped paired [] = faults.EndsEarly
+string_fault escaped paired (x ∷ xs) =
+    if escaped && begins_lone paired (x ∷ xs) then faults.LoneSurrogate
     else if not escaped && (x == 34) then faults.NotJson
     else if not escaped && nat_lt x 32 then faults.ControlCharacter
-    else string_fault (not escaped && (x == 92)) xs
+    else string_fault (not escaped && (x == 92)) (if escaped then begins_high (x ∷ xs) else paired) xs
 
 abbrev pub is_word_of : List ℕ → List ℕ → Bool
 is_word_of w r = starts_with nat_eq r w
@@ -76,4 +99,4 @@ is_no_number r = is_word_of (codes "NaN") r || (is_word_of (codes "Infinity") r 
 
 abbrev pub first_fault : List ℕ → JsonFault
 first_fault [] = faults.EndsEarly
-first_fault (x ∷ xs) = if is_no_number (x ∷ xs) then faults.NotANumber else if x == 34 then string_fault false xs else faults.NotJson
+first_fault (x ∷ xs) = if is_no_number (x ∷ xs) then faults.NotANumber else if x == 34 then string_fault false false xs else faults.NotJson

@@ -2,7 +2,7 @@
 ghost use Rattle.std.specs.Prelude.{◌≡◌, ◌≤◌, count_by, length, false};
 ghost use Rattle.json.specs.Word.{is_space};
 ghost use Rattle.bser_from_json.specs.Lines.{behind_bytes, begins_character, place_in};
-ghost use Rattle.bser_from_json.specs.Places.{begins_surrogate, first_fault, string_fault};
+ghost use Rattle.bser_from_json.specs.Places.{begins_high, begins_lone, begins_low, begins_pair, first_fault, string_fault};
 
 use memchr::memchr;
 use std::alloc::AllocError;
@@ -159,12 +159,14 @@ pub(crate) fn fault_of(rest: &[u8]) -> JsonFault
 
 /// Why a string is none, of which this stands behind its first quote.
 fn string_fault(rest: &[u8]) -> JsonFault
-    ensures { result ≡ string_fault false rest.now }
+    ensures { result ≡ string_fault false false rest.now }
 {
     let mut rest = rest;
     let mut is_escaped = false;
+    // behind the first half of a pair of surrogates
+    let mut is_paired = false;
     'bytes: while let Some((byte, behind)) = rest.split_first() {
-        if is_escaped && begins_surrogate(rest) {
+        if is_escaped && begins_lone(is_paired, rest) {
             return JsonFault::LoneSurrogate;
         }
         if !is_escaped && *byte == b'"' {
@@ -173,23 +175,55 @@ fn string_fault(rest: &[u8]) -> JsonFault
         if !is_escaped && *byte < b' ' {
             return JsonFault::ControlCharacter;
         }
+        is_paired = if is_escaped {
+            begins_high(rest)
+        } else {
+            is_paired
+        };
         is_escaped = !is_escaped && *byte == b'\\';
         rest = behind;
     }
     JsonFault::EndsEarly
 }
 
-/// Whether these bytes, behind a backslash, are a surrogate's.
-fn begins_surrogate(bytes: &[u8]) -> bool
-    ensures { result ≡ begins_surrogate bytes.now }
+/// Whether these bytes, behind a backslash, are a half of a pair of surrogates without the other.
+fn begins_lone(is_paired: bool, bytes: &[u8]) -> bool
+    ensures { result ≡ begins_lone is_paired bytes.now }
+{
+    begins_high(bytes) && !begins_pair(bytes) || begins_low(bytes) && !is_paired
+}
+
+/// Whether these bytes, behind a backslash, are both halves of a pair of surrogates.
+fn begins_pair(bytes: &[u8]) -> bool
+    ensures { result ≡ begins_pair bytes.now }
+{
+    match bytes {
+        [_, _, _, _, _, b'\\', behind @ ..] => begins_high(bytes) && begins_low(behind),
+        _ => false,
+    }
+}
+
+/// Whether these bytes, behind a backslash, are the first half of a pair of surrogates.
+fn begins_high(bytes: &[u8]) -> bool
+    ensures { result ≡ begins_high bytes.now }
 {
     match bytes {
         [
             b'u',
             b'd' | b'D',
-            b'8' | b'9' | b'a'..=b'f' | b'A'..=b'F',
+            b'8' | b'9' | b'a' | b'b' | b'A' | b'B',
             ..
         ] => true,
+        _ => false,
+    }
+}
+
+/// Whether these bytes, behind a backslash, are the second half of a pair of surrogates.
+fn begins_low(bytes: &[u8]) -> bool
+    ensures { result ≡ begins_low bytes.now }
+{
+    match bytes {
+        [b'u', b'd' | b'D', b'c'..=b'f' | b'C'..=b'F', ..] => true,
         _ => false,
     }
 }

@@ -4,7 +4,7 @@ use Rattle.bser_from_json.specs.Places.{string_fault}
 use Rattle.bser_from_json.proofs.fault.string_fault.Given as goal
 
 abbrev pub invariant-bytes : goal.invariant-bytes
-invariant-bytes l = string_fault false l.fn.rest ≡ string_fault l.is_escaped l.rest
+invariant-bytes l = string_fault false false l.fn.rest ≡ string_fault l.is_escaped l.is_paired l.rest
 
 abbrev pub decreases-bytes : goal.decreases-bytes
 decreases-bytes l = length l.rest
