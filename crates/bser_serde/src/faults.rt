@@ -133,6 +133,8 @@ impl<'m> Named<'m> {
 impl<'m> Naming for Named<'m> {
     type Error = FormatError;
 
+    const TAKES_MAPS: bool = true;
+
     #[inline(always)]
     fn passed(&mut self, left: usize) {
         self.last = LastRead::Part(self.place(left));

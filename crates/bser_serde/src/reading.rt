@@ -15,7 +15,7 @@ use crate::wanted::{Lent, Owned, WantedValue};
 use bser_deserializer::deserializer::MOST_LEVELS;
 use bser_messages::path::{Spot, path_to};
 use bser_serde_format::kept::{KeptWalk, KnownBody};
-use bser_serde_format::naming::Unnamed;
+use bser_serde_format::naming::{Naming, Unnamed};
 use serde::{Deserialize, DeserializeOwned};
 use serde_bser::de::Ignored;
 use serde_bser::describe::{Path, Step};
@@ -165,6 +165,8 @@ pub fn from_reader_limited<S: Source, T: DeserializeOwned>(
 }
 
 /// Reads a value in one pass, where all of the message was gone past.
+///
+/// A type that reads maps is read again from the start, by a walk that takes them.
 #[inline(always)]
 fn value_of<W: WantedValue>(
     alloc: Global,
@@ -174,14 +176,31 @@ fn value_of<W: WantedValue>(
 ) -> Option<W::Value>
     ensures { IfSome result (λ _. IsFilled levels body.entry) }
 {
-    filled::<W, Brand>(alloc, wanted, body, levels)
+    if let Some(value) = filled::<W, Unnamed<false>, Brand>(alloc, &wanted, Unnamed, body, levels) {
+        return Some(value);
+    }
+    mapped(alloc, &wanted, body, levels)
 }
 
-/// The same, of a body that has a name.
-#[inline(always)]
-fn filled<W: WantedValue, K: KnownBody>(
+/// The same, of a type that reads maps.
+#[inline(never)]
+fn mapped<W: WantedValue>(
     alloc: Global,
-    wanted: W,
+    wanted: &W,
+    body: Headed<'_>,
+    levels: usize,
+) -> Option<W::Value>
+    ensures { IfSome result (λ _. IsFilled levels body.entry) }
+{
+    filled::<W, Unnamed<true>, Brand>(alloc, wanted, Unnamed, body, levels)
+}
+
+/// Reads a value of a body that has a name.
+#[inline(always)]
+fn filled<W: WantedValue, N: Naming, K: KnownBody>(
+    alloc: Global,
+    wanted: &W,
+    names: N,
     body: Headed<'_>,
     levels: usize,
 ) -> Option<W::Value>
@@ -189,7 +208,7 @@ fn filled<W: WantedValue, K: KnownBody>(
     requires levels { K.levels ≡ levels }
     ensures { IfSome result (λ _. IsFilled levels body.entry) }
 {
-    let mut kept: KeptWalk<'_, Unnamed, K> = KeptWalk::new(alloc, body.bytes, levels, Unnamed);
+    let mut kept: KeptWalk<'_, N, K> = KeptWalk::new(alloc, body.bytes, levels, names);
     let Ok(value) = wanted.read(alloc, &mut kept) else {
         return None;
     };

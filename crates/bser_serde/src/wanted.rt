@@ -5,11 +5,11 @@ use std::marker::PhantomData;
 
 /// What is wanted, and the bytes that it is read from. It has no lifetime in its name, so that a
 /// call over it may tell which bytes these are.
-pub(crate) trait WantedValue {
+pub(crate) trait WantedValue: Drop {
     type Value: Drop;
 
     /// Reads it by this format.
-    fn read<F: Format>(self, alloc: Global, format: &mut F) -> Result<Self::Value, F::Error>;
+    fn read<F: Format>(&self, alloc: Global, format: &mut F) -> Result<Self::Value, F::Error>;
 }
 
 /// A value that may borrow from the bytes.
@@ -48,7 +48,7 @@ impl<'de, T: Deserialize<'de>> WantedValue for Lent<'de, T> {
     type Value = T;
 
     #[inline(always)]
-    fn read<F: Format>(self, alloc: Global, format: &mut F) -> Result<T, F::Error> {
+    fn read<F: Format>(&self, alloc: Global, format: &mut F) -> Result<T, F::Error> {
         T::deserialize(alloc, &mut Deserializer::new(self.bytes, format))
     }
 }
@@ -57,7 +57,7 @@ impl<'b, T: DeserializeOwned> WantedValue for Owned<'b, T> {
     type Value = T;
 
     #[inline(always)]
-    fn read<F: Format>(self, alloc: Global, format: &mut F) -> Result<T, F::Error> {
+    fn read<F: Format>(&self, alloc: Global, format: &mut F) -> Result<T, F::Error> {
         T::deserialize_owned(alloc, &mut Deserializer::new(self.bytes, format))
     }
 }

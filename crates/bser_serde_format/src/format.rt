@@ -147,17 +147,24 @@ impl<'m, N: Naming, K: KnownBody> Format for KeptWalk<'m, N, K> {
         Ok(comes)
     }
 
+    /// Where no map is taken, nothing more is read, whatever place is gone back to.
     #[inline(always)]
-    fn begin_map(&mut self, _input: &[u8]) -> Result<(), N::Error> {
-        let before = self.walk.left();
-        let read = self.walk.object();
-        self.told(before, read)
+    fn begin_map(&mut self, input: &[u8]) -> Result<(), N::Error> {
+        if !N::TAKES_MAPS {
+            self.drop_mark(0);
+            self.walk.stop();
+            return Err(self.error(Wrong::Unheld));
+        }
+        self.begin_struct(input)?;
+        Ok(())
     }
 
     /// A struct is an object, and no array of its fields.
     #[inline(always)]
-    fn begin_struct(&mut self, input: &[u8]) -> Result<bool, N::Error> {
-        self.begin_map(input)?;
+    fn begin_struct(&mut self, _input: &[u8]) -> Result<bool, N::Error> {
+        let before = self.walk.left();
+        let read = self.walk.object();
+        self.told(before, read)?;
         Ok(false)
     }
 

@@ -25,6 +25,10 @@ pub enum Wrong<'n> {
 pub trait Naming: Drop {
     type Error: Drop;
 
+    /// Whether maps are read, and objects that several structs share. Where none are, LLVM leaves
+    /// out what the kit's derives keep for the sharing.
+    const TAKES_MAPS: bool;
+
     /// Something was read that so many bytes began before.
     fn passed(&mut self, left: usize);
 
@@ -40,10 +44,12 @@ pub trait Naming: Drop {
 
 /// Errors of one byte, which name nothing.
 #[derive(Drop)]
-pub struct Unnamed;
+pub struct Unnamed<const MAPS: bool>;
 
-impl Naming for Unnamed {
+impl<const MAPS: bool> Naming for Unnamed<MAPS> {
     type Error = StepError;
+
+    const TAKES_MAPS: bool = MAPS;
 
     #[inline(always)]
     fn passed(&mut self, _left: usize) {}

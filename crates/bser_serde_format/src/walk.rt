@@ -275,19 +275,19 @@ impl<'m> Walk<'m> {
         }
     }
 
-    /// Reads the key that is to be read as a value.
+    /// Goes past the key that is to be read as a value, if one is.
     #[cold]
     #[inline(never)]
-    fn key_due(&mut self) -> Result<Key<'m>, StepError>
+    fn key_due(&mut self) -> bool
         requires { self.old.inner.left ≡ 0 }
         ensures { Steps self.old self.new }
     {
         if self.inner.held == 0 {
-            return Err(StepError::Text);
+            return false;
         }
         self.inner.left = self.inner.held;
         self.inner.held = 0;
-        Ok(self.key)
+        true
     }
 
     /// Reads a string or a key, as a text.
@@ -296,7 +296,10 @@ impl<'m> Walk<'m> {
         ensures { Steps self.old self.new }
     {
         if self.inner.left == 0 {
-            return Ok(self.key_due()?.text);
+            if !self.key_due() {
+                return Err(StepError::Text);
+            }
+            return Ok(self.key.text);
         }
         let Some(Str { string, rest, .. }) = string_at(self.rest) else {
             return Err(StepError::Text);
@@ -314,7 +317,10 @@ impl<'m> Walk<'m> {
         ensures { Steps self.old self.new }
     {
         if self.inner.left == 0 {
-            return Ok(self.key_due()?.text.as_bytes());
+            if !self.key_due() {
+                return Err(StepError::Text);
+            }
+            return Ok(self.key.text.as_bytes());
         }
         let Some(
             Str {
@@ -339,7 +345,10 @@ impl<'m> Walk<'m> {
         ensures { Steps self.old self.new }
     {
         if self.inner.left == 0 {
-            let Key { text, behind } = self.key_due()?;
+            if !self.key_due() {
+                return Err(StepError::Text);
+            }
+            let Key { text, behind } = self.key;
             return Ok(Span {
                 len: text.len(),
                 behind,
