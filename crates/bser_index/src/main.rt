@@ -5,9 +5,10 @@
 //! used, or 2 for unknown arguments.
 #![tactic(auto)]
 
-use bser_index_cli::standard::run_process;
+use bser_index_cli::program::BserIndex;
+use bser_shell::standard::run_process;
 use std::process::ExitCode;
 
 fn main(rt: HostRuntime) -> ExitCode {
-    run_process(rt)
+    run_process(&rt, &BserIndex::new(&rt))
 }

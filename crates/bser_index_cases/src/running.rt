@@ -1,7 +1,10 @@
 //! The program, run in memory.
 
 use anyhow::Result;
-use bser_index_cli::program::run_index;
+use bser_index_cli::program::BserIndex;
+use bser_shell::program::run_program;
+use bser_shell::screen::Terminals;
+use bser_shell::streams::GivenStreams;
 use bser_vectors::commands::{CommandLine, CommandRun};
 use bser_vectors::devices::{Plan, PlannedWriter};
 
@@ -22,7 +25,13 @@ pub fn run_words(rt: &HostRuntime, words: &str, input: &[u8], plan: Plan) -> Res
     let mut left = input;
     let mut output = PlannedWriter::new(rt.alloc(), plan);
     let mut errors = Vec::new(rt.alloc());
-    let status = run_index(rt, &all, &mut left, &mut output, &mut errors);
+    let given = GivenStreams {
+        input: &mut left,
+        output: &mut output,
+        errors: &mut errors,
+        terminals: Terminals::NONE,
+    };
+    let status = run_program(rt.alloc(), &BserIndex::new(rt), &all, given);
     Ok(CommandRun {
         status,
         output: output.taken,

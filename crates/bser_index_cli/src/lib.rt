@@ -7,5 +7,5 @@ mod printing;
 pub mod program;
 mod questions;
 mod request;
-pub mod standard;
+mod verifying;
 mod wish;

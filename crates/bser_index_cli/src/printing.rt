@@ -49,6 +49,10 @@ impl<'w, W: Write> Printer<'w, W> {
 }
 
 impl<W: Write> Visitor for Printer<'_, W> {
+    ghost visits = { λ _ _ _. Unit {0} };
+
+    ghost halts = { λ _. Unit {0} };
+
     fn visit(&mut self, record: Record) -> Result<(), IndexError> {
         match self.form {
             RecordForm::Lines => print_line(self.out, &record)?,

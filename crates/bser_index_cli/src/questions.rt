@@ -1,7 +1,7 @@
 //! Answers what an index is asked.
 
 use crate::printing::{Printer, RecordForm, print_clock};
-use crate::request::{Asked, print_request};
+use crate::request::{Asked, print_request, request_of};
 use sqlite::{Alter, Connection, params};
 use std::alloc::Global;
 use std::io::Write;
@@ -37,7 +37,8 @@ pub(crate) fn print_next_request<S: Alter, W: Write>(
         return Err(IndexError::NoSubject);
     };
     let Stored { origin, clock, .. } = read_stored(conn)?;
-    print_request(alloc, &subject, asked, &origin.subscription, clock, out)
+    let request = request_of(alloc, &subject, asked, &origin.subscription, clock)?;
+    print_request(alloc, asked, &request, out)
 }
 
 /// Prints what changed after a clock; for an unknown clock all files that exist. Before them are the
@@ -82,8 +83,7 @@ pub(crate) fn print_list<S: Alter, W: Write>(
         Which::Present => visit_all(conn, PRESENT, params![], &mut printer),
         Which::All => visit_all(conn, FILES, params![], &mut printer),
         Which::Suffix(suffix) => {
-            let mut lower = Vec::from_slice(alloc, suffix.as_bytes())?;
-            lower.make_ascii_lowercase();
+            let lower = suffix.as_bytes().to_ascii_lowercase(alloc)?;
             visit_all(conn, SUFFIX, params![&lower], &mut printer)
         }
     }

@@ -25,15 +25,14 @@ pub(crate) enum Asked<'a> {
     Subscription(Option<&'a str>),
 }
 
-/// Prints a request for what changed since a clock. Without a clock it asks for all files.
-pub(crate) fn print_request<W: Write>(
+/// A request for what changed since a clock. Without a clock it asks for all files.
+pub(crate) fn request_of(
     alloc: Global,
     subject: &Subject,
     asked: Asked<'_>,
     subscribed: &Option<ByteString>,
     since: Option<ByteString>,
-    out: &mut W,
-) -> Result<(), IndexError> {
+) -> Result<Value, IndexError> {
     let options = options_of(alloc, subject, since)?;
     let mut items = Vec::new(alloc);
     items.push(Value::from_text(alloc, command_of(asked))?)?;
@@ -42,7 +41,7 @@ pub(crate) fn print_request<W: Write>(
         items.push(subscription_of(alloc, name, subscribed)?)?;
     }
     items.push(Value::Object(options))?;
-    put_request(alloc, asked, &Value::Array(items), out)
+    Ok(Value::Array(items))
 }
 
 /// The server's command.
@@ -113,7 +112,7 @@ pub(crate) fn expression_of(alloc: Global, text: &str) -> Result<Value, IndexErr
 }
 
 /// Prints a request in the form that is asked for.
-fn put_request<W: Write>(
+pub(crate) fn print_request<W: Write>(
     alloc: Global,
     asked: Asked<'_>,
     request: &Value,

@@ -1,8 +1,10 @@
 //! Adds what messages tell to an index, each message in a transaction.
+ghost use Rattle.std.specs.Prelude.{◌≡◌, ◌+◌, ◌≤◌, ◌^◌, ◌-◌, IfOk, IfErr};
 
 use crate::conditions::{Conditions, is_told_by};
 use crate::connection::{has_tables, make_tables, read_stored};
 use crate::error::IndexError;
+use crate::record::lower_suffix;
 use crate::schema::{CLOCK, FORGET, PUT, SOURCE};
 use crate::subject::{Subject, read_subject};
 use serde_bser::bytestring::ByteString;
@@ -13,7 +15,6 @@ use watchman_index::changes::Changes;
 use watchman_index::listing::Listing;
 use watchman_index::origin::Origin;
 use watchman_index::row::FileState;
-use watchman_index::suffix::suffix_of;
 
 /// The statements that write an index.
 #[derive(Drop)]
@@ -89,14 +90,12 @@ impl<S: Alter> Adder<'_, S> {
         self.conditions.check(&self.subject, last, &changes)?;
         let number = next_number(self.messages)?;
         let listing = Listing::of(changes.is_fresh_instance, last, &changes.clock);
-        add_message(
-            self.alloc,
-            self.conn,
-            &self.statements,
+        let putting = Putting {
+            by: &self.statements,
             number,
             listing,
-            &changes,
-        )?;
+        };
+        add_message(self.alloc, self.conn, putting, &changes)?;
         self.messages = number;
         self.last_clock = Some(changes.clock);
         self.origin.learn(changes.root, changes.subscription);
@@ -127,7 +126,10 @@ impl<S: Alter> Adder<'_, S> {
 }
 
 /// The number of the message behind that of this number.
-fn next_number(number: u64) -> Result<u64, IndexError> {
+pub(crate) fn next_number(number: u64) -> Result<u64, IndexError>
+    ensures ok { IfOk result (λ next. next ≡ number + 1) }
+    ensures err { IfErr result (λ e. (e ≡ IndexError.TooManyMessages) × (2 ^ 63 - 1 ≤ number)) }
+{
     if number < i64::MAX as u64 {
         Ok(number + 1)
     } else {
@@ -140,31 +142,31 @@ fn param(number: u64) -> i64 {
     i64::try_from(number).unwrap_or(i64::MAX)
 }
 
-/// Adds what the message of this number tells, all of it or nothing.
+/// How a message is put: by these statements, under its number, and as what it lists.
+#[derive(Clone, Copy)]
+struct Putting<'s> {
+    by: &'s Statements,
+    number: u64,
+    listing: Listing,
+}
+
+/// Adds what a message tells, all of it or nothing.
 fn add_message<S: Alter>(
     alloc: Global,
     conn: &mut Connection<S>,
-    with: &Statements,
-    number: u64,
-    listing: Listing,
+    putting: Putting<'_>,
     changes: &Changes,
 ) -> Result<(), IndexError> {
     if !conn.is_autocommit() {
         return Err(IndexError::NoIndex);
     }
     let mut transaction = conn.transaction();
-    put_files(
-        alloc,
-        &mut transaction,
-        with,
-        number,
-        listing,
-        &changes.files,
-    )?;
-    if listing.is_of_all() {
-        transaction.execute_prepared(&with.forget, params![param(number)])?;
+    put_files(alloc, &mut transaction, putting, &changes.files)?;
+    if putting.listing.is_of_all() {
+        let number = param(putting.number);
+        transaction.execute_prepared(&putting.by.forget, params![number])?;
     }
-    put_message(&mut transaction, with, number, changes)?;
+    put_message(&mut transaction, putting, changes)?;
     transaction.commit()?;
     Ok(())
 }
@@ -173,21 +175,11 @@ fn add_message<S: Alter>(
 fn put_files<S: Alter>(
     alloc: Global,
     transaction: &mut Transaction<'_, S>,
-    with: &Statements,
-    number: u64,
-    listing: Listing,
+    putting: Putting<'_>,
     files: &BTreeMap<ByteString, FileState>,
 ) -> Result<(), IndexError> {
     for (name, state) in files {
-        put_file(
-            alloc,
-            transaction,
-            with,
-            number,
-            listing,
-            name.as_bytes(),
-            *state,
-        )?;
+        put_file(alloc, transaction, putting, name.as_bytes(), *state)?;
     }
     Ok(())
 }
@@ -196,16 +188,14 @@ fn put_files<S: Alter>(
 fn put_file<S: Alter>(
     alloc: Global,
     transaction: &mut Transaction<'_, S>,
-    with: &Statements,
-    number: u64,
-    listing: Listing,
+    putting: Putting<'_>,
     name: &[u8],
     state: FileState,
 ) -> Result<(), IndexError> {
     let suffix = lower_suffix(alloc, name)?;
     let kind = state.kind.map(|kind| kind.word());
     transaction.execute_prepared(
-        &with.put,
+        &putting.by.put,
         params![
             name,
             &suffix,
@@ -214,39 +204,24 @@ fn put_file<S: Alter>(
             state.mode,
             kind,
             state.mtime_ms,
-            param(number),
-            listing == Listing::AllAgain
+            param(putting.number),
+            putting.listing == Listing::AllAgain
         ],
     )?;
     Ok(())
 }
 
-/// The suffix of a name, with ASCII letters in lower case.
-pub(crate) fn lower_suffix(alloc: Global, name: &[u8]) -> Result<Option<Vec<u8>>, IndexError> {
-    match suffix_of(name) {
-        Some(suffix) => {
-            let mut lower = Vec::from_slice(alloc, suffix)?;
-            lower.make_ascii_lowercase();
-            Ok(Some(lower))
-        }
-        None => Ok(None),
-    }
-}
-
 /// Puts the clock and the origin of a message.
 fn put_message<S: Alter>(
     transaction: &mut Transaction<'_, S>,
-    with: &Statements,
-    number: u64,
+    putting: Putting<'_>,
     changes: &Changes,
 ) -> Result<(), IndexError> {
+    let (by, number) = (putting.by, param(putting.number));
     let clock = changes.clock.as_bytes();
     let root = changes.root.as_ref().map(|root| root.as_bytes());
     let subscription = changes.subscription.as_ref().map(|name| name.as_bytes());
-    transaction.execute_prepared(&with.clock, params![clock, param(number)])?;
-    transaction.execute_prepared(
-        &with.source,
-        params![param(number), root, subscription, clock],
-    )?;
+    transaction.execute_prepared(&by.clock, params![clock, number])?;
+    transaction.execute_prepared(&by.source, params![number, root, subscription, clock])?;
     Ok(())
 }

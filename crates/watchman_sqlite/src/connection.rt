@@ -1,12 +1,34 @@
 //! What an index is asked for.
+ghost use Rattle.std.specs.Prelude.{◌≡◌, ◌⊎◌, ◌^◌, ◌-◌, pos, min, [], ◌∷◌, List, Ok, IfOk};
+ghost use Rattle.std.specs.Prelude.{IfErr, IfSome, IfNone, OnOk, OnErr, IsTrue, MatchBool, map};
+ghost use Rattle.std.specs.Option.{option_copied};
+ghost use Rattle.sqlite.specs.Effect.{Database};
+ghost use Rattle.sqlite.specs.Given.{IsPlain};
+ghost use Rattle.sqlite.specs.Held.{state};
+ghost use Rattle.sqlite.specs.Listing.{understood};
+ghost use Rattle.sqlite.specs.Order.{Row as Values};
+ghost use Rattle.sqlite.specs.State.{HasCleanDisk, KeepsCommit, QueriesRow, Shown, Survives};
+ghost use Rattle.sqlite.specs.Values.{bound};
+ghost use Rattle.sqlite.specs.declared.types.Value.TheVariants.{Blob, Int};
+ghost use Rattle.watchman_sqlite.specs.Columns.{IsOfDatabase};
+ghost use Rattle.watchman_sqlite.specs.Errors.{IsOfMaking, IsOfTables};
+ghost use Rattle.watchman_sqlite.specs.Layouts.{AreNamed, HasOtherTables, HasOtherVersion, HasTables};
+ghost use Rattle.watchman_sqlite.specs.Layouts.{IsAsBefore, IsNamed, IsThisLayout, IsUnnamed};
+ghost use Rattle.watchman_sqlite.specs.Layouts.{MadeTables, OneIsUnnamed, PutTables, TellsVersion};
+ghost use Rattle.watchman_sqlite.specs.Questions.{IsNumberOf, IsStored};
+ghost use Rattle.watchman_sqlite.specs.Records.{IsUnreadAnswer, VisitedAnswer};
+ghost use Rattle.watchman_sqlite.specs.Subjects.{KeepsSubject};
 
 use crate::error::IndexError;
-use crate::record::{Record, Visitor};
-use crate::schema::{CHANGED, CREATE, KEEP_LAYOUT, LAYOUT, OLD_TABLES, PRESENT, TABLES};
+use crate::record::{Record, Visitor, bytes_at};
+use crate::schema::{
+    CHANGED, CREATE, KEEP_LAYOUT, LAYOUT, NAMES, NUMBER, OLD_TABLES, PRESENT, STORED, TABLES,
+    VERSION,
+};
 use crate::subject::{CREATE_SUBJECT, Subject, write_subject};
 use serde_bser::bytestring::ByteString;
 use sqlite::types::ValueRef;
-use sqlite::{Alter, Connection, Row, params};
+use sqlite::{Alter, Connection, Row, Transaction, params};
 use std::alloc::Global;
 use watchman_index::origin::Origin;
 
@@ -23,11 +45,15 @@ pub struct Stored {
 
 /// Whether the database is an index, or has no tables at all. Tables of others may stand beside
 /// those of an index. Fails for a database of something else, and for an index of another layout.
-pub fn has_tables<S: Alter>(conn: &mut Connection<S>) -> Result<bool, IndexError> {
-    let rows = conn.query_all(
-        "SELECT name FROM sqlite_schema WHERE type = 'table'",
-        params![],
-    )?;
+pub fn has_tables<S: Alter>(conn: &mut Connection<S>) -> Result<bool, IndexError>
+    ensures found { HasCleanDisk (state S.Store conn.new)
+        → IfOk result (HasTables S.Store conn.old conn.new) }
+    ensures refused { HasCleanDisk (state S.Store conn.new)
+        → IfErr result (HasOtherTables S.Store conn.old conn.new) }
+    ensures err { IfErr result IsOfTables }
+    ensures clean { HasCleanDisk (state S.Store conn.new) → HasCleanDisk (state S.Store conn.old) }
+{
+    let rows = conn.query_all(NAMES, params![])?;
     if has_all(&rows, &TABLES)? {
         check_layout(conn)?;
         return Ok(true);
@@ -43,7 +69,12 @@ pub fn has_tables<S: Alter>(conn: &mut Connection<S>) -> Result<bool, IndexError
 }
 
 /// Whether rows of names have each of these.
-fn has_all(rows: &[Row], names: &[&str]) -> Result<bool, IndexError> {
+fn has_all(rows: &[Row], names: &[&str]) -> Result<bool, IndexError>
+    ensures found { IfOk result (λ all. MatchBool all
+        (AreNamed rows.now (map (λ name. name.now) names.now))
+        (OneIsUnnamed rows.now (map (λ name. name.now) names.now))) }
+    ensures err { IfErr result IsOfDatabase }
+{
     for name in names {
         if !has_name(rows, *name)? {
             return Ok(false);
@@ -53,7 +84,11 @@ fn has_all(rows: &[Row], names: &[&str]) -> Result<bool, IndexError> {
 }
 
 /// Whether rows of names have this one.
-fn has_name(rows: &[Row], wanted: &str) -> Result<bool, IndexError> {
+fn has_name(rows: &[Row], wanted: &str) -> Result<bool, IndexError>
+    ensures found { IfOk result (λ found. MatchBool found
+        (IsNamed rows.now wanted.now) (IsUnnamed rows.now wanted.now)) }
+    ensures err { IfErr result IsOfDatabase }
+{
     for row in rows {
         let name: String = row.get(0)?;
         if name.as_str() == wanted {
@@ -64,8 +99,15 @@ fn has_name(rows: &[Row], wanted: &str) -> Result<bool, IndexError> {
 }
 
 /// Fails for an index of another layout.
-fn check_layout<S: Alter>(conn: &mut Connection<S>) -> Result<(), IndexError> {
-    let rows = conn.query_all("SELECT version FROM layout WHERE id = 1", params![])?;
+fn check_layout<S: Alter>(conn: &mut Connection<S>) -> Result<(), IndexError>
+    ensures ok { HasCleanDisk (state S.Store conn.new)
+        → OnOk result (TellsVersion S.Store conn.old conn.new IsThisLayout) }
+    ensures refused { HasCleanDisk (state S.Store conn.new)
+        → IfErr result (HasOtherVersion S.Store conn.old conn.new) }
+    ensures err { IfErr result IsOfTables }
+    ensures clean { HasCleanDisk (state S.Store conn.new) → HasCleanDisk (state S.Store conn.old) }
+{
+    let rows = conn.query_all(VERSION, params![])?;
     let version: Option<i64> = match rows.first() {
         Some(row) => row.get(0)?,
         None => None,
@@ -83,27 +125,84 @@ pub fn make_tables<S: Alter>(
     alloc: Global,
     conn: &mut Connection<S>,
     subject: Option<&Subject>,
-) -> Result<(), IndexError> {
+) -> Result<(), IndexError>
+    ensures made { HasCleanDisk (state S.Store conn.new) → OnOk result (MadeTables S.Store
+        (option_copied subject.entry) conn.old (state S.Store conn.new).committed) }
+    ensures neither { HasCleanDisk (state S.Store conn.new) → IsTrue (state S.Store conn.new).is_open
+        → OnErr result (IsAsBefore (state S.Store conn.old) (state S.Store conn.new)) }
+    ensures crash { Survives (state S.Store conn.old) (state S.Store conn.new) (λ trees. (db : Database)
+        × MadeTables S.Store (option_copied subject.entry) conn.old db × (trees ≡ db.trees)) }
+    ensures err { IfErr result IsOfMaking }
+{
     if !conn.is_autocommit() {
         return Err(IndexError::NoIndex);
     }
     let mut transaction = conn.transaction();
-    transaction.execute_batch(CREATE)?;
-    transaction.execute_batch(CREATE_SUBJECT)?;
-    transaction.execute(KEEP_LAYOUT, params![LAYOUT])?;
-    if let Some(subject) = subject {
-        write_subject(alloc, &mut transaction, subject)?;
-    }
+    put_tables(alloc, &mut transaction, subject)?;
     transaction.commit()?;
     Ok(())
 }
 
+/// Makes the tables of an index of this subject.
+fn put_tables<S: Alter>(
+    alloc: Global,
+    transaction: &mut Transaction<'_, S>,
+    subject: Option<&Subject>,
+) -> Result<(), IndexError>
+    ensures same_reference { transaction.new.conn.ghost_name ≡ transaction.old.conn.ghost_name }
+    ensures made { HasCleanDisk (state S.Store transaction.new.conn.now)
+        → IsTrue (state S.Store transaction.old.conn.now).in_transaction
+        → OnOk result (PutTables S.Store (option_copied subject.entry) transaction.old.conn.now
+        transaction.new.conn.now) }
+    ensures kept { HasCleanDisk (state S.Store transaction.new.conn.now)
+        → IsTrue (state S.Store transaction.old.conn.now).in_transaction
+        → OnErr result (KeepsCommit (state S.Store transaction.old.conn.now)
+        (state S.Store transaction.new.conn.now)) }
+    ensures survives { Survives (state S.Store transaction.old.conn.now)
+        (state S.Store transaction.new.conn.now) (λ _. ⊥) }
+    ensures err { IfErr result IsOfMaking }
+{
+    transaction.execute_batch(CREATE)?;
+    transaction.execute_batch(CREATE_SUBJECT)?;
+    transaction.execute(KEEP_LAYOUT, params![LAYOUT])?;
+    keep_subject(alloc, transaction, subject)?;
+    Ok(())
+}
+
+/// Keeps what an index is of, where that is known.
+fn keep_subject<S: Alter>(
+    alloc: Global,
+    transaction: &mut Transaction<'_, S>,
+    subject: Option<&Subject>,
+) -> Result<(), IndexError>
+    ensures same_reference { transaction.new.conn.ghost_name ≡ transaction.old.conn.ghost_name }
+    ensures kept { HasCleanDisk (state S.Store transaction.new.conn.now)
+        → IsTrue (state S.Store transaction.old.conn.now).in_transaction
+        → OnOk result (KeepsSubject S.Store (option_copied subject.entry)
+        transaction.old.conn.now transaction.new.conn.now) }
+    ensures failed { HasCleanDisk (state S.Store transaction.new.conn.now)
+        → IsTrue (state S.Store transaction.old.conn.now).in_transaction
+        → OnErr result (KeepsCommit (state S.Store transaction.old.conn.now)
+        (state S.Store transaction.new.conn.now)) }
+    ensures survives { Survives (state S.Store transaction.old.conn.now)
+        (state S.Store transaction.new.conn.now) (λ _. ⊥) }
+    ensures err { IfErr result IsOfMaking }
+{
+    match subject {
+        Some(subject) => write_subject(alloc, transaction, subject),
+        None => Ok(()),
+    }
+}
+
 /// What the index has of its messages.
-pub fn read_stored<S: Alter>(conn: &mut Connection<S>) -> Result<Stored, IndexError> {
-    let row = conn.query_row(
-        "SELECT messages, root, subscription, clock FROM source WHERE id = 1",
-        params![],
-    )?;
+pub fn read_stored<S: Alter>(conn: &mut Connection<S>) -> Result<Stored, IndexError>
+    ensures found { HasCleanDisk (state S.Store conn.new) → IfOk result (λ stored. (row : Values)
+        × QueriesRow STORED.now [] (state S.Store conn.old) (state S.Store conn.new) (Ok row)
+        × IsStored row stored) }
+    ensures err { IfErr result IsOfDatabase }
+    ensures clean { HasCleanDisk (state S.Store conn.new) → HasCleanDisk (state S.Store conn.old) }
+{
+    let row = conn.query_row(STORED, params![])?;
     Ok(Stored {
         messages: row.get(0)?,
         origin: Origin {
@@ -114,18 +213,18 @@ pub fn read_stored<S: Alter>(conn: &mut Connection<S>) -> Result<Stored, IndexEr
     })
 }
 
-/// The byte string of this column, if it has one.
-pub fn bytes_at(row: &Row, column: usize) -> Result<Option<ByteString>, IndexError> {
-    let bytes: Option<Vec<u8>> = row.get(column)?;
-    Ok(bytes.map(ByteString::from_vec))
-}
-
 /// The number of the last message up to a clock. `None` for one that was not told.
 pub fn number_of<S: Alter>(
     conn: &mut Connection<S>,
     clock: &[u8],
-) -> Result<Option<u64>, IndexError> {
-    let rows = conn.query_all("SELECT message FROM clock WHERE clock = ?1", params![clock])?;
+) -> Result<Option<u64>, IndexError>
+    ensures found { HasCleanDisk (state S.Store conn.new) → IfOk result (λ number. (rows : List Values)
+        × Shown NUMBER.now (Blob clock.now ∷ []) (state S.Store conn.old) (state S.Store conn.new) rows
+        × IsNumberOf rows number) }
+    ensures err { IfErr result IsOfDatabase }
+    ensures clean { HasCleanDisk (state S.Store conn.new) → HasCleanDisk (state S.Store conn.old) }
+{
+    let rows = conn.query_all(NUMBER, params![clock])?;
     match rows.first() {
         Some(row) => Ok(Some(row.get(0)?)),
         None => Ok(None),
@@ -138,13 +237,20 @@ pub fn visit_all<S: Alter, V: Visitor>(
     question: &str,
     params: &[ValueRef<'_>],
     visitor: &mut V,
-) -> Result<(), IndexError> {
+) -> Result<(), IndexError>
+    ensures visited { HasCleanDisk (state S.Store conn.new)
+        → IsPlain (understood conn.old.schema question.now)
+        → OnOk result (VisitedAnswer S.Store V.visits question.now (bound params.now)
+        conn.old conn.new visitor.old visitor.new) }
+    ensures err { IfErr result (λ e. IsUnreadAnswer e ⊎ V.halts e) }
+    ensures clean { HasCleanDisk (state S.Store conn.new) → HasCleanDisk (state S.Store conn.old) }
+{
     let mut rows = conn.query(question, params)?;
-    for _ in 0..u64::MAX {
-        match rows.next()? {
-            Some(row) => visitor.visit(Record::read(row)?)?,
-            None => break,
-        }
+    'rows: for _row in 0..u64::MAX {
+        let Some(row) = rows.next()? else {
+            return Ok(());
+        };
+        visitor.visit(Record::read(row)?)?;
     }
     Ok(())
 }
@@ -155,7 +261,18 @@ pub fn visit_changes<S: Alter, V: Visitor>(
     conn: &mut Connection<S>,
     number: Option<u64>,
     visitor: &mut V,
-) -> Result<(), IndexError> {
+) -> Result<(), IndexError>
+    ensures changed { HasCleanDisk (state S.Store conn.new)
+        → IsPlain (understood conn.old.schema CHANGED.now)
+        → OnOk result (IfSome number (λ n. VisitedAnswer S.Store V.visits CHANGED.now
+        (Int (pos (min n (2 ^ 63 - 1))) ∷ []) conn.old conn.new visitor.old visitor.new)) }
+    ensures all { HasCleanDisk (state S.Store conn.new)
+        → IsPlain (understood conn.old.schema PRESENT.now)
+        → OnOk result (IfNone number (VisitedAnswer S.Store V.visits PRESENT.now []
+        conn.old conn.new visitor.old visitor.new)) }
+    ensures err { IfErr result (λ e. IsUnreadAnswer e ⊎ V.halts e) }
+    ensures clean { HasCleanDisk (state S.Store conn.new) → HasCleanDisk (state S.Store conn.old) }
+{
     match number {
         Some(number) => {
             let after = i64::try_from(number).unwrap_or(i64::MAX);

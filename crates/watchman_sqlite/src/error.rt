@@ -1,4 +1,6 @@
 //! Why the program cannot do what it was asked for.
+ghost use Rattle.std.specs.Prelude.{◌≡◌};
+ghost use Rattle.watchman_sqlite.specs.Errors.{is_of_words};
 
 use bser_format::errors::Error as SerError;
 use bser_frames::error::FrameError;
@@ -7,76 +9,108 @@ use serde_bser::bytestring::ByteString;
 use sqlite::Error as DatabaseError;
 use std::alloc::{AllocError, AllocFailed};
 use std::{fmt, io};
+use thiserror::Error;
 use watchman_index::origin::ApplyError;
 use watchman_index::told::ContentError;
 
 /// Why the program cannot do what it was asked for.
-#[derive(Debug, Drop)]
+#[derive(Debug, Drop, Error)]
 pub enum IndexError {
     /// The index cannot be opened, read or written.
+    #[error("{0}")]
     Database(DatabaseError),
     /// The file is a database of something else.
+    #[error("the file is no index")]
     NoIndex,
     /// The reader gives no next message.
+    #[error("{0}")]
     Frame(FrameError),
     /// A message cannot be read.
+    #[error("{0}")]
     Message(ContentError),
     /// A message is not of this index.
+    #[error("{0}")]
     Refused(ApplyError),
     /// The output failed.
+    #[error("the output failed: {0}")]
     Output(io::Error),
     /// No memory was left.
-    OutOfMemory,
+    #[error("out of memory")]
+    OutOfMemory(AllocError),
     /// The index has other tables than those of this program.
+    #[error("an index of another version of bser_index: make a new one, and add to it an answer that tells all files")]
     OtherLayout,
     /// There is no index at this path.
+    #[error("there is no such file")]
     Missing,
     /// There is an index at this path.
+    #[error("there is an index already")]
     Exists,
     /// A folder is at this path.
+    #[error("it is a folder, and an index is a file")]
     Folder,
     /// The index may not be read.
+    #[error("the index may not be read")]
     Unreadable,
     /// The index may not be written.
+    #[error("the index may not be written")]
     Unwritable,
     /// The index has a second name, by which another program could write it.
+    #[error("the index has a second name, a hard link: remove one, since a writer looks after one alone")]
     SecondName,
     /// Another program has had the index open for too long.
+    #[error("the index is locked: another program has it open")]
     Locked,
     /// Reading the file of the index failed.
+    #[error("{0}")]
     Reader(io::Error),
     /// The index was not made by `init`.
+    #[error("the index was not made by init, so it does not know what to ask for")]
     NoSubject,
     /// The messages of the index are of this subscription.
+    #[error("the index has messages of the subscription {0}")]
     Subscribed(ByteString),
     /// The request cannot be written.
+    #[error("{0}")]
     Unwritten(SerError),
     /// The root is no absolute path.
+    #[error("the root is no absolute path")]
     Root,
     /// The relative root is an absolute path, or empty.
+    #[error("the relative root is no path below the root")]
     RelativeRoot,
     /// An index does not keep the field.
+    #[error("an index keeps no field {0:?}")]
     NoField(String),
     /// The expression is no text of JSON.
+    #[error("the expression: {0}")]
     Expression(JsonError),
     /// The expression is a text of JSON, and no expression.
+    #[error("the expression is neither an array nor a string")]
     NoExpression,
     /// The table of files has this word in the place of a type's letter.
+    #[error("the index has a file of the type {0}")]
     UnknownType(String),
     /// The index has as many messages as it can count.
+    #[error("the index can count no more messages")]
     TooManyMessages,
     /// A message says that there are no files, and it was not said that the folder is empty.
+    #[error("it says that there are no files: if the folder is empty, add it by add --empty")]
     NoFiles,
     /// A row lacks a field that is asked for: its word, and the name of the file.
+    #[error("the row of {1} lacks the field \"{0}\", which is asked for")]
     RowLacks(&'static str, ByteString),
     /// A message tells changes since a clock up to which not all was told: that clock, and the last
     /// one up to which all was.
+    #[error("it tells what changed since {}, and {}: add the answer to what bser_index request prints, and subscribe since then", .0, LastClock(.1.as_ref()))]
     Gap(ByteString, Option<ByteString>),
 }
 
 impl IndexError {
     /// Whether the words of the command are wrong.
-    pub fn is_of_words(&self) -> bool {
+    pub fn is_of_words(&self) -> bool
+        ensures { result ≡ is_of_words self.now }
+    {
         matches!(
             self,
             IndexError::Root
@@ -88,95 +122,57 @@ impl IndexError {
     }
 }
 
-impl fmt::Display for IndexError {
-    fn fmt<W: fmt::Write>(&self, f: &mut fmt::Formatter<W>) -> fmt::Result {
-        match self {
-            IndexError::UnknownType(word) => write!(f, "the index has a file of the type {word}"),
-            IndexError::TooManyMessages => f.write_str("the index can count no more messages"),
-            IndexError::NoFiles => f.write_str(
-                "it says that there are no files: if the folder is empty, add it by add --empty",
-            ),
-            IndexError::RowLacks(field, name) => {
-                write!(
-                    f,
-                    "the row of {name} lacks the field \"{field}\", which is asked for"
-                )
-            }
-            IndexError::Gap(since, last) => write_gap(f, since, last.as_ref()),
-            IndexError::Database(error) => write!(f, "{error}"),
-            IndexError::Frame(error) => write!(f, "{error}"),
-            IndexError::Message(error) => write!(f, "{error}"),
-            IndexError::Refused(error) => write!(f, "{error}"),
-            IndexError::Output(error) => write!(f, "the output failed: {error}"),
-            IndexError::Reader(fault) => write!(f, "{fault}"),
-            IndexError::Subscribed(name) => {
-                write!(f, "the index has messages of the subscription {name}")
-            }
-            IndexError::Unwritten(error) => write!(f, "{error}"),
-            IndexError::NoField(word) => write!(f, "an index keeps no field {word:?}"),
-            IndexError::Expression(error) => write!(f, "the expression: {error}"),
-            plain => f.write_str(words_of(plain)),
-        }
-    }
-}
-
-/// Writes that changes are missing, and how to go on.
-fn write_gap<W: fmt::Write>(
-    f: &mut fmt::Formatter<W>,
-    since: &ByteString,
-    last: Option<&ByteString>,
-) -> fmt::Result {
-    write!(f, "it tells what changed since {since}, and ")?;
-    match last {
-        Some(last) => write!(f, "the last clock of the index is {last}")?,
-        None => f.write_str("the index has no clock")?,
-    }
-    f.write_str(": add the answer to what bser_index request prints, and subscribe since then")
-}
-
-/// What is said of an error that holds nothing.
-fn words_of(error: &IndexError) -> &'static str {
-    match error {
-        IndexError::NoIndex => "the file is no index",
-        IndexError::OtherLayout =>
-            "an index of another version of bser_index: make a new one, and add to it an answer that tells all files",
-        IndexError::Missing => "there is no such file",
-        IndexError::Exists => "there is an index already",
-        IndexError::Folder => "it is a folder, and an index is a file",
-        IndexError::Unreadable => "the index may not be read",
-        IndexError::Unwritable => "the index may not be written",
-        IndexError::SecondName =>
-            "the index has a second name, a hard link: remove one, since a writer looks after one alone",
-        IndexError::Locked => "the index is locked: another program has it open",
-        IndexError::NoSubject =>
-            "the index was not made by init, so it does not know what to ask for",
-        IndexError::Root => "the root is no absolute path",
-        IndexError::RelativeRoot => "the relative root is no path below the root",
-        IndexError::NoExpression => "the expression is neither an array nor a string",
-        _ => "out of memory",
-    }
-}
-
 impl From<DatabaseError> for IndexError {
+    ghost use Rattle.watchman_sqlite.specs.declared.error.IndexError.TheVariants as errors;
+
+    ghost from_gives = { λ error e. e ≡ errors.Database error };
+
     fn from(error: DatabaseError) -> Self {
         IndexError::Database(error)
     }
 }
 
 impl From<io::Error> for IndexError {
+    ghost use Rattle.watchman_sqlite.specs.declared.error.IndexError.TheVariants as errors;
+
+    ghost from_gives = { λ error e. e ≡ errors.Output error };
+
     fn from(error: io::Error) -> Self {
         IndexError::Output(error)
     }
 }
 
 impl From<AllocError> for IndexError {
+    ghost use Rattle.std.specs.Prelude.{alloc_error};
+    ghost use Rattle.watchman_sqlite.specs.declared.error.IndexError.TheVariants as errors;
+
+    ghost from_gives = { λ _ e. e ≡ errors.OutOfMemory alloc_error };
+
     fn from(_: AllocError) -> Self {
-        IndexError::OutOfMemory
+        IndexError::OutOfMemory(AllocError)
     }
 }
 
 impl<T: Drop> From<AllocFailed<T>> for IndexError {
+    ghost use Rattle.std.specs.Prelude.{alloc_error};
+    ghost use Rattle.watchman_sqlite.specs.declared.error.IndexError.TheVariants as errors;
+
+    ghost from_gives = { λ _ e. e ≡ errors.OutOfMemory alloc_error };
+
     fn from(_: AllocFailed<T>) -> Self {
-        IndexError::OutOfMemory
+        IndexError::OutOfMemory(AllocError)
+    }
+}
+
+/// What is said of the last clock of an index.
+#[derive(Drop)]
+struct LastClock<'c>(Option<&'c ByteString>);
+
+impl fmt::Display for LastClock<'_> {
+    fn fmt<W: fmt::Write>(&self, f: &mut fmt::Formatter<W>) -> fmt::Result {
+        match self.0 {
+            Some(clock) => write!(f, "the last clock of the index is {clock}"),
+            None => f.write_str("the index has no clock"),
+        }
     }
 }

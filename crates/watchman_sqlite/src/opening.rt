@@ -1,7 +1,12 @@
 //! Opens an index that is written.
+ghost use Rattle.std.specs.Prelude.{◌⊎◌, IfOk, IfErr};
+ghost use Rattle.sqlite.specs.Files.{file_state, IsOpened};
+ghost use Rattle.sqlite.specs.State.{HasCleanDisk};
+ghost use Rattle.watchman_sqlite.specs.Errors.{IsOfOpening, IsOfPath};
 
 use crate::error::IndexError;
 use sqlite::{Connection, Error, ErrorCode, File, FileStore};
+use std::alloc::AllocError;
 use std::fs::{Metadata, OpenOptions};
 use std::io::{ErrorKind, Read};
 use std::os::unix::fs::MetadataExt;
@@ -24,7 +29,10 @@ pub fn wait(rt: &HostRuntime) {
 
 /// Opens the index at this path to write it, and makes the file where there is none. While another
 /// program has it open, it tries again for some seconds.
-pub fn open_index(rt: &HostRuntime, path: &str) -> Result<Connection<FileStore<File>>, IndexError> {
+pub fn open_index(rt: &HostRuntime, path: &str) -> Result<Connection<FileStore<File>>, IndexError>
+    ensures opened { IfOk result (λ conn. HasCleanDisk (file_state conn) → IsOpened conn) }
+    ensures err { IfErr result (λ e. IsOfPath e ⊎ IsOfOpening e) }
+{
     for _ in 0..TRIES {
         match Connection::open(rt, path) {
             Ok(conn) => return Ok(conn),
@@ -36,7 +44,9 @@ pub fn open_index(rt: &HostRuntime, path: &str) -> Result<Connection<FileStore<F
 }
 
 /// Why an index is not opened, where the database answers this.
-fn why_not(rt: &HostRuntime, path: &str, error: Error) -> IndexError {
+fn why_not(rt: &HostRuntime, path: &str, error: Error) -> IndexError
+    ensures { IsOfPath result ⊎ IsOfOpening result }
+{
     match (check_path(rt, path), error) {
         (Err(reason), _) => reason,
         (Ok(()), Error::SqliteFailure(ErrorCode::CannotOpen)) => IndexError::Unwritable,
@@ -46,7 +56,9 @@ fn why_not(rt: &HostRuntime, path: &str, error: Error) -> IndexError {
 
 /// Fails where it is seen at once that no index at this path can be written. A file that is not there
 /// can be made.
-pub fn check_path(rt: &HostRuntime, path: &str) -> Result<(), IndexError> {
+pub fn check_path(rt: &HostRuntime, path: &str) -> Result<(), IndexError>
+    ensures { IfErr result IsOfPath }
+{
     match fs::metadata(rt, path) {
         Ok(found) => check_file(rt, path, &found),
         Err(fault) if fault.kind() == ErrorKind::NotFound => check_folder(rt, path),
@@ -55,7 +67,9 @@ pub fn check_path(rt: &HostRuntime, path: &str) -> Result<(), IndexError> {
 }
 
 /// Fails where the folder in which a file is to be made is not there.
-fn check_folder(rt: &HostRuntime, path: &str) -> Result<(), IndexError> {
+fn check_folder(rt: &HostRuntime, path: &str) -> Result<(), IndexError>
+    ensures { IfErr result IsOfPath }
+{
     match path.rsplit_once('/') {
         Some((folder, _name)) if !folder.is_empty() => match fs::metadata(rt, folder) {
             Ok(_) => Ok(()),
@@ -67,7 +81,9 @@ fn check_folder(rt: &HostRuntime, path: &str) -> Result<(), IndexError> {
 }
 
 /// Fails where it is seen at once that the file at this path can be no index that is written.
-fn check_file(rt: &HostRuntime, path: &str, found: &Metadata) -> Result<(), IndexError> {
+fn check_file(rt: &HostRuntime, path: &str, found: &Metadata) -> Result<(), IndexError>
+    ensures { IfErr result IsOfPath }
+{
     if found.is_dir() {
         return Err(IndexError::Folder);
     }
@@ -91,10 +107,12 @@ fn check_file(rt: &HostRuntime, path: &str, found: &Metadata) -> Result<(), Inde
 }
 
 /// Why a file is not written.
-fn unwritten(fault: io::Error) -> IndexError {
+fn unwritten(fault: io::Error) -> IndexError
+    ensures { IsOfPath result }
+{
     match fault.kind() {
         ErrorKind::PermissionDenied | ErrorKind::ReadOnlyFilesystem => IndexError::Unwritable,
-        ErrorKind::OutOfMemory => IndexError::OutOfMemory,
+        ErrorKind::OutOfMemory => IndexError::OutOfMemory(AllocError),
         _ => IndexError::Reader(fault),
     }
 }

@@ -1,27 +1,32 @@
 //! Adds messages to an index that others may use between them.
+ghost use Rattle.std.specs.Prelude.{◌≤◌, IfErr};
+ghost use Rattle.watchman_sqlite.specs.Columns.{IsOfDatabase};
 
 use crate::adding::Adder;
 use crate::conditions::Conditions;
 use crate::error::IndexError;
-use crate::messages::{Taker, Totals, take_inputs};
+use crate::messages::{Inputs, Taker, Totals, take_inputs};
 use crate::opening::open_index;
+use bser_shell::reports::Reports;
 use serde_bser::bytestring::ByteString;
 use sqlite::{Connection, File, FileStore};
 use std::io::{Read, Write};
 use watchman_index::changes::Changes;
 
-/// Adds the messages of the files of these names to the index at a path, or those of `input` where
-/// there is no name. Answers how many there were, and whether the index could be closed.
-pub fn add_inputs<R: Read, E: Write>(
+/// Adds the messages of the inputs to the index at a path. Answers how many there were, and whether
+/// the index could be closed.
+pub fn add_inputs<R: Read + Drop, E: Write>(
     rt: &HostRuntime,
     path: &str,
     may_be_empty: bool,
-    names: &[&str],
-    input: &mut R,
-    errors: &mut E,
-) -> (Totals, Result<(), IndexError>) {
+    inputs: Inputs<'_, R>,
+    reports: &mut Reports<'_, E>,
+) -> (Totals, Result<(), IndexError>)
+    ensures refused { result.0.refused ≤ 1 }
+    ensures err { IfErr result.1 IsOfDatabase }
+{
     let mut index = Reopening::new(rt, path, may_be_empty);
-    let totals = take_inputs(rt.alloc(), rt, names, input, &mut index, errors);
+    let totals = take_inputs(rt.alloc(), rt, inputs, &mut index, reports);
     (totals, index.close())
 }
 
@@ -96,7 +101,9 @@ impl<'r> Reopening<'r> {
     }
 
     /// Closes the index, if it is open.
-    fn close(&mut self) -> Result<(), IndexError> {
+    fn close(&mut self) -> Result<(), IndexError>
+        ensures { IfErr result IsOfDatabase }
+    {
         if let Some(conn) = self.conn.take() {
             conn.close()?;
         }
@@ -105,6 +112,10 @@ impl<'r> Reopening<'r> {
 }
 
 impl Taker for Reopening<'_> {
+    ghost takes = { λ _ _ _. Unit {0} };
+
+    ghost rests = { λ _ _. Unit {0} };
+
     fn begin(&mut self) {
         self.conditions.follows = false;
         self.subscribed = None;

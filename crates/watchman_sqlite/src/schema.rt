@@ -15,6 +15,18 @@ pub const TABLES: [&str; 5] = ["clock", "file", "layout", "source", "subject"];
 /// The names of the tables of an index without a version.
 pub const OLD_TABLES: [&str; 3] = ["clock", "file", "source"];
 
+/// The names of the tables that there are.
+pub const NAMES: &str = "SELECT name FROM sqlite_schema WHERE type = 'table'";
+
+/// The version of the layout that an index has.
+pub const VERSION: &str = "SELECT version FROM layout WHERE id = 1";
+
+/// How many messages were added, what they are of, and the last clock.
+pub const STORED: &str = "SELECT messages, root, subscription, clock FROM source WHERE id = 1";
+
+/// The number of the last message up to this clock.
+pub const NUMBER: &str = "SELECT message FROM clock WHERE clock = ?1";
+
 /// Makes the tables, but for the one of what the index is of.
 pub const CREATE: &str = "CREATE TABLE layout (id INTEGER PRIMARY KEY,
 version INTEGER NOT NULL);

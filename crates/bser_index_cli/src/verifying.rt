@@ -1,78 +1,19 @@
 //! Compares an index with the messages that were added to it.
 
-use crate::adding::lower_suffix;
-use crate::conditions::Conditions;
-use crate::connection::{Stored, number_of, read_stored, visit_changes};
-use crate::error::IndexError;
-use crate::messages::Taker;
-use crate::record::{Record, Visitor};
-use crate::schema::{CLOCKS, WHOLE};
-use crate::subject::{Subject, read_subject};
 use serde_bser::bytestring::ByteString;
 use sqlite::{Alter, Connection, Row, params};
 use std::alloc::Global;
 use std::io::Write;
-use watchman_index::changes::Changes;
 use watchman_index::index::Index;
 use watchman_index::row::Row as FileRow;
+use watchman_sqlite::connection::{Stored, number_of, read_stored, visit_changes};
+use watchman_sqlite::error::IndexError;
+use watchman_sqlite::folding::Folder;
+use watchman_sqlite::record::{Record, Visitor, lower_suffix};
+use watchman_sqlite::schema::{CLOCKS, WHOLE};
 
 /// Of about how many clocks it is compared what changed since.
 const CLOCKS_COMPARED: usize = 16;
-
-/// Folds messages in memory.
-#[derive(Drop)]
-pub struct Folder {
-    conditions: Conditions,
-    subject: Option<Subject>,
-    messages: u64,
-    index: Index,
-}
-
-impl Folder {
-    /// No message was taken. An index of this connection's subject takes those that this takes.
-    pub fn new<S: Alter>(alloc: Global, conn: &mut Connection<S>) -> Result<Self, IndexError> {
-        Ok(Folder {
-            conditions: Conditions {
-                may_be_empty: true,
-                follows: false,
-            },
-            subject: read_subject(alloc, conn)?,
-            messages: 0,
-            index: Index::new(alloc),
-        })
-    }
-}
-
-impl Taker for Folder {
-    fn begin(&mut self) {
-        self.conditions.follows = false;
-    }
-
-    fn take_changes(&mut self, changes: Changes) -> Result<(), IndexError> {
-        let last = self.index.last_clock.as_ref();
-        self.conditions.check(&self.subject, last, &changes)?;
-        let is_of_subscription = changes.subscription.is_some();
-        let number = self.messages.saturating_add(1);
-        if let Err(refusal) = self.index.apply(number, changes) {
-            return Err(IndexError::Refused(refusal));
-        }
-        self.messages = number;
-        if is_of_subscription {
-            self.conditions.follows = true;
-        }
-        Ok(())
-    }
-
-    fn take_subscribed(&mut self, clock: ByteString) -> Result<(), IndexError> {
-        self.conditions.follows = false;
-        self.take_clock(clock)
-    }
-
-    fn take_clock(&mut self, clock: ByteString) -> Result<(), IndexError> {
-        self.index.apply_clock(self.messages, clock)?;
-        Ok(())
-    }
-}
 
 /// Compares what an index has with what was folded, and prints a line for each difference.
 #[derive(Drop)]
@@ -166,6 +107,10 @@ struct ChangesComparer<'a> {
 }
 
 impl Visitor for ChangesComparer<'_> {
+    ghost visits = { λ _ _ _. Unit {0} };
+
+    ghost halts = { λ _. ⊥ };
+
     fn visit(&mut self, record: Record) -> Result<(), IndexError> {
         let is_next = match self.folded.get(self.compared) {
             Some((name, row)) => **name == record.name && **row == record.row,
@@ -265,7 +210,7 @@ fn differs<W: Write>(
 /// Compares the index with the messages that were folded, prints each difference and how many there
 /// are, and tells whether there is none. Where the tables are alike, the answers what changed since
 /// some clocks are compared with [`Index::changes_since`].
-pub fn print_differences<S: Alter, W: Write>(
+pub(crate) fn print_differences<S: Alter, W: Write>(
     alloc: Global,
     conn: &mut Connection<S>,
     folded: Folder,

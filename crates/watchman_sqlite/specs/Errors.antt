@@ -1,0 +1,60 @@
+-- What errors are of.
+use Rattle.std.specs.Prelude.{Bool, true, false}
+use Rattle.watchman_sqlite.specs.declared.error.IndexError.{IndexError}
+use Rattle.watchman_sqlite.specs.declared.error.IndexError.TheVariants.{Database, Exists, Expression, Folder, Locked, Missing, NoExpression, NoField, NoIndex, OtherLayout, OutOfMemory, Reader, RelativeRoot, Root, SecondName, Unreadable, Unwritable}
+
+-- whether the words of the command are wrong
+abbrev pub is_of_words : IndexError → Bool
+is_of_words Root = true
+is_of_words RelativeRoot = true
+is_of_words (NoField _) = true
+is_of_words (Expression _) = true
+is_of_words NoExpression = true
+is_of_words _ = false
+
+-- what is wrong with a path at which an index is to be written
+abbrev pub IsOfPath : IndexError → Type 0
+IsOfPath Folder = Unit {0}
+IsOfPath Missing = Unit {0}
+IsOfPath NoIndex = Unit {0}
+IsOfPath SecondName = Unit {0}
+IsOfPath Unwritable = Unit {0}
+IsOfPath (OutOfMemory _) = Unit {0}
+IsOfPath (Reader _) = Unit {0}
+IsOfPath _ = ⊥
+
+-- why a file is not opened, though nothing is seen to be wrong with its path
+abbrev pub IsOfOpening : IndexError → Type 0
+IsOfOpening Locked = Unit {0}
+IsOfOpening Unwritable = Unit {0}
+IsOfOpening (Database _) = Unit {0}
+IsOfOpening _ = ⊥
+
+-- why a database is no index of this layout
+abbrev pub IsOfTables : IndexError → Type 0
+IsOfTables NoIndex = Unit {0}
+IsOfTables OtherLayout = Unit {0}
+IsOfTables (Database _) = Unit {0}
+IsOfTables _ = ⊥
+
+-- why no tables are made
+abbrev pub IsOfMaking : IndexError → Type 0
+IsOfMaking Exists = Unit {0}
+IsOfMaking NoIndex = Unit {0}
+IsOfMaking OtherLayout = Unit {0}
+IsOfMaking (OutOfMemory _) = Unit {0}
+IsOfMaking (Database _) = Unit {0}
+IsOfMaking _ = ⊥
+
+-- why no copy of an index is read
+abbrev pub IsOfCopy : IndexError → Type 0
+IsOfCopy Folder = Unit {0}
+IsOfCopy Locked = Unit {0}
+IsOfCopy Missing = Unit {0}
+IsOfCopy NoIndex = Unit {0}
+IsOfCopy OtherLayout = Unit {0}
+IsOfCopy (OutOfMemory _) = Unit {0}
+IsOfCopy Unreadable = Unit {0}
+IsOfCopy (Database _) = Unit {0}
+IsOfCopy (Reader _) = Unit {0}
+IsOfCopy _ = ⊥
