@@ -1,21 +1,26 @@
-//! Runs the commands of `bser` in memory: a session on standard input, whose output is printed, and
-//! then on messages whose answers were made elsewhere, of which is printed how many agree.
+//! Runs the commands of `bser` and of `bser_index` in memory: a session on standard input, whose output
+//! is printed, and then on messages whose answers were made elsewhere, of which is printed how many
+//! agree.
 //!
 //! `messages.tsv` has recorded messages with their JSON, and `wrong-messages.tsv` such lines of which
 //! each is wrong, and is named; `scripts/command_table` makes the first. What `{}` prints of a message is
 //! compared with its JSON, of some files too. `refused.tsv` has messages that are malformed, with what
 //! has to be reported of them and where, and `wrong-refused.tsv` wrong lines. A message is cut behind
 //! each of its bytes. Of files that come byte by byte is compared what is written before each read. Then
-//! commands are run on a short message whose value is long.
+//! commands are run on a short message whose value is long. At last the messages of a recorded session
+//! are added to an index, which is compared after each with tables that were folded elsewhere.
 #![tactic(auto)]
 
 mod amplifying;
+mod changes;
 mod commands;
+mod expected;
 mod frames;
 mod message;
 mod printed;
 mod refusal;
 mod run;
+mod session;
 mod waiting;
 
 use crate::amplifying::print_amplifying;
@@ -25,6 +30,7 @@ use crate::message::compare_messages;
 use crate::printed::compare_printed;
 use crate::refusal::{compare_cuts, compare_refusals};
 use crate::run::print_session;
+use crate::session::compare_session;
 use crate::waiting::compare_waits;
 use anyhow::Result;
 
@@ -47,5 +53,6 @@ fn main(rt: HostRuntime) -> Result<()> {
         "three.bser",
     )?;
     compare_waits(&rt, &[&["from-json"]], "texts.json")?;
-    print_amplifying(&rt)
+    print_amplifying(&rt)?;
+    compare_session(&rt)
 }

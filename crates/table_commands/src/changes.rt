@@ -1,10 +1,9 @@
 //! What changed after each clock of a recorded session.
 
 use crate::expected::shown_name;
-use crate::running::run_words;
+use crate::run::run_index;
 use anyhow::{Result, bail};
 use bser_vectors::columns::columns;
-use bser_vectors::devices::Plan;
 use std::alloc::Global;
 use std::fs;
 
@@ -54,7 +53,7 @@ struct Found {
 /// What the index says to have changed after this clock.
 fn found_after(rt: &HostRuntime, clock: &str) -> Result<Found> {
     let words = format!(in rt.alloc(); "changes --since {clock} session.db")?;
-    let ran = run_words(rt, words.as_str(), &[], Plan::whole())?;
+    let ran = run_index(rt, words.as_str(), &[])?;
     let output = str::from_utf8(&ran.output)?;
     let mut names = String::new(rt.alloc());
     for line in output.lines().filter(|line| is_file(*line)) {

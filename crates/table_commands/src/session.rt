@@ -2,9 +2,8 @@
 
 use crate::changes::check_changes;
 use crate::expected::{Numbers, table_after};
-use crate::running::run_words;
+use crate::run::run_index;
 use anyhow::{Result, bail};
-use bser_vectors::devices::Plan;
 use bser_vectors::session::{SentMessage, sent_messages};
 use std::alloc::Global;
 use std::fs;
@@ -18,9 +17,9 @@ const LAST_OF_FIRST: u32 = 71;
 /// Adds the session's messages up to each that lists files, and compares the index with the table
 /// after it. Compares what changed after each clock before the server was started anew with its
 /// answers of then, and at the end what changed after some clocks.
-pub fn print_session(rt: &HostRuntime) -> Result<()> {
+pub fn compare_session(rt: &HostRuntime) -> Result<()> {
     let stream = fs::read(rt, "stream-server.bser")?;
-    let list = fs::read_to_string(rt, "messages.tsv")?;
+    let list = fs::read_to_string(rt, "session.tsv")?;
     let tables = fs::read_to_string(rt, "tables.tsv")?;
     let messages = sent_messages(rt.alloc(), list.as_str())?;
     let folded = folded_of(rt.alloc(), &messages)?;
@@ -57,7 +56,7 @@ fn folded_of(alloc: Global, messages: &[SentMessage]) -> Result<Vec<u32>> {
 
 /// Adds messages, and prints what is reported.
 fn add_messages(rt: &HostRuntime, bytes: &[u8]) -> Result<()> {
-    let ran = run_words(rt, "add session.db", bytes, Plan::whole())?;
+    let ran = run_index(rt, "add session.db", bytes)?;
     print!(rt; "{}", String::from_utf8_lossy(rt.alloc(), &ran.errors)?)?;
     Ok(())
 }
@@ -65,7 +64,7 @@ fn add_messages(rt: &HostRuntime, bytes: &[u8]) -> Result<()> {
 /// Compares the index with the table after the message of this number.
 fn check_table(rt: &HostRuntime, numbers: &Numbers<'_>, tables: &str, number: u32) -> Result<()> {
     let expected = table_after(rt.alloc(), numbers, tables, number)?;
-    let ran = run_words(rt, "list --all session.db", &[], Plan::whole())?;
+    let ran = run_index(rt, "list --all session.db", &[])?;
     if ran.output.as_slice() != expected.as_bytes() {
         let found = String::from_utf8_lossy(rt.alloc(), &ran.output)?;
         println!(rt; "expected after message {number}:\n{expected}found:\n{found}")?;
