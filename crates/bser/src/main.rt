@@ -1,7 +1,8 @@
 //! Looks into BSER messages, and makes them: `bser --help` lists its commands.
 //!
-//! The status is 0, 1 where a message is malformed, or an input is empty or cannot be read, or 2 for
-//! unknown arguments; each but the first comes with lines on standard error.
+//! The status is 0; or 1 where a message is malformed, an input is empty or cannot be read, nothing
+//! is found by `get`, or the output fails; or 2 for unknown arguments. Lines on standard error say
+//! which.
 #![tactic(auto)]
 
 use bser_cli::program::Bser;

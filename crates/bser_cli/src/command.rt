@@ -5,8 +5,8 @@ use std::alloc::{AllocError, Global};
 
 /// What stands behind the list of commands.
 const AFTER_HELP: &str = "Each command reads the files that are named, or else standard input.
-The status is 0; or 1 where a message is malformed, or an input is empty or cannot be read; or 2
-for unknown arguments.";
+The status is 0; or 1 where a message is malformed, an input is empty or cannot be read, nothing is
+found by `get`, or the output fails; or 2 for unknown arguments.";
 
 /// What stands behind the arguments of `get`.
 const AFTER_GET: &str =

@@ -28,8 +28,9 @@ use std::marker::Model;
 /// asked for no byte past the announced end. Memory is taken as bytes come, at most 65,536 bytes
 /// ahead, and kept for the next message.
 ///
-/// An error loses nothing: what came of a message is kept, and the next call goes on with it, as
-/// after an interruption of the reader.
+/// An error loses nothing: what came of a message is kept. After an error of the reader, without
+/// memory and after `Cut` the next call goes on with it; after `Header` and `TooLong` it gives that
+/// error again.
 #[derive(Drop)]
 pub struct Frames<S> {
     alloc: Global,

@@ -1,8 +1,9 @@
 //! A SQLite file of what Watchman tells of the files below a root: `bser_index --help` lists its
 //! commands.
 //!
-//! The status is 0, 1 where a message is refused, a difference is found or the index cannot be
-//! used, or 2 for unknown arguments.
+//! The status is 0; or 1 where a message is refused or tells an error of the server, a file or clock
+//! is not known, a difference is found, the index cannot be used, or the output fails; or 2 for
+//! unknown arguments.
 #![tactic(auto)]
 
 use bser_index_cli::program::BserIndex;

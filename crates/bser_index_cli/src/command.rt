@@ -5,8 +5,9 @@ use std::alloc::{AllocError, Global};
 
 /// What stands behind the list of commands.
 const AFTER_HELP: &str =
-    "The status is 0, 1 where a message is refused, a difference is found or the index cannot be
-used, or 2 for unknown arguments.";
+    "The status is 0; or 1 where a message is refused or tells an error of the server, a file or clock
+is not known, a difference is found, the index cannot be used, or the output fails; or 2 for
+unknown arguments.";
 
 /// The version of the library.
 const VERSION: &str = "0.4.0";
@@ -126,7 +127,7 @@ fn stat<'a>(alloc: Global) -> Result<Command<'a>, AllocError> {
         .required_unless_present("names")?
         .conflicts_with("names")?
         .action(ArgAction::Set)
-        .help("The path of a file, from the root on");
+        .help("The path of a file, from the root or the relative root on");
     let names = flag(
         alloc,
         "names",

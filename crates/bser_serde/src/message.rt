@@ -55,7 +55,8 @@ pub(crate) fn head_of(bytes: &[u8], most: usize) -> Option<Headed<'_>>
 /// The body of the message that these bytes begin with: a well-formed one, of at most so many
 /// levels, with a body of at most `most` bytes. What follows the message is ignored.
 ///
-/// None tells nothing: the reading that reports to a builder then finds what is wrong, and where.
+/// `None` says nothing of the bytes: [`from_slice`](crate::reading::from_slice) tells what is wrong,
+/// and where.
 pub fn body_of(bytes: &[u8], levels: usize, most: usize) -> Option<Body>
     ensures { IfSome result (λ b. HasMessage levels most bytes.now b.start b.len) }
 {

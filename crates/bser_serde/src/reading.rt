@@ -29,7 +29,7 @@ use std::marker::Brand;
 /// message is ignored.
 ///
 /// Bytes that begin with no well-formed message are refused by its first fault, whatever the type
-/// looks at. A misfit comes only of a well-formed message.
+/// looks at, or for want of memory. A misfit comes only of a well-formed message.
 pub fn from_slice<'de, T: Deserialize<'de>>(alloc: Global, bytes: &'de [u8]) -> Result<T, ReadError>
     ensures found { OnOk result (BeginsWithMessage usual_limits bytes.now) }
     ensures refused { IfErr result (SliceUnread usual_limits bytes.now) }

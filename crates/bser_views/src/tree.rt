@@ -22,7 +22,7 @@ use std::io::Write;
 pub enum Style {
     /// Its offset, tag, width, kind and value.
     Full,
-    /// Its offset, tag, width and kind, without the values of scalars and strings.
+    /// Its offset, tag, width and kind, without the values of numbers and strings.
     Offsets,
     /// Its value.
     Values,

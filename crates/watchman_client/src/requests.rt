@@ -13,10 +13,10 @@ impl<S: Source, W: Sink> Client<S, W> {
     /// Sends the request, takes its answer, and reads it as a value that borrows nothing.
     ///
     /// The errors are those of [`send`](Self::send), then of [`answer`](Self::answer), and then of
-    /// [`read_owned`](Self::read_owned). After an error of `send` the request was not sent, and after
-    /// one of `answer` it is outstanding: `answer` goes on. After one of `read_owned` the answer was
-    /// taken, and [`message`](Self::message) lends it. `Memory` comes of the last two: the answer was
-    /// taken where [`is_waiting`](Self::is_waiting) is false.
+    /// [`read_owned`](Self::read_owned). After an error of `send` at most a beginning of the request
+    /// was sent, and after one of `answer` it is outstanding: `answer` goes on. After one of
+    /// `read_owned` the answer was taken, and [`message`](Self::message) lends it. `Memory` comes of
+    /// the last two: the answer was taken where [`is_waiting`](Self::is_waiting) is false.
     pub fn request<T: DeserializeOwned, Q: Serialize>(
         &mut self,
         request: &Q,
