@@ -11,7 +11,8 @@
  *   - malloc, realloc and free are those of one allocator.
  * A call takes at most 48 bytes of memory for each byte that it reads, or 16,384 for a short message,
  * and bser_compact 128, or 512,000.
- * bser_canonical, bser_compact and bser_describe call themselves at most 128 levels deep.
+ * bser_canonical, bser_compact and bser_describe call themselves at most 128 levels deep, and the calls
+ * of tapes 8.
  */
 #ifndef KUVTSADA_BSER_H
 #define KUVTSADA_BSER_H

@@ -1,5 +1,5 @@
 -- A tape that was compared with the message of its tree agreed, and with no other.
-use Rattle.std.proofs.Common.{◌≡◌, ◌⊎◌, inl, inr, ◌≤◌, ◌<◌, ◌+◌, ◌-◌, ◌*◌, ◌^◌, min, ℕ, Bool, cond, List, [], ◌∷◌, ◌++◌, length, take, drop, Some, None, length-append, append-nil, append_assoc, refl, sym, ap, subst, ◌∙◌, arith}
+use Rattle.std.proofs.Common.{◌≡◌, inl, inr, ◌≤◌, ◌<◌, ◌+◌, ◌-◌, ◌^◌, ℕ, Bool, cond, List, [], ◌∷◌, ◌++◌, length, take, drop, Some, None, length-append, append-nil, append_assoc, refl, sym, ap, subst, ◌∙◌, arith}
 use Rattle.std.proofs.lemmas.List.{take_all, nil_from_length, length-drop, drop-drop, drop_at}
 use Rattle.bser_format.specs.Content.{one}
 use Rattle.bser_format.specs.Message.{IsMessage}

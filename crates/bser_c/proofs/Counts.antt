@@ -1,7 +1,7 @@
 -- A message has at most an event for each byte of its body.
 use Rattle.std.proofs.Common.{◌≡◌, ℕ, zero, suc, ◌+◌, ◌≤◌, ℤ, List, [], ◌∷◌, ◌++◌, length, length-append, ap, inl, inr, arith}
 use Rattle.bser_format.specs.Tree.{Tree, null, boolean, integer, real, bytes, text, array, object, template, Items, no_items, item, Entries, no_entries, entry, Rows, no_rows, row, Fields, no_fields, skip, field, items, entries, fields, rows}
-use Rattle.bser_format.specs.Grammar.{Format, Each, SpellsInteger, SpellsString, SpellsKey, SpellsEntry, SpellsField, Spells, ◌then◌}
+use Rattle.bser_format.specs.Grammar.{Format, Each, SpellsInteger, SpellsString, SpellsKey, SpellsEntry, SpellsField, Spells}
 use Rattle.bser_format.proofs.Sizes.{length_then}
 use Rattle.bser_events.specs.Events as told
 use Rattle.bser_events.specs.Events.{Event, events, item_events, entry_events, key_events, row_events, field_events}

@@ -7,4 +7,7 @@ pub mod Steps
 pub mod Puts
 pub mod Untapes
 pub mod Compares
+pub mod Between
+pub mod Whole
+pub mod Containers
 pub mod Samples

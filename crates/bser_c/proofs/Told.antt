@@ -1,14 +1,14 @@
 -- What the tape of a message tells spells its tree, in as many bytes as the canonical body has.
-use Rattle.std.proofs.Common.{◌≡◌, ◌≤◌, ◌<◌, ◌+◌, ◌-◌, ◌^◌, ℕ, zero, suc, ℤ, pos, Bool, true, false, ◌&&◌, List, [], ◌∷◌, ◌++◌, length, Option, Some, None, inl, inr, append_assoc, refl, sym, ap, subst, ◌∙◌, arith, flat_map, IsUtf8, FitsSigned}
+use Rattle.std.proofs.Common.{◌≡◌, ◌≤◌, ◌<◌, ◌-◌, ◌^◌, ℕ, zero, suc, ℤ, pos, Bool, true, false, ◌&&◌, List, [], ◌∷◌, ◌++◌, length, Option, Some, None, inl, inr, append_assoc, refl, sym, ap, subst, ◌∙◌, arith, flat_map, FitsSigned}
 use Rattle.std.proofs.lemmas.Int.{to_z-of_z}
 use Rattle.std.proofs.lemmas.List.{length-append}
 use Rattle.std.proofs.lemmas.Str.{IsUtf8-from_is_utf8, is_utf8-from_IsUtf8}
 use Rattle.std.specs.List.{AllByRecursion}
-use Rattle.std.specs.Int.{w64, to_le_bytes, cast_signed, cast_unsigned}
+use Rattle.std.specs.Int.{w64, to_le_bytes, cast_signed}
 use Rattle.std.specs.Str.{is_utf8}
 use Rattle.bser_format.specs.Tree.{Tree, null, boolean, integer, real, bytes, text, array, object, template, Items, no_items, item, Entries, no_entries, entry, Rows, no_rows, row, Fields, no_fields, skip, field, items, entries, fields, rows}
 use Rattle.bser_format.specs.Expand.{expand, expand_items, expand_entries, expand_rows, expand_fields}
-use Rattle.bser_format.specs.Grammar.{Format, Bytes, Given, Each, IsTemplate, SpellsInteger, SpellsCount, SpellsString, SpellsKey, SpellsEntry, SpellsField, Spells, ◌then◌}
+use Rattle.bser_format.specs.Grammar.{Format, Bytes, Given, Each, IsTemplate, SpellsCount, SpellsString, SpellsKey, SpellsEntry, SpellsField, Spells, ◌then◌}
 use Rattle.bser_format.specs.Canonical.{least_integer, least_count, canonical_bytes, canonical_text, canonical_key, canonical_body, canonical_items, canonical_entries, canonical_rows, canonical_fields}
 use Rattle.bser_format.specs.NamedLaws.{HasTextKeys}
 use Rattle.bser_format.specs.ReadsAny.{has_utf8_keys, items_have_utf8_keys, entries_have_utf8_keys}

@@ -1,12 +1,11 @@
 -- The message that the words of a tape tell, and its size.
-use Rattle.std.proofs.Common.{◌≡◌, ◌⊎◌, inl, inr, ◌≤◌, ◌<◌, ◌+◌, ◌-◌, ◌^◌, min, ℕ, pos, List, [], ◌∷◌, ◌++◌, length, take, Some, None, refl, sym, ap, subst, ◌∙◌, arith}
+use Rattle.std.proofs.Common.{◌≡◌, ◌⊎◌, inl, inr, ◌≤◌, ◌<◌, ◌+◌, ◌-◌, ◌^◌, min, ℕ, List, [], ◌∷◌, ◌++◌, length, take, Some, refl, sym, ap, subst, ◌∙◌, arith}
 use Rattle.std.proofs.lemmas.Bool.{cases_lt}
 use Rattle.std.proofs.lemmas.List.{length-append}
 use Rattle.std.proofs.lemmas.Option.{same_Some}
 use Rattle.std.specs.Int.{w32, to_le_bytes}
-use Rattle.bser_format.specs.Canonical.{least_integer, least_count, canonical_body, canonical_message}
+use Rattle.bser_format.specs.Canonical.{least_integer, least_count, canonical_message}
 use Rattle.bser_format.specs.Grammar.{Bytes, SpellsCount}
-use Rattle.bser_format.specs.Message.{IsMessage}
 use Rattle.bser_format.proofs.Canon.{count_spelled, joined}
 use Rattle.bser_format.proofs.Least.{least_count_grows}
 use Rattle.bser_format.proofs.Lengths.{length-message}

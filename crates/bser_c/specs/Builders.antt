@@ -1,7 +1,10 @@
 -- What the builders of this crate take.
-use Rattle.std.specs.Prelude.{◌≡◌, ◌⊎◌, ◌≤◌, ◌+◌, ◌-◌, ◌^◌, min, ℕ, List, ◌++◌, length, take, drop}
+use Rattle.std.specs.Prelude.{◌≡◌, ◌⊎◌, ◌≤◌, ◌+◌, ◌-◌, ◌^◌, min, ℕ, List, [], ◌∷◌, ◌++◌, length, take, drop}
+use Rattle.std.specs.Int.{w64, cast_unsigned}
+use Rattle.bser_events.specs.Events as events
 use Rattle.bser_events.specs.Events.{Event}
-use Rattle.bser_c.specs.Tape.{AreWordsOf}
+use Rattle.bser_events.specs.declared.event.Place.{Place}
+use Rattle.bser_c.specs.Tape.{AreWordsOf, head_of}
 use Rattle.bser_c.specs.declared.writing.Tape.{Tape}
 use Rattle.bser_c.specs.declared.comparing.TapeComparison.{TapeComparison}
 
@@ -11,16 +14,23 @@ use Rattle.bser_c.specs.declared.comparing.TapeComparison.{TapeComparison}
 abbrev pub words_in : Tape → List ℕ
 words_in t = take t.len t.words.now
 
--- it grew by the words of an event, where they have room
-pub record Grew (old : Tape) (e : Event) (new : Tape) : Type 0 where
+-- the second word of an event at this place: the bits of a number, where a string begins that ends
+-- there, and else where the event begins
+abbrev pub second_at : Place → Event → ℕ
+second_at p (events.integer v) = cast_unsigned w64 v
+second_at p (events.real r) = r
+second_at p (events.bytes s) = p.end - length s
+second_at p (events.text s) = p.end - length s
+second_at p (events.key s) = p.end - length s
+second_at p _ = p.start
+
+-- it grew by the two words of an event at this place, where they have room
+pub record Grew (old : Tape) (p : Place) (e : Event) (new : Tape) : Type 0 where
   pub through : new.words.ghost_name ≡ old.words.ghost_name
-  pub input : new.input ≡ old.input
   pub room : length new.words.now ≡ length old.words.now
   pub longer : old.len ≤ new.len
-  pub added : List ℕ
-  pub are : AreWordsOf old.input.now e added
-  pub counted : new.len ≡ min (old.len + length added) (2 ^ 64 - 1)
-  pub grew : new.len ≤ length new.words.now → words_in new ≡ words_in old ++ added
+  pub counted : new.len ≡ min (old.len + 2) (2 ^ 64 - 1)
+  pub grew : new.len ≤ length new.words.now → words_in new ≡ words_in old ++ head_of p.is_text e ∷ second_at p e ∷ []
 
 -- ---- a tape that is compared
 

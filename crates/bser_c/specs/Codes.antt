@@ -1,5 +1,5 @@
 -- A number for each error.
-use Rattle.std.specs.Prelude.{◌≡◌, ℕ, List, length, true}
+use Rattle.std.specs.Prelude.{◌≡◌, ℕ, List, length, false}
 use Rattle.bser_format.specs.declared.errors.Complaint.{Complaint}
 use Rattle.bser_format.specs.declared.errors.Complaint.TheVariants as complaints
 use Rattle.bser_format.specs.declared.errors.Error.{Error}
@@ -97,7 +97,7 @@ place_of_reason (Failed d) = place_of d
 -- a number, a byte and a place that say why a message at the start of the bytes has no tape
 pub record TellsWhy (bytes : List ℕ) (code byte place : ℕ) : Type 0 where
   pub reason : Reason
-  pub refused : SliceUntold usual_limits true bytes reason
+  pub refused : SliceUntold usual_limits false bytes reason
   pub code_is : code ≡ code_of_reason reason
   pub byte_is : byte ≡ byte_of_reason reason
   pub place_is : place ≡ place_of_reason reason

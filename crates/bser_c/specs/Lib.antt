@@ -2,6 +2,7 @@ pub mod Failures
 pub mod Codes
 pub mod Tape
 pub mod Builders
+pub mod Direct
 pub mod Parts
 pub mod Fronts
 pub mod Puts

@@ -6,6 +6,7 @@
 
 mod codes;
 mod comparing;
+mod direct;
 mod front;
 mod heads;
 mod measure;

@@ -1,5 +1,5 @@
 //! The message of a tape.
-ghost use Rattle.std.specs.Prelude.{◌≡◌, ◌≤◌, ◌<◌, ◌+◌, ◌^◌, ◌++◌, ℕ, Some, IfOk, IfErr, IfSome, IfNone, OnOk, length, take, drop};
+ghost use Rattle.std.specs.Prelude.{◌≡◌, ◌≤◌, ◌<◌, ◌+◌, ◌^◌, ◌++◌, ℕ, true, Some, IfOk, IfErr, IfSome, IfNone, OnOk, length, take, drop};
 ghost use Rattle.bser_deserializer.specs.declared.deserializer.TheConstants.{LEVELS};
 ghost use Rattle.bser_c.specs.Fronts.{Puts};
 ghost use Rattle.bser_c.specs.Parts.{header_of, part};
@@ -9,6 +9,7 @@ ghost use Rattle.bser_c.specs.Untaped.{AreToldBy, LiesIn, RefusesTape, RefusesWo
 ghost use Rattle.bser_c.specs.declared.untape.TapeError.TheVariants.{Memory};
 
 use crate::comparing::TapeComparison;
+use crate::direct::tell_whole;
 use crate::front::Front;
 use crate::measure::{size_of, size_of_count};
 use crate::tags::{BYTES_KEY, CLOSE, KEY, ROWS};
@@ -160,6 +161,38 @@ fn string_at(strings: &[u8], len: usize, at: u64) -> Option<&[u8]>
 
 /// Tells the message, and compares it with the tape.
 fn compare(alloc: Global, words: &[u64], strings: &[u8], message: &[u8]) -> Result<(), TapeError>
+    ensures has { OnOk result (HasTape LEVELS strings.now 0 message.now words.now) }
+    ensures refused { HasTape LEVELS strings.now 0 message.now words.now
+        → IfErr result (λ e. e ≡ Memory) }
+    ensures place { (room : ℕ) → IfErr result (LiesIn (length words.now) room) }
+{
+    if is_told(words, strings, message) {
+        return Ok(());
+    }
+    compare_slowly(alloc, words, strings, message)
+}
+
+/// Whether the message is well-formed and has this tape, as a rule. False says nothing of them.
+#[inline(always)]
+fn is_told(words: &[u64], strings: &[u8], message: &[u8]) -> bool
+    ensures { result ≡ true → HasTape LEVELS strings.now 0 message.now words.now }
+{
+    let mut compared = TapeComparison::new(words, strings);
+    match tell_whole(message, &mut compared) {
+        Some(header) => compared.is_same(header, message.len()),
+        None => false,
+    }
+}
+
+/// The same for any message.
+#[cold]
+#[inline(never)]
+fn compare_slowly(
+    alloc: Global,
+    words: &[u64],
+    strings: &[u8],
+    message: &[u8],
+) -> Result<(), TapeError>
     ensures has { OnOk result (HasTape LEVELS strings.now 0 message.now words.now) }
     ensures refused { HasTape LEVELS strings.now 0 message.now words.now
         → IfErr result (λ e. e ≡ Memory) }

@@ -1,6 +1,6 @@
 //! Each test makes some growths. Where all are granted its call gives the right answer. Run with one
 //! of them refused, the call answers so, and the test answers that refusal as its own.
-use super::{CANONICAL, ROWS, TAPE, TEMPLATE};
+use super::{CANONICAL, ROWS};
 use crate::{BserOutcome, bser_canonical, bser_compact, bser_describe, bser_of_tape, bser_tape};
 use std::alloc::AllocError;
 use std::process::Abort;
@@ -20,23 +20,29 @@ fn check_length(rt: &impl Abort, outcome: BserOutcome, length: usize) -> Tested 
 
 #[test]
 fn tape_of_many_levels(rt: HostRuntime) -> Tested {
-    let mut bytes = [0u8; 33];
-    let mut words = [0u64; 36];
+    let mut bytes = [0u8; 45];
+    let mut words = [0u64; 52];
     bytes[1] = 2;
     bytes[6] = 3;
-    bytes[7] = 25;
-    for i in 0..8 {
+    bytes[7] = 37;
+    for i in 0..12 {
         bytes[8 + 3 * i + 1] = 3;
         bytes[8 + 3 * i + 2] = 1;
     }
-    bytes[32] = 0x0a;
-    check_length(&rt, bser_tape(rt.alloc(), &bytes, &mut words), 34)
+    bytes[44] = 0x0a;
+    check_length(&rt, bser_tape(rt.alloc(), &bytes, &mut words), 50)
 }
 
 #[test]
 fn message_of_a_tape(rt: HostRuntime) -> Tested {
-    let mut out = [0u8; 40];
-    check_length(&rt, bser_of_tape(rt.alloc(), &TAPE, TEMPLATE, &mut out), 25)
+    let mut words = [0u64; 50];
+    for i in 0..12 {
+        words[2 * i] = 0x100;
+        words[48 - 2 * i] = 0x11;
+    }
+    words[24] = 0x0a;
+    let mut out = [0u8; 60];
+    check_length(&rt, bser_of_tape(rt.alloc(), &words, b"", &mut out), 45)
 }
 
 #[test]

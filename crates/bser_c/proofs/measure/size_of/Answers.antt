@@ -1,6 +1,6 @@
 -- Two words more, or nothing more.
-use Rattle.std.proofs.Common.{rules, arith, ◌≡◌, ◌≤◌, ◌<◌, ◌+◌, ◌*◌, ◌^◌, length, get_or, option_map, Some, sym, subst, ◌∙◌}
-use Rattle.bser_c.proofs.Steps.{BeginsSize, size_empty, size_more, size_nothing, size_all}
+use Rattle.std.proofs.Common.{rules, arith, ◌<◌, ◌+◌, ◌*◌, length, sym, subst, ◌∙◌}
+use Rattle.bser_c.proofs.Steps.{BeginsSize, size_empty, size_more, size_all}
 use Rattle.bser_c.proofs.measure.size_of.Goals as goal
 
 pub loop-i-init : goal.loop-i-init

@@ -2,7 +2,7 @@
 use Rattle.std.proofs.Common.{rules, false, length, ap, subst}
 use Rattle.bser_messages.specs.Told.{SliceUntold}
 use Rattle.bser_c.proofs.Compares.{same_told, told_same, untaped_memory, untaped_lies}
-use Rattle.bser_c.proofs.untape.compare.Goals as goal
+use Rattle.bser_c.proofs.untape.compare_slowly.Goals as goal
 
 pub returns-in-Ok-clause-has : goal.returns-in-Ok-clause-has
 returns-in-Ok-clause-has c =
