@@ -180,9 +180,7 @@ impl<R: DeRead> Deserializer<R> {
         self.bunser.refuse(Error::de_custom(complaint))
     }
 
-    /// Takes the last error, or [`ReadCause::Failed`] where none is kept.
-    ///
-    /// It belongs after an answer of [`Refused`].
+    /// Takes the last error, as [`Bunser::take_refusal`] does.
     #[cold]
     #[inline(never)]
     pub fn take_refusal(&mut self) -> Error

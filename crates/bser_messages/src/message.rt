@@ -31,9 +31,9 @@ use std::alloc::Global;
 /// message is ignored.
 ///
 /// Answers a value exactly where a prefix of `bytes` is a well-formed message whose tree, templates
-/// written out, the type reads as that value. Else the error is the first one in the order of
-/// reading, or [`Error::OutOfMemory`]. Out of memory comes only after the message's header, and of
-/// a type that takes memory.
+/// written out, the type reads as that value, unless memory runs out. Else the error is the first
+/// one in the order of reading, or [`Error::OutOfMemory`]. Out of memory comes only after the
+/// message's header, and of a type that takes memory.
 ///
 /// [`Error::OutOfMemory`]: bser_format::errors::Error::OutOfMemory
 pub fn from_slice<'de, T: Deserialize<&'de [u8]>>(alloc: Global, bytes: &'de [u8]) -> Result<T>

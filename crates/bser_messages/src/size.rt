@@ -26,9 +26,9 @@ use std::alloc::Global;
 
 /// The size of a value with each template in it written out as an array of objects.
 ///
-/// It is read in place of the value, at the price of skipping it, and nothing of the value is kept.
-/// A `Value` has at most as many values, bytes of keys and levels: equal keys of an object are one
-/// in it.
+/// It is read in place of the value, for a quarter more instructions than skipping it, and nothing
+/// of the value is kept. A `Value` has at most as many values, bytes of keys and levels: equal keys
+/// of an object are one in it.
 #[derive(Debug, Clone, Copy, PartialEq, Eq)]
 pub struct Size {
     /// How many values there are, containers and the rows of templates among them. A skipped field
