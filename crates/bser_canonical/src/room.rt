@@ -5,6 +5,7 @@ ghost use Rattle.bser_source.specs.Sinks.{append-none, append-both};
 ghost use Rattle.bser_canonical.specs.Room.{bytes_in, failures_in};
 
 use bser_source::device::Sink;
+use bser_source::memory::InMemory;
 use std::io;
 use std::io::ErrorKind;
 
@@ -14,7 +15,7 @@ use std::io::ErrorKind;
 /// `OutOfMemory`.
 #[derive(Drop)]
 pub(crate) struct Room {
-    bytes: Vec<u8>,
+    memory: InMemory,
     most: usize,
     failures: u64,
 }
@@ -25,7 +26,7 @@ impl Room {
         ensures bytes { bytes_in result ≡ bytes.items }
     {
         Room {
-            bytes,
+            memory: InMemory::new(bytes),
             most,
             failures: 0,
         }
@@ -36,11 +37,11 @@ impl Room {
         ensures { result.items ≡ bytes_in self }
     {
         let Room {
-            bytes,
+            memory,
             most: _,
             failures: _,
         } = self;
-        bytes
+        memory.into_inner()
     }
 
     /// Appends two pieces, or answers false and appends nothing.
@@ -50,19 +51,10 @@ impl Room {
             ≡ bytes_in self.old ++ (if result then front.now ++ back.now else []) }
         ensures failures { failures_in self.new ≡ failures_in self.old }
     {
-        let room = self.most.saturating_sub(self.bytes.len());
-        if front.len() > room || back.len() > room - front.len() {
-            return false;
-        }
-        let before = self.bytes.len();
-        if self.bytes.extend_from_slice(front).is_err() {
-            return false;
-        }
-        if self.bytes.extend_from_slice(back).is_err() {
-            self.bytes.truncate(before);
-            return false;
-        }
-        true
+        let room = self.most.saturating_sub(self.memory.get_ref().len());
+        front.len() <= room
+            && back.len() <= room - front.len()
+            && self.memory.take_at_once(front, back)
     }
 }
 
