@@ -2,10 +2,11 @@
 //! change, until the subscription ends, or the stream behind a whole message.
 #![tactic(auto)]
 
+mod error;
 pub mod events;
 
+use crate::error::FollowError;
 use crate::events::events_of;
-use anyhow::{Context, Result, bail};
 use serde_bser::bytestring::ByteString;
 use serde_bser::device::{Sink, Source};
 use std::alloc::Global;
@@ -66,7 +67,7 @@ fn follow<S: Source, W: Sink, L: Write>(
     client: &mut Client<S, W>,
     followed: Followed<'_>,
     log: &mut L,
-) -> Result<()> {
+) -> Result<(), FollowError> {
     let capabilities = Some(Capabilities {
         optional: &[],
         required: NEEDED,
@@ -74,7 +75,7 @@ fn follow<S: Source, W: Sink, L: Write>(
     let version: Version<String> = client.request(&VersionRequest { capabilities })?;
     writeln!(log, "version {}", version.version)?;
     if let Some(name) = version.missing_capability(NEEDED) {
-        bail!("the server lacks {name}");
+        return Err(FollowError::Lacks(name));
     }
     let path = Bytes(followed.folder.as_bytes());
     let project: WatchProject<ByteString> = client.request(&WatchProjectRequest { path })?;
@@ -93,7 +94,7 @@ fn follow_since<S: Source, W: Sink, L: Write>(
     project: &WatchProject<ByteString>,
     clock: &str,
     log: &mut L,
-) -> Result<()> {
+) -> Result<(), FollowError> {
     let root = Bytes(project.watch.as_bytes());
     let query = query_since(project, clock);
     let found: QueryResult<ByteString, File<ByteString>> = client.request(&QueryRequest {
@@ -106,9 +107,9 @@ fn follow_since<S: Source, W: Sink, L: Write>(
     let _subscribed: Subscribed<ByteString> = client.request(&request)?;
     for event in events_of::<ByteString, File<ByteString>, _, _>(client) {
         match event {
-            Ok(event) => tell_event(log, &event)?,
+            Ok(event) => tell_event(log, event)?,
             Err(ClientError::Answer(error)) => writeln!(log, "an event is not read: {error}")?,
-            Err(error) => return Err(error.into()),
+            Err(error) => return Err(FollowError::Client(error)),
         }
     }
     Ok(())
@@ -134,7 +135,10 @@ fn relative_root(project: &WatchProject<ByteString>) -> Option<Bytes<'_>> {
 }
 
 /// Tells an event. The end of the subscription is an error, since nothing comes behind it.
-fn tell_event<L: Write>(log: &mut L, event: &Event<ByteString, File<ByteString>>) -> Result<()> {
+fn tell_event<L: Write>(
+    log: &mut L,
+    event: Event<ByteString, File<ByteString>>,
+) -> Result<(), FollowError> {
     match event {
         Event::Files(changed) => {
             let clock = str::from_utf8(changed.clock.as_bytes())?;
@@ -148,12 +152,7 @@ fn tell_event<L: Write>(log: &mut L, event: &Event<ByteString, File<ByteString>>
         Event::StateEntered(state) => writeln!(log, "state {} begins", state.state)?,
         Event::StateLeft(state) => writeln!(log, "state {} ends", state.state)?,
         Event::Log(message) => writeln!(log, "log {}", message.line)?,
-        Event::Canceled(canceled) => {
-            bail!(
-                "{} is canceled: its root is no longer watched",
-                canceled.subscription
-            )
-        }
+        Event::Canceled(canceled) => return Err(FollowError::Canceled(canceled.subscription)),
         Event::Other => writeln!(log, "another event")?,
     }
     Ok(())
@@ -166,7 +165,7 @@ fn tell_changes<L: Write>(
     clock: &str,
     is_fresh: bool,
     files: &[File<ByteString>],
-) -> Result<()> {
+) -> Result<(), FollowError> {
     let others = if is_fresh {
         ", all others are gone"
     } else {
@@ -174,7 +173,9 @@ fn tell_changes<L: Write>(
     };
     writeln!(log, "at {clock}{others}")?;
     for file in files {
-        let name = file.name.as_ref().context("no name")?;
+        let Some(name) = &file.name else {
+            return Err(FollowError::Nameless);
+        };
         if file.exists == Some(false) {
             writeln!(log, "  {name} is gone")?;
         } else {
