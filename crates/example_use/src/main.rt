@@ -115,6 +115,7 @@ fn print_files(rt: &HostRuntime) -> Result<()> {
         Some(size) => println!(rt; "size {size}")?,
         None => println!(rt; "no size")?,
     }
+    println!(rt; "size of the file {}", size::file_size(alloc, &shorter)?)?;
     match find::first_size(alloc, &shorter) {
         Some(size) => println!(rt; "found {size}")?,
         None => println!(rt; "not found")?,
