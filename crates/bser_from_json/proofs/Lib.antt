@@ -4,3 +4,6 @@ pub mod TokenCount
 pub mod Seeking
 pub mod Lines
 pub mod Outcomes
+pub mod Entries
+pub mod Parts
+pub mod Messages

@@ -1,13 +1,13 @@
 -- What is made of the tokens of a text, one after the other.
-use Rattle.std.proofs.Common.{◌≡◌, ℕ, suc, ◌+◌, ◌-◌, List, [], ◌∷◌, length, Bool, true, false, Some, None, Result, Ok, Err, refl, sym, ap, subst, ◌∙◌, arith, lt-ltb, ltb-true, if◌then◌else◌}
+use Rattle.std.proofs.Common.{◌≡◌, ℕ, suc, ◌+◌, ◌-◌, List, [], ◌∷◌, length, Bool, true, false, Some, None, Result, Ok, Err, Vec, refl, sym, ap, subst, ◌∙◌, arith, lt-ltb, ltb-true, if◌then◌else◌}
 use Rattle.json.specs.Token as tokens
 use Rattle.json.specs.Reads.{token_of}
 use Rattle.json.specs.declared.token.Token.{Token}
 use Rattle.json.specs.declared.token.Token.TheVariants as kinds
 use Rattle.std.specs.Borrow.{Bor}
+use Rattle.std.specs.declared.alloc.Global.{Global}
 use Rattle.bser_format.specs.Tree.{Tree, array, object, items_of, entries_of}
-use Rattle.bser_value.specs.declared.value.Value.{Value}
-use Rattle.bser_from_json.specs.Left.{ComesTo, IsRefused, LacksToken, Takes, due_to, step_to}
+use Rattle.bser_from_json.specs.Left.{ComesWhere, IsRefused, LacksToken, Takes, due_to, opens, step_to}
 use Rattle.bser_from_json.specs.Made.{Around, in_array, in_object, Due, goes_on, stops, stops_before, Outcome, makes, refuses, lacks, made, a_value, a_first_member, a_string, end_step, mark_in, member_step, name_of, named_step, new_name, unless_mark, an_end, an_item, end_due, mark_fault, marked_made, at_end, follow, has_level, is_bad, item_step, most_levels, nothing, put, run, step, value_step}
 use Rattle.bser_from_json.specs.declared.fault.JsonFault.{JsonFault}
 use Rattle.bser_from_json.specs.declared.fault.JsonFault.TheVariants as faults
@@ -36,12 +36,14 @@ taken s d old new t h = run_on s old.taken new.taken d (token_of t) old.reader n
 pub lacking : (s : Strings) (d : Due) (old new : Tokens) (e : TokenError) → at_end old.taken d ≡ lacks old.taken → Takes old new (Err e) → IsRefused (due_to s old d) e
 lacking s d old new e last h = subst (IsRefused (due_to s old d)) (sym h.0) (run_lacks s old.taken d old.reader last h.1)
 
--- the same outcome comes to the same
-pub comes_same : (a b : Outcome) (with : Tree → Outcome) (r : Result Value TokenError) → a ≡ b → ComesTo b with r → ComesTo a with r
-comes_same a b with r same h = subst (λ o. ComesTo o with r) (sym same) h
-
+-- the same outcome is refused by the same
 pub refused_same : (a b : Outcome) (e : TokenError) → a ≡ b → IsRefused b e → IsRefused a e
 refused_same a b e same h = subst (λ o. IsRefused o e) (sym same) h
+
+-- what comes to the same comes of it, where as much may be around
+pub comes_from : (may may' : List Around → Type 0) (from from' : List Around → Outcome) (s : Strings) (left : Tokens) (bytes : List ℕ) (r : Result (Vec ℕ Global) TokenError) → ((os : List Around) → may os → may' os) → ((os : List Around) → may os → from os ≡ from' os) → ComesWhere may' s from' left bytes r → ComesWhere may s from left bytes r
+comes_from may may' from from' s left bytes (Ok all) fits same h = (h.0, h.1, λ os m. same os m ∙ h.2 os (fits os m))
+comes_from may may' from from' s left bytes (Err e) fits same h = λ os m. refused_same (from os) (from' os) e (same os m) (h os (fits os m))
 
 -- levels
 
@@ -82,6 +84,19 @@ mark_refused s m os old mid t f e takes none fault is =
 
 pub mark_taken : (s : Strings) (m : Mark) (os : List Around) (old mid : Tokens) (t : Token) (u : Tree) → Takes old mid (Ok t) → Some u ≡ marked_made m (token_of t) → due_to s old (a_string m os) ≡ due_to s mid (an_end u os)
 mark_taken s m os old mid t u takes some = taken s (a_string m os) old mid t takes ∙ ap (λ o. step_to s mid (end_due m os o)) (sym some)
+
+-- a token that begins neither an array nor an object
+pub not_opening : (t : Token) → (t ≡ kinds.BeginArray → ⊥) → (t ≡ kinds.BeginObject → ⊥) → opens (token_of t) ≡ false
+not_opening kinds.BeginObject a o = absurd (o refl)
+not_opening kinds.EndObject a o = refl
+not_opening kinds.BeginArray a o = absurd (a refl)
+not_opening kinds.EndArray a o = refl
+not_opening (kinds.Key k) a o = refl
+not_opening (kinds.String k) a o = refl
+not_opening (kinds.Number k) a o = refl
+not_opening (kinds.Bool b) a o = refl
+not_opening kinds.Null a o = refl
+not_opening kinds.Bad a o = refl
 
 -- ---- arrays
 
@@ -131,6 +146,11 @@ first_marks s os old mid t m takes some = taken s (a_first_member os) old mid t 
 
 pub member_named : (s : Strings) (left : Tokens) (es : List (List ℕ × Tree)) (os : List Around) (t : Token) (k : Bor (List ℕ)) (name : List ℕ) → t ≡ kinds.Key k → new_name es (name_of k.now) ≡ Ok name → step_to s left (member_step es os (token_of t)) ≡ due_to s left (a_value (in_object es name ∷ os))
 member_named s left es os t k name is named = ap (λ t. step_to s left (member_step es os (token_of t))) is ∙ ap (λ r. step_to s left (named_step es os r)) named
+
+pub member_refused : (s : Strings) (left : Tokens) (es : List (List ℕ × Tree)) (os : List Around) (t : Token) (k : Bor (List ℕ)) (f : JsonFault) (e : TokenError) → t ≡ kinds.Key k → new_name es (name_of k.now) ≡ Err f → e ≡ refusals.At f left.taken → IsRefused (step_to s left (member_step es os (token_of t))) e
+member_refused s left es os t k f e is named at =
+    subst (IsRefused (step_to s left (member_step es os (token_of t)))) (sym at)
+    (ap (λ t. step_to s left (member_step es os (token_of t))) is ∙ ap (λ r. step_to s left (named_step es os r)) named)
 
 pub object_ended : (s : Strings) (left : Tokens) (es : List (List ℕ × Tree)) (os : List Around) (t : Token) → t ≡ kinds.EndObject → step_to s left (member_step es os (token_of t)) ≡ due_to s left (put (object (entries_of es)) os)
 object_ended s left es os t is = ap (λ t. step_to s left (member_step es os (token_of t))) is

@@ -1,3 +1,4 @@
+pub mod Bodies
 pub mod Errors
 pub mod Left
 pub mod Lines

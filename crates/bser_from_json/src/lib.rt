@@ -1,6 +1,7 @@
 //! JSON texts, and the messages that are made of them.
 #![tactic(auto)]
 
+mod body;
 pub mod fault;
 mod incoming;
 pub mod meaning;

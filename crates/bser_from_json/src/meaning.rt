@@ -1,12 +1,15 @@
 //! What JSON's scalars stand for, and the marks and names that its keys are.
-ghost use Rattle.std.specs.Prelude.{◌≡◌, IfOk, option_map};
+ghost use Rattle.std.specs.Prelude.{◌≡◌, ℕ, List, IfOk, option_map};
 ghost use Rattle.std.specs.List.{list_any};
 ghost use Rattle.json.specs.Reads.{token_of};
-ghost use Rattle.bser_value.specs.ValueView.{tree_of, entry_trees};
+ghost use Rattle.bser_format.specs.Tree.{Tree};
+ghost use Rattle.bser_value.specs.ValueView.{tree_of};
+ghost use Rattle.bser_from_json.specs.Bodies.{AreNamed};
 ghost use Rattle.bser_from_json.specs.Made.{integer_made, is_point_or_e, is_whole, digits_made, marked_made, mark_fault, mark_key, mark_of, name_of, new_name, number_made, string_made};
 ghost use Rattle.bser_from_json.specs.Scalars.{IsMade, IsNamed};
 ghost use Rattle.bser_from_json.specs.declared.meaning.Mark.TheVariants as marks;
 
+use crate::body::Span;
 use crate::fault::JsonFault;
 use crate::reading::Strings;
 use bser_format::bytestring::ByteString;
@@ -169,12 +172,13 @@ fn name_of(key: &str) -> Result<&str, JsonFault>
 /// The name that a key stands for, which the entries do not have.
 pub(crate) fn new_name<'k>(
     key: &'k str,
-    entries: &BTreeMap<String, Value>,
+    entries: &BTreeMap<&'k str, Span>,
 ) -> Result<&'k str, JsonFault>
-    ensures { IsNamed result (new_name (entry_trees entries.now.entries) (name_of key.now)) }
+    ensures { (es : List (List ℕ × Tree)) → AreNamed entries.now.entries es
+        → IsNamed result (new_name es (name_of key.now)) }
 {
     let name = name_of(key)?;
-    if entries.contains_key(name) {
+    if entries.contains_key(&name) {
         return Err(JsonFault::EqualKeys);
     }
     Ok(name)

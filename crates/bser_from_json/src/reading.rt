@@ -1,5 +1,5 @@
-//! The value of a JSON text.
-ghost use Rattle.std.specs.Prelude.{◌≡◌, ◌+◌, suc, [], List, length, ◌≤◌, IfOk, IfErr};
+//! The message of a JSON text, and its value.
+ghost use Rattle.std.specs.Prelude.{◌≡◌, ◌+◌, suc, false, [], List, length, ◌≤◌, ⊤, IfOk, IfErr};
 ghost use Rattle.json.specs.Lex.{tokens};
 ghost use Rattle.json.specs.Reads.{token_of};
 ghost use Rattle.json.specs.Token.{begin_array};
@@ -14,18 +14,21 @@ ghost use Rattle.bser_from_json.specs.Made.{
   makes,
   mark_in,
   member_step,
-  put,
   value_step,
 };
 ghost use Rattle.bser_from_json.specs.Errors.{IsAt, IsErrorOf};
-ghost use Rattle.bser_from_json.specs.Left.{ComesInside, ComesTo, IsRefused, due_to, step_to};
+ghost use Rattle.bser_from_json.specs.Bodies.{MakesMessage};
+ghost use Rattle.bser_from_json.specs.Left.{ComesInside, ComesTo, ComesWhere, IsPut, IsRefused, due_to, opens, step_to};
 ghost use Rattle.bser_from_json.specs.Lines.{place_in};
 
+use crate::body::{Span, message, no_parts, with_array, with_key, with_object, with_value};
 use crate::fault::{JsonError, JsonFault, fault_of, place_of};
 use crate::meaning::{Mark, new_name, number_of, string_of};
 use crate::places::token_place;
 use crate::tokens::{TokenError, Tokens};
 use bser_deserializer::deserializer::LEVELS;
+use bser_messages::message::from_slice;
+use bser_ser::message::gap;
 use bser_value::value::Value;
 use json::{Reader, Scratch, Token};
 use std::alloc::Global;
@@ -57,12 +60,34 @@ pub fn value_of<'t>(
     ensures refused { IfErr result
         (IsErrorOf whole.now text.now start (made strings (tokens text.now))) }
 {
+    let message = message_of(alloc, strings, whole, text, start)?;
+    match from_slice(alloc, message.as_slice()) {
+        Ok(value) => Ok(value),
+        Err(_) => Err(JsonError::OutOfMemory),
+    }
+}
+
+/// Returns the canonical message of the value of `text`, and makes no `Value` of it. The errors are
+/// those of [`value_of`].
+pub fn message_of<'t>(
+    alloc: Global,
+    strings: Strings,
+    whole: &'t str,
+    text: &'t str,
+    start: usize,
+) -> Result<Vec<u8>, JsonError>
+    ensures made { IfOk result (λ message.
+        MakesMessage (made strings (tokens text.now)) message.items) }
+    ensures refused { IfErr result
+        (IsErrorOf whole.now text.now start (made strings (tokens text.now))) }
+{
     let mut scratch = Scratch::new(alloc);
     let reader = Reader::new(text, &mut scratch)?;
     let mut tokens = Tokens::new(reader);
     let reading = Reading { alloc, strings };
-    match reading.whole(&mut tokens) {
-        Ok(value) => Ok(value),
+    let front = gap(alloc)?;
+    match reading.whole(&mut tokens, front) {
+        Ok(bytes) => Ok(message(bytes)?),
         Err(refusal) => Err(error_of(refusal, whole, text, start)),
     }
 }
@@ -102,29 +127,47 @@ struct Reading {
 
 impl Reading {
     /// The one value of a text.
-    fn whole(&self, tokens: &mut Tokens<'_>) -> Result<Value, TokenError>
-        ensures { ComesTo (due_to self.now.strings tokens.old (a_value [])) makes result }
+    fn whole(&self, tokens: &mut Tokens<'_>, bytes: Vec<u8>) -> Result<Vec<u8>, TokenError>
+        ensures { ComesTo (due_to self.now.strings tokens.old (a_value [])) makes
+            bytes.items result }
     {
         let first = tokens.next()?;
-        let value = self.value(tokens, first, LEVELS)?;
+        let all = self.value(tokens, first, LEVELS, bytes)?;
         tokens.end()?;
-        Ok(value)
+        Ok(all)
     }
 
     /// The value that begins with the token that was taken last, and may nest so many levels.
     #[cycle(value)]
-    fn value(
+    fn value<'t>(
         &self,
-        tokens: &mut Tokens<'_>,
-        first: Token<'_>,
+        tokens: &mut Tokens<'t>,
+        first: Token<'t>,
         levels: usize,
-    ) -> Result<Value, TokenError>
-        ensures comes { ComesInside self.now.strings levels
+        bytes: Vec<u8>,
+    ) -> Result<Vec<u8>, TokenError>
+        ensures comes { ComesInside levels self.now.strings
             (λ os. step_to self.now.strings tokens.old
-            (value_step self.now.strings os (token_of first.entry))) tokens.new result }
+            (value_step self.now.strings os (token_of first.entry))) tokens.new bytes.items result }
         ensures fewer { length tokens.new.reader ≤ length tokens.old.reader }
     {
         match first {
+            Token::BeginArray => self.array(tokens, levels, bytes),
+            Token::BeginObject => self.object(tokens, levels, bytes),
+            _ => {
+                let scalar = self.scalar(tokens, first)?;
+                Ok(with_value(self.alloc, bytes, &scalar)?)
+            }
+        }
+    }
+
+    /// The value of the token that was taken last, which opens no container.
+    fn scalar(&self, tokens: &Tokens<'_>, token: Token<'_>) -> Result<Value, TokenError>
+        requires { opens (token_of token) ≡ false }
+        ensures { (os : List Around) → IsPut self.now.strings tokens.now os
+            (value_step self.now.strings os (token_of token.entry)) result }
+    {
+        match token {
             Token::Null => Ok(Value::Null),
             Token::Bool(truth) => Ok(Value::Bool(truth)),
             Token::String(text) => Ok(string_of(self.alloc, self.strings, text)?),
@@ -132,89 +175,110 @@ impl Reading {
                 Ok(number) => Ok(number),
                 Err(fault) => Err(tokens.refuse(fault)),
             },
-            Token::BeginArray => self.array(tokens, levels),
-            Token::BeginObject => self.object(tokens, levels),
-            Token::Key(_) | Token::EndArray | Token::EndObject | Token::Bad => {
-                Err(tokens.refuse(JsonFault::NotJson))
-            }
+            _ => Err(tokens.refuse(JsonFault::NotJson)),
         }
     }
 
     /// An array, whose bracket was taken last.
     #[cycle(value)]
-    fn array(&self, tokens: &mut Tokens<'_>, levels: usize) -> Result<Value, TokenError>
-        ensures comes { ComesInside self.now.strings levels
+    fn array<'t>(
+        &self,
+        tokens: &mut Tokens<'t>,
+        levels: usize,
+        bytes: Vec<u8>,
+    ) -> Result<Vec<u8>, TokenError>
+        ensures comes { ComesInside levels self.now.strings
             (λ os. step_to self.now.strings tokens.old
-            (value_step self.now.strings os begin_array)) tokens.new result }
+            (value_step self.now.strings os begin_array)) tokens.new bytes.items result }
         ensures fewer { length tokens.new.reader ≤ length tokens.old.reader }
     {
         if levels == 0 {
             return Err(tokens.refuse(JsonFault::TooDeep));
         }
-        let mut items = Vec::new(self.alloc);
+        let mut items = no_parts(self.alloc)?;
+        let mut count = 0;
         loop {
             let token = tokens.next()?;
             if let Token::EndArray = token {
-                return Ok(Value::Array(items));
+                return Ok(with_array(self.alloc, bytes, count, &items)?);
             }
-            items.push(self.value(tokens, token, levels - 1)?)?;
+            items = self.value(tokens, token, levels - 1, items)?;
+            count += 1;
         }
     }
 
     /// An object or what is marked, whose bracket was taken last.
     #[cycle(value)]
-    fn object(&self, tokens: &mut Tokens<'_>, levels: usize) -> Result<Value, TokenError>
-        ensures comes { ComesInside self.now.strings levels
-            (λ os. due_to self.now.strings tokens.old (a_first_member os)) tokens.new result }
+    fn object<'t>(
+        &self,
+        tokens: &mut Tokens<'t>,
+        levels: usize,
+        bytes: Vec<u8>,
+    ) -> Result<Vec<u8>, TokenError>
+        ensures comes { ComesInside levels self.now.strings
+            (λ os. due_to self.now.strings tokens.old (a_first_member os))
+            tokens.new bytes.items result }
         ensures fewer { length tokens.new.reader ≤ length tokens.old.reader }
     {
         let begun = tokens.taken();
         let first = tokens.next()?;
         if let Some(mark) = mark_in(first) {
-            return self.marked(tokens, mark);
+            return self.marked(tokens, mark, bytes);
         }
         if levels == 0 {
             return Err(TokenError::At(JsonFault::TooDeep, begun));
         }
-        self.members(tokens, first, levels - 1)
+        self.members(tokens, first, levels - 1, bytes)
     }
 
     /// An object with the members that begin with the token that was taken last.
     #[cycle(value)]
-    fn members(
+    fn members<'t>(
         &self,
-        tokens: &mut Tokens<'_>,
-        first: Token<'_>,
+        tokens: &mut Tokens<'t>,
+        first: Token<'t>,
         levels: usize,
-    ) -> Result<Value, TokenError>
-        ensures comes { ComesInside self.now.strings (suc levels)
+        bytes: Vec<u8>,
+    ) -> Result<Vec<u8>, TokenError>
+        ensures comes { ComesInside (suc levels) self.now.strings
             (λ os. step_to self.now.strings tokens.old (member_step [] os (token_of first.entry)))
-            tokens.new result }
+            tokens.new bytes.items result }
         ensures fewer { length tokens.new.reader ≤ length tokens.old.reader }
     {
         let mut entries = BTreeMap::new(self.alloc);
+        let mut parts = no_parts(self.alloc)?;
         let mut next = first;
         loop {
             let key = match next {
-                Token::EndObject => return Ok(Value::Object(entries)),
+                Token::EndObject => return Ok(with_object(self.alloc, bytes, &entries, &parts)?),
                 Token::Key(key) => key,
                 _ => return Err(tokens.refuse(JsonFault::NotJson)),
             };
             let name = match new_name(key, &entries) {
-                Ok(name) => String::from_str(self.alloc, name)?,
+                Ok(name) => name,
                 Err(fault) => return Err(tokens.refuse(fault)),
             };
+            let start = parts.len();
+            parts = with_key(self.alloc, parts, name)?;
             let token = tokens.next()?;
-            let value = self.value(tokens, token, levels)?;
-            entries.insert(name, value)?;
+            parts = self.value(tokens, token, levels, parts)?;
+            let end = parts.len();
+            let span = Span { start, end };
+            entries.insert(name, span)?;
             next = tokens.next()?;
         }
     }
 
     /// What is marked, behind its key.
-    fn marked(&self, tokens: &mut Tokens<'_>, mark: Mark) -> Result<Value, TokenError>
-        ensures comes { (os : List Around) → ComesTo (due_to self.now.strings tokens.old (a_string mark os))
-            (λ u. due_to self.now.strings tokens.new (put u os)) result }
+    fn marked(
+        &self,
+        tokens: &mut Tokens<'_>,
+        mark: Mark,
+        bytes: Vec<u8>,
+    ) -> Result<Vec<u8>, TokenError>
+        ensures comes { ComesWhere (λ os. ⊤) self.now.strings
+            (λ os. due_to self.now.strings tokens.old (a_string mark os))
+            tokens.new bytes.items result }
         ensures fewer { length tokens.new.reader ≤ length tokens.old.reader }
     {
         let token = tokens.next()?;
@@ -222,7 +286,7 @@ impl Reading {
             return Err(tokens.refuse(mark.fault()));
         };
         match tokens.next()? {
-            Token::EndObject => Ok(value),
+            Token::EndObject => Ok(with_value(self.alloc, bytes, &value)?),
             _ => Err(tokens.refuse(JsonFault::MarkWithMembers)),
         }
     }

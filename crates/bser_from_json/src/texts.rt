@@ -2,13 +2,12 @@
 
 use crate::fault::{JsonError, JsonFault, Place, place_of};
 use crate::incoming::ReadTexts;
-use crate::reading::{Strings, value_of};
+use crate::reading::{Strings, message_of, value_of};
 use bser_format::errors::Error;
-use bser_ser::message::serialize_to;
+use bser_ser::push_all;
 use bser_shell::counted::CountedInput;
-use bser_source::device::{Sink, Watched};
+use bser_source::device::Watched;
 use bser_value::compact::serialize_compact;
-use bser_value::value::Value;
 use std::alloc::Global;
 use std::io::{Read, Write};
 use std::{fmt, io};
@@ -43,6 +42,12 @@ impl TextError {
             }),
             other => other,
         }
+    }
+}
+
+impl From<JsonError> for TextError {
+    fn from(error: JsonError) -> Self {
+        TextError::Json(error)
     }
 }
 
@@ -94,23 +99,13 @@ fn write_text<W: Write>(
     out: &mut W,
 ) -> Result<(), TextError> {
     let text = text_of(bytes)?;
-    match value_of(alloc, writing.strings, text, text, 0) {
-        Ok(value) => write_message(alloc, writing, &value, &mut Watched::new(out)),
-        Err(error) => Err(TextError::Json(error)),
-    }
-}
-
-/// Writes the message of a value.
-fn write_message<W: Sink>(
-    alloc: Global,
-    writing: Writing,
-    value: &Value,
-    out: &mut W,
-) -> Result<(), TextError> {
+    let mut out = Watched::new(out);
     let written = if writing.is_compact {
-        serialize_compact(alloc, out, value)
+        let value = value_of(alloc, writing.strings, text, text, 0)?;
+        serialize_compact(alloc, &mut out, &value)
     } else {
-        serialize_to(alloc, out, value)
+        let message = message_of(alloc, writing.strings, text, text, 0)?;
+        push_all(&mut out, &message).map_err(Error::Io)
     };
     match written {
         Ok(()) => Ok(()),

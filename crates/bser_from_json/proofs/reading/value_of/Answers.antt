@@ -1,24 +1,14 @@
--- The value or the error of the text's tokens.
-use Rattle.std.proofs.Common.{length, sym, ap, subst, ◌∙◌, arith}
-use Rattle.std.proofs.lemmas.Result.{err_from_is_err_and}
-use Rattle.json.specs.Lex.{tokens}
-use Rattle.bser_from_json.specs.Errors.{IsErrorOf}
-use Rattle.bser_from_json.specs.Left.{IsRefused}
-use Rattle.bser_from_json.specs.Made.{made}
-use Rattle.bser_from_json.proofs.Outcomes.{made_is}
-use Rattle.bser_from_json.proofs.TokenCount.{tokens-le}
+-- The value that the message is read as.
+use Rattle.std.proofs.Common.{◌≡◌, ◌<◌, ◌^◌, length, arith, rules, subst}
+use Rattle.bser_format.specs.ReadsAny.{reads_value}
+use Rattle.bser_messages.specs.Messages.{BeginsWith}
+use Rattle.bser_value.specs.ValueView.{HoldsValue}
+use Rattle.bser_from_json.proofs.Messages.{message_read}
 use Rattle.bser_from_json.proofs.reading.value_of.Goals as goal
 
-pub returns-in_err-reader-clause-refused : goal.returns-in_err-reader-clause-refused
-returns-in_err-reader-clause-refused c =
-    let p = err_from_is_err_and c.from_residual.result c.from_residual.ensures.1 in
-    rw p.1 (subst (IsErrorOf c.args.whole.now c.args.text.now c.args.start (made c.args.strings (tokens c.args.text.now))) (sym p.2) tt)
-
-pub new-tokens-requires : goal.new-tokens-requires
-new-tokens-requires c = omega (arith, ap length c.in_ok-reader.ensures.ok, tokens-le c.args.text.now)
-
-pub returns-clause-refused : goal.returns-clause-refused
-returns-clause-refused c =
-    let o = made c.args.strings (tokens c.args.text.now) in
-    let same = made_is c.args.strings c.new-tokens.result (tokens c.args.text.now) (c.new-tokens.ensures.reader ∙ c.in_ok-reader.ensures.ok) c.new-tokens.ensures.taken in
-    c.error_of.ensures o (subst (λ p. IsRefused p c.in-Err.refusal) (sym same) c.in-Err.ensures)
+pub returns-in-Ok-clause-made : goal.returns-in-Ok-clause-made
+returns-in-Ok-clause-made c =
+    let m = c.in_ok-message.message in
+    let same : c.as_slice.result.now ≡ m.items = search rules in
+    let short : length m.items < 2 ^ 63 = omega (arith, m.ok.0, m.ok.1, m.small) in
+    message_read _ m.items c.in-Ok.value c.in_ok-message.ensures.made short (subst (λ bytes. BeginsWith 128 reads_value HoldsValue bytes c.in-Ok.value) same c.in-Ok.ensures.found)
