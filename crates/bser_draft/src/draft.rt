@@ -164,7 +164,9 @@ impl Draft {
     /// Opens an object whose entries are to be counted, and has no count yet. Then no message comes
     /// of the draft: it is rough.
     #[inline(never)]
-    pub fn open_uncounted(&mut self) -> Put {
+    pub fn open_uncounted(&mut self) -> Put
+        ensures { Puts self.old.out self.new.out (object_head 0) result }
+    {
         self.containers
             .enter(0, usize::MAX, DraftError::ObjectTooDeep)?;
         self.containers.is_rough = true;
