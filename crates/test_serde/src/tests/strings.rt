@@ -37,6 +37,25 @@ fn borrowed(rt: HostRuntime) {
 }
 
 #[test]
+fn borrowed_of_each_length(rt: HostRuntime) {
+    let alloc = rt.alloc();
+    let mut letters = Vec::new(alloc);
+    for _ in 0..12 {
+        letters
+            .extend_from_slice(b"abcdefghijklmnopqrstuvwxyz")
+            .expect(&rt, "memory");
+    }
+    for len in 0..letters.len() {
+        let part = Bytes(&letters[..len]);
+        let message = to_vec(alloc, &part).expect(&rt, "a message");
+        let back: Bytes<'_> = from_slice(alloc, &message).expect(&rt, "a value");
+        assert!(rt; back == part);
+        let framed: Bytes<'_> = from_frame(alloc, &message).expect(&rt, "a value");
+        assert!(rt; framed == part);
+    }
+}
+
+#[test]
 fn rows(rt: HostRuntime) {
     let alloc = rt.alloc();
     let people: Vec<Person<'_>> = from_slice(alloc, PEOPLE).expect(&rt, "a value");
