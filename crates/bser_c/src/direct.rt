@@ -28,14 +28,14 @@ const FEW_LEVELS: usize = 8;
 
 /// A token, and where what follows it begins.
 #[derive(Clone, Copy)]
-struct TokenFront {
+struct TokenEnd {
     token: Token,
     end: usize,
 }
 
 /// A count, and where what follows it begins.
 #[derive(Clone, Copy)]
-struct CountFront {
+struct CountEnd {
     count: usize,
     end: usize,
 }
@@ -79,12 +79,12 @@ fn header_of(bytes: &[u8]) -> Option<Header>
 
 /// The count that stands there.
 #[inline(always)]
-fn count_at(bytes: &[u8], at: usize) -> Option<CountFront>
+fn count_at(bytes: &[u8], at: usize) -> Option<CountEnd>
     requires { at ≤ length bytes.now }
     ensures { IfSome result (λ c. Stands (SpellsCount c.count) bytes.now at c.end) }
 {
     match length_prefix(&bytes[at..]) {
-        Prefix::Found { value: count, len } => Some(CountFront {
+        Prefix::Found { value: count, len } => Some(CountEnd {
             count,
             end: at + len,
         }),
@@ -94,12 +94,12 @@ fn count_at(bytes: &[u8], at: usize) -> Option<CountFront>
 
 /// The token that stands there.
 #[inline(always)]
-fn token_at(bytes: &[u8], at: usize) -> Option<TokenFront>
+fn token_at(bytes: &[u8], at: usize) -> Option<TokenEnd>
     requires { at ≤ length bytes.now }
     ensures { IfSome result (λ t. Stands (SpellsToken t.token) bytes.now at t.end) }
 {
     match token_prefix(&bytes[at..]) {
-        Prefix::Found { value: token, len } => Some(TokenFront {
+        Prefix::Found { value: token, len } => Some(TokenEnd {
             token,
             end: at + len,
         }),
@@ -141,7 +141,7 @@ fn value<B: Builder>(bytes: &[u8], start: usize, levels: usize, builder: &mut B)
     ensures { IfSome result (λ to.
         TellsValue B.takes levels bytes.now start to builder.old builder.new) }
 {
-    let TokenFront { token, end } = token_at(bytes, start)?;
+    let TokenEnd { token, end } = token_at(bytes, start)?;
     match token {
         Token::Null => tell(Event::Null, start, end, false, builder),
         Token::Bool(truth) => tell(Event::Bool(truth), start, end, false, builder),
@@ -225,7 +225,7 @@ fn key<B: Builder>(bytes: &[u8], start: usize, builder: &mut B) -> Option<usize>
         TellsKey B.takes bytes.now start to builder.old builder.new) }
     ensures within { IfSome result (λ to. to ≤ length bytes.now) }
 {
-    let TokenFront { token, end: at } = token_at(bytes, start)?;
+    let TokenEnd { token, end: at } = token_at(bytes, start)?;
     let Token::Str { is_text, len } = token else {
         return None;
     };
@@ -307,13 +307,13 @@ fn template<B: Builder>(
     if levels < 2 || at == bytes.len() || bytes[at] != BSER_ARRAY {
         return None;
     }
-    let CountFront {
+    let CountEnd {
         count: width,
         end: names,
     } = count_at(bytes, at + 1)?;
     tell(Event::Template { len: width }, start, names, false, builder)?;
     let head = keys(bytes, names, width, builder)?;
-    let CountFront {
+    let CountEnd {
         count: height,
         end: begun,
     } = count_at(bytes, head)?;

@@ -48,7 +48,8 @@ pub fn canon_compact<R: Source, W: Sink>(
     ensures ok { OnOk result
         (Rewrote fold_templates R.Source W.Sink reader.old reader.new writer.old writer.new) }
     ensures refused { IfErr result
-        (RefusesRewriting fold_templates R.Source W.Sink reader.old reader.new writer.old writer.new) }
+        (RefusesRewriting fold_templates R.Source W.Sink
+        reader.old reader.new writer.old writer.new) }
 {
     let read: Value = from_reader(alloc, reader)?;
     serialize_compact(alloc, writer, &read)

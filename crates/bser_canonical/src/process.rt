@@ -156,8 +156,10 @@ fn last_status<W: Finish + Drop, E: Sink>(
 ) -> u8
     ensures other { (status ≢ 0) → (result ≡ status) × (errors.new ≡ errors.old) }
     ensures done { status ≡ 0 → result ≡ 0 → W.ends writer (Ok tt) × (errors.new ≡ errors.old) }
-    ensures told { status ≡ 0 → (result ≢ 0) → (result ≡ 1) × PutsReport E.Sink errors.old errors.new }
-    ensures fault { status ≡ 0 → (result ≢ 0) → (fault : io_error.Error) × W.ends writer (Err fault) }
+    ensures told { status ≡ 0 → (result ≢ 0)
+        → (result ≡ 1) × PutsReport E.Sink errors.old errors.new }
+    ensures fault { status ≡ 0 → (result ≢ 0)
+        → (fault : io_error.Error) × W.ends writer (Err fault) }
 {
     if status != DONE {
         return status;

@@ -12,7 +12,7 @@ use Rattle.bser_format.specs.Tree.{Tree, object, entries, entries_of}
 use Rattle.bser_format.specs.Canonical.{canonical_body, canonical_entries, canonical_key}
 use Rattle.bser_format.specs.Pieces.{object_head}
 use Rattle.bser_from_json.specs.Bodies.{AreNamed, EntriesStand, Places, Stands}
-use Rattle.bser_from_json.specs.declared.body.Span.{Span}
+use Rattle.bser_from_json.specs.declared.body.EntrySpan.{EntrySpan}
 
 -- ---- what stands in bytes
 
@@ -31,7 +31,7 @@ stand_counted bytes (p ∷ ps) (e ∷ es) h = omega (arith, stand_counted bytes 
 same_slice : (bytes more : List ℕ) (i j : ℕ) → i ≤ j → j ≤ length bytes → slice_range (bytes ++ more) i j ≡ slice_range bytes i j
 same_slice bytes more i j le within = grind (arith, common_steps, le, within)
 
-stays : (bytes more piece : List ℕ) (s : Span) → Stands bytes s piece → Stands (bytes ++ more) s piece
+stays : (bytes more piece : List ℕ) (s : EntrySpan) → Stands bytes s piece → Stands (bytes ++ more) s piece
 stays bytes more piece s h = record { ordered = h.ordered; within = grind (arith, common_steps, h.within); there = same_slice bytes more s.start s.end h.ordered h.within ∙ h.there }
 
 -- what stands there still does with more bytes behind
@@ -45,7 +45,7 @@ last_slice : (bytes piece : List ℕ) → slice_range (bytes ++ piece) (length b
 last_slice bytes piece = grind (arith, common_steps)
 
 -- a piece stands where it was put last
-pub last_stands : (bytes piece all : List ℕ) (s : Span) → all ≡ bytes ++ piece → s.start ≡ length bytes → s.end ≡ length all → Stands all s piece
+pub last_stands : (bytes piece all : List ℕ) (s : EntrySpan) → all ≡ bytes ++ piece → s.start ≡ length bytes → s.end ≡ length all → Stands all s piece
 last_stands bytes piece all s whole start end = record {
   ordered = omega (arith, start, end, ap length whole, length-append bytes piece);
   within = omega (arith, end);
@@ -56,7 +56,7 @@ abbrev cmp : List ℕ → List ℕ → Ordering
 cmp = slice_cmp nat_cmp
 
 -- an entry more stands under its name
-pub stand_more : (bytes : List ℕ) (ps : Places) (es : List (List ℕ × Tree)) (k : Bor (List ℕ)) (s : Span) (t : Tree) → Stands bytes s (canonical_key k.now ++ canonical_body t) → EntriesStand bytes ps es
+pub stand_more : (bytes : List ℕ) (ps : Places) (es : List (List ℕ × Tree)) (k : Bor (List ℕ)) (s : EntrySpan) (t : Tree) → Stands bytes s (canonical_key k.now ++ canonical_body t) → EntriesStand bytes ps es
     → EntriesStand bytes (insert_entry (λ a b. cmp a.now b.now) ps k s) (insert_entry cmp es k.now t)
 stand_more bytes [] [] k s t there h = (refl, there, tt)
 stand_more bytes [] (e ∷ es) k s t there h = absurd h
@@ -91,13 +91,13 @@ come_begun bytes parts all ps left n whole count head es h = (
 
 -- the entry that comes next
 abbrev Next : List ℕ → Places → List (List ℕ × Tree) → Type 0
-Next parts left more = (p : Bor (List ℕ) × Span) (rest : Places) → left ≡ p ∷ rest → (e : List ℕ × Tree) × (es : List (List ℕ × Tree)) × (more ≡ e ∷ es) × Stands parts p.1 (canonical_key e.0 ++ canonical_body e.1) × EntriesStand parts rest es
+Next parts left more = (p : Bor (List ℕ) × EntrySpan) (rest : Places) → left ≡ p ∷ rest → (e : List ℕ × Tree) × (es : List (List ℕ × Tree)) × (more ≡ e ∷ es) × Stands parts p.1 (canonical_key e.0 ++ canonical_body e.1) × EntriesStand parts rest es
 
 next : (parts : List ℕ) (left : Places) (more : List (List ℕ × Tree)) → EntriesStand parts left more → Next parts left more
 next parts left [] h p rest is = absurd (subst (λ qs. EntriesStand parts qs []) is h)
 next parts left (e ∷ es) h p rest is = let k = subst (λ qs. EntriesStand parts qs (e ∷ es)) is h in (e, es, refl, k.1, k.2)
 
-pub come_on : (bytes parts all new : List ℕ) (ps left rest : Places) (p : Bor (List ℕ) × Span) → left ≡ p ∷ rest → new ≡ all ++ slice_range parts p.1.start p.1.end → EntriesCome bytes parts ps left all → EntriesCome bytes parts ps rest new
+pub come_on : (bytes parts all new : List ℕ) (ps left rest : Places) (p : Bor (List ℕ) × EntrySpan) → left ≡ p ∷ rest → new ≡ all ++ slice_range parts p.1.start p.1.end → EntriesCome bytes parts ps left all → EntriesCome bytes parts ps rest new
 come_on bytes parts all new ps left rest p is put come es h =
     let c = come es h in
     let n = next parts left c.0 c.1 p rest is in
@@ -109,7 +109,7 @@ come_on bytes parts all new ps left rest p is put come es h =
     )
 
 -- the next entry stands there
-pub come_stands : (bytes parts all : List ℕ) (ps left rest : Places) (p : Bor (List ℕ) × Span) → left ≡ p ∷ rest → EntriesCome bytes parts ps left all → (es : List (List ℕ × Tree)) → EntriesStand parts ps es → (p.1.start ≤ p.1.end) × (p.1.end ≤ length parts)
+pub come_stands : (bytes parts all : List ℕ) (ps left rest : Places) (p : Bor (List ℕ) × EntrySpan) → left ≡ p ∷ rest → EntriesCome bytes parts ps left all → (es : List (List ℕ × Tree)) → EntriesStand parts ps es → (p.1.start ≤ p.1.end) × (p.1.end ≤ length parts)
 come_stands bytes parts all ps left rest p is come es h =
     let c = come es h in
     let n = next parts left c.0 c.1 p rest is in

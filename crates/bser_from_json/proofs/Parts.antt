@@ -14,7 +14,7 @@ use Rattle.bser_format.specs.ValueTree.{EntriesAreValueTrees, IsValueTree, Items
 use Rattle.bser_format.proofs.Entries.{put_rises}
 use Rattle.bser_format.proofs.Lengths.{items_few}
 use Rattle.bser_from_json.specs.Bodies.{EntriesStand, Follows, Places}
-use Rattle.bser_from_json.specs.declared.body.Span.{Span}
+use Rattle.bser_from_json.specs.declared.body.EntrySpan.{EntrySpan}
 use Rattle.bser_from_json.proofs.Entries.{last_stands, stand_more, stand_on}
 
 -- ---- items
@@ -81,7 +81,7 @@ values_more k t (e ∷ es) u v h = go (cmp k e.0) (values_more k t es u v h.2)
     go Equal r = (h.0, v, h.2)
     go Greater r = (h.0, h.1, r)
 
-pub entry_put : (parts keyed new : List ℕ) (ps qs : Places) (es : List (List ℕ × Tree)) (k : Bor (List ℕ)) (s : Span) (t : Tree) → keyed ≡ parts ++ canonical_key k.now → IsUtf8 k.now → Follows keyed new t → s.start ≡ length parts → s.end ≡ length new
+pub entry_put : (parts keyed new : List ℕ) (ps qs : Places) (es : List (List ℕ × Tree)) (k : Bor (List ℕ)) (s : EntrySpan) (t : Tree) → keyed ≡ parts ++ canonical_key k.now → IsUtf8 k.now → Follows keyed new t → s.start ≡ length parts → s.end ≡ length new
     → qs ≡ insert_entry (λ a b. cmp a.now b.now) ps k s → EntriesPut parts ps es → EntriesPut new qs (insert_entry cmp es k.now t)
 entry_put parts keyed new ps qs es k s t named utf8 put start end map h =
     let piece : List ℕ = canonical_key k.now ++ canonical_body t in

@@ -7,7 +7,7 @@ use Rattle.bser_format.specs.Tree.{Tree}
 use Rattle.bser_format.specs.Canonical.{canonical_body, canonical_key, canonical_message}
 use Rattle.bser_format.specs.ValueTree.{IsValueTree}
 use Rattle.bser_from_json.specs.Made.{Outcome, makes}
-use Rattle.bser_from_json.specs.declared.body.Span.{Span}
+use Rattle.bser_from_json.specs.declared.body.EntrySpan.{EntrySpan}
 
 -- the bytes are followed by the canonical body of a tree that a `Value` has
 pub record Follows (bytes all : List ℕ) (t : Tree) : Type 0 where
@@ -25,14 +25,14 @@ pub record MakesMessage (o : Outcome) (bytes : List ℕ) : Type 0 where
 
 -- an object's names, and where each entry stands
 abbrev pub Places : Type 0
-Places = List (Bor (List ℕ) × Span)
+Places = List (Bor (List ℕ) × EntrySpan)
 
 -- these are the names of the entries
 abbrev pub AreNamed : Places → List (List ℕ × Tree) → Type 0
 AreNamed ps es = map (λ p. p.0.now) ps ≡ keys_of es
 
 -- the piece stands in the bytes
-pub record Stands (bytes : List ℕ) (s : Span) (piece : List ℕ) : Type 0 where
+pub record Stands (bytes : List ℕ) (s : EntrySpan) (piece : List ℕ) : Type 0 where
   pub ordered : s.start ≤ s.end
   pub within : s.end ≤ length bytes
   pub there : slice_range bytes s.start s.end ≡ piece

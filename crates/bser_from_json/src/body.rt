@@ -22,7 +22,7 @@ const FIRST_ROOM: usize = 128;
 
 /// Where an entry stands among the parts of its object.
 #[derive(Clone, Copy, Drop)]
-pub(crate) struct Span {
+pub(crate) struct EntrySpan {
     pub(crate) start: usize,
     pub(crate) end: usize,
 }
@@ -76,7 +76,7 @@ pub(crate) fn with_array(
 pub(crate) fn with_object(
     alloc: Global,
     bytes: Vec<u8>,
-    entries: &BTreeMap<&str, Span>,
+    entries: &BTreeMap<&str, EntrySpan>,
     parts: &[u8],
 ) -> Result<Vec<u8>, AllocError>
     requires { (es : List (List ℕ × Tree)) × EntriesStand parts.now entries.now.entries es }

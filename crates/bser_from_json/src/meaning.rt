@@ -9,7 +9,7 @@ ghost use Rattle.bser_from_json.specs.Made.{integer_made, is_point_or_e, is_whol
 ghost use Rattle.bser_from_json.specs.Scalars.{IsMade, IsNamed};
 ghost use Rattle.bser_from_json.specs.declared.meaning.Mark.TheVariants as marks;
 
-use crate::body::Span;
+use crate::body::EntrySpan;
 use crate::fault::JsonFault;
 use crate::reading::Strings;
 use bser_format::bytestring::ByteString;
@@ -64,7 +64,8 @@ impl Mark {
 
     /// The value of a token that is marked.
     pub(crate) fn value(self, alloc: Global, token: Token<'_>) -> Result<Option<Value>, AllocError>
-        ensures { IfOk result (λ v. option_map tree_of v ≡ marked_made self (token_of token.entry)) }
+        ensures { IfOk result (λ v.
+            option_map tree_of v ≡ marked_made self (token_of token.entry)) }
     {
         let Token::String(digits) = token else {
             return Ok(None);
@@ -172,7 +173,7 @@ fn name_of(key: &str) -> Result<&str, JsonFault>
 /// The name that a key stands for, which the entries do not have.
 pub(crate) fn new_name<'k>(
     key: &'k str,
-    entries: &BTreeMap<&'k str, Span>,
+    entries: &BTreeMap<&'k str, EntrySpan>,
 ) -> Result<&'k str, JsonFault>
     ensures { (es : List (List ℕ × Tree)) → AreNamed entries.now.entries es
         → IsNamed result (new_name es (name_of key.now)) }

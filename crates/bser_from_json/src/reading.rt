@@ -21,7 +21,7 @@ ghost use Rattle.bser_from_json.specs.Bodies.{MakesMessage};
 ghost use Rattle.bser_from_json.specs.Left.{ComesInside, ComesTo, ComesWhere, IsPut, IsRefused, due_to, opens, step_to};
 ghost use Rattle.bser_from_json.specs.Lines.{place_in};
 
-use crate::body::{Span, message, no_parts, with_array, with_key, with_object, with_value};
+use crate::body::{EntrySpan, message, no_parts, with_array, with_key, with_object, with_value};
 use crate::fault::{JsonError, JsonFault, fault_of, place_of};
 use crate::meaning::{Mark, new_name, number_of, string_of};
 use crate::places::token_place;
@@ -263,7 +263,7 @@ impl Reading {
             let token = tokens.next()?;
             parts = self.value(tokens, token, levels, parts)?;
             let end = parts.len();
-            let span = Span { start, end };
+            let span = EntrySpan { start, end };
             entries.insert(name, span)?;
             next = tokens.next()?;
         }

@@ -198,7 +198,8 @@ fn put_entries<W: Write>(
     out: &mut Printing<W>,
 ) -> Result<(), PrintError>
     ensures { (m : List (List ℕ × Tree)) → HoldsEntries entries.entry m
-        → OnOk result (PutsSaid W.contents (Says (object (entries_of (last_entries m)))) out.old out.new) }
+        → OnOk result (PutsSaid W.contents
+        (Says (object (entries_of (last_entries m)))) out.old out.new) }
 {
     let sorted = entries.sorted(alloc)?;
     put_sorted(alloc, &sorted, room, out)

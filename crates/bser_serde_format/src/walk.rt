@@ -180,7 +180,8 @@ impl<'m> Walk<'m> {
     #[inline(always)]
     pub(crate) fn pass(&mut self, rest: &'m [u8])
         requires some { 0 < self.old.inner.left }
-        requires one { TakesOne self.old.inner.form self.old.inner.levels self.old.rest.now rest.now }
+        requires one { TakesOne self.old.inner.form self.old.inner.levels
+            self.old.rest.now rest.now }
         ensures { Steps self.old self.new }
     {
         self.rest = rest;

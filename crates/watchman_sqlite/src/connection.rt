@@ -128,10 +128,13 @@ pub fn make_tables<S: Alter>(
 ) -> Result<(), IndexError>
     ensures made { HasCleanDisk (state S.Store conn.new) → OnOk result (MadeTables S.Store
         (option_copied subject.entry) conn.old (state S.Store conn.new).committed) }
-    ensures neither { HasCleanDisk (state S.Store conn.new) → IsTrue (state S.Store conn.new).is_open
+    ensures neither { HasCleanDisk (state S.Store conn.new)
+        → IsTrue (state S.Store conn.new).is_open
         → OnErr result (IsAsBefore (state S.Store conn.old) (state S.Store conn.new)) }
-    ensures crash { Survives (state S.Store conn.old) (state S.Store conn.new) (λ trees. (db : Database)
-        × MadeTables S.Store (option_copied subject.entry) conn.old db × (trees ≡ db.trees)) }
+    ensures crash { Survives (state S.Store conn.old) (state S.Store conn.new)
+        (λ trees. (db : Database)
+        × MadeTables S.Store (option_copied subject.entry) conn.old db
+        × (trees ≡ db.trees)) }
     ensures err { IfErr result IsOfMaking }
 {
     if !conn.is_autocommit() {
@@ -218,8 +221,10 @@ pub fn number_of<S: Alter>(
     conn: &mut Connection<S>,
     clock: &[u8],
 ) -> Result<Option<u64>, IndexError>
-    ensures found { HasCleanDisk (state S.Store conn.new) → IfOk result (λ number. (rows : List Values)
-        × Shown NUMBER.now (Blob clock.now ∷ []) (state S.Store conn.old) (state S.Store conn.new) rows
+    ensures found { HasCleanDisk (state S.Store conn.new)
+        → IfOk result (λ number. (rows : List Values)
+        × Shown NUMBER.now (Blob clock.now ∷ [])
+        (state S.Store conn.old) (state S.Store conn.new) rows
         × IsNumberOf rows number) }
     ensures err { IfErr result IsOfDatabase }
     ensures clean { HasCleanDisk (state S.Store conn.new) → HasCleanDisk (state S.Store conn.old) }

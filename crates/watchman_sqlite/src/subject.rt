@@ -105,7 +105,8 @@ pub fn read_subject<S: Alter>(
     alloc: Global,
     conn: &mut Connection<S>,
 ) -> Result<Option<Subject>, IndexError>
-    ensures found { HasCleanDisk (state S.Store conn.new) → IfOk result (λ subject. (rows : List Values)
+    ensures found { HasCleanDisk (state S.Store conn.new)
+        → IfOk result (λ subject. (rows : List Values)
         × Shown SUBJECT.now [] (state S.Store conn.old) (state S.Store conn.new) rows
         × IsSubjectOf (slice_get rows 0) subject) }
     ensures reason { IfErr result IsUnreadSubject }
