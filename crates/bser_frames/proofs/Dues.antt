@@ -112,6 +112,9 @@ cut_header a b old new have want cut s r held same some end = record {
   fewer = omega (arith, held, s.cut cut);
   least = header_bounds new want (λ c k text more rest h e.
       s.least c k text (r.more ++ more) rest h (sym (ap (λ l. l ++ more) r.items ∙ append_assoc old r.more more) ∙ e));
+  exact = λ n h.
+      let long = s.least h.capabilities h.announced h.text r.more h.rest h.head (sym r.items ∙ h.front) in
+      omega (arith, long, s.cut cut, same, ap length h.front, length-append h.text h.rest);
   end = end;
 }
 

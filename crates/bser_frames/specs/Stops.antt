@@ -2,17 +2,18 @@
 use Rattle.std.specs.Prelude.{◌≡◌, ℕ, ◌<◌, List, length, Option}
 use Rattle.std.specs.Io.KnownBytes.{IsAtEnd}
 use Rattle.bser_source.specs.Device.{one_more}
-use Rattle.bser_messages.specs.Lengths.{RefusesLength}
+use Rattle.bser_messages.specs.Lengths.{HasLength, RefusesLength}
 use Rattle.bser_frames.specs.Headers.{Announces, AtLeast}
 use Rattle.bser_frames.specs.declared.error.FrameError.{FrameError}
 use Rattle.bser_frames.specs.declared.error.FrameError.TheVariants.{Cut, Header, TooLong, Reader, OutOfMemory}
 
--- some bytes of a message came and fewer than it has, and the reader is at its end
+-- some bytes of a message came and fewer than it has, as far as they show that, and the reader is at its end
 pub record IsCut (have want : ℕ) (came : List ℕ) (left : Option (List ℕ)) : Type 0 where
   pub count : length came ≡ have
   pub some : 0 < have
   pub fewer : have < want
   pub least : AtLeast came want
+  pub exact : (n : ℕ) → HasLength came n → want ≡ n
   pub end : IsAtEnd left
 
 -- exactly a header came, which announces more than is taken
