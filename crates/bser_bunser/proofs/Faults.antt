@@ -1,5 +1,5 @@
 -- Where an error is told.
-use Rattle.std.proofs.Common.{◌≡◌, ℕ, zero, suc, ◌+◌, ◌≤◌, ◌<◌, ◌∷◌, Bool, true, false, List, [], ◌++◌, length, take, drop, get_or, append_assoc, refl, sym, ap, subst, ◌∙◌, arith, inl, inr}
+use Rattle.std.proofs.Common.{◌≡◌, ℕ, zero, suc, ◌+◌, ◌≤◌, ◌<◌, ◌∷◌, Bool, true, false, List, [], ◌++◌, length, take, drop, get_or, append_assoc, refl, sym, ap, subst, ◌∙◌, arith}
 use Rattle.std.specs.Prelude.{ℤ, pos, negsuc, ◌==◌, ◌||◌, if◌then◌else◌}
 use Rattle.std.specs.Int.{byte_len}
 use Rattle.std.proofs.lemmas.Bool.{ltb-true}
@@ -14,7 +14,7 @@ use Rattle.bser_format.specs.declared.errors.Kind.TheVariants.{Integer}
 use Rattle.bser_format.specs.Named.{Reader, complain}
 use Rattle.bser_source.specs.Window.{Window, Grown, closed}
 use Rattle.bser_bunser.specs.Faults.{EndsBelowZero, StartsWith, StopsBetween, StopsInPlace, Stands, IsFault, ClosesAt}
-use Rattle.bser_bunser.specs.Names.{MayBeLeft, CutsInteger}
+use Rattle.bser_bunser.specs.Names.{MayBeLeft}
 use Rattle.bser_bunser.specs.Prefixes.{IsLengthPrefix, NegativeInt}
 use Rattle.bser_bunser.specs.Refusal.{Fails, ShortOf, failures_by, unexpected_refusal}
 use Rattle.bser_bunser.specs.Tagged.{TookInt, NoInt}
@@ -56,15 +56,11 @@ first_of_front (suc len) (x ∷ xs) some = refl
 
 bytes_long : (s : IntSize) (v : ℤ) → length (int_bytes s v) ≡ 1 + byte_len (width_of s)
 bytes_long int8 v = refl
-bytes_long int16 v = refl
-bytes_long int32 v = refl
-bytes_long int64 v = refl
+bytes_long other v = refl
 
 bytes_tagged : (s : IntSize) (v : ℤ) → get_or (int_bytes s v) 0 0 ≡ tag_of s
 bytes_tagged int8 v = refl
-bytes_tagged int16 v = refl
-bytes_tagged int32 v = refl
-bytes_tagged int64 v = refl
+bytes_tagged other v = refl
 
 negative_len : (xs : List ℕ) (is : NegativeInt xs) → is.len ≡ 1 + byte_len (width_of is.spelled.size)
 negative_len xs is = sym (length-take-le is.len xs is.within) ∙ ap length is.spelled.spelled ∙ bytes_long is.spelled.size (negsuc is.less)
@@ -138,8 +134,7 @@ fault_place kind why n a b c grown is = fault_at kind why n is.at a b c grown is
 pub no_int_place : (why : Unexpected) (a b c : Window) → NoInt a b why → c ≡ closed b → StopsInPlace (unexpected_refusal Integer why) a c
 no_int_place (Tag x) a b c is same = fault_at Integer (Tag x) is.need 0 a b c is.grown (omega arith) (omega (arith, ap (λ w. w.count) same)) is.other.next
 no_int_place (Length x) a b c is same = absurd is.other
-no_int_place NegativeLength a b c is same = absurd is.other
-no_int_place NegativeCount a b c is same = absurd is.other
+no_int_place others a b c is same = absurd is.other
 
 -- of an integer below 0 that was taken
 pub below_place : (k : Complaint) (v : ℤ) (a b c : Window) → lt_z v (pos 0) ≡ true → TookInt a b v → c ≡ closed b → StopsInPlace (complain k) a c
@@ -158,20 +153,11 @@ short_place n (DeInvalidStartByte kind x) a b c d short = absurd short.excuse
 short_place n (DeCustom m) a b c d short = absurd short.excuse
 short_place n e a b c d short = tt
 
-pub cut_place : (e : Error) (a c d : Window) → CutsInteger e a → StopsInPlace e c d
-cut_place (DeInvalidStartByte kind x) a c d (inl (b, m, p)) = (let same = p.1 in absurd cc)
-cut_place (DeInvalidStartByte kind x) a c d (inr h) = absurd h
-cut_place (DeCustom m) a c d (inl (b, l, p)) = (let same = p.1 in absurd cc)
-cut_place (DeCustom m) a c d (inr h) = absurd h
-cut_place e a c d h = tt
-
 -- ---- the state after it
 
 no_failure : (kind : Kind) (why : Unexpected) (n : ℕ) → n ≡ failures_by (unexpected_refusal kind why) n
 no_failure kind (Tag b) n = refl
-no_failure kind (Length b) n = refl
-no_failure kind NegativeLength n = refl
-no_failure kind NegativeCount n = refl
+no_failure kind other n = refl
 
 pub fault_fails : {X : Type 0} (r : Reader X) (kind : Kind) (why : Unexpected) (a b c : Window) → Looking r a b → (b.failed ≡ true → b.buffered ≡ []) → 0 < length b.buffered → ClosesAt why b c → Fails (unexpected_refusal kind why) a c
 fault_fails r kind why a b c is closes some at = record {

@@ -155,5 +155,4 @@ pub no_int_names : (why : Unexpected) (a b : Window) → NoInt a b why
 no_int_names (Tag x) a b is =
     names_rejected named.int is.need _ a b is.grown (other_int x b.buffered is.other)
 no_int_names (Length x) a b is = absurd is.other
-no_int_names NegativeLength a b is = absurd is.other
-no_int_names NegativeCount a b is = absurd is.other
+no_int_names others a b is = absurd is.other

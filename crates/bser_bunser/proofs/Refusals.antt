@@ -16,17 +16,11 @@ use Rattle.bser_bunser.specs.Refusal.{cause_of, failures_by, Fails, ShortOf}
 same_excuse : (c : ReadCause) (s : Window) (n : ℕ) → Excuse c s n
     → IsSomeAnd (cause_of (error_of c)) (λ k. Excuse k s n)
 same_excuse Eof s n h = h
-same_excuse Utf8 s n h = h
-same_excuse (Reader e) s n h = h
-same_excuse Memory s n h = h
-same_excuse Failed s n h = h
+same_excuse other s n h = h
 
 same_failures : (c : ReadCause) (n : ℕ) → failures_after c n ≡ failures_by (error_of c) n
 same_failures Eof n = refl
-same_failures Utf8 n = refl
-same_failures (Reader e) n = refl
-same_failures Memory n = refl
-same_failures Failed n = refl
+same_failures other n = refl
 
 -- the source could not give n bytes
 pub short_of : (n : ℕ) (c : ReadCause) (a b : Window) → Refused c a b n

@@ -61,14 +61,12 @@ token_there (tokens.Object n) b h x =
 
 token_some : (t : Token) (b : List ℕ) → SpellsToken t b → 0 < length b
 token_some tokens.Null b h = omega (arith, ap length h)
-token_some (tokens.Bool v) b h = omega (arith, ap length h)
-token_some tokens.Skip b h = omega (arith, ap length h)
-token_some tokens.Template b h = omega (arith, ap length h)
 token_some (tokens.Int v) b h = omega (arith, ap length h.spelled)
 token_some (tokens.Real r) b h = omega (arith, ap length h.1)
 token_some (tokens.Str s n) b h = omega (arith, ap length h.whole)
 token_some (tokens.Array n) b h = omega (arith, ap length h.whole)
 token_some (tokens.Object n) b h = omega (arith, ap length h.whole)
+token_some other b h = omega (arith, ap length h)
 
 headed_octets : (tag n : ℕ) (b : List ℕ) → tag < 256 → Headed tag (SpellsCount n) b → AreOctets b
 headed_octets tag n b small h = subst AreOctets (sym h.whole) (small, int_octets (pos n) h.rest h.body)
@@ -228,9 +226,7 @@ after_unknown x y high =
   where
     low : (s : IntSize) → tag_of s ≡ x → ⊥
     low int8 e = omega (arith, e, high)
-    low int16 e = omega (arith, e, high)
-    low int32 e = omega (arith, e, high)
-    low int64 e = omega (arith, e, high)
+    low other e = omega (arith, e, high)
 
 pub none_known : (x : ℕ) (held : List ℕ) → 0 < length held → held ≡ x ∷ drop 1 held → 0x0d < x
     → Rejects token held (unexpected_refusal NextItem (Tag x))

@@ -1,16 +1,13 @@
 -- A message in a slice that was read, as the tree of its value, and its message in memory.
 use Rattle.std.proofs.Common.{◌≡◌, ◌<◌, ◌≤◌, ◌^◌, ℕ, ℤ, pos, List, length, Ok, inl, inr, refl, sym, ap, subst, ◌∙◌, arith}
-use Rattle.std.proofs.lemmas.Option.{same_Some}
 use Rattle.bser_format.specs.Content.{Content, value}
-use Rattle.bser_format.specs.Expand.{expand}
-use Rattle.bser_format.specs.Tree.{Tree, null}
+use Rattle.bser_format.specs.Tree.{Tree}
 use Rattle.bser_format.specs.ReadsAny.{reads_value}
 use Rattle.bser_format.specs.Canonical.{canonical_body, canonical_message, least_count, least_integer, least_size}
 use Rattle.bser_format.specs.Grammar.{IntSize, int8, int16, int32, int64, int_bytes}
 use Rattle.bser_format.specs.declared.errors.Error.{Error}
 use Rattle.bser_format.specs.declared.errors.Error.TheVariants.{OutOfMemory, Io}
 use Rattle.bser_format.proofs.Canon.{length-int_bytes}
-use Rattle.bser_format.proofs.GrammarLaws.{one_message}
 use Rattle.bser_format.proofs.Lengths.{length-message}
 use Rattle.bser_source.specs.Device.{counts_to}
 use Rattle.bser_ser.specs.Message.{IsUnmeasured, Missed}
@@ -101,20 +98,3 @@ unaffordable d bytes h = (value_of d, read_document d bytes h, inl refl)
 -- such an error has no place
 pub failed_lies : (len most : ℕ) (e : Error) (u : RewriteError) → u ≡ Failed e → LiesInSlice len most u
 failed_lies len most e u is = subst (LiesInSlice len most) (sym is) tt
-
--- ---- what one turn more needs
-
-said : Content → Tree
-said (value t) = t
-said _ = null
-
--- the message at the start of the bytes is the value of one tree, and so one size is wanted
-pub one_size : (form : Tree → Tree) (bytes : List ℕ) (m n : ℕ) → RewritesToSize form bytes m → RewritesToSize form bytes n → m ≡ n
-unfolding said
-one_size form bytes m n a b =
-    let x = a.1 in
-    let y = b.1 in
-    let same = one_message 128 x.message.capabilities y.message.capabilities x.text y.text x.rest y.rest x.message.tree y.message.tree x.message.message y.message.message (sym x.front ∙ y.front) in
-    let content : x.content ≡ y.content = same_Some x.content y.content (sym x.message.read ∙ ap (λ t. reads_value (expand t)) same.2 ∙ y.message.read) in
-    let tree : a.0 ≡ b.0 = ap said (sym x.held.same ∙ content ∙ y.held.same) in
-    a.2 ∙ ap (λ t. length (canonical_message (form t))) tree ∙ sym b.2

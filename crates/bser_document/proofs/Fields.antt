@@ -3,7 +3,7 @@ use Rattle.std.proofs.Common.{◌≡◌, ◌≤◌, ◌<◌, ◌+◌, ◌-◌, �
 use Rattle.std.specs.List.{AllByRecursion}
 use Rattle.std.proofs.lemmas.Option.{same_Some}
 use Rattle.std.proofs.lemmas.List.{length-append, length-map, append_assoc, drop_all}
-use Rattle.bser_format.specs.Tree.{Tree, null, boolean, integer, real, bytes, text, array, object, template, no_items, item, items, entries_of, Fields, no_fields, skip, field, fields, no_rows, row, rows}
+use Rattle.bser_format.specs.Tree.{Tree, null, array, object, template, no_items, item, items, entries_of, Fields, no_fields, skip, field, fields, no_rows, row, rows}
 use Rattle.bser_format.specs.Tree as trees
 use Rattle.bser_format.specs.Expand.{expand, expand_fields, expand_rows}
 use Rattle.bser_format.specs.Normal.{normal, normal_entries, normal_items, last_entries}
@@ -85,10 +85,6 @@ rows_left s ks ms h = h.count ∙ of_rows h.spelled ms h.value
     of_rows (row fs rs) ms e =
         then_some (λ m. option_map (λ ms. m ∷ ms) (rows_value ks rs)) (normal_entries (expand_fields ks fs)) ms e λ m first f. map_some (λ ms. m ∷ ms) (rows_value ks rs) ms f λ later rest same.
         ap suc (of_rows rs later rest) ∙ ap length same
-
-pub no_row : (s r : Rows) → s.left ≡ 0 → (ks : List (List ℕ)) (ms : List (List Pair)) → HoldsRows s ks ms → GivesRow ks ms None r
-no_row s r none ks [] h = tt
-no_row s r none ks (m ∷ ms) h = let e = rows_left s ks (m ∷ ms) h in absurd (omega (arith, e, none))
 
 pub next_row : (s : Rows) (at left : ℕ) → left ≡ s.left - 1 → (s.left ≡ 0 → ⊥) → ((fs : Fields) → FieldsLie s.document.now fs s.at → length (fields fs) ≡ s.keys.len → at ≡ s.at + length (fields_ends fs s.at)) → (ks : List (List ℕ)) (ms : List (List Pair)) → HoldsRows s ks ms
     → GivesRow ks ms (Some (record { document = s.document; at = s.at; len = s.keys.len })) (record { document = s.document; at = at; left = left; keys = s.keys })

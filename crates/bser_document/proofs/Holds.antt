@@ -1,9 +1,9 @@
 -- What the first node of a value says of it.
-use Rattle.std.proofs.Common.{◌≡◌, ◌≢◌, ◌<◌, ℤ, Bool, ℕ, ◌+◌, List, [], ◌∷◌, ◌++◌, length, map, drop, get_or, Option, Some, None, refl, sym, ap, subst, ◌∙◌, Bor, option_map, true, false}
+use Rattle.std.proofs.Common.{◌≡◌, ◌≢◌, ◌<◌, ℤ, Bool, ℕ, ◌+◌, List, [], ◌∷◌, ◌++◌, Option, Some, None, refl, sym, ap, subst, ◌∙◌, Bor, option_map, true, false}
 use Rattle.std.specs.Prelude.{IsUtf8, MatchOption}
 use Rattle.std.proofs.lemmas.Option.{same_Some}
-use Rattle.std.proofs.lemmas.List.{append-nil, drop_more}
-use Rattle.bser_format.specs.Tree.{Tree, null, boolean, integer, real, bytes, text, array, object, template, items, entries}
+use Rattle.std.proofs.lemmas.List.{append-nil}
+use Rattle.bser_format.specs.Tree.{Tree, null, boolean, integer, real, bytes, text, array, object, template, items}
 use Rattle.bser_format.specs.Tree as trees
 use Rattle.bser_format.specs.Expand.{expand, expand_items, expand_entries, expand_rows, expand_fields}
 use Rattle.bser_format.specs.Content.{value}
@@ -18,11 +18,11 @@ use Rattle.bser_document.specs.declared.item.Item.{Item}
 use Rattle.bser_document.specs.declared.item.Keys.{Keys}
 use Rattle.bser_document.specs.declared.item.ItemKind.{ItemKind}
 use Rattle.bser_document.specs.declared.item.ItemKind.TheVariants as kinds
-use Rattle.bser_document.specs.DocumentView.{IsInside, Within, piece, event_of, HoldsDocument}
+use Rattle.bser_document.specs.DocumentView.{IsInside, Within, piece, HoldsDocument}
 use Rattle.bser_document.proofs.Ends.{whole_ends}
 use Rattle.bser_document.specs.Spans.{Lies, TreeLies, tree_ends}
-use Rattle.bser_document.specs.Holds.{Part, tree, skipped, row_of, part_value, HoldsItem, IsPart, HasTexts, TellsFirst, IsNodeAt, IsPartNode, ShowsNode, first_event, part_event, event_tree, node_tree, emptied, kind_of, is_null, as_real_bits}
-use Rattle.bser_value.specs.Contents.{as_bool, as_i64, as_f64, as_bytes, as_str}
+use Rattle.bser_document.specs.Holds.{Part, tree, skipped, row_of, part_value, HoldsItem, IsPart, HasTexts, IsNodeAt, IsPartNode, ShowsNode, first_event, part_event, event_tree, node_tree, emptied, kind_of, is_null}
+use Rattle.bser_value.specs.Contents.{as_f64, as_bytes, as_str}
 
 abbrev pub Begins : Tree → Type 0
 Begins t = (es : List Event) × (events t ≡ first_event t ∷ es)
@@ -54,17 +54,6 @@ row_read_as : (ks : List (List ℕ)) (fs : trees.Fields) (u : Tree) → part_val
 row_read_as ks fs u e = map_some (λ m. object (trees.entries_of (last_entries m))) (normal_entries (expand_fields ks fs)) u e λ x made same. ap emptied same
 
 -- ---- places
-
-first_same : (x y : Event) (xs ys : List Event) → x ∷ xs ≡ y ∷ ys → x ≡ y
-first_same x y xs ys e = ap (λ l. get_or l 0 x) e
-
--- the node that is there
-pub node_at : (d : Document) (at : ℕ) (n : DocumentNode) → at < length d.nodes.items → ((z : DocumentNode) → n ≡ get_or d.nodes.items at z) → TellsFirst d at n
-node_at d at n less is e es ends h =
-    let s : List ℕ = d.strings.items in
-    let ns : List DocumentNode = d.nodes.items in
-    first_same (event_of s n) e (map (event_of s) (drop (at + 1) ns)) (es ++ h.after)
-    (ap (λ x. event_of s x ∷ map (event_of s) (drop (at + 1) ns)) (is n) ∙ sym (ap (map (event_of s)) (drop_more ns at n less)) ∙ h.here)
 
 -- ---- the node of an item
 
@@ -173,39 +162,6 @@ other_kind (text s) never = refl
 other_kind (array ts) never = refl
 other_kind (object es) never = refl
 other_kind (template ks rs) never = refl
-
-pub as_bool_emptied : (t : Tree) → as_bool (emptied t) ≡ as_bool t
-as_bool_emptied null = refl
-as_bool_emptied (boolean v) = refl
-as_bool_emptied (integer v) = refl
-as_bool_emptied (real v) = refl
-as_bool_emptied (bytes s) = refl
-as_bool_emptied (text s) = refl
-as_bool_emptied (array ts) = refl
-as_bool_emptied (object es) = refl
-as_bool_emptied (template ks rs) = refl
-
-pub as_i64_emptied : (t : Tree) → as_i64 (emptied t) ≡ as_i64 t
-as_i64_emptied null = refl
-as_i64_emptied (boolean v) = refl
-as_i64_emptied (integer v) = refl
-as_i64_emptied (real v) = refl
-as_i64_emptied (bytes s) = refl
-as_i64_emptied (text s) = refl
-as_i64_emptied (array ts) = refl
-as_i64_emptied (object es) = refl
-as_i64_emptied (template ks rs) = refl
-
-pub as_real_bits_emptied : (t : Tree) → as_real_bits (emptied t) ≡ as_real_bits t
-as_real_bits_emptied null = refl
-as_real_bits_emptied (boolean v) = refl
-as_real_bits_emptied (integer v) = refl
-as_real_bits_emptied (real v) = refl
-as_real_bits_emptied (bytes s) = refl
-as_real_bits_emptied (text s) = refl
-as_real_bits_emptied (array ts) = refl
-as_real_bits_emptied (object es) = refl
-as_real_bits_emptied (template ks rs) = refl
 
 pub as_f64_emptied : (t : Tree) → as_f64 (emptied t) ≡ as_f64 t
 as_f64_emptied null = refl

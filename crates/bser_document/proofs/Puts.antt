@@ -62,22 +62,6 @@ plain_node s nodes.Close f g h = tt
 pub plain_shown : (d : Document) (n : DocumentNode) → ((l e : ℕ) → n ≡ nodes.Array l e → ⊥) → ((l e : ℕ) → n ≡ nodes.Object l e → ⊥) → ((l e : ℕ) → n ≡ nodes.Template l e → ⊥) → (u : Tree) → ShowsNode u d n → IsPlain u
 plain_shown d n f g h u shows = plain_inside u (subst IsPlain shows.same (plain_node d.strings.items n f g h))
 
--- nothing but null is left
-pub null_node : (s : List ℕ) (n : DocumentNode) → ((v : _) → n ≡ nodes.Bool v → ⊥) → ((v : _) → n ≡ nodes.Int v → ⊥) → ((v : ℕ) → n ≡ nodes.Real v → ⊥) → ((l a : ℕ) → n ≡ nodes.Bytes l a → ⊥) → ((l a : ℕ) → n ≡ nodes.Text l a → ⊥) → IsPlain (node_tree s n) → null ≡ node_tree s n
-null_node s nodes.Null f g h i j p = refl
-null_node s (nodes.Bool v) f g h i j p = absurd (f v refl)
-null_node s (nodes.Int v) f g h i j p = absurd (g v refl)
-null_node s (nodes.Real v) f g h i j p = absurd (h v refl)
-null_node s (nodes.Bytes l a) f g h i j p = absurd (i l a refl)
-null_node s (nodes.Text l a) f g h i j p = absurd (j l a refl)
-null_node s (nodes.Key l a) f g h i j p = refl
-null_node s (nodes.Array l e) f g h i j p = absurd p
-null_node s (nodes.Object l e) f g h i j p = absurd p
-null_node s (nodes.Template l e) f g h i j p = absurd p
-null_node s (nodes.Rows l) f g h i j p = refl
-null_node s nodes.Skip f g h i j p = refl
-null_node s nodes.Close f g h i j p = refl
-
 -- ---- nothing is put
 
 -- out of memory before anything was put

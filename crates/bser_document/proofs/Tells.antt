@@ -1,7 +1,7 @@
 -- What a document tells again.
 use Rattle.std.proofs.Common.{◌≡◌, ◌<◌, ◌≤◌, ◌+◌, ℕ, zero, suc, List, [], ◌∷◌, ◌++◌, length, map, take, get_or, Option, Some, None, option_map, sym, ap, subst, ◌∙◌, arith}
 use Rattle.std.specs.List.{AllByRecursion}
-use Rattle.std.proofs.lemmas.List.{take_all, map_push, take_more}
+use Rattle.std.proofs.lemmas.List.{map_push, take_more}
 use Rattle.std.proofs.lemmas.Option.{same_Some}
 use Rattle.bser_format.specs.Tree.{Tree}
 use Rattle.bser_format.specs.Content.{Content, value}
@@ -44,10 +44,6 @@ one_told takes d ms k z before mid after same less' taken' front h =
     let taken : Within s n → takes mid (event_of s n) after = subst (λ l. Within s (get_or l k z) → takes mid (event_of s (get_or l k z)) after) same taken' in
     subst (λ l. TakesAll takes before l after) (sym (ap (map (event_of s)) (take_more ns k z less) ∙ map_push (event_of s) (take k ns) n))
     (takes_then takes before mid after (map (event_of s) (take k ns)) (event_of s n ∷ []) (front h) (takes_one takes mid after (event_of s n) (taken (within_there s ns k z h less))))
-
-pub all_told : {B : Type 0} (takes : B → Event → Place → B → Type 0) (d : Document) (k : ℕ) (before after : B) → length d.nodes.items ≤ k → FrontTold (TakesNowhere takes) d k before after → Told takes d before after
-all_told takes d k before after past front t views =
-    subst (λ l. TakesAll (TakesNowhere takes) before l after) (ap (map (event_of d.strings.items)) (take_all k d.nodes.items past) ∙ views.shows.same) (front views.shows.within)
 
 -- a node's event at no place
 pub told_nowhere : {B : Type 0} (takes : B → Event → Place → B → Type 0) (told kept : Event) (p : Place) (before after : B) → p ≡ place_at 0 0 (is_text_value kept) → told ≡ kept → takes before told p after → TakesNowhere takes before kept after

@@ -3,7 +3,7 @@ use Rattle.std.proofs.Common.{◌≡◌, ◌≤◌, ◌+◌, ◌-◌, ℕ, suc, 
 use Rattle.std.specs.List.{AllByRecursion}
 use Rattle.std.proofs.lemmas.Option.{same_Some}
 use Rattle.std.proofs.lemmas.List.{length-append, append_assoc}
-use Rattle.bser_format.specs.Tree.{Tree, null, boolean, integer, real, bytes, text, array, object, template, no_items, item, items, entries, Rows, no_rows, row, rows, Fields, no_fields, skip, field, fields}
+use Rattle.bser_format.specs.Tree.{Tree, null, boolean, integer, real, bytes, text, array, object, template, no_items, item, items, Rows, no_rows, row, rows, Fields, no_fields, skip, field, fields}
 use Rattle.bser_format.specs.Tree as trees
 use Rattle.bser_format.specs.Expand.{expand, expand_items, expand_rows, expand_fields}
 use Rattle.bser_format.specs.Grammar.{IsTemplate}
@@ -34,9 +34,6 @@ use Rattle.bser_document.proofs.Lies.{adds_length, front_lies, rest_lies, inner_
 -- so many fields are left of a row, from this place on
 abbrev pub FieldsLeft : Document → ℕ → Fields → ℕ → ℕ → Type 0
 FieldsLeft d at fs behind k = (gs : Fields) × FieldsLie d gs behind × (length (fields gs) ≡ k) × (behind + length (fields_ends gs behind) ≡ at + length (fields_ends fs at))
-
-pub all_left : (d : Document) (at : ℕ) (fs : Fields) (k : ℕ) → FieldsLie d fs at → length (fields fs) ≡ k → FieldsLeft d at fs at k
-all_left d at fs k h e = (fs, h, e, refl)
 
 pub none_left : (d : Document) (at : ℕ) (fs : Fields) (behind k : ℕ) → k ≡ 0 → FieldsLeft d at fs behind k → behind ≡ at + length (fields_ends fs at)
 none_left d at fs behind k none (no_fields, h, e, same) = omega (arith, same)

@@ -54,8 +54,7 @@ leaf_first (tokens.Real r) b h never = leaf 0x07 b _ h.1 (λ e. omega (arith, e)
 leaf_first (tokens.Str true n) b h never = leaf 0x0d b h.rest h.whole (λ e. omega (arith, e)) (λ e. omega (arith, e)) (λ e. omega (arith, e))
 leaf_first (tokens.Str false n) b h never = leaf 0x02 b h.rest h.whole (λ e. omega (arith, e)) (λ e. omega (arith, e)) (λ e. omega (arith, e))
 leaf_first (tokens.Array n) b h never = absurd (never tt)
-leaf_first (tokens.Object n) b h never = absurd (never tt)
-leaf_first tokens.Template b h never = absurd (never tt)
+leaf_first other b h never = absurd (never tt)
 
 -- these bytes begin with another byte than a skip's
 record OtherFirst (b : List ℕ) : Type 0 where
@@ -243,11 +242,7 @@ leaf_level (tokens.Object n) a b c ahead took is =
 leaf_level tokens.Template a b c ahead took is =
     absurd (ahead.no_template (tag_first ahead.tag 0x0b b.buffered took.took.more took.text [] c.buffered ahead.next took.spelled took.took.bytes))
 leaf_level tokens.Null a b c ahead took is = absurd is
-leaf_level (tokens.Bool v) a b c ahead took is = absurd is
-leaf_level tokens.Skip a b c ahead took is = absurd is
-leaf_level (tokens.Int v) a b c ahead took is = absurd is
-leaf_level (tokens.Real r) a b c ahead took is = absurd is
-leaf_level (tokens.Str s n) a b c ahead took is = absurd is
+leaf_level other a b c ahead took is = absurd is
 
 text_some : (t : Token) (b : List ℕ) → SpellsToken t b → 1 ≤ length b
 text_some t [] h = (let e : refuses eof ≡ reads t [] = token_there t [] h [] in cc)

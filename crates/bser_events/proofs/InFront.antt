@@ -36,10 +36,7 @@ scalar_in_front (tokens.Int v) e held n h is levels =
 scalar_in_front (tokens.Real r) e held n h is levels =
     record { value = trees.real r; within = h.0; passes = value_begins levels (tokens.Real r) (take n held) h.1 (λ c. absurd c); one = ap (λ z. z ∷ []) (sym is) }
 scalar_in_front tokens.Skip e held n h is levels = absurd is
-scalar_in_front (tokens.Str s m) e held n h is levels = absurd is
-scalar_in_front (tokens.Array m) e held n h is levels = absurd is
-scalar_in_front (tokens.Object m) e held n h is levels = absurd is
-scalar_in_front tokens.Template e held n h is levels = absurd is
+scalar_in_front other e held n h is levels = absurd is
 
 -- the same, once it was taken and told
 pub scalar_at : {B : Type 0} (takes : B → Event → B → Type 0) (levels : ℕ) (t : Token) (e : Event) (a b : Window) (before after : B)
@@ -53,10 +50,7 @@ scalar_at takes levels (tokens.Int v) e a b before after is works same told =
 scalar_at takes levels (tokens.Real r) e a b before after is works same told =
     scalar_found takes (value_rest levels (tokens.Real r)) (trees.real r) e a b before after works same (λ x. refl) (ap (λ z. z ∷ []) (sym is)) told
 scalar_at takes levels tokens.Skip e a b before after is works same told = absurd is
-scalar_at takes levels (tokens.Str s m) e a b before after is works same told = absurd is
-scalar_at takes levels (tokens.Array m) e a b before after is works same told = absurd is
-scalar_at takes levels (tokens.Object m) e a b before after is works same told = absurd is
-scalar_at takes levels tokens.Template e a b before after is works same told = absurd is
+scalar_at takes levels other e a b before after is works same told = absurd is
 
 -- a token that is no other than a skip
 pub only_skip : (t : Token) → IsNoScalar t → ((s : Bool) (n : ℕ) → t ≡ tokens.Str s n → ⊥) → ((n : ℕ) → t ≡ tokens.Array n → ⊥) → ((n : ℕ) → t ≡ tokens.Object n → ⊥) → (t ≡ tokens.Template → ⊥)

@@ -72,10 +72,6 @@ piece_placed takes at n begun start e p is_text bytes b x y same small fits work
           (subst (λ m. takes x e (place_at start (counted (start + n)) m) y) marked.0 (subst (λ q. takes x e q y) placed told)));
     }
 
--- what began before some bytes began before what follows them
-pub reads_on : (start : ℕ) (a b : Window) (text : List ℕ) → Took a b text → start ≤ reading_at a → start ≤ reading_at b
-reads_on start a b text took begun = omega (arith, took.count, begun)
-
 -- the same window, where a builder is said to stand by it
 pub moved : {Y B : Type 0} (takes : B → Event → B → Type 0) (whole : Reader Y) (Next : Reader Y → List Event → Type 0) (a b c : Window) (before : B) (after : Window → B)
     → c ≡ b → Midway takes whole Next a b before (after b) → Midway takes whole Next a c before (after c)
@@ -151,14 +147,12 @@ key_told takes kind start is_text s given t a m b c x y tagged counted lent is u
 -- a scalar has the bytes of its token, and is no string
 pub scalar_mark : (t : Token) (e : Event) (text : List ℕ) → IsScalar t e → SpellsToken t text → Marked false e text
 scalar_mark tokens.Null e text is head = subst (λ z. Marked false z text) (sym is) (refl, head)
-scalar_mark (tokens.Bool v) e text is head = subst (λ z. Marked false z text) (sym is) (refl, head)
-scalar_mark (tokens.Int v) e text is head = subst (λ z. Marked false z text) (sym is) (refl, head)
-scalar_mark (tokens.Real r) e text is head = subst (λ z. Marked false z text) (sym is) (refl, head)
 scalar_mark tokens.Skip e text is head = absurd is
 scalar_mark (tokens.Str s m) e text is head = absurd is
 scalar_mark (tokens.Array m) e text is head = absurd is
 scalar_mark (tokens.Object m) e text is head = absurd is
 scalar_mark tokens.Template e text is head = absurd is
+scalar_mark other e text is head = subst (λ z. Marked false z text) (sym is) (refl, head)
 
 pub due_scalar_mark : (due : Part) (t : Token) (e : Event) (text : List ℕ) → IsDueScalar due t e → SpellsToken t text → Marked false e text
 due_scalar_mark Entry t e text is head = absurd is

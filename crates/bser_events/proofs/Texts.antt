@@ -12,7 +12,7 @@ use Rattle.bser_source.specs.Window.{Window, Filled, Took, consumed, closed}
 use Rattle.bser_source.proofs.Windows.{took_then, took_filled}
 use Rattle.bser_bunser.specs.Refusal.{Fails}
 use Rattle.bser_bunser.specs.Names.{Names, RefusedAs}
-use Rattle.bser_bunser.specs.Tagged.{TookCounted, TookSome}
+use Rattle.bser_bunser.specs.Tagged.{TookCounted}
 use Rattle.bser_bunser.proofs.Names.{blames_more, names_untaken, names_taken, names_rejected}
 use Rattle.bser_bunser.proofs.Readers.{front_there, string_there}
 use Rattle.bser_bunser.proofs.Refusals.{fails_untaken}
@@ -61,11 +61,6 @@ bytes_found takes n s given a b c before after len took lent end told = record {
   passes = front_there n s len;
   told = takes_one takes before after (events.bytes s) (subst (λ u. takes before (events.bytes u) after) lent told);
 }
-
--- bytes that were passed over
-pub bytes_passed : {B : Type 0} (takes : B → Event → B → Type 0) (n : ℕ) (a b : Window) (before after : B)
-    → TookSome n a b → ((s : List ℕ) → length s ≡ n → takes before (events.bytes s) after) → Found takes (front n) (λ u. events.bytes u ∷ []) a b before after
-bytes_passed takes n a b before after some told = bytes_found takes n some.text some.text a b b before after some.len some.took refl refl (told some.text some.len)
 
 -- ---- keys
 

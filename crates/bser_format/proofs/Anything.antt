@@ -63,12 +63,7 @@ mutual
   normal_keys (array ts) v e = let w = mapped array (normal_items ts) v e in normal_items_keys ts w.0 w.1
   normal_keys (object es) v e = let w = mapped (λ m. object (entries_of (last_entries m))) (normal_entries es) v e in normal_entries_keys es w.0 w.1
   normal_keys null v e = refl
-  normal_keys (boolean b) v e = refl
-  normal_keys (integer i) v e = refl
-  normal_keys (real r) v e = refl
-  normal_keys (bytes s) v e = refl
-  normal_keys (text s) v e = refl
-  normal_keys (template ks rs) v e = refl
+  normal_keys other v e = refl
 
   normal_items_keys : (ts us : Items) → normal_items ts ≡ Some us → items_have_utf8_keys ts ≡ true
   normal_items_keys no_items us e = refl

@@ -64,11 +64,6 @@ puts_in_order done (e ∷ more) h =
 mutual
   pub normal_settled : (t : Tree) → IsValueTree t → (expand t ≡ t) × (normal t ≡ Some t)
   normal_settled null h = (refl, refl)
-  normal_settled (boolean v) h = (refl, refl)
-  normal_settled (integer v) h = (refl, refl)
-  normal_settled (real r) h = (refl, refl)
-  normal_settled (bytes s) h = (refl, refl)
-  normal_settled (text s) h = (refl, refl)
   normal_settled (array ts) h = let inside = items_settled ts h in (ap array inside.0, ap (option_map array) inside.1)
   normal_settled (object es) h =
       let inside = entries_settled es h.1 in (
@@ -78,6 +73,7 @@ mutual
             ∙ ap (λ es. Some (object es)) (entries_back es),
       )
   normal_settled (template ks rs) h = absurd h
+  normal_settled other h = (refl, refl)
 
   items_settled : (ts : Items) → ItemsAreValueTrees ts → (expand_items ts ≡ ts) × (normal_items ts ≡ Some ts)
   items_settled no_items h = (refl, refl)

@@ -30,24 +30,19 @@ first_size_fits false false false v p q r h = h
 -- the bytes of the first size that holds a number are no more than those of another that does
 first_size_le : (a b c : Bool) (s : IntSize) → (s ≡ int8 → a ≡ true) → (s ≡ int16 → b ≡ true) → (s ≡ int32 → c ≡ true) → byte_len (width_of (first_size a b c)) ≤ byte_len (width_of s)
 first_size_le true b c int8 p q r = omega arith
-first_size_le true b c int16 p q r = omega arith
-first_size_le true b c int32 p q r = omega arith
-first_size_le true b c int64 p q r = omega arith
 first_size_le false b c int8 p q r = let e = p refl in cc
 first_size_le false true c int16 p q r = omega arith
-first_size_le false true c int32 p q r = omega arith
-first_size_le false true c int64 p q r = omega arith
 first_size_le false false c int16 p q r = let e = q refl in cc
 first_size_le false false true int32 p q r = omega arith
 first_size_le false false true int64 p q r = omega arith
 first_size_le false false false int32 p q r = let e = r refl in cc
 first_size_le false false false int64 p q r = omega arith
+first_size_le true b c other p q r = omega arith
+first_size_le false true c other p q r = omega arith
 
 pub length-int_bytes : (s : IntSize) (v : ℤ) → length (int_bytes s v) ≡ suc (byte_len (width_of s))
 length-int_bytes int8 v = refl
-length-int_bytes int16 v = refl
-length-int_bytes int32 v = refl
-length-int_bytes int64 v = refl
+length-int_bytes other v = refl
 
 pub least_integer_spelled : (v : ℤ) → FitsSigned w64 v → SpellsInteger v (least_integer v)
 unfolding least_integer
@@ -102,16 +97,15 @@ mutual
   text_spelled n (text s) h l = utf8_spelled s h
   text_spelled zero (array ts) h l = absurd (omega arith)
   text_spelled (suc n) (array ts) h l = tagged 0x00 _ _ (joined (SpellsCount (length (items ts))) (Each (Spells n) (items ts)) _ _ (count_spelled _ h.0) (items_spelled n ts h.1 (omega arith)))
-  text_spelled zero (object es) h l = absurd (omega arith)
   text_spelled (suc n) (object es) h l =
       tagged 0x01 _ _ (joined (SpellsCount (length (entries es))) (Each (SpellsEntry (Spells n)) (entries es)) _ _ (count_spelled _ h.0) (entries_spelled n es h.1 (omega arith)))
-  text_spelled zero (template ks rs) h l = absurd (omega arith)
   text_spelled (suc zero) (template ks rs) h l = absurd (omega arith)
   text_spelled (suc (suc n)) (template ks rs) h l = (
     h.0,
     tagged 0x0b _ _ (tagged 0x00 _ _ (joined (SpellsCount (length ks)) _ _ _ (count_spelled _ h.1) (joined (Each SpellsKey ks) _ _ _ (keys_spelled ks h.2)
         (joined (SpellsCount (length (rows rs))) (Each (Each (SpellsField (Spells (suc n)))) (rows rs)) _ _ (count_spelled _ h.3) (rows_spelled (suc n) rs h.4 (omega arith)))))),
   )
+  text_spelled zero other h l = absurd (omega arith)
 
   items_spelled : (n : ℕ) (ts : Items) → ItemsAreWritable ts → items_depth ts ≤ n → Each (Spells n) (items ts) (canonical_items ts)
   items_spelled n no_items h l = refl

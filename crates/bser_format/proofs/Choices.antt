@@ -50,14 +50,7 @@ byte_reads (integer (pos k)) i r = go (nat_lt k 256) r
     go true e = (number (pos k), refl)
     go false e = absurd cc
 byte_reads (integer (negsuc k)) i r = absurd cc
-byte_reads null i r = absurd cc
-byte_reads (boolean v) i r = absurd cc
-byte_reads (real v) i r = absurd cc
-byte_reads (bytes v) i r = absurd cc
-byte_reads (text v) i r = absurd cc
-byte_reads (array ts) i r = absurd cc
-byte_reads (object es) i r = absurd cc
-byte_reads (template ks rs) i r = absurd cc
+byte_reads other i r = absurd cc
 
 bytes_read : (us : List Tree) (s : List ℕ) → each_some byte_of us ≡ Some s → (cs : List Content) × (each_some (reads_integer (is_unsigned 8)) us ≡ Some cs)
 bytes_read [] s r = ([], refl)
@@ -74,13 +67,7 @@ byte_string_reads (array ts) c r =
     let h = bytes_read (items ts) w.0 w.1 in
     inl (list_of h.0, ap (option_map list_of) h.1, refl)
 byte_string_reads null c r = inr (r, refl)
-byte_string_reads (boolean v) c r = inr (r, refl)
-byte_string_reads (integer v) c r = inr (r, refl)
-byte_string_reads (real v) c r = inr (r, refl)
-byte_string_reads (bytes v) c r = inr (r, refl)
-byte_string_reads (text v) c r = inr (r, refl)
-byte_string_reads (object es) c r = inr (r, refl)
-byte_string_reads (template ks rs) c r = inr (r, refl)
+byte_string_reads other c r = inr (r, refl)
 
 pub byte_string_passes : Passes asks_byte_string reads_byte_string
 byte_string_passes o n d u c b x f r = at (byte_string_reads u c r)

@@ -30,14 +30,9 @@ template_stands ts = as_template_cases (λ u. expand u ≡ array (expand_items t
 mutual
   pub folded_stands : (t : Tree) → expand (fold_templates t) ≡ expand t
   folded_stands null = refl
-  folded_stands (boolean v) = refl
-  folded_stands (integer v) = refl
-  folded_stands (real r) = refl
-  folded_stands (bytes s) = refl
-  folded_stands (text s) = refl
   folded_stands (array ts) = template_stands (fold_items ts) ∙ ap array (folded_items_stand ts)
   folded_stands (object es) = ap object (folded_entries_stand es)
-  folded_stands (template ks rs) = refl
+  folded_stands other = refl
 
   folded_items_stand : (ts : Items) → expand_items (fold_items ts) ≡ expand_items ts
   folded_items_stand no_items = refl
@@ -76,14 +71,9 @@ template_depth ts = as_template_cases (λ u. depth u ≤ suc (items_depth ts)) t
 mutual
   pub folded_depth : (t : Tree) → depth (fold_templates t) ≤ depth t
   folded_depth null = omega arith
-  folded_depth (boolean v) = omega arith
-  folded_depth (integer v) = omega arith
-  folded_depth (real r) = omega arith
-  folded_depth (bytes s) = omega arith
-  folded_depth (text s) = omega arith
   folded_depth (array ts) = omega (arith, template_depth (fold_items ts), folded_items_depth ts)
   folded_depth (object es) = omega (arith, folded_entries_depth es)
-  folded_depth (template ks rs) = omega arith
+  folded_depth other = omega arith
 
   folded_items_depth : (ts : Items) → items_depth (fold_items ts) ≤ items_depth ts
   folded_items_depth no_items = omega arith

@@ -63,14 +63,9 @@ folded_keys (entry k t es) = ap (λ ks. k ∷ ks) (folded_keys es)
 
 object_keys_stay : (t : Tree) → object_keys (fold_templates t) ≡ object_keys t
 object_keys_stay null = refl
-object_keys_stay (boolean v) = refl
-object_keys_stay (integer v) = refl
-object_keys_stay (real r) = refl
-object_keys_stay (bytes s) = refl
-object_keys_stay (text s) = refl
 object_keys_stay (array ts) = no_object (fold_items ts)
 object_keys_stay (object es) = folded_keys es
-object_keys_stay (template ks rs) = refl
+object_keys_stay other = refl
 
 entries_texts : (es : Entries) → EntriesAreValueTrees es → AllByRecursion IsUtf8 (keys es)
 entries_texts no_entries h = tt
@@ -97,14 +92,10 @@ entries_stay (entry k t es) = ap suc (entries_stay es)
 mutual
   pub folded_writable : (t : Tree) → IsValueTree t → IsWritable t → IsWritable (fold_templates t)
   folded_writable null h w = w
-  folded_writable (boolean v) h w = w
-  folded_writable (integer v) h w = w
-  folded_writable (real r) h w = w
-  folded_writable (bytes s) h w = w
-  folded_writable (text s) h w = w
   folded_writable (array ts) h w = template_writable (fold_items ts) (subst IsCount (sym (items_stay ts)) w.0) (folded_items_writable ts h w.1) (first_texts ts h)
   folded_writable (object es) h w = (subst IsCount (sym (entries_stay es)) w.0, folded_entries_writable es h.1 w.1)
   folded_writable (template ks rs) h w = absurd h
+  folded_writable other h w = w
 
   folded_items_writable : (ts : Items) → ItemsAreValueTrees ts → ItemsAreWritable ts → ItemsAreWritable (fold_items ts)
   folded_items_writable no_items h w = tt

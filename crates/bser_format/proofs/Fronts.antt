@@ -56,9 +56,7 @@ front_reads n s y e =
 
 pub length-le_bytes : (s : IntSize) (n : ℕ) → length (to_le_bytes (width_of s) n) ≡ byte_len (width_of s)
 length-le_bytes int8 n = refl
-length-le_bytes int16 n = refl
-length-le_bytes int32 n = refl
-length-le_bytes int64 n = refl
+length-le_bytes other n = refl
 
 pub from_to_le_bytes : (s : IntSize) (n : ℕ) → n < 2 ^ bits (width_of s) → from_le_bytes (width_of s) (to_le_bytes (width_of s) n) ≡ n
 from_to_le_bytes int8 n h = omega arith
@@ -236,8 +234,7 @@ module _ (deep deeper : Bool) (r : Reader Tree) where
       reads_then next at (Bytes (0x0d ∷ [])) (SpellsCount (length s) then Given (IsUtf8 s) (Bytes s)) 0x0d (text s) (next_reads 0x0d)
       (reads_last (string >>= utf8) (λ c. give (text c)) (SpellsCount (length s) then Given (IsUtf8 s) (Bytes s)) s (text s) (utf8_reads s) (λ w. refl)) b y h
   leaf_reads (array ts) b y h = absurd h
-  leaf_reads (object es) b y h = absurd h
-  leaf_reads (template ks rs) b y h = absurd h
+  leaf_reads other b y h = absurd h
 
 -- a container is read by its tag
 pub value_reads : (n : ℕ) → AllRead n
@@ -250,13 +247,12 @@ value_reads n (bytes s) b y h = by_tags n _ _ (λ d e r. leaf_reads d e r (bytes
 value_reads n (text s) b y h = by_tags n _ _ (λ d e r. leaf_reads d e r (text s)) b y h
 value_reads zero (array ts) b y h = absurd h
 value_reads (suc n) (array ts) b y h = reads_then next (at true (is_positive n) (any n)) (Bytes (0x00 ∷ [])) _ 0x00 _ (next_reads 0x00) (array_reads (any n) (Spells n) (value_reads n) ts) b y h
-value_reads zero (object es) b y h = absurd h
 value_reads (suc n) (object es) b y h = reads_then next (at true (is_positive n) (any n)) (Bytes (0x01 ∷ [])) _ 0x01 _ (next_reads 0x01) (object_reads (any n) (Spells n) (value_reads n) es) b y h
-value_reads zero (template ks rs) b y h = absurd h
 value_reads (suc zero) (template ks rs) b y h = absurd h
 value_reads (suc (suc n)) (template ks rs) b y h =
     reads_then next (at true true (any (suc n))) (Bytes (0x0b ∷ [])) _ 0x0b _ (next_reads 0x0b)
     (reads_then next (template_after true (any (suc n))) (Bytes (0x00 ∷ [])) _ 0x00 _ (next_reads 0x00) (table_reads (suc n) (value_reads (suc n)) ks rs h.0)) b y h.1
+value_reads zero other b y h = absurd h
 
 pub field_reads : (n : ℕ) (f : Option Tree) → Reads (field_of (any n)) (SpellsField (Spells n) f) f
 field_reads n = field_of_reads n (value_reads n)

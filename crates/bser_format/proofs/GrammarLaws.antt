@@ -35,11 +35,6 @@ field_more F G more (Some t) b h = more t b h
 
 pub one_more : (n : ℕ) (t : Tree) (b : List ℕ) → Spells n t b → Spells (suc n) t b
 one_more n null b h = h
-one_more n (boolean v) b h = h
-one_more n (integer v) b h = h
-one_more n (real r) b h = h
-one_more n (bytes s) b h = h
-one_more n (text s) b h = h
 one_more zero (array ts) b h = absurd h
 one_more (suc n) (array ts) b h = after _ _ _ (after _ _ _ (each_more (Spells n) (Spells (suc n)) (one_more n) (items ts))) b h
 one_more zero (object es) b h = absurd h
@@ -48,6 +43,7 @@ one_more zero (template ks rs) b h = absurd h
 one_more (suc zero) (template ks rs) b h = absurd h
 one_more (suc (suc n)) (template ks rs) b h =
     (h.0, after _ _ _ (after _ _ _ (after _ _ _ (after _ _ _ (after _ _ _ (each_more _ _ (each_more _ _ (field_more (Spells (suc n)) (Spells (suc (suc n))) (one_more (suc n)))) (rows rs)))))) b h.1)
+one_more n other b h = h
 
 more_by : (k n m : ℕ) (t : Tree) (b : List ℕ) → n + k ≡ m → Spells n t b → Spells m t b
 more_by zero n m t b e h = let same : n ≡ m = omega arith in subst (λ j. Spells j t b) same h

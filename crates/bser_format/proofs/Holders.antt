@@ -54,12 +54,7 @@ items_node f R only pass o zero skips (array ts) b x c h r = absurd h
 items_node f R only pass o zero skips (template ks rs) b x c h r = absurd h
 items_node f R only pass o (suc zero) skips (template ks rs) b x c h r = absurd h
 items_node f R only pass o n skips null b x c h r = absurd (let w = only _ c r in let e = w.1 in cc)
-items_node f R only pass o n skips (boolean v) b x c h r = absurd (let w = only _ c r in let e = w.1 in cc)
-items_node f R only pass o n skips (integer v) b x c h r = absurd (let w = only _ c r in let e = w.1 in cc)
-items_node f R only pass o n skips (real v) b x c h r = absurd (let w = only _ c r in let e = w.1 in cc)
-items_node f R only pass o n skips (bytes v) b x c h r = absurd (let w = only _ c r in let e = w.1 in cc)
-items_node f R only pass o n skips (text v) b x c h r = absurd (let w = only _ c r in let e = w.1 in cc)
-items_node f R only pass o n skips (object es) b x c h r = absurd (let w = only _ c r in let e = w.1 in cc)
+items_node f R only pass o n skips other b x c h r = absurd (let w = only _ c r in let e = w.1 in cc)
 
 pub items_handled : (f : ℕ → ℕ → WantedItems → Reader Unit) (R : Meaning) → ReadsArrays R → ItemsPass f R → Handles items_at (λ o n. f o (less_one n)) R
 items_handled f R only pass = record {
@@ -77,13 +72,7 @@ pairs_node f R only pass o (suc n) skips (object es) b x c h r =
     ap (and_then (λ w. f o (inside w (suc n)) w)) (l.taken x) ∙ pass o n (entries_of_object (length (entries es))) (expand_entries es) l.rest x c (object_fills n es l.rest l.form) r
 pairs_node f R only pass o zero skips (object es) b x c h r = absurd h
 pairs_node f R only pass o n skips null b x c h r = absurd (let w = only _ c r in let e = w.1 in cc)
-pairs_node f R only pass o n skips (boolean v) b x c h r = absurd (let w = only _ c r in let e = w.1 in cc)
-pairs_node f R only pass o n skips (integer v) b x c h r = absurd (let w = only _ c r in let e = w.1 in cc)
-pairs_node f R only pass o n skips (real v) b x c h r = absurd (let w = only _ c r in let e = w.1 in cc)
-pairs_node f R only pass o n skips (bytes v) b x c h r = absurd (let w = only _ c r in let e = w.1 in cc)
-pairs_node f R only pass o n skips (text v) b x c h r = absurd (let w = only _ c r in let e = w.1 in cc)
-pairs_node f R only pass o n skips (array ts) b x c h r = absurd (let w = only _ c r in let e = w.1 in cc)
-pairs_node f R only pass o n skips (template ks rs) b x c h r = absurd (let w = only _ c r in let e = w.1 in cc)
+pairs_node f R only pass o n skips other b x c h r = absurd (let w = only _ c r in let e = w.1 in cc)
 
 pub pairs_handled : (f : ℕ → ℕ → WantedPairs → Reader Unit) (R : Meaning) → ReadsObjects R → PairsPass f R → Handles pairs_at (λ o n w. f o (inside w n) w) R
 pairs_handled f R only pass = record {

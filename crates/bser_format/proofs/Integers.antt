@@ -35,13 +35,7 @@ at_node : (fits : ℤ → Bool) (skips : Bool) (n : ℕ) (t : Tree) (b x : List 
     → and_then (in_range fits) (and_then integer_at (and_then (value_tag skips) (named.next (b ++ x)))) ≡ reads tt x
 at_node fits skips n (integer v) b x c h r = ranged fits skips v c b x h r
 at_node fits skips n null b x c h r = absurd cc
-at_node fits skips n (boolean v) b x c h r = absurd cc
-at_node fits skips n (real v) b x c h r = absurd cc
-at_node fits skips n (bytes v) b x c h r = absurd cc
-at_node fits skips n (text v) b x c h r = absurd cc
-at_node fits skips n (array ts) b x c h r = absurd cc
-at_node fits skips n (object es) b x c h r = absurd cc
-at_node fits skips n (template ks rs) b x c h r = absurd cc
+at_node fits skips n other b x c h r = absurd cc
 
 pub integer_passes : (fits : ℤ → Bool) → Passes (asks_integer fits) (reads_integer fits)
 integer_passes fits = passes_by (leaf_handles (λ n. integer_at) (λ o n. in_range fits) (reads_integer fits) (λ o n skips t b x c h r. at_node fits skips n t b x c h r) refl (λ s. refl) (λ s. refl) (λ es. refl))

@@ -164,7 +164,6 @@ compact_least (suc n) (array ts) b u h e = map_some array (normal_items (expand_
       length_then h.second,
       least_integer_least _ _ h.second.first,
     ))
-compact_least zero (object es) b u h e = absurd h
 compact_least (suc n) (object es) b u h e = map_some (λ m. object (entries_of (last_entries m))) (normal_entries (expand_entries es)) u e λ m some same.
     let inside = entries_least (Spells n) (compact_least n) es h.second.rest m h.second.second some in
     let lighter = puts_lighter key_size compact_size [] m in
@@ -181,10 +180,10 @@ compact_least (suc n) (object es) b u h e = map_some (λ m. object (entries_of (
       length_then h.second,
       least_integer_least _ _ h.second.first,
     ))
-compact_least zero (template ks rs) b u h e = absurd h
 compact_least (suc zero) (template ks rs) b u h e = absurd h
 compact_least (suc (suc n)) (template ks rs) b u h e = map_some array (normal_items (expand_rows ks rs)) u e λ us some same.
     subst (λ v. length (compact_body v) ≤ length b) same (template_least n (compact_least (suc n)) ks rs b us h some)
+compact_least zero other b u h e = absurd h
 
 -- ---- messages
 

@@ -92,14 +92,8 @@ integer_nonempty v = omega (arith, length-int_bytes (least_size v) v)
 
 pub body_nonempty : (t : Tree) → 1 ≤ length (canonical_body t)
 body_nonempty null = omega arith
-body_nonempty (boolean v) = omega arith
 body_nonempty (integer v) = integer_nonempty v
-body_nonempty (real r) = omega arith
-body_nonempty (bytes s) = omega arith
-body_nonempty (text s) = omega arith
-body_nonempty (array ts) = omega arith
-body_nonempty (object es) = omega arith
-body_nonempty (template ks rs) = omega arith
+body_nonempty other = omega arith
 
 pub items_few : (ts : Items) → length (items ts) ≤ length (canonical_items ts)
 items_few no_items = omega arith

@@ -26,13 +26,7 @@ each_passes A R pass o n d (u ∷ us) cs b h r =
 vec_arrays : (T : Meaning) → ReadsArrays (reads_vec T)
 vec_arrays T (array us) c r = (us, refl)
 vec_arrays T null c r = absurd cc
-vec_arrays T (boolean v) c r = absurd cc
-vec_arrays T (integer v) c r = absurd cc
-vec_arrays T (real v) c r = absurd cc
-vec_arrays T (bytes v) c r = absurd cc
-vec_arrays T (text v) c r = absurd cc
-vec_arrays T (object es) c r = absurd cc
-vec_arrays T (template ks rs) c r = absurd cc
+vec_arrays T other c r = absurd cc
 
 vec_items : (A : Asks) (T : Meaning) → Passes A T → ItemsPass (λ o n. items_asked A (suc o) n) (reads_vec T)
 vec_items A T pass o n (nodes k) us b x c h r =
@@ -61,13 +55,7 @@ parts_pass (A ∷ As) (T ∷ Ts) pass o n d (u ∷ us) cs b h r =
 tuple_arrays : (Ts : List Meaning) → ReadsArrays (reads_tuple Ts)
 tuple_arrays Ts (array us) c r = (us, refl)
 tuple_arrays Ts null c r = absurd cc
-tuple_arrays Ts (boolean v) c r = absurd cc
-tuple_arrays Ts (integer v) c r = absurd cc
-tuple_arrays Ts (real v) c r = absurd cc
-tuple_arrays Ts (bytes v) c r = absurd cc
-tuple_arrays Ts (text v) c r = absurd cc
-tuple_arrays Ts (object es) c r = absurd cc
-tuple_arrays Ts (template ks rs) c r = absurd cc
+tuple_arrays Ts other c r = absurd cc
 
 tuple_items : (As : List Asks) (Ts : List Meaning) → PassEach As Ts → ItemsPass (λ o n. tuple_asked As (suc o) n) (reads_tuple Ts)
 tuple_items As Ts pass o n (nodes k) us b x c h r =

@@ -43,13 +43,7 @@ fields_pass K V S T keys values o n (e ∷ es) cs b h r =
 map_objects : (S T : Meaning) → ReadsObjects (reads_map S T)
 map_objects S T (object us) c r = (us, refl)
 map_objects S T null c r = absurd cc
-map_objects S T (boolean v) c r = absurd cc
-map_objects S T (integer v) c r = absurd cc
-map_objects S T (real v) c r = absurd cc
-map_objects S T (bytes v) c r = absurd cc
-map_objects S T (text v) c r = absurd cc
-map_objects S T (array ts) c r = absurd cc
-map_objects S T (template ks rs) c r = absurd cc
+map_objects S T other c r = absurd cc
 
 map_pairs : (K V : Asks) (S T : Meaning) → Passes K S → Passes V T → PairsPass (λ o n. map_asked K V (suc o) n) (reads_map S T)
 map_pairs K V S T keys values o n (entries_of_object k) us b x c h r =

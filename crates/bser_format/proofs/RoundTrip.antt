@@ -24,14 +24,10 @@ meaning_stays f n c t u a x y v free h l short m e is =
 mutual
   pub value_free : (t : Tree) → IsValueTree t → IsTemplateFree t
   value_free null h = tt
-  value_free (boolean v) h = tt
-  value_free (integer v) h = tt
-  value_free (real r) h = tt
-  value_free (bytes s) h = tt
-  value_free (text s) h = tt
   value_free (array ts) h = items_free ts h
   value_free (object es) h = entries_free es h.1
   value_free (template ks rs) h = absurd h
+  value_free other h = tt
 
   items_free : (ts : Items) → ItemsAreValueTrees ts → ItemsAreTemplateFree ts
   items_free no_items h = tt

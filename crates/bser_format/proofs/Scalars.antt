@@ -17,13 +17,7 @@ bool_node : (skips : Bool) (n : ℕ) (t : Tree) (b x : List ℕ) (c : Content) �
 bool_node skips n (boolean true) b x c h r = ap (λ l. and_then done (and_then bool_at (and_then (value_tag skips) (next (l ++ x))))) h
 bool_node skips n (boolean false) b x c h r = ap (λ l. and_then done (and_then bool_at (and_then (value_tag skips) (next (l ++ x))))) h
 bool_node skips n null b x c h r = absurd cc
-bool_node skips n (integer v) b x c h r = absurd cc
-bool_node skips n (real v) b x c h r = absurd cc
-bool_node skips n (bytes v) b x c h r = absurd cc
-bool_node skips n (text v) b x c h r = absurd cc
-bool_node skips n (array ts) b x c h r = absurd cc
-bool_node skips n (object es) b x c h r = absurd cc
-bool_node skips n (template ks rs) b x c h r = absurd cc
+bool_node skips n other b x c h r = absurd cc
 
 pub bool_passes : Passes asks_bool reads_bool
 bool_passes = passes_by (leaf_handles (λ n. bool_at) (λ o n. done) reads_bool (λ o n skips t b x c h r. bool_node skips n t b x c h r) refl (λ s. refl) (λ s. refl) (λ es. refl))
@@ -31,13 +25,7 @@ bool_passes = passes_by (leaf_handles (λ n. bool_at) (λ o n. done) reads_bool 
 real_node : (skips : Bool) (n : ℕ) (t : Tree) (b x : List ℕ) (c : Content) → Spells n t b → reads_real (expand t) ≡ Some c → and_then done (and_then real_at (and_then (value_tag skips) (next (b ++ x)))) ≡ reads tt x
 real_node skips n (real v) b x c h r = ap (λ l. and_then done (and_then real_at (and_then (value_tag skips) (next (l ++ x))))) h.1 ∙ ap (λ a. and_then (done {X = ℕ}) (and_then (λ d. give (from_le_bytes w64 d)) a)) (front_reads 8 (to_le_bytes w64 v) x refl)
 real_node skips n null b x c h r = absurd cc
-real_node skips n (boolean v) b x c h r = absurd cc
-real_node skips n (integer v) b x c h r = absurd cc
-real_node skips n (bytes v) b x c h r = absurd cc
-real_node skips n (text v) b x c h r = absurd cc
-real_node skips n (array ts) b x c h r = absurd cc
-real_node skips n (object es) b x c h r = absurd cc
-real_node skips n (template ks rs) b x c h r = absurd cc
+real_node skips n other b x c h r = absurd cc
 
 pub real_passes : Passes asks_real reads_real
 real_passes = passes_by (leaf_handles (λ n. real_at) (λ o n. done) reads_real (λ o n skips t b x c h r. real_node skips n t b x c h r) refl (λ s. refl) (λ s. refl) (λ es. refl))
@@ -45,13 +33,7 @@ real_passes = passes_by (leaf_handles (λ n. real_at) (λ o n. done) reads_real 
 unit_node : (skips : Bool) (n : ℕ) (t : Tree) (b x : List ℕ) (c : Content) → Spells n t b → reads_unit (expand t) ≡ Some c → and_then done (and_then unit_at (and_then (value_tag skips) (next (b ++ x)))) ≡ reads tt x
 unit_node skips n null b x c h r = ap (λ l. and_then done (and_then unit_at (and_then (value_tag skips) (next (l ++ x))))) h
 unit_node skips n (boolean v) b x c h r = absurd cc
-unit_node skips n (integer v) b x c h r = absurd cc
-unit_node skips n (real v) b x c h r = absurd cc
-unit_node skips n (bytes v) b x c h r = absurd cc
-unit_node skips n (text v) b x c h r = absurd cc
-unit_node skips n (array ts) b x c h r = absurd cc
-unit_node skips n (object es) b x c h r = absurd cc
-unit_node skips n (template ks rs) b x c h r = absurd cc
+unit_node skips n other b x c h r = absurd cc
 
 pub unit_passes : Passes asks_unit reads_unit
 unit_passes = passes_by (record {

@@ -115,15 +115,14 @@ settles n (text s) b v h e = subst IsValueTree (same_Some (text s) v e) h.second
 settles zero (array ts) b v h e = absurd h
 settles (suc n) (array ts) b v h e = map_some array (normal_items (expand_items ts)) v e λ us some same.
     subst IsValueTree same (items_settle (Spells n) (settles n) ts h.second.rest us h.second.second some)
-settles zero (object es) b v h e = absurd h
 settles (suc n) (object es) b v h e = map_some (λ m. object (entries_of (last_entries m))) (normal_entries (expand_entries es)) v e λ m some same.
     subst IsValueTree same (object_settled m (entries_settle (Spells n) (settles n) es h.second.rest m h.second.second some))
-settles zero (template ks rs) b v h e = absurd h
 settles (suc zero) (template ks rs) b v h e = absurd h
 settles (suc (suc n)) (template ks rs) b v h e =
     let last = h.1.second.second.second.second in
     map_some array (normal_items (expand_rows ks rs)) v e λ us some same.
     subst IsValueTree same (rows_settle (Spells (suc n)) (settles (suc n)) ks rs last.rest us last.second some)
+settles zero other b v h e = absurd h
 
 pub message_settles : (n c : ℕ) (t v : Tree) (b : List ℕ) → IsMessage n c t b → normal (expand t) ≡ Some v → IsValueTree v
 message_settles n c t v b m e = settles n t m.body v m.value e

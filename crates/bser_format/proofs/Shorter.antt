@@ -68,16 +68,11 @@ rows_bound ks (item t ts) rs some made = absurd made
 mutual
   pub folded_shorter : (t : Tree) → length (canonical_body (fold_templates t)) ≤ length (canonical_body t)
   folded_shorter null = omega arith
-  folded_shorter (boolean v) = omega arith
-  folded_shorter (integer v) = omega arith
-  folded_shorter (real r) = omega arith
-  folded_shorter (bytes s) = omega arith
-  folded_shorter (text s) = omega arith
   folded_shorter (array ts) =
       omega (arith, template_shorter (fold_items ts), length-array (fold_items ts), length-array ts, ap (λ n. length (least_count n)) (items_stay ts), folded_items_shorter ts)
   folded_shorter (object es) =
       omega (arith, length-pairs (fold_entries es), length-pairs es, ap (λ n. length (least_count n)) (entries_stay es), folded_entries_shorter es)
-  folded_shorter (template ks rs) = omega arith
+  folded_shorter other = omega arith
 
   folded_items_shorter : (ts : Items) → length (canonical_items (fold_items ts)) ≤ length (canonical_items ts)
   folded_items_shorter no_items = omega arith

@@ -49,12 +49,11 @@ node_sight skips n (real v) b h = at_tag (value_tag skips) 0x07 (real v) b _ h.1
 node_sight skips n (bytes v) b h = at_tag (value_tag skips) 0x02 (bytes v) b h.rest (h.whole ∙ ap (λ l. l ++ h.rest) h.first) (λ y. refl) refl refl
 node_sight skips n (text v) b h = at_tag (value_tag skips) 0x0d (text v) b h.rest (h.whole ∙ ap (λ l. l ++ h.rest) h.first) (λ y. refl) refl refl
 node_sight skips zero (array ts) b h = absurd h
-node_sight skips zero (object es) b h = absurd h
-node_sight skips zero (template ks rs) b h = absurd h
 node_sight skips (suc zero) (template ks rs) b h = absurd h
 node_sight skips (suc n) (array ts) b h = at_tag (value_tag skips) 0x00 _ b h.rest (h.whole ∙ ap (λ l. l ++ h.rest) h.first) (λ y. refl) refl refl
 node_sight skips (suc n) (object es) b h = at_tag (value_tag skips) 0x01 _ b h.rest (h.whole ∙ ap (λ l. l ++ h.rest) h.first) (λ y. refl) refl refl
 node_sight skips (suc (suc n)) (template ks rs) b h = let k = h.1 in at_tag (value_tag skips) 0x0b _ b k.rest (k.whole ∙ ap (λ l. l ++ k.rest) k.first) (λ y. refl) refl refl
+node_sight skips zero other b h = absurd h
 
 -- a key is neither null nor an array
 key_not : (s : List ℕ) → (false ≡ null_tree (key_tree s)) × (false ≡ array_tree (key_tree s))

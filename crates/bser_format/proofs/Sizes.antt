@@ -44,9 +44,7 @@ nodes_below n (bytes s) b h = omega (arith, length_then h, ap length h.first)
 nodes_below n (text s) b h = omega (arith, length_then h, ap length h.first)
 nodes_below zero (array ts) b h = absurd h
 nodes_below (suc n) (array ts) b h = omega (arith, length_then h, ap length h.first, length_then h.second, items_below (Spells n) (nodes_below n) ts h.second.rest h.second.second)
-nodes_below zero (object es) b h = absurd h
 nodes_below (suc n) (object es) b h = omega (arith, length_then h, ap length h.first, length_then h.second, entries_below (Spells n) (nodes_below n) es h.second.rest h.second.second)
-nodes_below zero (template ks rs) b h = absurd h
 nodes_below (suc zero) (template ks rs) b h = absurd h
 nodes_below (suc (suc n)) (template ks rs) b h =
     let s = h.1 in
@@ -61,3 +59,4 @@ nodes_below (suc (suc n)) (template ks rs) b h =
       length_then rest,
       rows_below (Spells (suc n)) (nodes_below (suc n)) ks rs rest.rest h.0 rest.second,
     )
+nodes_below zero other b h = absurd h

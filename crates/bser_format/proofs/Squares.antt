@@ -40,11 +40,6 @@ rows_deep F d one ks (row fs rs) b h = omega (arith, fields_deep F d one ks fs h
 
 pub depth_below : (n : ℕ) → Deep (Spells n) (2 * n - 1)
 depth_below n null b h = omega arith
-depth_below n (boolean v) b h = omega arith
-depth_below n (integer v) b h = omega arith
-depth_below n (real r) b h = omega arith
-depth_below n (bytes s) b h = omega arith
-depth_below n (text s) b h = omega arith
 depth_below zero (array ts) b h = absurd h
 depth_below (suc n) (array ts) b h = omega (arith, items_deep (Spells n) (2 * n - 1) (depth_below n) ts h.second.rest h.second.second)
 depth_below zero (object es) b h = absurd h
@@ -54,6 +49,7 @@ depth_below (suc zero) (template ks rs) b h = absurd h
 depth_below (suc (suc n)) (template ks rs) b h =
     let rest = h.1.second.second.second.second in
     omega (arith, rows_deep (Spells (suc n)) (2 * suc n - 1) (depth_below (suc n)) ks rs rest.rest rest.second)
+depth_below n other b h = omega arith
 
 -- ---- size
 
@@ -169,13 +165,11 @@ text_squared (suc n) (array ts) b u h e = map_some array (normal_items (expand_i
     let c : ℕ = length (least_count (length (items us))) in
     let sizes : 1 + c + length h.second.rest ≤ length b = omega (arith, length_then h, ap length h.first, length_then h.second, least_integer_least _ _ h.second.first, ap (λ k. length (least_count k)) inside.1) in
     subst (λ v. length (canonical_body v) ≤ length b * length b) same (omega (arith, grow _ c _ _ inside.0 sizes, length-append (least_count (length (items us))) (canonical_items us)))
-text_squared zero (object es) b u h e = absurd h
 text_squared (suc n) (object es) b u h e = map_some (λ m. object (entries_of (last_entries m))) (normal_entries (expand_entries es)) u e λ m some same.
     let inside = entries_squared (Spells n) (text_squared n) es h.second.rest m h.second.second some in
     let c : ℕ = length (least_count (length (entries es))) in
     let sizes : 1 + c + length h.second.rest ≤ length b = omega (arith, length_then h, ap length h.first, length_then h.second, least_integer_least _ _ h.second.first) in
     subst (λ v. length (canonical_body v) ≤ length b * length b) same (omega (arith, grow _ c _ _ inside.0 sizes, object_text m (length (entries es)) (weight m) (omega arith) (omega arith)))
-text_squared zero (template ks rs) b u h e = absurd h
 text_squared (suc zero) (template ks rs) b u h e = absurd h
 text_squared (suc (suc n)) (template ks rs) b u h e = map_some array (normal_items (expand_rows ks rs)) u e λ us some same.
     let s = h.1 in
@@ -191,3 +185,4 @@ text_squared (suc (suc n)) (template ks rs) b u h e = map_some array (normal_ite
     let total = table_square (length (rows rs)) (length rest.rest) (head_size ks) a few (omega arith) (omega arith) in
     subst (λ v. length (canonical_body v) ≤ length b * length b) same
     (subst (λ k. length (canonical_body (array us)) ≤ k * k) (sym whole) (omega (arith, total, ap (λ k. length (least_count k)) inside.1, length-append (least_count (length (items us))) (canonical_items us))))
+text_squared zero other b u h e = absurd h

@@ -31,12 +31,7 @@ pub string_node : (skips : Bool) (n : ℕ) (t : Tree) (s b x : List ℕ) → str
 string_node skips n (bytes v) s b x e h = looked (value_tag skips) (λ y. refl) (λ y. refl) v b x (inl h) ∙ ap (λ w. reads w x) (cc)
 string_node skips n (text v) s b x e h = looked (value_tag skips) (λ y. refl) (λ y. refl) v b x (inr h) ∙ ap (λ w. reads w x) (cc)
 string_node skips n null s b x e h = absurd cc
-string_node skips n (boolean v) s b x e h = absurd cc
-string_node skips n (integer v) s b x e h = absurd cc
-string_node skips n (real v) s b x e h = absurd cc
-string_node skips n (array ts) s b x e h = absurd cc
-string_node skips n (object es) s b x e h = absurd cc
-string_node skips n (template ks rs) s b x e h = absurd cc
+string_node skips n other s b x e h = absurd cc
 
 -- the bytes of a key
 key_bytes : (s v : List ℕ) → string_bytes_of (key_tree s) ≡ Some v → s ≡ v
@@ -85,12 +80,7 @@ text_node skips n (text v) s b x e h =
     let same : v ≡ s = cc in
     text_of_bytes (and_then (value_tag skips) (next (b ++ x))) s x (looked (value_tag skips) (λ y. refl) (λ y. refl) v b x (inr h) ∙ ap (λ w. reads w x) same) (ap is_utf8 (sym same) ∙ is_utf8-from_IsUtf8 v h.second.second.0)
 text_node skips n null s b x e h = absurd cc
-text_node skips n (boolean v) s b x e h = absurd cc
-text_node skips n (integer v) s b x e h = absurd cc
-text_node skips n (real v) s b x e h = absurd cc
-text_node skips n (array ts) s b x e h = absurd cc
-text_node skips n (object es) s b x e h = absurd cc
-text_node skips n (template ks rs) s b x e h = absurd cc
+text_node skips n other s b x e h = absurd cc
 
 -- a key that is UTF-8
 key_text : (s v : List ℕ) → utf8_of (key_tree s) ≡ Some v → (s ≡ v) × (is_utf8 s ≡ true)

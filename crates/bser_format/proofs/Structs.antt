@@ -132,13 +132,7 @@ fields_pass names (p ∷ es) fs ss last c fit e end o n b h =
 struct_objects : (names : List (List ℕ)) (ss : List Slot) → ReadsObjects (reads_fields names ss)
 struct_objects names ss (object us) c r = (us, refl)
 struct_objects names ss null c r = absurd cc
-struct_objects names ss (boolean v) c r = absurd cc
-struct_objects names ss (integer v) c r = absurd cc
-struct_objects names ss (real v) c r = absurd cc
-struct_objects names ss (bytes v) c r = absurd cc
-struct_objects names ss (text v) c r = absurd cc
-struct_objects names ss (array ts) c r = absurd cc
-struct_objects names ss (template ks rs) c r = absurd cc
+struct_objects names ss other c r = absurd cc
 
 struct_pairs : (names : List (List ℕ)) (fs : List Field) (ss : List Slot) → PassFields fs ss → PairsPass (λ o n. struct_asked names fs (suc o) n) (reads_fields names ss)
 struct_pairs names fs ss fit o n (entries_of_object k) us b x c h r =

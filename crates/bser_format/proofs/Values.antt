@@ -83,14 +83,10 @@ mutual
 mutual
   pub expand_free : (t : Tree) → IsTemplateFree t → expand t ≡ t
   expand_free null h = refl
-  expand_free (boolean v) h = refl
-  expand_free (integer v) h = refl
-  expand_free (real r) h = refl
-  expand_free (bytes s) h = refl
-  expand_free (text s) h = refl
   expand_free (array ts) h = ap array (items_free ts h)
   expand_free (object es) h = ap object (entries_free es h)
   expand_free (template ks rs) h = absurd h
+  expand_free other h = refl
 
   items_free : (ts : Items) → ItemsAreTemplateFree ts → expand_items ts ≡ ts
   items_free no_items h = refl

@@ -47,9 +47,6 @@ comes_from may may' from from' s left bytes (Err e) fits same h = λ os m. refus
 
 -- levels
 
-pub room_inside : (os : List Around) (levels : ℕ) → length os + suc levels ≡ most_levels → has_level os ≡ true
-room_inside os levels h = lt-ltb (length os) most_levels (omega (arith, h))
-
 pub no_room : (os : List Around) → length os + 0 ≡ most_levels → has_level os ≡ false
 no_room os h = by (has_level os) refl
   where

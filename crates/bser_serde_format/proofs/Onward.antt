@@ -85,10 +85,6 @@ held_back o b z none l =
 -- ---- a walk
 
 module _ (a : Walk) where
-  -- nothing was gone past
-  pub stays : Steps a a
-  stays = record { onward = λ rest r. r; floors = record { same = refl; within = λ h. h; kept = λ h. refl } }
-
   -- a step inside the innermost container
   pub within_inner : (b : Walk) → b.floor ≡ a.floor → b.outer.items ≡ a.outer.items → ((z : List ℕ) → Leaves b.inner b.rest.now z → Leaves a.inner a.rest.now z) → Steps a b
   within_inner b floor outer on = record {

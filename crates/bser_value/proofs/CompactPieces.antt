@@ -1,5 +1,5 @@
 -- The texts of a value's parts in the compact form, piece by piece.
-use Rattle.std.proofs.Common.{◌≡◌, ℕ, List, [], ◌∷◌, ◌++◌, length, flat_map, Vec, BTreeMap, String, Some, None, string_bytes, refl, sym, ap, ◌∙◌, append_assoc, append-nil}
+use Rattle.std.proofs.Common.{◌≡◌, ℕ, List, [], ◌∷◌, ◌++◌, length, flat_map, Vec, BTreeMap, String, Some, string_bytes, refl, sym, ap, ◌∙◌, append_assoc, append-nil}
 use Rattle.std.proofs.lemmas.Option.{same_Some}
 use Rattle.std.specs.declared.alloc.Global.{Global}
 use Rattle.bser_format.specs.Tree.{array, object, Items, no_items, item, Rows, no_rows, row, items, rows}
@@ -17,9 +17,6 @@ pub compact-Object : (m : BTreeMap (String Global) Value) → compact_tree (Obje
 compact-Object m = ap fold_templates (tree_of-Object m)
 
 -- ---- an array that is no template
-
-stays : (ts : Items) → template_keys (as_template ts) ≡ None → as_template ts ≡ array ts
-stays ts = as_template_cases (λ u. template_keys u ≡ None → u ≡ array ts) ts (λ e. refl) (λ k ks rs two made e. cc)
 
 -- ---- a template
 

@@ -118,10 +118,6 @@ item_more levels k c d z v more h t = record {
   meant = ap (option_and_then (λ u. option_map (item u) (normal_items (expand_items (items_of t.it))))) h.meant ∙ ap (option_map (item (tree_of v))) t.meant;
 }
 
-pub items_begin : (levels n m : ℕ) (b : List ℕ) (done : List Value) → done ≡ [] → n ≡ m → ItemsOn levels n b m b done
-items_begin levels n m b done none same z more t =
-    subst (λ l. ReadsItems levels n b (l ++ more) z) (sym none) (subst (λ k. ReadsItems levels k b more z) (sym same) t)
-
 pub items_step : (levels n m k : ℕ) (b c d : List ℕ) (done next : List Value) (v : Value) → m ≡ suc k → next ≡ done ++ v ∷ [] → ItemsOn levels n b m c done → ReadsValue levels c v d
     → ItemsOn levels n b k d next
 items_step levels n m k b c d done next v is grown on h z more t =

@@ -34,14 +34,6 @@ use Rattle.bser_value.proofs.Joins.{mapped, Pairs, put, fold_last, less}
 pub field_read : (levels : ℕ) (b z : List ℕ) (v : Value) → ReadsValue levels b v z → ReadsField levels b v z
 field_read levels b z v h = record { it = Some h.it; read = value_field levels b z h.it h.read; meant = h.meant }
 
-pub skip_read : (levels : ℕ) (b : List ℕ) → (length b ≡ 0 → ⊥) → get_or b 0 0 ≡ 0x0c → ReadsField levels b value.Null (behind 1 b)
-skip_read levels [] some is = absurd (some refl)
-skip_read levels (x ∷ y) some is = record {
-  it = None;
-  read = ap (λ k. field_of (with_text_keys levels) (k ∷ y)) is ∙ ap (reads None) (sym (take_rest (x ∷ y) 1));
-  meant = tree_of-Null;
-}
-
 -- so many fields with these keys
 abbrev pub ReadsFields : ℕ → ℕ → List (List ℕ) → List ℕ → Pairs → List ℕ → Type 0
 ReadsFields levels n ks b ps z = ReadsAs (many (field_of (with_text_keys levels)) n) (λ fs. normal_entries (expand_fields ks (fields_of fs)) ≡ Some ps) b z
@@ -143,10 +135,6 @@ row_more levels w k ks c d z v more h t =
       read = ap (and_then (λ x. many r k >>= λ xs. give (x ∷ xs))) h.read ∙ ap (and_then (λ xs. give (h.it ∷ xs))) t.read;
       meant = ap (option_and_then (λ u. option_map (item u) (normal_items (expand_rows ks (rows_of t.it))))) h.meant ∙ ap (option_map (item (tree_of v))) t.meant;
     }
-
-pub rows_begin : (levels w n m : ℕ) (names b : List ℕ) (done : List Value) → done ≡ [] → n ≡ m → RowsOn levels w names n b m b done
-rows_begin levels w n m names b done none same ks after keys z more t =
-    subst (λ l. ReadsObjects levels ks w n b (l ++ more) z) (sym none) (subst (λ k. ReadsObjects levels ks w k b more z) (sym same) t)
 
 pub rows_step : (levels w n m k : ℕ) (names b c d : List ℕ) (done next : List Value) (v : Value) → m ≡ suc k → next ≡ done ++ v ∷ [] → RowsOn levels w names n b m c done
     → ((ks : List (List ℕ)) (after : List ℕ) → many (text_of TemplateKey) w names ≡ reads ks after → ReadsRow levels ks w c v d) → RowsOn levels w names n b k d next
