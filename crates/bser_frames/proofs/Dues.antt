@@ -1,5 +1,5 @@
 -- What came of a message that is due.
-use Rattle.std.proofs.Common.{◌≡◌, ℕ, ◌-◌, ◌≤◌, ◌<◌, List, [], ◌++◌, Option, length, length-append, append-nil, append_assoc, refl, sym, ap, subst, ◌∙◌, arith}
+use Rattle.std.proofs.Common.{◌≡◌, ℕ, ◌-◌, ◌≤◌, ◌<◌, List, [], ◌++◌, Option, length, length-append, append-nil, append_assoc, sym, ap, subst, ◌∙◌, arith}
 use Rattle.bser_format.specs.Message.{Head}
 use Rattle.bser_format.specs.Named.{head, refuses, eof}
 use Rattle.bser_format.proofs.OneHead.{one_head}
@@ -8,7 +8,7 @@ use Rattle.std.specs.Io.KnownBytes.{IsAtEnd}
 use Rattle.bser_bunser.proofs.Readers.{nothing}
 use Rattle.bser_messages.specs.Lengths.{HasLength}
 use Rattle.bser_frames.specs.Headers.{AtLeast, HeaderAtLeast, IsDue, IsHeaderLength}
-use Rattle.bser_frames.specs.Stops.{IsCut, IsTooLong}
+use Rattle.bser_frames.specs.Stops.{IsCut}
 use Rattle.bser_frames.specs.Stream.{IsFrameWithin}
 
 -- ---- one length
@@ -90,18 +90,6 @@ announced_there bytes n size h s =
 pub header_fits : (bytes : List ℕ) (n size : ℕ) → HasLength bytes n → IsHeaderLength bytes size → size ≤ n
 header_fits bytes n size h s =
     omega (arith, h.total, s.whole h.capabilities h.announced h.text h.rest h.head h.front)
-
--- a body that is too long
-pub too_long : (most n size : ℕ) (came : List ℕ) → IsDue most came → HasLength came n → IsHeaderLength came size → most < n - size → IsTooLong most (n - size) most came
-too_long most n size came due h s more =
-    let announced : h.announced ≡ n - size = announced_there came n size h s in
-    let none : h.rest ≡ [] = due.short h.capabilities h.announced h.text h.rest h.head h.front (omega (arith, announced, more)) in
-    let whole : h.text ≡ came = sym (h.front ∙ ap (λ l. h.text ++ l) none ∙ append-nil h.text) in
-    record {
-      header = (h.capabilities, subst (Head h.capabilities (n - size)) whole (subst (λ k. Head h.capabilities k h.text) announced h.head));
-      limited = refl;
-      more = more;
-    }
 
 -- a header that is cut
 pub cut_header : (a b : Option (List ℕ)) (old new : List ℕ) (have want : ℕ) → head old ≡ refuses eof → IsHeaderLength old want → Reads a b old new

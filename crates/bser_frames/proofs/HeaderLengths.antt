@@ -13,7 +13,7 @@ use Rattle.bser_format.specs.declared.errors.Complaint.TheVariants.{NegativeLeng
 use Rattle.bser_format.specs.Named as named
 use Rattle.bser_format.specs.Named.{Answer, reads, refuses, eof, give, and_then, complain, ◌>>=◌}
 use Rattle.bser_bunser.proofs.Readers.{after_magic, after_four, other_magic, head_after_magic, front_there, counted_there, other_after, negative_there}
-use Rattle.bser_bunser.specs.declared.prefix.Prefix.TheVariants.{Found, Short}
+use Rattle.bser_bunser.specs.declared.prefix.Prefix.TheVariants.{Found}
 use Rattle.bser_bunser.specs.declared.prefix.Prefix.TheVariants as prefixes
 use Rattle.bser_bunser.specs.declared.prefix.Unexpected.{Unexpected}
 use Rattle.bser_bunser.specs.declared.prefix.Unexpected.TheVariants.{Tag, Length, NegativeCount}
@@ -62,10 +62,6 @@ behind k bytes text more rest p long e =
     ∙ drop_at p.before (p.number ++ rest) 6 p.six
 
 -- ---- a header that is cut
-
-IsRead : {X : Type 0} → Answer X → Type 0
-IsRead (reads x b) = Unit {0}
-IsRead (refuses e) = ⊥
 
 -- what ends too early after a step that reads, ended too early before
 unmapped : {X Y : Type 0} (f : X → Y) (a : Answer X) (e : Error) → and_then (λ x. give (f x)) a ≡ refuses e → a ≡ refuses e

@@ -3,3 +3,4 @@ pub mod HeaderLengths
 pub mod HeaderPrefixes
 pub mod Dues
 pub mod Nexts
+pub mod Copies

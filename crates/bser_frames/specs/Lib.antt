@@ -1,6 +1,6 @@
 pub mod Headers
 pub mod Held
-pub mod Bytes
+pub mod Copied
 pub mod Stops
 pub mod Stream
 pub mod Messages

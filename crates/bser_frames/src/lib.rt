@@ -3,7 +3,7 @@
 #![tactic(auto)]
 
 mod buffer;
-mod bytes;
+mod copied_read;
 pub mod error;
 pub mod frames;
 mod header;

@@ -1,12 +1,13 @@
 //! Values that borrow nothing, read from a message as bytes.
-ghost use Rattle.std.specs.Prelude.{◌≤◌, Some, IfOk, IfErr};
+ghost use Rattle.std.specs.Prelude.{◌≤◌, length, Some, IfOk, IfErr};
 ghost use Rattle.bser_deserializer.specs.declared.deserializer.TheConstants.{MOST_LEVELS};
 ghost use Rattle.bser_messages.specs.Messages.{BeginsWith, HeadFirst, SparesMemory};
-ghost use Rattle.bser_messages.specs.Descriptions.{caused};
+ghost use Rattle.bser_messages.specs.Descriptions.{LiesWithin, caused};
 ghost use Rattle.bser_frames.specs.Messages.{FrameRefused};
 
-use crate::bytes::SliceReader;
-use bser_messages::described::from_reader_within;
+use crate::copied_read::CopiedRead;
+use bser_deserializer::deserializer::Deserializer;
+use bser_messages::described::read_described;
 use bser_messages::description::Description;
 use bser_types::deserialize::DeserializeOwned;
 use std::alloc::Global;
@@ -14,7 +15,8 @@ use std::alloc::Global;
 /// Reads a value, which borrows nothing, from the message at the start of `bytes`, of at most
 /// `limit` levels.
 ///
-/// As [`from_reader_within`], of a reader that gives these bytes and never fails.
+/// As [`from_reader_within`](bser_messages::described::from_reader_within), of a reader that gives
+/// these bytes and never fails.
 pub fn read_owned<T: DeserializeOwned>(
     alloc: Global,
     limit: usize,
@@ -25,6 +27,10 @@ pub fn read_owned<T: DeserializeOwned>(
     ensures refused { IfErr (caused result) (FrameRefused limit T.Shape bytes.now) }
     ensures memory { SparesMemory T.needs (caused result) }
     ensures head { HeadFirst (Some bytes.now) (caused result) }
+    ensures place { IfErr result (LiesWithin (length bytes.now)) }
 {
-    from_reader_within(alloc, limit, &mut SliceReader::new(bytes))
+    let mut from = Deserializer::unread(alloc, CopiedRead::new(bytes));
+    let answer = read_described(alloc, limit, &mut from, bytes.len());
+    let _read = from.into_inner();
+    answer
 }

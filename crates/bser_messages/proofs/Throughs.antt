@@ -1,7 +1,7 @@
 -- A builder that is told by way of a reference to it, which is watched.
 use Rattle.std.proofs.Common.{◌≡◌, ℕ, ◌+◌, List, ◌++◌, length, refl, sym, ap, subst, ◌∙◌, arith, inl, inr}
 use Rattle.std.specs.Borrow.{MutBor}
-use Rattle.std.specs.Prelude.{Option, Some, None, min}
+use Rattle.std.specs.Prelude.{Option, Some, None}
 use Rattle.bser_source.specs.Window.{Window, left, with_limit}
 use Rattle.bser_source.proofs.Windows.{left_took}
 use Rattle.bser_format.specs.declared.errors.Error.{Error}
@@ -12,7 +12,7 @@ use Rattle.bser_events.specs.Places.{TakesIn}
 use Rattle.bser_events.specs.declared.builder.Stop.{Stop}
 use Rattle.bser_events.specs.declared.builder.Stop.TheVariants.{Memory, Asked}
 use Rattle.bser_events.specs.declared.event.Place.{Place}
-use Rattle.bser_events.proofs.Asked.{WatchedTakes, WatchedStops, CutTo, watched_cut, watched_told}
+use Rattle.bser_events.proofs.Asked.{WatchedTakes, WatchedStops, watched_cut, watched_told}
 use Rattle.bser_messages.specs.Told.{MessageCut, BodyCut, CutBehind, IsCut, IsReasonOf}
 use Rattle.bser_messages.specs.declared.told.Header.{Header}
 use Rattle.bser_messages.specs.declared.told.Reason.{Reason}
@@ -94,12 +94,6 @@ left_cut takes stopped of asked known (Some h) a x y before after was cause give
     (reason.0, reason.2, subst (CutBehind takes stopped known h before after) (sym is ∙ reason.1) (cut_behind takes stopped of asked known h a x y before after fresh same none first last k))
 left_cut takes stopped of asked known (Some h) a x y before after was cause given (Failed d) fresh same none first last is reason k =
     subst (CutBehind takes stopped known h before after) (sym is ∙ reason.0) (cut_behind takes stopped of asked known h a x y before after fresh same none first last k)
-
--- the message was not begun
-pub unread_cut : {B : Type 0} (takes : B → Event → Place → B → Type 0) (stopped : Stop → B → Event → Place → B → Type 0) (known : Option (List ℕ)) (x : B) (given at : ℕ) (h : Option Header) (cause : Error) (r : Reason)
-    → h ≡ None → IsReasonOf None cause at r → IsCut takes stopped known x x given h r
-unread_cut takes stopped known x given at h cause (Stopped place) is reason = absurd (let e = reason.1 in cc)
-unread_cut takes stopped known x given at h cause (Failed d) is reason = subst (λ z. IsCut takes stopped known x x given z (Failed d)) (sym is) refl
 
 -- before the header it was told nothing
 pub quiet : {W : Type 0} (takes : W → Event → Place → W → Type 0) (stopped : Stop → W → Event → Place → W → Type 0) (asked : W → Option Place) (h : Option Header) (a : Window) (x y : W)

@@ -1,6 +1,8 @@
 //! Reading whole messages, with errors that are described.
 ghost use Rattle.std.specs.Prelude.{◌≡◌, ◌≤◌, length, Some, IfOk, IfErr, OnOk};
+ghost use Rattle.bser_deserializer.specs.State.{IsUnread};
 ghost use Rattle.bser_deserializer.specs.declared.deserializer.TheConstants.{LEVELS, MOST_LEVELS};
+ghost use Rattle.bser_source.specs.Window.{left};
 ghost use Rattle.bser_messages.specs.Messages.{
   BeginsWith,
   HeadFirst,
@@ -9,6 +11,8 @@ ghost use Rattle.bser_messages.specs.Messages.{
   Same,
   SliceRefused,
   SparesMemory,
+  WholeRead,
+  WholeRefused,
 };
 ghost use Rattle.bser_messages.specs.Descriptions.{LiesWithin, caused};
 
@@ -20,6 +24,8 @@ use bser_deserializer::deserializer::{Deserializer, LEVELS};
 use bser_format::errors::Error;
 use bser_source::device::Source;
 use bser_source::io_read::IoRead;
+use bser_source::read::DeRead;
+use bser_source::reference::LendsText;
 use bser_source::slice_read::SliceRead;
 use bser_types::deserialize::{Deserialize, DeserializeOwned};
 use std::alloc::Global;
@@ -54,9 +60,32 @@ pub fn from_slice_within<'de, T: Deserialize<&'de [u8]>>(
     ensures place { IfErr result (LiesWithin (length bytes.now)) }
 {
     let mut from = Deserializer::unread(alloc, SliceRead::new(bytes));
-    match read_message(alloc, limit, &mut from) {
+    read_described(alloc, limit, &mut from, bytes.len())
+}
+
+/// Reads one message as a value, of at most `limit` levels, by a deserializer that has read nothing
+/// and whose source has `len` bytes.
+///
+/// As [`from_slice`], or as [`from_reader`] where the source lends nothing.
+pub fn read_described<R: DeRead, T: Deserialize<R::Lent>>(
+    alloc: Global,
+    limit: usize,
+    from: &mut Deserializer<R>,
+    len: usize,
+) -> Result<T, Description>
+where
+    R::Lent: LendsText,
+    requires unread { IsUnread from.old.state }
+    requires start { from.old.state.source.count ≡ 0 }
+    ensures found { IfOk (caused result) (WholeRead limit T.Shape from.old from.new) }
+    ensures refused { IfErr (caused result) (WholeRefused limit T.Shape from.old from.new) }
+    ensures memory { SparesMemory T.needs (caused result) }
+    ensures head { HeadFirst (left from.old.state.source) (caused result) }
+    ensures place { IfErr result (LiesWithin len) }
+{
+    match read_message(alloc, limit, from) {
         Ok(value) => Ok(value),
-        Err(cause) => Err(Progress::of(&from).describe(cause, bytes.len())),
+        Err(cause) => Err(Progress::of(from).describe(cause, len)),
     }
 }
 
