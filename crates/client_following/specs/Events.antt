@@ -1,6 +1,7 @@
 -- What a message is as an event of one kind.
 use Rattle.std.specs.Prelude.{◌≡◌, ◌⊎◌, ℕ, List}
 use Rattle.bser_types.specs.declared.deserialize.Shape as shape
+use Rattle.watchman_client.specs.Failures.{Unread}
 use Rattle.watchman_client.specs.Requests.{ReadsOwned, UnreadOwned}
 use Rattle.watchman_client.specs.declared.errors.ClientError.{ClientError}
 use Rattle.watchman_types.specs.Kinds.{event_kind_of}
@@ -27,5 +28,5 @@ module _ {T F : Type 0} (header : shape.Ghosts Header) (types : EventTypes T F) 
 
   -- the message is not read as a header, or not as an event of the kind that its header gives
   abbrev pub UnreadEvent : List ℕ → ClientError → Type 0
-  UnreadEvent message e = UnreadOwned header message e
+  UnreadEvent message e = Unread header message e
       ⊎ ((h : Header) × ReadsOwned header message h × UnreadKind types (event_kind_of h) message e)

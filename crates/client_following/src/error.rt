@@ -24,6 +24,9 @@ pub(crate) enum FollowError {
     /// The server cannot do what is needed.
     #[error("the server lacks {0}")]
     Lacks(&'static str),
+    /// The stream ended behind a whole message, as where the server was stopped.
+    #[error("the server ended the stream")]
+    Ended,
     /// The subscription of this name has ended.
     #[error("{0} is canceled: its root is no longer watched")]
     Canceled(ByteString),

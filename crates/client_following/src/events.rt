@@ -82,8 +82,13 @@ where
     }
 }
 
-/// Takes the next event, or answers `None` where the stream ended behind a whole message.
-fn next_event<T, F, S, W>(client: &mut Client<S, W>) -> Result<Option<Event<T, F>>, ClientError>
+/// Takes the next event, one that the client keeps before those of the stream, or answers `None`
+/// where the stream ended behind a whole message.
+///
+/// Between two of these calls requests can be sent, while a loop over [`events_of`] holds the client.
+/// The errors are those of [`Client::next_unsolicited`], and then of [`Client::read_owned`]: after one
+/// of the latter the message was taken, and the next call gives the event behind it.
+pub fn next_event<T, F, S, W>(client: &mut Client<S, W>) -> Result<Option<Event<T, F>>, ClientError>
 where
     T: DeserializeOwned,
     F: DeserializeOwned,
@@ -119,7 +124,7 @@ where
     ensures refused { IfErr result (UnreadEvent ⟦<Header as Shape>⟧ ⟦<T as EventShape<F>>⟧.events
         client.now.message) }
 {
-    let header: Header = client.read_owned()?;
+    let header: Header = client.read()?;
     read_kind(client, header.event_kind())
 }
 

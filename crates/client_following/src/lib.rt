@@ -1,5 +1,5 @@
 //! A client of Watchman that prints what changed below a folder since a clock, and then each
-//! change, until the subscription ends, or the stream behind a whole message.
+//! change, until the subscription or the stream ends.
 #![tactic(auto)]
 
 mod error;
@@ -43,8 +43,8 @@ pub struct Followed<'a> {
     pub since: Option<&'a str>,
 }
 
-/// Follows the changes, and writes them to the log. The answer is a program's exit status: 0, or 1
-/// after an error, which is written too, as the end of the subscription is.
+/// Follows the changes, and writes them to the log. The answer is a program's exit status, 1 after an
+/// error, which is written too. The end of the subscription is one, and the end of the stream.
 pub fn follow_changes<S: Source + Drop, W: Sink + Drop, L: Write>(
     alloc: Global,
     followed: Followed<'_>,
@@ -112,7 +112,7 @@ fn follow_since<S: Source, W: Sink, L: Write>(
             Err(error) => return Err(FollowError::Client(error)),
         }
     }
-    Ok(())
+    Err(FollowError::Ended)
 }
 
 /// Names and sizes of the files that changed since the clock, below the folder that is followed:

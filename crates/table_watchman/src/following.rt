@@ -4,8 +4,10 @@
 //! of each, and with events that cannot be read and many events behind them. Then it follows a folder
 //! below a project's root. `stream-relative.bser` is what a server of Watchman 4.9.0 sent on one
 //! connection while files in that folder and in another one changed, a state was entered and left, and
-//! the root was let go.
+//! the root was let go. Behind these are events before an answer, and those of `events.tsv`, each of
+//! which pywatchman 1.4.0 wrote: a name and the message, in columns between tabs.
 use anyhow::{Context, Result, bail};
+use bser_vectors::columns::columns;
 use bser_vectors::session::SentMessage;
 use client_following::{Followed, follow_changes};
 use serde_bser::device::Watched;
@@ -24,6 +26,12 @@ const ROOT: Followed<'static> = Followed {
 
 /// The clock that the server answered.
 const CLOCK: &str = "c:1795768208:28022:1:2";
+
+/// The place of the answer to `subscribe` among the messages of the session.
+const SUBSCRIBED: usize = 4;
+
+/// How many lines are logged of the answers.
+const ANSWER_LINES: usize = 21;
 
 /// How many events follow each other.
 const MANY: u64 = 2_000;
@@ -59,6 +67,50 @@ pub fn print_below(rt: &HostRuntime, stream: &[u8]) -> Result<()> {
         since: None,
     };
     print_whole(rt, &run_over(rt.alloc(), followed, stream))
+}
+
+/// Prints how a client ends to which two events come before the answer to `subscribe`.
+pub fn print_early(rt: &HostRuntime, stream: &[u8], messages: &[SentMessage]) -> Result<()> {
+    let (answers, events) = messages
+        .split_at_checked(SUBSCRIBED)
+        .context("too few messages")?;
+    let mut server = Vec::new(rt.alloc());
+    for message in answers {
+        server.extend_from_slice(message.bytes(stream))?;
+    }
+    let (answer, events) = events.split_first().context("too few messages")?;
+    for (number, event) in events.iter().enumerate() {
+        if number == 2 {
+            server.extend_from_slice(answer.bytes(stream))?;
+        }
+        server.extend_from_slice(event.bytes(stream))?;
+    }
+    print_run(
+        rt,
+        "two events before an answer",
+        &run_over(rt.alloc(), ROOT, &server),
+    )
+}
+
+/// Prints what a client logs of each event of the list, behind the answers.
+pub fn print_made(
+    rt: &HostRuntime,
+    stream: &[u8],
+    messages: &[SentMessage],
+    list: &str,
+) -> Result<()> {
+    let end = messages.get(SUBSCRIBED).context("too few messages")?.end;
+    for line in list.lines() {
+        let [name, message, ..] = columns(line, "\t");
+        let mut server = Vec::from_slice(rt.alloc(), stream.get(..end).context("outside")?)?;
+        server.extend_from_slice(&hex::decode(rt.alloc(), message)?)?;
+        let run = run_over(rt.alloc(), ROOT, &server);
+        println!(rt; "{name}: status {}", run.status)?;
+        for line in str::from_utf8(&run.log)?.lines().skip(ANSWER_LINES) {
+            println!(rt; "told {line}")?;
+        }
+    }
+    Ok(())
 }
 
 /// Prints what a client logs of an event that cannot be read, and how many lines it logs where one

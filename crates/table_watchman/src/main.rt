@@ -14,6 +14,7 @@
 //! and `files` where it lists some.
 #![tactic(auto)]
 
+mod asking;
 mod following;
 mod line;
 mod needed;
@@ -22,7 +23,8 @@ mod requests;
 mod session;
 mod told;
 
-use crate::following::{print_below, print_following};
+use crate::asking::print_asking;
+use crate::following::{print_below, print_early, print_following, print_made};
 use crate::line::PrintedMessage;
 use crate::needed::print_needed;
 use crate::requests::compare_requests;
@@ -45,8 +47,17 @@ fn main(rt: HostRuntime) -> Result<()> {
     let list = fs::read_to_string(&rt, "session.tsv")?;
     let messages = sent_messages(rt.alloc(), list.as_str())?;
     compare_session(&rt, &stream, &messages)?;
-    print_following(&rt, &stream, messages.get(..FOLLOWED).context("too few")?)?;
-    print_below(&rt, &fs::read(&rt, "stream-relative.bser")?)
+    let followed = messages.get(..FOLLOWED).context("too few")?;
+    print_following(&rt, &stream, followed)?;
+    print_below(&rt, &fs::read(&rt, "stream-relative.bser")?)?;
+    print_early(&rt, &stream, followed)?;
+    print_made(
+        &rt,
+        &stream,
+        followed,
+        &fs::read_to_string(&rt, "events.tsv")?,
+    )?;
+    print_asking(&rt, &stream, followed)
 }
 
 /// Reads each message of the list, and prints how many are not read as the list says.

@@ -4,3 +4,5 @@ pub mod Runs
 pub mod Hands
 pub mod Sizes
 pub mod Loops
+pub mod Calls
+pub mod Signs

@@ -1,5 +1,5 @@
 -- The items of a loop over events, one after another.
-use Rattle.std.proofs.Common.{◌≡◌, ◌≢◌, ◌+◌, ◌-◌, ℕ, Bool, List, [], ◌∷◌, ◌++◌, length, append-nil, refl, ap, subst, ◌∙◌, arith, inl, inr}
+use Rattle.std.proofs.Common.{◌≢◌, ◌-◌, ℕ, List, [], ◌∷◌, append-nil, refl, ap, subst, ◌∙◌, arith, inl, inr}
 use Rattle.std.specs.Prelude.{Option, Result, Ok, Err, if◌then◌else◌}
 use Rattle.std.specs.List.{FoldsTo}
 use Rattle.watchman_client.specs.Events.{Loop, Gives, GivesNone, IsHindrance, AreItems, Gave, GaveAll}

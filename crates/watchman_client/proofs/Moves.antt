@@ -114,16 +114,6 @@ moves_kept m old new h frame kind kept = record {
   queued = sym kept;
 }
 
--- the first of those that are kept was given
-pub moves_popped : (m : List ℕ) (old new : View) → new.left ≡ old.left → old.kept ≡ m ∷ new.kept → Moves [] (m ∷ []) old new
-moves_popped m old new left kept = record {
-  came = [];
-  told = tt;
-  bytes = keeps_consumes old.left new.left (subst (λ l. Keeps old.left l) (sym left) (keeps_refl old.left));
-  answered = refl;
-  queued = append-nil old.kept ∙ kept;
-}
-
 -- a call that gave nothing after another
 pub nothing_then : (a b c : View) → GivesNothing a b → GivesNothing b c → GivesNothing a c
 nothing_then a b c (moves, waiting, failed) (more, still, fails) = (moves_then [] [] [] [] a b c moves more, still ∙ waiting, λ f. fails (failed f))

@@ -49,7 +49,7 @@ IsHindered remaining _ s = ⊥
 
 -- why the next message is not given
 abbrev pub Hinders : {S W : Type 0} → (S → Option (List ℕ)) → ClientError → Connection S W → Type 0
-Hinders remaining NoRequest c = c.waiting ≡ false
+Hinders remaining NoRequest c = (c.waiting ≡ false) × (c.failed ≡ false)
 Hinders remaining Failed c = c.failed ≡ true
 Hinders remaining Ended c = IsAtEnd (left_of remaining c.incoming)
 Hinders remaining AnswerDue c = (c.waiting ≡ true) × IsNextKind false (left_of remaining c.incoming)
@@ -67,14 +67,10 @@ abbrev pub Unsent : {S W : Type 0} → (S → Option (List ℕ)) → Tells W →
 Unsent remaining sink m old new Failed = (old.failed ≡ true) × Unchanged remaining old new
 Unsent remaining sink m old new Outstanding = (old.waiting ≡ true) × Unchanged remaining old new
 Unsent remaining sink m old new (Request e) =
-    (view_of remaining new ≡ record (view_of remaining old) { failed = may_be_sent e }) × Missed sink m old.writer new.writer e × (may_be_sent e ≡ false → new.writer ≡ old.writer)
+    (old.failed ≡ false) × (old.waiting ≡ false) × (view_of remaining new ≡ record (view_of remaining old) { failed = may_be_sent e }) × Missed sink m old.writer new.writer e × (may_be_sent e ≡ false → new.writer ≡ old.writer)
 Unsent remaining sink m old new _ = ⊥
 
 -- ---- what an answer is not read as
-
--- the message is no object that has an `error`
-abbrev pub TellsNoError : List ℕ → Type 0
-TellsNoError message = (error : List ℕ) → TellsError error message → ⊥
 
 -- the message is an object whose `error` this is, or memory ran out
 abbrev pub IsToldError : ClientError → List ℕ → Type 0

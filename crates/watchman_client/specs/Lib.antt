@@ -6,3 +6,4 @@ pub mod Steps
 pub mod Failures
 pub mod Requests
 pub mod Events
+pub mod Calls

@@ -10,7 +10,8 @@ use Rattle.bser_messages.specs.Messages.{BeginsWith}
 use Rattle.bser_ser.specs.Message.{Wrote}
 use Rattle.bser_ser.specs.Stopped.{Tells}
 use Rattle.bser_types.specs.declared.deserialize.Shape as shape
-use Rattle.watchman_client.specs.Failures.{ends, fails, Hinders, IsToldError, TellsNoError, Unsent}
+use Rattle.watchman_client.specs.Failures.{ends, fails, Hinders, IsToldError, Unsent}
+use Rattle.watchman_client.specs.Kinds.{TellsNoError}
 use Rattle.watchman_client.specs.Steps.{Asks, GivesAnswer, GivesNothing, GivesUnsolicited}
 use Rattle.watchman_client.specs.Views.{Connection, StaysWithin, view_of}
 use Rattle.watchman_client.specs.declared.errors.ClientError.{ClientError}

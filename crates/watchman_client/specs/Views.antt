@@ -5,7 +5,7 @@ use Rattle.bser_frames.specs.Stops.{Stops}
 use Rattle.bser_frames.specs.Stream.{Stream, left}
 use Rattle.bser_frames.specs.declared.error.FrameError.{FrameError}
 use Rattle.watchman_client.specs.Kept.{IsWithin}
-use Rattle.watchman_client.specs.Kinds.{IsKind, IsWhole}
+use Rattle.watchman_client.specs.Kinds.{IsKind, IsWhole, TellsNoError}
 use Rattle.watchman_client.specs.declared.bounds.Bounds.{Bounds}
 use Rattle.watchman_client.specs.declared.next.NextMessage.{NextMessage}
 use Rattle.watchman_client.specs.declared.next.NextMessage.TheVariants.{End, Unsolicited, Answer}
@@ -31,10 +31,10 @@ pub record HasNext {S : Type 0} (unsolicited : Bool) (h : Hand S) : Type 0 where
   pub frame : IsWhole h.stream.frame
   pub kind : IsKind unsolicited h.stream.frame
 
--- what comes next
+-- what comes next; an unsolicited message may be known to report no error
 abbrev pub IsNext : {S : Type 0} → (S → Option (List ℕ)) → Hand S → NextMessage → Type 0
 IsNext remaining h End = IsAtEnd (left_of remaining h)
-IsNext remaining h Unsolicited = HasNext true h
+IsNext remaining h (Unsolicited errorless) = HasNext true h × (errorless ≡ true → TellsNoError h.stream.frame)
 IsNext remaining h Answer = HasNext false h
 
 -- ---- a client

@@ -1,11 +1,12 @@
 //! A client over a reader and a writer.
-ghost use Rattle.std.specs.Prelude.{◌≡◌, ◌≤◌, ◌<◌, ◌-◌, ◌||◌, [], ◌∷◌, true, false, length, OnOk, OnErr, IfOk, IfErr};
+ghost use Rattle.std.specs.Prelude.{◌≡◌, ◌≤◌, ◌<◌, ◌-◌, ◌||◌, ◌↔◌, IsTrue, [], ◌∷◌, true, false, length, Some, None, OnOk, OnErr, IfOk, IfErr};
 ghost use Rattle.std.specs.List.{concat};
 ghost use Rattle.std.specs.Io.KnownBytes.{IsAtEnd, Keeps};
 ghost use Rattle.bser_deserializer.specs.declared.deserializer.TheConstants.{LEVELS};
 ghost use Rattle.bser_messages.specs.Messages.{BeginsWith};
 ghost use Rattle.bser_ser.specs.Message.{Missed, Wrote};
-ghost use Rattle.watchman_client.specs.Failures.{fails, Hinders, TellsNoError, Unread, Unsent};
+ghost use Rattle.watchman_client.specs.Failures.{fails, Hinders, IsToldError, Unread, Unsent};
+ghost use Rattle.watchman_client.specs.Kinds.{TellsNoError};
 ghost use Rattle.watchman_client.specs.Requests.{ReadsOwned, UnreadOwned};
 ghost use Rattle.watchman_client.specs.Steps.{Asks, GivesAnswer, GivesNothing, GivesUnsolicited};
 ghost use Rattle.watchman_client.specs.Views.{view_of, room_of, HasNext, StaysWithin};
@@ -15,7 +16,7 @@ use crate::errors::{ClientError, fails, may_be_sent};
 use crate::incoming::Incoming;
 use crate::kept::{Kept, QueueError};
 use crate::next::{NextMessage, next_kind};
-use crate::reading::{read_answer, read_owned_answer};
+use crate::reading::{read_owned_value, read_value, refuse_error};
 use bser_ser::Serialize;
 use bser_ser::message::serialize_to;
 use bser_source::device::{Sink, Source};
@@ -36,8 +37,12 @@ pub struct Client<S, W> {
     kept: Kept,
     // the message that was given last, where it was a kept one
     taken: Option<Vec<u8>>,
+    // whether the message that was given last is known to report no error
+    errorless: bool,
     waiting: bool,
     failed: bool,
+    ghost told: { errorless ≡ true → TellsNoError
+        (elim taken [ Some m ↦ m.items | None ↦ incoming.stream.frame ]) },
 }
 
 impl<S, W> Model for Client<S, W> {
@@ -78,6 +83,7 @@ impl<S: Source, W: Sink> Client<S, W> {
             writer,
             kept: Kept::new(alloc),
             taken: None,
+            errorless: false,
             waiting: false,
             failed: false,
         }
@@ -97,10 +103,10 @@ impl<S: Source, W: Sink> Client<S, W> {
             self.old self.new) }
         ensures within { StaysWithin self.old self.new }
     {
-        if self.failed {
+        if self.has_failed() {
             return Err(ClientError::Failed);
         }
-        if self.waiting {
+        if self.is_waiting() {
             return Err(ClientError::Outstanding);
         }
         match serialize_to(self.alloc, &mut self.writer, request) {
@@ -156,6 +162,7 @@ impl<S: Source, W: Sink> Client<S, W> {
         ensures nothing { OnErr result (GivesNothing (view_of S.remaining self.old)
             (view_of S.remaining self.new)) }
         ensures refused { IfErr result (λ e. Hinders S.remaining e self.new) }
+        ensures working { OnOk result (self.new.failed ≡ self.old.failed) }
         ensures failed { IfErr result (λ e. self.new.failed ≡ (self.old.failed || fails e)) }
         ensures writer { self.new.writer ≡ self.old.writer }
         ensures within { StaysWithin self.old self.new }
@@ -179,23 +186,38 @@ impl<S: Source, W: Sink> Client<S, W> {
 
     /// Reads the message that was given last as a value, with parts borrowed from it.
     ///
-    /// As [`read_answer`]: [`ClientError::Server`] is an error of the server's, and the client goes on.
+    /// As [`read_answer`](crate::reading::read_answer): [`ClientError::Server`] is an error of the
+    /// server's, and the client goes on.
     pub fn read<'m, T: Deserialize<&'m [u8]>>(&'m self) -> Result<T, ClientError>
         ensures found { IfOk result (BeginsWith LEVELS T.reads T.holds self.now.message) }
         ensures none { OnOk result (TellsNoError self.now.message) }
         ensures refused { IfErr result (Unread T.Shape self.now.message) }
     {
-        read_answer(self.alloc, self.message())
+        self.refuse_error()?;
+        read_value(self.alloc, self.message())
     }
 
     /// Reads the message that was given last as a value that borrows nothing.
     ///
-    /// As [`read_owned_answer`]: after [`ClientError::Server`] the client goes on.
+    /// As [`read_owned_answer`](crate::reading::read_owned_answer): after [`ClientError::Server`] the
+    /// client goes on.
     pub fn read_owned<T: DeserializeOwned>(&self) -> Result<T, ClientError>
         ensures found { IfOk result (ReadsOwned T.Shape self.now.message) }
         ensures refused { IfErr result (UnreadOwned T.Shape self.now.message) }
     {
-        read_owned_answer(self.alloc, self.message())
+        self.refuse_error()?;
+        read_owned_value(self.alloc, self.message())
+    }
+
+    /// Fails where the message that was given last reports an error.
+    fn refuse_error(&self) -> Result<(), ClientError>
+        ensures none { OnOk result (TellsNoError self.now.message) }
+        ensures told { IfErr result (λ e. IsToldError e self.now.message) }
+    {
+        if self.errorless {
+            return Ok(());
+        }
+        refuse_error(self.alloc, self.message())
     }
 
     /// Returns whether a request is outstanding.
@@ -210,6 +232,21 @@ impl<S: Source, W: Sink> Client<S, W> {
         ensures { result ≡ self.now.failed }
     {
         self.failed
+    }
+
+    /// Returns whether unsolicited messages are kept: [`next_unsolicited`](Self::next_unsolicited)
+    /// gives them before it reads.
+    pub fn has_kept(&self) -> bool
+        ensures { IsTrue result ↔ (0 < length self.now.kept) }
+    {
+        self.kept.len() > 0
+    }
+
+    /// Returns the reader.
+    pub fn get_ref(&self) -> &S
+        ensures { result.now ≡ self.now.incoming.stream.reader }
+    {
+        self.incoming.get_ref()
     }
 
     /// Takes the answer to the outstanding request.
@@ -233,6 +270,7 @@ impl<S: Source, W: Sink> Client<S, W> {
         self.incoming.release();
         self.waiting = false;
         self.taken = None;
+        self.errorless = false;
         Ok(())
     }
 
@@ -248,10 +286,14 @@ impl<S: Source, W: Sink> Client<S, W> {
         ensures writer { self.new.writer ≡ self.old.writer }
         ensures within { StaysWithin self.old self.new }
     {
-        match next_kind(self.alloc, &mut self.incoming)? {
+        self.errorless = false;
+        match next_kind(self.alloc, &mut self.incoming, true)? {
             NextMessage::End => Err(ClientError::Ended),
             NextMessage::Answer => Ok(false),
-            NextMessage::Unsolicited => match self.kept.push(self.bounds, self.incoming.frame()) {
+            NextMessage::Unsolicited { .. } => match self
+                .kept
+                .push(self.bounds, self.incoming.frame())
+            {
                 Ok(()) => {
                     self.incoming.release();
                     Ok(true)
@@ -278,6 +320,7 @@ impl<S: Source, W: Sink> Client<S, W> {
         ensures writer { self.new.writer ≡ self.old.writer }
         ensures within { StaysWithin self.old self.new }
     {
+        self.errorless = false;
         if let Some(message) = self.kept.pop() {
             self.taken = Some(message);
             return Ok(true);
@@ -285,13 +328,14 @@ impl<S: Source, W: Sink> Client<S, W> {
         if self.failed {
             return Err(ClientError::Failed);
         }
-        match next_kind(self.alloc, &mut self.incoming)? {
+        match next_kind(self.alloc, &mut self.incoming, false)? {
             NextMessage::End => Ok(false),
             NextMessage::Answer if self.waiting => Err(ClientError::AnswerDue),
             NextMessage::Answer => Err(ClientError::Unwanted),
-            NextMessage::Unsolicited => {
+            NextMessage::Unsolicited { errorless } => {
                 self.incoming.release();
                 self.taken = None;
+                self.errorless = errorless;
                 Ok(true)
             }
         }

@@ -74,6 +74,13 @@ impl<S: Source> Incoming<S> {
         self.frames.frame()
     }
 
+    /// The reader.
+    pub(crate) fn get_ref(&self) -> &S
+        ensures { result.now ≡ self.now.stream.reader }
+    {
+        self.frames.get_ref()
+    }
+
     /// Lets the message in hand go. It stays what was read last, until the next is read.
     pub(crate) fn release(&mut self)
         requires { self.old.held ≡ true }

@@ -47,6 +47,13 @@ impl Kept {
         }
     }
 
+    /// How many messages are kept.
+    pub(crate) fn len(&self) -> usize
+        ensures { result ≡ length self.now }
+    {
+        self.messages.len()
+    }
+
     /// Keeps a copy of the message behind the others.
     #[tactic(auto, using(crate::proofs::Sizes::size_snoc, std::proofs::lemmas::Grind::common_steps))]
     pub(crate) fn push(&mut self, bounds: Bounds, message: &[u8]) -> Result<(), QueueError>

@@ -1,7 +1,7 @@
 //! Which messages are unsolicited, and which report an error.
 ghost use Rattle.std.specs.Prelude.{◌≡◌, codes, [], ◌∷◌, true, false, IfOk, IfSome, IfNone, List, ℕ};
-ghost use Rattle.bser_structs.specs.Fields.{required, struct_meaning};
-ghost use Rattle.watchman_client.specs.Kinds.{IsKind, TellsError};
+ghost use Rattle.bser_structs.specs.Fields.{optional, required, struct_meaning};
+ghost use Rattle.watchman_client.specs.Kinds.{IsKind, TellsError, TellsNoError};
 
 use bser_bunser::refusal::Answer;
 use bser_deserializer::deserializer::Deserializer;
@@ -14,6 +14,7 @@ use bser_structs::fields::{Fields, ReadOnly};
 use bser_structs::read_struct;
 use bser_structs::struct_reader::ReadsFields;
 use bser_types::deserialize::{Deserialize, Meant, OwnedShape};
+use bser_types::impls::Ignored;
 use std::alloc::{AllocError, Global};
 
 /// What a message says of itself.
@@ -64,6 +65,74 @@ impl<L: LendsText> Deserialize<L> for ErrorField {
     ) -> Answer<ErrorField> {
         read_struct! { alloc, from, ErrorField { error: Required("error") } }
     }
+}
+
+/// What an event says of itself, and its error of any kind, if it has one.
+#[derive(Drop)]
+pub(crate) struct Signs {
+    /// Whether it is unsolicited.
+    pub unilateral: bool,
+    /// Why what was asked for cannot be done.
+    pub error: Option<Ignored>,
+}
+
+impl Fields for Signs {
+    ghost fields = { required (codes "unilateral") (λ v. v.unilateral) ⟦<bool as ReadOnly>⟧.coding
+        ∷ optional (codes "error") (λ v. v.error) ⟦<Ignored as ReadOnly>⟧.coding
+        ∷ [] };
+}
+
+impl Meant for Signs {
+    ghost meaning = { struct_meaning ⟦<Signs as Fields>⟧.fields };
+}
+
+impl<L: LendsText> Deserialize<L> for Signs {
+    fn deserialize<R: DeRead<Lent = L>>(
+        alloc: Global,
+        from: &mut Deserializer<R>,
+    ) -> Answer<Signs> {
+        read_struct! {
+            alloc,
+            from,
+            Signs { unilateral: Required("unilateral"), error: Optional("error") }
+        }
+    }
+}
+
+/// Whether a message is unsolicited, and whether it is known to report no error.
+#[derive(Debug, Clone, Copy, PartialEq, Eq)]
+pub(crate) struct Kind {
+    /// Whether it is unsolicited.
+    pub unsolicited: bool,
+    /// Whether it is known to report no error.
+    pub errorless: bool,
+}
+
+/// Returns the kind of a message, of an event by one reading. Where an answer is wanted, which has no
+/// mark as a rule, its error is not looked for.
+///
+/// Fails only where memory runs out.
+pub(crate) fn kind_of(alloc: Global, message: &[u8], wants_answer: bool) -> Result<Kind, AllocError>
+    ensures kind { IfOk result (λ k. IsKind k.unsolicited message.now) }
+    ensures errorless { IfOk result (λ k. k.errorless ≡ true → TellsNoError message.now) }
+{
+    if !wants_answer {
+        match from_slice::<Signs>(alloc, message) {
+            Ok(signs) => {
+                return Ok(Kind {
+                    unsolicited: signs.unilateral,
+                    errorless: signs.error.is_none(),
+                });
+            }
+            Err(Error::OutOfMemory) => return Err(AllocError),
+            Err(_other) => {}
+        }
+    }
+    let unsolicited = is_unsolicited(alloc, message)?;
+    Ok(Kind {
+        unsolicited,
+        errorless: false,
+    })
 }
 
 /// Returns whether a message is unsolicited: an object whose `unilateral` is true.

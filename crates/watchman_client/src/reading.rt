@@ -2,7 +2,8 @@
 ghost use Rattle.std.specs.Prelude.{IfOk, IfErr, OnOk};
 ghost use Rattle.bser_deserializer.specs.declared.deserializer.TheConstants.{LEVELS};
 ghost use Rattle.bser_messages.specs.Messages.{BeginsWith};
-ghost use Rattle.watchman_client.specs.Failures.{IsToldError, TellsNoError, Unread};
+ghost use Rattle.watchman_client.specs.Failures.{IsToldError, Unread};
+ghost use Rattle.watchman_client.specs.Kinds.{TellsNoError};
 ghost use Rattle.watchman_client.specs.Requests.{ReadsOwned, UnreadOwned};
 
 use crate::answer_error::AnswerError;
@@ -15,7 +16,7 @@ use bser_types::deserialize::{Deserialize, DeserializeOwned};
 use std::alloc::Global;
 
 /// Fails where the message reports an error.
-fn refuse_error(alloc: Global, message: &[u8]) -> Result<(), ClientError>
+pub(crate) fn refuse_error(alloc: Global, message: &[u8]) -> Result<(), ClientError>
     ensures none { OnOk result (TellsNoError message.now) }
     ensures told { IfErr result (λ e. IsToldError e message.now) }
 {
@@ -40,6 +41,17 @@ pub fn read_answer<'m, T: Deserialize<&'m [u8]>>(
     ensures refused { IfErr result (Unread T.Shape message.now) }
 {
     refuse_error(alloc, message)?;
+    read_value(alloc, message)
+}
+
+/// Reads a value from a message that reports no error, with parts borrowed from it.
+pub(crate) fn read_value<'m, T: Deserialize<&'m [u8]>>(
+    alloc: Global,
+    message: &'m [u8],
+) -> Result<T, ClientError>
+    ensures found { IfOk result (BeginsWith LEVELS T.reads T.holds message.now) }
+    ensures refused { IfErr result (Unread T.Shape message.now) }
+{
     match from_slice(alloc, message) {
         Ok(value) => Ok(value),
         Err(description) => {
@@ -60,6 +72,18 @@ pub fn read_owned_answer<T: DeserializeOwned>(
     ensures refused { IfErr result (UnreadOwned T.Shape message.now) }
 {
     refuse_error(alloc, message)?;
+    read_owned_value(alloc, message)
+}
+
+/// Reads a value that borrows nothing from a message that reports no error.
+pub(crate) fn read_owned_value<T: DeserializeOwned>(
+    alloc: Global,
+    message: &[u8],
+) -> Result<T, ClientError>
+    requires { TellsNoError message.now }
+    ensures found { IfOk result (ReadsOwned T.Shape message.now) }
+    ensures refused { IfErr result (UnreadOwned T.Shape message.now) }
+{
     match read_owned(alloc, LEVELS, message) {
         Ok(value) => Ok(value),
         Err(description) => {
