@@ -1,10 +1,9 @@
-pub mod Same
 pub mod Names
 pub mod Puts
 pub mod Forgets
 pub mod Instances
 pub mod Samples
-pub mod States
+pub mod Ticks
 pub mod Turns
 pub mod Runs
 pub mod Suffixes

@@ -3,6 +3,7 @@ pub mod Lists
 pub mod Listings
 pub mod Origins
 pub mod Rows
+pub mod Standings
 pub mod Suffixes
 pub mod Tables
 pub mod Tells

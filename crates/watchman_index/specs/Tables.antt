@@ -1,5 +1,5 @@
 -- What a message makes of all that is known of files, by their names.
-use Rattle.std.specs.Prelude.{◌≡◌, ◌⊎◌, ℕ, Bool, List, Option, Some, None, IsSomeAnd, if◌then◌else◌, nat_lt, filter}
+use Rattle.std.specs.Prelude.{◌≡◌, ◌⊎◌, ℕ, Bool, List, Option, Some, None, if◌then◌else◌, nat_lt, filter}
 use Rattle.std.specs.Option.{option_map, is_some}
 use Rattle.std.specs.BTreeMap.{BTreeMap, get}
 use Rattle.std.specs.Ordering.{nat_cmp}
@@ -8,7 +8,7 @@ use Rattle.watchman_index.specs.declared.listing.Listing.{Listing}
 use Rattle.watchman_index.specs.declared.row.FileState.{FileState}
 use Rattle.watchman_index.specs.declared.row.Row.{Row}
 use Rattle.watchman_index.specs.Listings.{is_of_all}
-use Rattle.watchman_index.specs.Rows.{gone, IsTold}
+use Rattle.watchman_index.specs.Rows.{changed_by, gone}
 
 -- what a table has of a name
 abbrev pub of_name : {X : Type 0} → BTreeMap (List ℕ) X → List ℕ → Option X
@@ -19,26 +19,26 @@ abbrev pub unlisted : ℕ → Listing → Option Row → Option Row
 unlisted n listing was = if is_of_all listing then option_map (gone n) was else was
 
 -- the row of a file after message n, which says `listed` of it, if it lists it
-abbrev pub IsRowAfter : ℕ → Listing → Option FileState → Option Row → Option Row → Type 0
-IsRowAfter n listing (Some s) was now = IsSomeAnd now (IsTold n listing was s)
-IsRowAfter n listing None was now = now ≡ unlisted n listing was
+abbrev pub row_after : ℕ → Listing → Option FileState → Option Row → Option Row
+row_after n listing (Some s) was = Some (changed_by n s)
+row_after n listing None was = unlisted n listing was
 
--- the row of a file that was put, where message n says `listed` of it, and else as it was
-abbrev pub IsPut : ℕ → Listing → Option FileState → Option Row → Option Row → Type 0
-IsPut n listing (Some s) was now = IsSomeAnd now (IsTold n listing was s)
-IsPut n listing None was now = now ≡ was
+-- the row of a file that is put, where message n says `listed` of it, and else as it was
+abbrev pub row_put : ℕ → Option FileState → Option Row → Option Row
+row_put n (Some s) was = Some (changed_by n s)
+row_put n None was = was
 
 -- each file's row is that after message n, which lists these files
 abbrev pub Applies : ℕ → Listing → BTreeMap (List ℕ) FileState
     → BTreeMap (List ℕ) Row → BTreeMap (List ℕ) Row → Type 0
 Applies n listing listed old new = (name : List ℕ)
-    → IsRowAfter n listing (of_name listed name) (of_name old name) (of_name new name)
+    → of_name new name ≡ row_after n listing (of_name listed name) (of_name old name)
 
 -- each file's row is as before, or that after message n
 abbrev pub AppliesPartly : ℕ → Listing → BTreeMap (List ℕ) FileState
     → BTreeMap (List ℕ) Row → BTreeMap (List ℕ) Row → Type 0
 AppliesPartly n listing listed old new = (name : List ℕ) → (of_name new name ≡ of_name old name)
-    ⊎ IsRowAfter n listing (of_name listed name) (of_name old name) (of_name new name)
+    ⊎ (of_name new name ≡ row_after n listing (of_name listed name) (of_name old name))
 
 -- files that message n does not list are gone, and the others as they were
 abbrev pub Forgets : ℕ → BTreeMap (List ℕ) FileState
@@ -48,16 +48,16 @@ Forgets n listed old new = (name : List ℕ) → of_name new name
     else option_map (gone n) (of_name old name))
 
 -- files that message n lists are put, and the others as they were
-abbrev pub Puts : ℕ → Listing → BTreeMap (List ℕ) FileState
+abbrev pub Puts : ℕ → BTreeMap (List ℕ) FileState
     → BTreeMap (List ℕ) Row → BTreeMap (List ℕ) Row → Type 0
-Puts n listing listed old new = (name : List ℕ)
-    → IsPut n listing (of_name listed name) (of_name old name) (of_name new name)
+Puts n listed old new = (name : List ℕ)
+    → of_name new name ≡ row_put n (of_name listed name) (of_name old name)
 
 -- each file's row is as before, or put
-abbrev pub PutsPartly : ℕ → Listing → BTreeMap (List ℕ) FileState
+abbrev pub PutsPartly : ℕ → BTreeMap (List ℕ) FileState
     → BTreeMap (List ℕ) Row → BTreeMap (List ℕ) Row → Type 0
-PutsPartly n listing listed old new = (name : List ℕ) → (of_name new name ≡ of_name old name)
-    ⊎ IsPut n listing (of_name listed name) (of_name old name) (of_name new name)
+PutsPartly n listed old new = (name : List ℕ) → (of_name new name ≡ of_name old name)
+    ⊎ (of_name new name ≡ row_put n (of_name listed name) (of_name old name))
 
 -- whether a message behind that of this number changed the row; behind none that is known, whether
 -- the file exists

@@ -12,12 +12,13 @@ use Rattle.watchman_types.specs.declared.kind.MessageKind.{MessageKind}
 use Rattle.watchman_types.specs.declared.kind.MessageKind.TheVariants as kinds
 use Rattle.watchman_types.specs.declared.kind.EventKind.TheVariants as events
 use Rattle.watchman_types.specs.declared.query.QueryResult.{QueryResult}
+use Rattle.watchman_types.specs.declared.subscription.Canceled.{«Canceled» as Ended}
 use Rattle.watchman_types.specs.declared.subscription.FilesChanged.{FilesChanged}
 use Rattle.watchman_types.specs.declared.subscription.Subscribed.{Subscribed}
 use Rattle.watchman_types.specs.declared.watch.Clock as watch
 use Rattle.watchman_index.specs.declared.listed.Listed.{Listed}
 use Rattle.watchman_index.specs.declared.told.Told.{Told}
-use Rattle.watchman_index.specs.declared.told.Told.TheVariants.{Files, Clock, ServerError, Nothing}
+use Rattle.watchman_index.specs.declared.told.Told.TheVariants.{Files, Clock, ServerError, Canceled, Nothing}
 use Rattle.watchman_index.specs.declared.told.Told.TheVariants as told
 use Rattle.watchman_index.specs.declared.told.ContentError.{ContentError}
 use Rattle.watchman_index.specs.declared.told.ContentError.TheVariants as unread
@@ -29,6 +30,7 @@ pub record Types : Type 1 where
   pub query : shape.Ghosts (QueryResult (List ℕ) Listed)
   pub changed : shape.Ghosts (FilesChanged (List ℕ) Listed)
   pub error : shape.Ghosts (ErrorReply (List ℕ))
+  pub canceled : shape.Ghosts (Ended (List ℕ))
   pub subscribed : shape.Ghosts (Subscribed (List ℕ))
   pub clock : shape.Ghosts (watch.Clock (List ℕ))
 
@@ -65,6 +67,11 @@ module _ (types : Types) (bytes : List ℕ) where
   TellsError (ServerError e) = (reply : ErrorReply (List ℕ)) × IsReadAs types.error bytes reply × (reply.error ≡ e)
   TellsError _ = ⊥
 
+  -- the end of a subscription gives its name
+  abbrev pub TellsCanceled : Told → Type 0
+  TellsCanceled (Canceled name) = (end : Ended (List ℕ)) × IsReadAs types.canceled bytes end × (end.subscription ≡ name)
+  TellsCanceled _ = ⊥
+
   -- a message without files gives the clock that it has
   abbrev pub TellsClock : Told → Type 0
   TellsClock (told.Subscribed c) = IsSubscribed (Some c)
@@ -78,6 +85,7 @@ module _ (types : Types) (bytes : List ℕ) where
   TellsAs kinds.Answer false t = TellsClock t
   TellsAs kinds.Error _ t = TellsError t
   TellsAs (kinds.Event events.Files) _ t = TellsChanged t
+  TellsAs (kinds.Event events.Canceled) _ t = TellsCanceled t
   TellsAs (kinds.Event _) _ t = TellsClock t
 
   -- the message gives this
@@ -90,6 +98,7 @@ module _ (types : Types) (bytes : List ℕ) where
   IsUnreadAs kinds.Answer false e = ⊥
   IsUnreadAs kinds.Error _ e = IsUnread types.error bytes e
   IsUnreadAs (kinds.Event events.Files) _ e = IsUnread types.changed bytes e
+  IsUnreadAs (kinds.Event events.Canceled) _ e = IsUnread types.canceled bytes e
   IsUnreadAs (kinds.Event _) _ e = ⊥
 
   -- why it is not known what the message gives: it is not read as a header, or not as the type of

@@ -1,18 +1,22 @@
 //! An index of files.
-ghost use Rattle.std.specs.Prelude.{◌≡◌, ◌≢◌, not, map, None, Err, IfOk, IfErr, OnOk, OnErr};
+ghost use Rattle.std.specs.Prelude.{◌≡◌, ◌≢◌, not, map, Some, None, Err, IfOk, IfErr, OnOk, OnErr};
+ghost use Rattle.std.specs.Bool.{Decides};
 ghost use Rattle.std.specs.Option.{is_some};
-ghost use Rattle.std.specs.BTreeMap.{IsEmpty};
+ghost use Rattle.std.specs.BTreeMap.{IsEmpty, Updates};
+ghost use Rattle.std.specs.Cmp.Lexicographic.{slice_cmp};
 ghost use Rattle.std.specs.Map.Iter.{deref_pair};
+ghost use Rattle.std.specs.Ordering.{nat_cmp};
 ghost use Rattle.watchman_index.specs.Listings.{listing_of};
 ghost use Rattle.watchman_index.specs.Origins.{Agrees};
 ghost use Rattle.watchman_index.specs.Tables.{of_name, since_entries, AppliesPartly};
 ghost use Rattle.watchman_index.specs.Tables.{Forgets, Puts, PutsPartly};
-ghost use Rattle.watchman_index.specs.Turns.{IsApplied, IsKept};
+ghost use Rattle.watchman_index.specs.Turns.{IsApplied, IsNewClock, TakesClock};
 
 use crate::changes::Changes;
 use crate::listing::Listing;
 use crate::origin::{ApplyError, Origin};
 use crate::row::{FileState, Row};
+use crate::standing::is_later;
 use serde_bser::bytestring::ByteString;
 use std::alloc::{AllocError, Global};
 use std::collections::BTreeMap;
@@ -56,15 +60,15 @@ impl Index {
         }
     }
 
-    /// Applies the changes of the message of this number.
+    /// Applies the changes of the message of this number, which joins what was told before it
+    /// ([`Standing::of`](crate::standing::Standing::of)).
     ///
-    /// A file that it lists has the state that it gives. Where it lists all files, those that it
-    /// does not list are gone; else they are as before. The message changed each file that it
-    /// lists, unless it lists all files again ([`Listing::AllAgain`]), and this one as it was
-    /// known.
+    /// A file that it lists has the state that it gives, and the message changed it. Where it lists
+    /// all files, those that it does not list are gone; else they are as before.
     ///
     /// A message of another root or subscription is refused, and nothing is changed. Where there is
-    /// no memory, each file is as before or as after the message, which may be applied again.
+    /// no memory, each file is as before or as after the message, and all else is as before. So the
+    /// message may be applied again.
     pub fn apply(&mut self, number: u64, changes: Changes) -> Result<(), ApplyError>
         ensures applied { OnOk result (IsApplied number changes self.old self.new) }
         ensures root { result ≡ Err ApplyError.OtherRoot
@@ -73,9 +77,11 @@ impl Index {
             → ¬ Agrees self.old.origin.subscription changes.subscription }
         ensures refused { IfErr result (λ e. e ≢ ApplyError.OutOfMemory → self.new ≡ self.old) }
         ensures partly { OnErr result (AppliesPartly number
-            (listing_of changes.is_fresh_instance self.old.last_clock changes.clock)
+            (listing_of changes.is_fresh_instance)
             changes.files self.old.files self.new.files) }
         ensures last_on_err { OnErr result (self.new.last_clock ≡ self.old.last_clock) }
+        ensures clocks_on_err { OnErr result (self.new.clocks.entries ≡ self.old.clocks.entries) }
+        ensures origin_on_err { OnErr result (self.new.origin ≡ self.old.origin) }
     {
         self.origin.check(&changes)?;
         let Changes {
@@ -86,29 +92,41 @@ impl Index {
             is_fresh_instance,
             files,
         } = changes;
-        let listing = Listing::of(is_fresh_instance, self.last_clock.as_ref(), &clock);
+        let listing = Listing::of(is_fresh_instance);
         if listing.is_of_all() {
             forget_unlisted(&mut self.files, number, &files);
         }
-        put_listed(&mut self.files, number, listing, files)?;
+        put_listed(&mut self.files, number, files)?;
         let last = clock.clone()?;
-        self.apply_clock(number, clock)?;
+        keep_clock(&mut self.clocks, number, clock)?;
         self.last_clock = Some(last);
         self.origin.learn(root, subscription);
         Ok(())
     }
 
-    /// Keeps a clock that came behind the message of this number, and before the next. The error is
-    /// that there is no memory for it, and then nothing is changed.
+    /// Keeps a clock that came behind the message of this number, and before the next. One that is
+    /// known, and one that is not later than the last one
+    /// ([`is_later`](crate::standing::is_later)), change nothing. The error is that there is no
+    /// memory for it, and then nothing is changed.
     pub fn apply_clock(&mut self, number: u64, clock: ByteString) -> Result<(), AllocError>
-        ensures kept { OnOk result (IsKept number clock self.old self.new) }
+        ensures kept { OnOk result (TakesClock number clock self.old self.new) }
         ensures files { self.new.files ≡ self.old.files }
         ensures origin { self.new.origin ≡ self.old.origin }
         ensures last { self.new.last_clock ≡ self.old.last_clock }
         ensures err { OnErr result (self.new.clocks.entries ≡ self.old.clocks.entries) }
     {
-        self.clocks.insert(clock, number)?;
-        Ok(())
+        if self.is_new(&clock) {
+            keep_clock(&mut self.clocks, number, clock)
+        } else {
+            Ok(())
+        }
+    }
+
+    /// Whether the clock is later than the last one, and not known.
+    fn is_new(&self, clock: &ByteString) -> bool
+        ensures { Decides result (IsNewClock self.now clock.now) }
+    {
+        is_later(self.last_clock.as_ref(), clock) && !self.clocks.contains_key(clock)
     }
 
     /// Returns the files that messages changed after this clock, also those that were deleted. For
@@ -156,15 +174,27 @@ fn forget_unlisted(
 fn put_listed(
     files: &mut BTreeMap<ByteString, Row>,
     number: u64,
-    listing: Listing,
     listed: BTreeMap<ByteString, FileState>,
 ) -> Result<(), AllocError>
-    ensures ok { OnOk result (Puts number listing listed files.old files.new) }
-    ensures err { OnErr result (PutsPartly number listing listed files.old files.new) }
+    ensures ok { OnOk result (Puts number listed files.old files.new) }
+    ensures err { OnErr result (PutsPartly number listed files.old files.new) }
 {
     for (name, state) in listed {
-        let was = files.get(&name).copied();
-        files.insert(name, Row::told(number, listing, was, state))?;
+        files.insert(name, Row::told(number, state))?;
     }
+    Ok(())
+}
+
+/// Keeps a clock as one of the message of this number.
+fn keep_clock(
+    clocks: &mut BTreeMap<ByteString, u64>,
+    number: u64,
+    clock: ByteString,
+) -> Result<(), AllocError>
+    ensures ok { OnOk result (Updates (slice_cmp nat_cmp)
+        clocks.old clocks.new clock (Some number)) }
+    ensures err { OnErr result (clocks.new.entries ≡ clocks.old.entries) }
+{
+    clocks.insert(clock, number)?;
     Ok(())
 }

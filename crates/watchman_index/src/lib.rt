@@ -14,5 +14,6 @@ pub mod listed;
 pub mod listing;
 pub mod origin;
 pub mod row;
+pub mod standing;
 pub mod suffix;
 pub mod told;

@@ -1,38 +1,25 @@
 //! What the list of files in a message means.
 ghost use Rattle.std.specs.Prelude.{◌≡◌};
-ghost use Rattle.std.specs.Option.{option_copied};
 ghost use Rattle.watchman_index.specs.Listings.{listing_of, is_of_all};
-
-use crate::clock::are_of_one_instance;
-use serde_bser::bytestring::ByteString;
 
 /// What the list of files in a message means.
 #[derive(Debug, Clone, Copy, PartialEq, Eq)]
 pub enum Listing {
     /// They changed, and the others are as before.
     Changed,
-    /// They are all that there are. The server and its crawl of the root are those of the last
-    /// message, so that those changed of which it says something else than before.
-    AllAgain,
-    /// They are all that there are. The server or its crawl of the root is another one, or the
-    /// first, so that each of them may have changed.
-    AllAnew,
+    /// They are all that there are, and each of them may have changed.
+    All,
 }
 
 impl Listing {
-    /// Returns what the list of files in a message means. That depends on whether it is a fresh
-    /// instance, on the clock of the last message that listed files, and on its own.
-    pub fn of(is_fresh_instance: bool, last: Option<&ByteString>, clock: &ByteString) -> Listing
-        ensures { result ≡ listing_of is_fresh_instance (option_copied last.entry) clock.now }
+    /// Returns what the list of files in a message means, by whether it is a fresh instance.
+    pub fn of(is_fresh_instance: bool) -> Listing
+        ensures { result ≡ listing_of is_fresh_instance }
     {
-        if !is_fresh_instance {
-            return Listing::Changed;
-        }
-        match last {
-            Some(last) if are_of_one_instance(last.as_bytes(), clock.as_bytes()) => {
-                Listing::AllAgain
-            }
-            _ => Listing::AllAnew,
+        if is_fresh_instance {
+            Listing::All
+        } else {
+            Listing::Changed
         }
     }
 
@@ -42,7 +29,7 @@ impl Listing {
     {
         match self {
             Listing::Changed => false,
-            Listing::AllAgain | Listing::AllAnew => true,
+            Listing::All => true,
         }
     }
 }

@@ -1,9 +1,8 @@
 //! What an index knows of a file.
 ghost use Rattle.std.specs.Prelude.{◌≡◌, if◌then◌else◌};
-ghost use Rattle.watchman_index.specs.Rows.{gone, IsTold};
+ghost use Rattle.watchman_index.specs.Rows.{changed_by, gone};
 ghost use Rattle.watchman_index.specs.Tables.{is_since};
 
-use crate::listing::Listing;
 use watchman_types::file_type::FileType;
 
 /// What a message says of a file, but for its name. What was not asked for is `None`.
@@ -33,34 +32,20 @@ pub struct Row {
 }
 
 impl Row {
-    /// The row of a file that the message of this number lists so, and what it was before. The
-    /// message changed it, unless it lists all files again, and this one as it was known.
-    pub(crate) fn told(number: u64, listing: Listing, was: Option<Row>, state: FileState) -> Row
-        ensures { IsTold number listing was state result }
+    /// The row of a file that the message of this number lists so. The message changed it.
+    pub fn told(number: u64, state: FileState) -> Row
+        ensures { result ≡ changed_by number state }
     {
-        let new = Row {
+        Row {
             state,
             told: number,
             changed: number,
-        };
-        match (listing, was) {
-            (Listing::AllAgain, Some(row)) => {
-                if row.state == state {
-                    Row {
-                        told: number,
-                        ..row
-                    }
-                } else {
-                    new
-                }
-            }
-            _ => new,
         }
     }
 
     /// The row of a file that the message of this number says to be gone, since it lists all files
     /// and not this one. One that did not exist stays as it was.
-    pub(crate) fn gone(self, number: u64) -> Row
+    pub fn gone(self, number: u64) -> Row
         ensures { result ≡ gone number self }
     {
         if !self.state.exists {
@@ -87,7 +72,7 @@ impl Row {
 
     /// Whether a message behind that of this number changed it. Where no message is known, whether
     /// the file exists.
-    pub(crate) fn is_since(&self, number: Option<u64>) -> bool
+    pub fn is_since(&self, number: Option<u64>) -> bool
         ensures { result ≡ is_since number self.now }
     {
         match number {

@@ -23,7 +23,7 @@ use watchman_types::error_reply::ErrorReply;
 use watchman_types::header::Header;
 use watchman_types::kind::{EventKind, MessageKind};
 use watchman_types::query::QueryResult;
-use watchman_types::subscription::{FilesChanged, Subscribed};
+use watchman_types::subscription::{Canceled, FilesChanged, Subscribed};
 use watchman_types::watch::Clock;
 
 /// What an index can use of a message.
@@ -37,6 +37,8 @@ pub enum Told {
     Subscribed(ByteString),
     /// An error of the server, in the place of an answer.
     ServerError(ByteString),
+    /// The end of the subscription of this name: its root is no longer watched.
+    Canceled(ByteString),
     /// None of these.
     Nothing,
 }
@@ -91,6 +93,7 @@ impl ToldTypes for Told {
       query = ⟦<QueryResult<ByteString, Listed> as Shape>⟧;
       changed = ⟦<FilesChanged<ByteString, Listed> as Shape>⟧;
       error = ⟦<ErrorReply<ByteString> as Shape>⟧;
+      canceled = ⟦<Canceled<ByteString> as Shape>⟧;
       subscribed = ⟦<Subscribed<ByteString> as Shape>⟧;
       clock = ⟦<Clock<ByteString> as Shape>⟧;
     } };
@@ -99,10 +102,12 @@ impl ToldTypes for Told {
 /// Reads what an index can use of the message at the start of `bytes`, of at most 128 levels.
 ///
 /// That is the files of an answer that has `files` and of a message of a subscription; the text of
-/// an error of the server; and the clock of all else, where it has one.
+/// an error of the server; the name of a subscription that is canceled; and the clock of all else,
+/// where it has one.
 ///
 /// Fails as [`from_slice`] does of a [`Header`]; where the message has `files`, as it does of a
-/// [`QueryResult`] or [`FilesChanged`] of [`Listed`] files; and where there is no memory.
+/// [`QueryResult`] or [`FilesChanged`] of [`Listed`] files; where it is an error or cancels, as it
+/// does of an [`ErrorReply`] or [`Canceled`]; and where there is no memory.
 pub fn read_told(alloc: Global, bytes: &[u8]) -> Result<Told, ContentError>
     ensures told { IfOk result (Tells ⟦<Told as ToldTypes>⟧.types bytes.now) }
     ensures refused { IfErr result (Untold ⟦<Told as ToldTypes>⟧.types bytes.now) }
@@ -111,6 +116,10 @@ pub fn read_told(alloc: Global, bytes: &[u8]) -> Result<Told, ContentError>
     match header.kind() {
         MessageKind::Answer if header.files.is_some() => query_told(alloc, bytes),
         MessageKind::Event(EventKind::Files) => subscription_told(alloc, bytes),
+        MessageKind::Event(EventKind::Canceled) => {
+            let canceled: Canceled<ByteString> = from_slice(alloc, bytes)?;
+            Ok(Told::Canceled(canceled.subscription))
+        }
         MessageKind::Error => {
             let reply: ErrorReply<ByteString> = from_slice(alloc, bytes)?;
             Ok(Told::ServerError(reply.error))

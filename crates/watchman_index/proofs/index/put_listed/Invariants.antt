@@ -10,5 +10,5 @@ use Rattle.watchman_index.proofs.index.put_listed.Given as goal
 abbrev pub invariant-loop-name : goal.invariant-loop-name
 invariant-loop-name l =
     IsDistinct (eq_by_cmp (slice_cmp nat_cmp)) (keys_of l.name-iterator)
-    × ((name : List ℕ) → IsPutUpTo l.number l.listing (of_name l.fn.listed name) (at l.name-iterator name)
+    × ((name : List ℕ) → IsPutUpTo l.number (of_name l.fn.listed name) (at l.name-iterator name)
     (of_name l.initial.files name) (of_name l.files name))
