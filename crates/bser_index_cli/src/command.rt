@@ -1,16 +1,31 @@
 //! The words that the program knows.
 
-use clap::{Arg, ArgAction, Command};
+use clap::{Arg, ArgAction, Command, value_parser};
 use std::alloc::{AllocError, Global};
 
 /// What stands behind the list of commands.
 const AFTER_HELP: &str =
-    "The status is 0; or 1 where a message is refused or tells an error of the server, a file or clock
-is not known, a difference is found, the index cannot be used, or the output fails; or 2 for
-unknown arguments.";
+    "The status is 0; or 1 where not all was done: a message is refused, or tells an error of the server,
+or something is missing before it, a subscription ended, a file or clock is not known, a difference
+is found, the index cannot be used, or the output fails; or 2 for unknown arguments, and where the
+time of `wait` is over.";
+
+/// What `follow --help` says.
+const FOLLOW: &str =
+    "Ask a server what changed since the last clock, and then follow its changes. Requests go to
+standard output and answers come from standard input, as socat joins both with the server:
+
+  socat UNIX-CONNECT:\"$(watchman get-sockname | jq -r .sockname)\" \\
+    EXEC:\"bser_index follow INDEX\",nofork
+
+Where something is missing before a message, it asks again. It ends with the status 1 where the
+server ends the stream or the subscription, or tells an error, and says so on standard error.";
 
 /// The version of the library.
 const VERSION: &str = "0.4.0";
+
+/// Watchman's letters for the types of files.
+const TYPES: &[&str] = &["f", "d", "l", "b", "c", "p", "s", "D", "?"];
 
 /// The program's commands, each with its options.
 pub(crate) fn command<'a>(alloc: Global) -> Result<Command<'a>, AllocError> {
@@ -20,13 +35,16 @@ pub(crate) fn command<'a>(alloc: Global) -> Result<Command<'a>, AllocError> {
         .after_help(AFTER_HELP)
         .subcommand_required(true)
         .subcommand(init(alloc)?)?
+        .subcommand(follow(alloc)?)?
         .subcommand(request(alloc)?)?
         .subcommand(add(alloc)?)?
+        .subcommand(wait(alloc)?)?
         .subcommand(clock(alloc)?)?
         .subcommand(changes(alloc)?)?
         .subcommand(list(alloc)?)?
         .subcommand(stat(alloc)?)?
-        .subcommand(verify(alloc)?)
+        .subcommand(verify(alloc)?)?
+        .subcommand(prune(alloc)?)
 }
 
 fn init<'a>(alloc: Global) -> Result<Command<'a>, AllocError> {
@@ -41,7 +59,7 @@ fn init<'a>(alloc: Global) -> Result<Command<'a>, AllocError> {
         alloc,
         "expression",
         "JSON",
-        "Which files are asked for, as '[\"suffix\",\"c\"]'; all, without it",
+        "Which files are asked for, by their names alone, as '[\"suffix\",\"c\"]'; all, without it",
     );
     let field = option(
         alloc,
@@ -59,6 +77,15 @@ fn init<'a>(alloc: Global) -> Result<Command<'a>, AllocError> {
         .arg(index(alloc))
 }
 
+fn follow<'a>(alloc: Global) -> Result<Command<'a>, AllocError> {
+    Command::new(alloc, "follow")
+        .about("Ask a server what changed, and follow its changes, by standard input and output")
+        .long_about(FOLLOW)
+        .arg(empty(alloc))?
+        .arg(patience(alloc))?
+        .arg(index(alloc))
+}
+
 fn request<'a>(alloc: Global) -> Result<Command<'a>, AllocError> {
     let subscribe = option(
         alloc,
@@ -69,7 +96,11 @@ fn request<'a>(alloc: Global) -> Result<Command<'a>, AllocError> {
     .num_args(0..=1)
     .require_equals(true)
     .default_missing_value("");
-    let bser = flag(alloc, "bser", "Print a query as BSER").conflicts_with("subscribe")?;
+    let bser = flag(
+        alloc,
+        "bser",
+        "Print it as BSER, for the socket of a server",
+    );
     Command::new(alloc, "request")
         .about("Print the request whose answer comes next, as a line of JSON for watchman -j")
         .arg(subscribe)?
@@ -78,15 +109,41 @@ fn request<'a>(alloc: Global) -> Result<Command<'a>, AllocError> {
 }
 
 fn add<'a>(alloc: Global) -> Result<Command<'a>, AllocError> {
-    let empty = Arg::new(alloc, "empty")
-        .long("empty")
-        .action(ArgAction::SetTrue)
-        .help("Take an answer that says that the folder has no files");
+    let recording = flag(
+        alloc,
+        "recording",
+        "Take the messages of a subscription as a recording, which may end",
+    );
     Command::new(alloc, "add")
         .about("Add the messages of a server to an index, each all of it or nothing")
-        .arg(empty)?
+        .arg(empty(alloc))?
+        .arg(recording)?
+        .arg(patience(alloc))?
         .arg(index(alloc))?
         .arg(files(alloc))
+}
+
+fn wait<'a>(alloc: Global) -> Result<Command<'a>, AllocError> {
+    let since = option(
+        alloc,
+        "since",
+        "CLOCK",
+        "A clock that a message told; from now on, without it",
+    )
+    .conflicts_with("cursor")?;
+    let timeout = option(
+        alloc,
+        "timeout",
+        "SECONDS",
+        "For how long it waits; without it, until a file has changed",
+    )
+    .value_parser(value_parser!(u64));
+    Command::new(alloc, "wait")
+        .about("Wait until a file has changed: status 0, or 2 where the time is over")
+        .arg(since)?
+        .arg(cursor(alloc))?
+        .arg(timeout)?
+        .arg(index(alloc))
 }
 
 fn clock<'a>(alloc: Global) -> Result<Command<'a>, AllocError> {
@@ -96,10 +153,17 @@ fn clock<'a>(alloc: Global) -> Result<Command<'a>, AllocError> {
 }
 
 fn changes<'a>(alloc: Global) -> Result<Command<'a>, AllocError> {
-    let since = option(alloc, "since", "CLOCK", "A clock that a message told").required(true);
+    let since = option(alloc, "since", "CLOCK", "A clock that a message told")
+        .required_unless_present("cursor")?
+        .conflicts_with("cursor")?;
     Command::new(alloc, "changes")
-        .about("Print the last clock, and the files that changed after a clock")
+        .about(
+            "Print the last clock, and the files that changed after a clock or since the last time",
+        )
         .arg(since)?
+        .arg(cursor(alloc))?
+        .arg(under(alloc))?
+        .arg(of_type(alloc))?
         .arg(json(alloc)?)?
         .arg(names_alone(alloc))?
         .arg(index(alloc))
@@ -117,6 +181,8 @@ fn list<'a>(alloc: Global) -> Result<Command<'a>, AllocError> {
         .about("Print the files that exist")
         .arg(all)?
         .arg(suffix)?
+        .arg(under(alloc))?
+        .arg(of_type(alloc))?
         .arg(json(alloc)?)?
         .arg(names_alone(alloc))?
         .arg(index(alloc))
@@ -147,6 +213,60 @@ fn verify<'a>(alloc: Global) -> Result<Command<'a>, AllocError> {
         .about("Compare an index with the messages that were added to it")
         .arg(index(alloc))?
         .arg(files(alloc))
+}
+
+fn prune<'a>(alloc: Global) -> Result<Command<'a>, AllocError> {
+    let before = option(alloc, "before", "CLOCK", "A clock that a message told").required(true);
+    Command::new(alloc, "prune")
+        .about("Remove what nobody needs who asks for changes since a clock or a later one")
+        .arg(before)?
+        .arg(index(alloc))
+}
+
+fn cursor<'a>(alloc: Global) -> Arg<'a> {
+    option(
+        alloc,
+        "cursor",
+        "NAME",
+        "A name for which the index keeps what `changes` printed last",
+    )
+}
+
+fn under<'a>(alloc: Global) -> Arg<'a> {
+    option(
+        alloc,
+        "under",
+        "PATH",
+        "Print this folder and the files below it alone",
+    )
+}
+
+fn of_type<'a>(alloc: Global) -> Arg<'a> {
+    option(
+        alloc,
+        "type",
+        "LETTER",
+        "Print the files of this type alone, as f, d or l for a file, a folder or a link",
+    )
+    .value_parser(TYPES)
+}
+
+fn empty<'a>(alloc: Global) -> Arg<'a> {
+    flag(
+        alloc,
+        "empty",
+        "Take an answer that says that the folder has no files",
+    )
+}
+
+fn patience<'a>(alloc: Global) -> Arg<'a> {
+    option(
+        alloc,
+        "wait",
+        "SECONDS",
+        "For how long another program is waited for that has the index open; 60, without it",
+    )
+    .value_parser(value_parser!(u64))
 }
 
 fn json<'a>(alloc: Global) -> Result<Arg<'a>, AllocError> {

@@ -2,10 +2,13 @@
 #![tactic(auto)]
 
 mod action;
+mod changes;
 mod command;
+mod filter;
 mod printing;
 pub mod program;
+mod pruning;
 mod questions;
-mod request;
 mod verifying;
+mod waiting;
 mod wish;

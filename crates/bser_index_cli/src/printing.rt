@@ -1,5 +1,6 @@
 //! Prints what an index has of files.
 
+use crate::filter::Filter;
 use bser_from_json::meaning::Mark;
 use bser_views::quoted::Quoted;
 use json::Writer;
@@ -22,30 +23,21 @@ pub(crate) enum RecordForm {
     Names,
 }
 
+/// Which of the files that are found are printed, and how.
+#[derive(Debug, Clone, Copy)]
+pub(crate) struct Shown<'a> {
+    pub(crate) filter: Filter<'a>,
+    pub(crate) form: RecordForm,
+}
+
 /// Prints records, one after the other.
 #[derive(Drop)]
 pub(crate) struct Printer<'w, W: Write> {
-    alloc: Global,
-    form: RecordForm,
-    out: &'w mut W,
-    count: u64,
-}
-
-impl<'w, W: Write> Printer<'w, W> {
-    /// Nothing is printed yet.
-    pub(crate) fn new(alloc: Global, form: RecordForm, out: &'w mut W) -> Self {
-        Printer {
-            alloc,
-            form,
-            out,
-            count: 0,
-        }
-    }
-
+    pub(crate) alloc: Global,
+    pub(crate) shown: Shown<'w>,
+    pub(crate) out: &'w mut W,
     /// How many records were printed.
-    pub(crate) fn count(&self) -> u64 {
-        self.count
-    }
+    pub(crate) count: u64,
 }
 
 impl<W: Write> Visitor for Printer<'_, W> {
@@ -54,7 +46,11 @@ impl<W: Write> Visitor for Printer<'_, W> {
     ghost halts = { λ _. Unit {0} };
 
     fn visit(&mut self, record: Record) -> Result<(), IndexError> {
-        match self.form {
+        let Shown { filter, form } = self.shown;
+        if !filter.passes(&record) {
+            return Ok(());
+        }
+        match form {
             RecordForm::Lines => print_line(self.out, &record)?,
             RecordForm::Json => print_object(self.alloc, self.out, &record)?,
             RecordForm::Names => print_name(self.out, &record)?,

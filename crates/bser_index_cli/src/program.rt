@@ -1,27 +1,31 @@
 //! The program over any streams.
 
-use crate::action::{Action, Question, action_of};
+use crate::action::{Action, Manner, Question, action_of};
+use crate::changes::print_changes;
 use crate::command::command;
-use crate::printing::RecordForm;
-use crate::questions::{
-    print_changes, print_last_clock, print_list, print_next_request, print_stat,
-};
+use crate::printing::Shown;
+use crate::pruning::prune;
+use crate::questions::{print_last_clock, print_list, print_next_request, print_stat};
 use crate::verifying::print_differences;
+use crate::waiting::wait_for_change;
 use crate::wish::subject_of;
 use bser_shell::program::{Program, put_usage};
 use bser_shell::status::{DONE, FAILED, UNKNOWN_ARGUMENT};
 use bser_shell::streams::Streams;
 use bser_views::quoted::Quoted;
+use index_following::adding::add_inputs;
+use index_following::folding::Folder;
+use index_following::following::follow_server;
+use index_following::messages::{Inputs, take_inputs};
 use sqlite::{Alter, Connection};
-use std::io;
 use std::io::{Read, Write};
+use std::{fs, io};
 use watchman_sqlite::error::IndexError;
-use watchman_sqlite::folding::Folder;
 use watchman_sqlite::making::make_index;
-use watchman_sqlite::messages::{Inputs, Totals, take_inputs};
 use watchman_sqlite::opening::check_path;
-use watchman_sqlite::reopening::add_inputs;
+use watchman_sqlite::reopening::Adding;
 use watchman_sqlite::snapshot::{Inquiry, ask_snapshot};
+use watchman_sqlite::taking::Totals;
 
 /// The program `bser_index`.
 #[derive(Clone, Copy)]
@@ -35,6 +39,9 @@ impl<'r> BserIndex<'r> {
         BserIndex { rt }
     }
 }
+
+/// The status of `wait` where the time is over.
+const TIME_IS_OVER: u8 = 2;
 
 /// What is done with the index at a path.
 #[derive(Clone, Copy)]
@@ -84,6 +91,7 @@ fn do_task<R: Read, W: Write, E: Write>(
 ) -> io::Result<u8> {
     let failure = match act(rt, task, streams) {
         Ok(true) => return Ok(DONE),
+        Ok(false) if matches!(task.action, Action::Wait(_)) => return Ok(TIME_IS_OVER),
         Ok(false) => return Ok(FAILED),
         Err(IndexError::Output(fault)) => return Err(fault),
         Err(failure) => failure,
@@ -144,14 +152,31 @@ fn act<R: Read, W: Write, E: Write>(
     task: IndexTask<'_>,
     streams: &mut Streams<'_, R, W, E>,
 ) -> Result<bool, IndexError> {
+    let path = task.path;
     match task.action {
         Action::Init(wish) => {
             let subject = subject_of(rt.alloc(), wish, task.names)?;
-            make_index(rt, task.path, &subject)?;
+            make_index(rt, path, &subject)?;
             Ok(true)
         }
-        Action::Add(may_be_empty) => add(rt, task, may_be_empty, streams),
-        Action::Verify | Action::Request(_) | Action::Ask(_) => ask(rt, task, streams),
+        Action::Add(manner) => add(rt, task, manner, streams),
+        Action::Follow(manner) => {
+            follow_server(
+                rt,
+                adding_of(path, manner),
+                &mut streams.input,
+                &mut streams.out,
+                &mut streams.reports,
+            )?;
+            Ok(false)
+        }
+        Action::Wait(awaited) => wait_for_change(rt, path, awaited),
+        Action::Changes(since, shown) => {
+            print_changes(rt, path, since, shown, streams)?;
+            Ok(true)
+        }
+        Action::Prune(clock) => prune(rt, path, clock, streams),
+        Action::Verify | Action::Request(..) | Action::Ask(_) => ask(rt, task, streams),
     }
 }
 
@@ -178,12 +203,12 @@ fn read<S: Alter, R: Read, W: Write, E: Write>(
 ) -> Result<bool, IndexError> {
     match task.action {
         Action::Verify => verify(rt, conn, task.names, streams),
-        Action::Request(asked) => {
-            print_next_request(rt.alloc(), conn, asked, &mut streams.out)?;
+        Action::Request(asked, form) => {
+            print_next_request(rt.alloc(), conn, asked, form, &mut streams.out)?;
             Ok(true)
         }
         Action::Ask(question) => answer(rt, task.path, conn, question, streams),
-        Action::Init(_) | Action::Add(_) => Ok(false),
+        _ => Ok(false),
     }
 }
 
@@ -206,44 +231,27 @@ fn answer<S: Alter, R: Read, W: Write, E: Write>(
             }
             Ok(is_known)
         }
-        Question::Changes(clock, form) => {
-            let is_known = print_changes(rt.alloc(), conn, clock, form, &mut streams.out)?;
-            if !is_known && form == RecordForm::Names {
-                let _written = writeln!(streams.reports, "bser_index: {path}: fresh instance");
-            }
+        Question::List(which, shown) => {
+            print_list(rt.alloc(), conn, which, shown, &mut streams.out)?;
             Ok(true)
         }
-        Question::List(which, form) => {
-            print_list(rt.alloc(), conn, which, form, &mut streams.out)?;
-            Ok(true)
-        }
-        Question::Stat(name, form) => {
-            let sought = Sought { path, form };
-            stat(rt, sought, conn, name.as_bytes(), streams)
-        }
-        Question::StatNames(form) => {
+        Question::Stat(name, shown) => stat(rt, path, shown, conn, name.as_bytes(), streams),
+        Question::StatNames(shown) => {
             let mut names = Vec::new(rt.alloc());
             if let Err(fault) = streams.input.read_to_end(&mut names) {
                 return Err(IndexError::Reader(fault));
             }
-            stat_names(rt, Sought { path, form }, conn, &names, streams)
+            stat_names(rt, path, shown, conn, &names, streams)
         }
     }
-}
-
-/// Where files are looked for, and how what is known of them is printed.
-#[derive(Clone, Copy)]
-struct Sought<'a> {
-    /// The path of the index.
-    path: &'a str,
-    form: RecordForm,
 }
 
 /// Prints what is known of the files whose names these are, each ended by a NUL. Tells whether
 /// something is known of each.
 fn stat_names<S: Alter, R, W: Write, E: Write>(
     rt: &HostRuntime,
-    sought: Sought<'_>,
+    path: &str,
+    shown: Shown<'_>,
     conn: &mut Connection<S>,
     names: &[u8],
     streams: &mut Streams<'_, R, W, E>,
@@ -257,7 +265,7 @@ fn stat_names<S: Alter, R, W: Write, E: Write>(
         .unwrap_or(names)
         .split(|byte| *byte == 0)
     {
-        are_known &= stat(rt, sought, conn, name, streams)?;
+        are_known &= stat(rt, path, shown, conn, name, streams)?;
     }
     Ok(are_known)
 }
@@ -265,13 +273,13 @@ fn stat_names<S: Alter, R, W: Write, E: Write>(
 /// Prints what is known of the file with this name. Tells whether something is.
 fn stat<S: Alter, R, W: Write, E: Write>(
     rt: &HostRuntime,
-    sought: Sought<'_>,
+    path: &str,
+    shown: Shown<'_>,
     conn: &mut Connection<S>,
     name: &[u8],
     streams: &mut Streams<'_, R, W, E>,
 ) -> Result<bool, IndexError> {
-    let Sought { path, form } = sought;
-    let is_known = print_stat(rt.alloc(), conn, name, form, &mut streams.out)?;
+    let is_known = print_stat(rt.alloc(), conn, name, shown, &mut streams.out)?;
     if !is_known {
         let _written = writeln!(
             streams.reports,
@@ -282,23 +290,34 @@ fn stat<S: Alter, R, W: Write, E: Write>(
     Ok(is_known)
 }
 
-/// Adds messages, and prints how many there were. Tells whether none was refused, and none told an
-/// error of the server.
+/// To which index messages are added, and how.
+fn adding_of<'a>(path: &'a str, manner: Manner) -> Adding<'a> {
+    Adding {
+        path,
+        may_be_empty: manner.may_be_empty,
+        seconds: manner.seconds,
+    }
+}
+
+/// Adds messages, and prints how many there were. Tells whether all of them were taken, and nothing
+/// is known to be missing.
 fn add<R: Read, W: Write, E: Write>(
     rt: &HostRuntime,
     task: IndexTask<'_>,
-    may_be_empty: bool,
+    manner: Manner,
     streams: &mut Streams<'_, R, W, E>,
 ) -> Result<bool, IndexError> {
     check_path(rt, task.path)?;
     let inputs = Inputs {
         names: task.names,
         standard: &mut streams.input,
+        are_recorded: manner.are_recorded,
     };
-    let (totals, closed) = add_inputs(rt, task.path, may_be_empty, inputs, &mut streams.reports);
+    let adding = adding_of(task.path, manner);
+    let (totals, closed) = add_inputs(rt, adding, inputs, &mut streams.reports);
     print_totals(totals, &mut streams.out)?;
     closed?;
-    Ok(totals.refused == 0 && totals.errors == 0)
+    Ok(totals.is_complete())
 }
 
 /// Prints how many messages were added.
@@ -307,12 +326,15 @@ fn print_totals<W: Write>(totals: Totals, out: &mut W) -> io::Result<()> {
         messages,
         files,
         others,
+        told,
+        gaps,
         errors,
         refused,
+        ..
     } = totals;
     writeln!(
         out,
-        "messages {messages}, files {files}, others {others}, errors {errors}, refused {refused}"
+        "messages {messages}, files {files}, others {others}, told before {told}, gaps {gaps}, errors {errors}, refused {refused}"
     )
 }
 
@@ -327,6 +349,7 @@ fn verify<S: Alter, R: Read, W: Write, E: Write>(
     let inputs = Inputs {
         names,
         standard: &mut streams.input,
+        are_recorded: true,
     };
     let totals = take_inputs(rt.alloc(), rt, inputs, &mut folder, &mut streams.reports);
     if totals.refused > 0 {

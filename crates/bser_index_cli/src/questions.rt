@@ -1,11 +1,11 @@
 //! Answers what an index is asked.
 
-use crate::printing::{Printer, RecordForm, print_clock};
-use crate::request::{Asked, print_request, request_of};
+use crate::printing::{Printer, Shown};
+use index_following::request::{Asked, RequestForm, print_request, request_of};
 use sqlite::{Alter, Connection, params};
 use std::alloc::Global;
 use std::io::Write;
-use watchman_sqlite::connection::{Stored, number_of, read_stored, visit_all, visit_changes};
+use watchman_sqlite::connection::{Stored, read_stored, visit_all};
 use watchman_sqlite::error::IndexError;
 use watchman_sqlite::schema::{FILES, NAMED, PRESENT, SUFFIX};
 use watchman_sqlite::subject::read_subject;
@@ -31,6 +31,7 @@ pub(crate) fn print_next_request<S: Alter, W: Write>(
     alloc: Global,
     conn: &mut Connection<S>,
     asked: Asked<'_>,
+    form: RequestForm,
     out: &mut W,
 ) -> Result<(), IndexError> {
     let Some(subject) = read_subject(alloc, conn)? else {
@@ -38,25 +39,7 @@ pub(crate) fn print_next_request<S: Alter, W: Write>(
     };
     let Stored { origin, clock, .. } = read_stored(conn)?;
     let request = request_of(alloc, &subject, asked, &origin.subscription, clock)?;
-    print_request(alloc, asked, &request, out)
-}
-
-/// Prints what changed after a clock; for an unknown clock all files that exist. Before them are the
-/// last clock, and whether the one that is asked for is unknown, but not where names alone are
-/// printed. Tells whether it is known.
-pub(crate) fn print_changes<S: Alter, W: Write>(
-    alloc: Global,
-    conn: &mut Connection<S>,
-    clock: &str,
-    form: RecordForm,
-    out: &mut W,
-) -> Result<bool, IndexError> {
-    let Stored { clock: last, .. } = read_stored(conn)?;
-    let number = number_of(conn, clock.as_bytes())?;
-    print_clock(alloc, form, last.as_ref(), number.is_none(), out)?;
-    let mut printer = Printer::new(alloc, form, out);
-    visit_changes(conn, number, &mut printer)?;
-    Ok(number.is_some())
+    print_request(alloc, form, &request, out)
 }
 
 /// Which files are listed.
@@ -75,10 +58,15 @@ pub(crate) fn print_list<S: Alter, W: Write>(
     alloc: Global,
     conn: &mut Connection<S>,
     which: Which<'_>,
-    form: RecordForm,
+    shown: Shown<'_>,
     out: &mut W,
 ) -> Result<(), IndexError> {
-    let mut printer = Printer::new(alloc, form, out);
+    let mut printer = Printer {
+        alloc,
+        shown,
+        out,
+        count: 0,
+    };
     match which {
         Which::Present => visit_all(conn, PRESENT, params![], &mut printer),
         Which::All => visit_all(conn, FILES, params![], &mut printer),
@@ -94,10 +82,15 @@ pub(crate) fn print_stat<S: Alter, W: Write>(
     alloc: Global,
     conn: &mut Connection<S>,
     name: &[u8],
-    form: RecordForm,
+    shown: Shown<'_>,
     out: &mut W,
 ) -> Result<bool, IndexError> {
-    let mut printer = Printer::new(alloc, form, out);
+    let mut printer = Printer {
+        alloc,
+        shown,
+        out,
+        count: 0,
+    };
     visit_all(conn, NAMED, params![name], &mut printer)?;
-    Ok(printer.count() > 0)
+    Ok(printer.count > 0)
 }

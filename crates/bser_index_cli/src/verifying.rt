@@ -1,5 +1,6 @@
 //! Compares an index with the messages that were added to it.
 
+use index_following::folding::Folder;
 use serde_bser::bytestring::ByteString;
 use sqlite::{Alter, Connection, Row, params};
 use std::alloc::Global;
@@ -8,7 +9,6 @@ use watchman_index::index::Index;
 use watchman_index::row::Row as FileRow;
 use watchman_sqlite::connection::{Stored, number_of, read_stored, visit_changes};
 use watchman_sqlite::error::IndexError;
-use watchman_sqlite::folding::Folder;
 use watchman_sqlite::record::{Record, Visitor, lower_suffix};
 use watchman_sqlite::schema::{CLOCKS, WHOLE};
 

@@ -1,6 +1,6 @@
 //! What an index is to be of.
 
-use crate::request::expression_of;
+use index_following::expression::{check_terms, expression_of};
 use serde_bser::bytestring::ByteString;
 use std::alloc::Global;
 use watchman_sqlite::error::IndexError;
@@ -33,6 +33,7 @@ pub(crate) fn subject_of(
     let expression = match wish.expression {
         Some(text) => {
             let expression = expression_of(alloc, text)?;
+            check_terms(alloc, &expression)?;
             Some(format!(in alloc; "{expression}")?)
         }
         None => None,

@@ -1,6 +1,7 @@
-//! Tests of documents, frames and structs.
+//! Tests of documents, frames, structs and whole messages.
 mod answers;
 mod frames;
+mod messages;
 mod parts;
 mod pointer;
 mod printed;

@@ -14,16 +14,12 @@ join_push c x (z ∷ zs) y = ap (λ bs. x ++ c ∷ bs) (join_push c z zs y) ∙ 
 behind_some : (f : FileField) (fs : List FileField) (word : List ℕ) → behind_words (field_words (f ∷ fs)) word ≡ field_words (f ∷ fs) ++ comma ∷ word
 behind_some Name [] word = refl
 behind_some Name (g ∷ gs) word = refl
-behind_some Exists [] word = refl
 behind_some Exists (g ∷ gs) word = refl
-behind_some Size [] word = refl
 behind_some Size (g ∷ gs) word = refl
-behind_some Mode [] word = refl
 behind_some Mode (g ∷ gs) word = refl
-behind_some TypeOfFile [] word = refl
 behind_some TypeOfFile (g ∷ gs) word = refl
-behind_some ModificationTime [] word = refl
 behind_some ModificationTime (g ∷ gs) word = refl
+behind_some other [] word = refl
 
 map_push : (fs : List FileField) (f : FileField) → map field_word (fs ++ f ∷ []) ≡ map field_word fs ++ field_word f ∷ []
 map_push [] f = refl

@@ -1,6 +1,10 @@
+pub mod Clocks
 pub mod FieldWords
+pub mod Gone
 pub mod Inside
 pub mod Made
 pub mod Readable
+pub mod Since
+pub mod Stored
 pub mod Tables
 pub mod Visits

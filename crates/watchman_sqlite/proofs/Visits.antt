@@ -1,16 +1,16 @@
 -- The answer of a question that is read one row at a time.
-use Rattle.std.proofs.Common.{◌≡◌, inl, inr, ℕ, ◌+◌, ◌-◌, ◌^◌, ◌≤◌, List, [], ◌∷◌, ◌++◌, length, length-append, Some, None, Ok, refl, sym, subst, arith}
+use Rattle.std.proofs.Common.{◌≡◌, inl, ℕ, ◌+◌, ◌-◌, ◌^◌, ◌≤◌, List, [], ◌∷◌, ◌++◌, length, length-append, Some, None, Ok, ap, sym, subst, arith}
 use Rattle.std.specs.List.{FoldsTo}
 use Rattle.std.proofs.lemmas.Fn.{FoldsTo-push}
 use Rattle.sqlite.specs.Clock.{timed}
 use Rattle.sqlite.specs.Effect.{Database}
-use Rattle.sqlite.specs.Given.{IsPlain, HasGiven, HasBegun, Advances}
+use Rattle.sqlite.specs.Given.{IsPlain, HasGiven, Advances}
 use Rattle.sqlite.specs.Held.{Held, state}
 use Rattle.sqlite.specs.Listing.{understood, reads_listing, IsSourceOf}
 use Rattle.sqlite.specs.Order.{Row}
 use Rattle.sqlite.specs.State.{State, IsUnchanged, Shown, ShowsRows}
 use Rattle.sqlite.specs.Store.{Ghosts}
-use Rattle.sqlite.proofs.Callers.{begun_plain, unchanged_then}
+use Rattle.sqlite.proofs.Callers.{unchanged_then}
 use Rattle.watchman_sqlite.specs.Records.{VisitsRow, VisitedAnswer}
 use Rattle.watchman_sqlite.specs.declared.record.Record.{Record}
 
@@ -42,11 +42,6 @@ pub record HasVisited {S V : Type 0} (g : Ghosts S) (visits : V → Record → V
   pub counted : length rows ≡ count
 
 module _ {S V : Type 0} (g : Ghosts S) (visits : V → Record → V → Type 0) (question : List ℕ) (params : Row) (old : Held S) (before : V) where
-  pub visited_none : (now : Held S) → IsPlain (understood old.schema question) → HasBegun g question params old now → HasVisited g visits question params old now before before 0
-  visited_none now plain begun =
-      let it = begun_plain g question params old now plain begun in
-      record { rows = []; given = it.0; same = it.1; visited = refl; counted = refl }
-
   pub visited_more : (mid now : Held S) (after last : V) (row : Row) (count : ℕ) → HasVisited g visits question params old mid before after count
       → Advances g mid now (Some row) → IsUnchanged (state g mid) (state g now) → VisitsRow visits after row last → HasVisited g visits question params old now before last (count + 1)
   visited_more mid now after last row count h moved same one = record {
@@ -66,10 +61,16 @@ module _ {S V : Type 0} (g : Ghosts S) (visits : V → Record → V → Type 0) 
     same = unchanged_then (state g old) (state g mid) (state g now) h.same same;
   }
 
-  pub visited_most : (now : Held S) (after : V) (count : ℕ) → 2 ^ 64 - 1 ≤ count → HasVisited g visits question params old now before after count → VisitedAnswer g visits question params old now before after
-  visited_most now after count most h = record {
-    rows = h.rows;
-    answer = inr (omega (arith, h.counted, most));
-    visited = h.visited;
-    same = h.same;
-  }
+-- records that were visited in one way were visited in another, where each of the visits was
+pub visited_as : {S V W : Type 0} (g : Ghosts S) (visits : V → Record → V → Type 0) (others : W → Record → W → Type 0) (f : V → W) (Keeps : V → Type 0)
+    → ((a : V) (r : Record) (b : V) → Keeps a → visits a r b → others (f a) r (f b) × Keeps b)
+    → (question : List ℕ) (params : Row) (old new : Held S) (before after : V) → Keeps before → VisitedAnswer g visits question params old new before after
+    → VisitedAnswer g others question params old new (f before) (f after) × Keeps after
+visited_as {S} {V} g visits others f Keeps each question params old new before after keeps h =
+    let it = go before h.rows after keeps h.visited in (record { rows = h.rows; answer = h.answer; visited = it.0; same = h.same }, it.1)
+  where
+    go : (a : V) (rows : List Row) (b : V) → Keeps a → FoldsTo (VisitsRow visits) a rows b → FoldsTo (VisitsRow others) (f a) rows (f b) × Keeps b
+    go a [] b keeps same = (ap f same, subst Keeps same keeps)
+    go a (row ∷ rows) b keeps (j, (r, is, visit), rest) =
+        let one = each a r j keeps visit in
+        let more = go j rows b one.1 rest in ((f j, (r, is, one.0), more.0), more.1)

@@ -1,7 +1,7 @@
 -- What errors are of.
 use Rattle.std.specs.Prelude.{Bool, true, false}
 use Rattle.watchman_sqlite.specs.declared.error.IndexError.{IndexError}
-use Rattle.watchman_sqlite.specs.declared.error.IndexError.TheVariants.{Database, Exists, Expression, Folder, Locked, Missing, NoExpression, NoField, NoIndex, OtherLayout, OutOfMemory, Reader, RelativeRoot, Root, SecondName, Unreadable, Unwritable}
+use Rattle.watchman_sqlite.specs.declared.error.IndexError.TheVariants.{BeyondNames, Database, Exists, Expression, Folder, Locked, Missing, NoExpression, NoField, NoIndex, OtherLayout, OutOfMemory, Reader, RelativeRoot, Root, SecondName, UnknownType, Unreadable, Unwritable}
 
 -- whether the words of the command are wrong
 abbrev pub is_of_words : IndexError → Bool
@@ -10,6 +10,7 @@ is_of_words RelativeRoot = true
 is_of_words (NoField _) = true
 is_of_words (Expression _) = true
 is_of_words NoExpression = true
+is_of_words (BeyondNames _) = true
 is_of_words _ = false
 
 -- what is wrong with a path at which an index is to be written
@@ -45,6 +46,28 @@ IsOfMaking OtherLayout = Unit {0}
 IsOfMaking (OutOfMemory _) = Unit {0}
 IsOfMaking (Database _) = Unit {0}
 IsOfMaking _ = ⊥
+
+-- why a message is not stored
+abbrev pub IsOfStoring : IndexError → Type 0
+IsOfStoring NoIndex = Unit {0}
+IsOfStoring (OutOfMemory _) = Unit {0}
+IsOfStoring (Database _) = Unit {0}
+IsOfStoring _ = ⊥
+
+-- why it is not known what is stored of a message
+abbrev pub IsOfEntry : IndexError → Type 0
+IsOfEntry (UnknownType _) = Unit {0}
+IsOfEntry (OutOfMemory _) = Unit {0}
+IsOfEntry (Database _) = Unit {0}
+IsOfEntry _ = ⊥
+
+-- why nothing of a message is stored
+abbrev pub IsUnstored : IndexError → Type 0
+IsUnstored NoIndex = Unit {0}
+IsUnstored (UnknownType _) = Unit {0}
+IsUnstored (OutOfMemory _) = Unit {0}
+IsUnstored (Database _) = Unit {0}
+IsUnstored _ = ⊥
 
 -- why no copy of an index is read
 abbrev pub IsOfCopy : IndexError → Type 0

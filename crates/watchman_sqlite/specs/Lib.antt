@@ -1,8 +1,10 @@
+pub mod Adding
 pub mod Columns
+pub mod Entries
 pub mod Errors
 pub mod Fields
-pub mod Folders
 pub mod Layouts
 pub mod Questions
 pub mod Records
 pub mod Subjects
+pub mod Taken

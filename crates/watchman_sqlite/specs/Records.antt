@@ -1,5 +1,5 @@
 -- What a row says of a file, and visiting such rows.
-use Rattle.std.specs.Prelude.{◌≢◌, ◌⊎◌, ◌≤◌, ◌<◌, ◌^◌, ◌-◌, ℕ, List, length, string_bytes, IfSome}
+use Rattle.std.specs.Prelude.{◌≡◌, ◌≢◌, ◌⊎◌, ◌≤◌, ◌<◌, ◌^◌, ◌-◌, ℕ, List, length, string_bytes, IfSome, Option, MatchBool}
 use Rattle.std.specs.List.{FoldsTo}
 use Rattle.sqlite.specs.Order.{Row, column}
 use Rattle.sqlite.specs.Reading.{IsReadError}
@@ -8,6 +8,7 @@ use Rattle.sqlite.specs.State.{IsUnchanged, Shown}
 use Rattle.sqlite.specs.Store.{Ghosts}
 use Rattle.sqlite.specs.Values.{or_null}
 use Rattle.sqlite.specs.declared.types.Value.TheVariants.{Int, Text, Blob}
+use Rattle.watchman_index.specs.Tables.{is_since}
 use Rattle.watchman_types.specs.Words.{file_type_word}
 use Rattle.watchman_types.specs.declared.file_type.FileType.{FileType}
 use Rattle.watchman_sqlite.specs.Columns.{Holds, HoldsTruth, number}
@@ -57,3 +58,7 @@ pub record VisitedAnswer {S V : Type 0} (g : Ghosts S) (visits : V → Record �
   pub answer : Shown question params (state g old) (state g new) rows ⊎ (2 ^ 64 - 1 ≤ length rows)
   pub visited : FoldsTo (VisitsRow visits) before rows after
   pub same : IsUnchanged (state g old) (state g new)
+
+-- a record of a file that changed behind message n was visited, and any other was passed over
+abbrev pub VisitsSince : {V : Type 0} → (V → Record → V → Type 0) → Option ℕ → V → Record → V → Type 0
+VisitsSince visits n before r after = MatchBool (is_since n r.row) (visits before r after) (after ≡ before)

@@ -16,14 +16,13 @@ ghost use Rattle.watchman_sqlite.specs.Layouts.{AreNamed, HasOtherTables, HasOth
 ghost use Rattle.watchman_sqlite.specs.Layouts.{IsAsBefore, IsNamed, IsThisLayout, IsUnnamed};
 ghost use Rattle.watchman_sqlite.specs.Layouts.{MadeTables, OneIsUnnamed, PutTables, TellsVersion};
 ghost use Rattle.watchman_sqlite.specs.Questions.{IsNumberOf, IsStored};
-ghost use Rattle.watchman_sqlite.specs.Records.{IsUnreadAnswer, VisitedAnswer};
+ghost use Rattle.watchman_sqlite.specs.Records.{IsUnreadAnswer, VisitedAnswer, VisitsSince};
 ghost use Rattle.watchman_sqlite.specs.Subjects.{KeepsSubject};
 
 use crate::error::IndexError;
 use crate::record::{Record, Visitor, bytes_at};
 use crate::schema::{
-    CHANGED, CREATE, KEEP_LAYOUT, LAYOUT, NAMES, NUMBER, OLD_TABLES, PRESENT, STORED, TABLES,
-    VERSION,
+    CREATE, FILES, KEEP_LAYOUT, LAYOUT, NAMES, NUMBER, OLD_TABLES, STORED, TABLES, VERSION,
 };
 use crate::subject::{CREATE_SUBJECT, Subject, write_subject};
 use serde_bser::bytestring::ByteString;
@@ -268,21 +267,39 @@ pub fn visit_changes<S: Alter, V: Visitor>(
     visitor: &mut V,
 ) -> Result<(), IndexError>
     ensures changed { HasCleanDisk (state S.Store conn.new)
-        → IsPlain (understood conn.old.schema CHANGED.now)
-        → OnOk result (IfSome number (λ n. VisitedAnswer S.Store V.visits CHANGED.now
-        (Int (pos (min n (2 ^ 63 - 1))) ∷ []) conn.old conn.new visitor.old visitor.new)) }
-    ensures all { HasCleanDisk (state S.Store conn.new)
-        → IsPlain (understood conn.old.schema PRESENT.now)
-        → OnOk result (IfNone number (VisitedAnswer S.Store V.visits PRESENT.now []
-        conn.old conn.new visitor.old visitor.new)) }
+        → IsPlain (understood conn.old.schema FILES.now)
+        → OnOk result (VisitedAnswer S.Store (VisitsSince V.visits number) FILES.now []
+        conn.old conn.new visitor.old visitor.new) }
     ensures err { IfErr result (λ e. IsUnreadAnswer e ⊎ V.halts e) }
     ensures clean { HasCleanDisk (state S.Store conn.new) → HasCleanDisk (state S.Store conn.old) }
 {
-    match number {
-        Some(number) => {
-            let after = i64::try_from(number).unwrap_or(i64::MAX);
-            visit_all(conn, CHANGED, params![after], visitor)
+    let mut since = Since { number, visitor };
+    visit_all(conn, FILES, params![], &mut since)?;
+    Ok(())
+}
+
+/// Hands on the records of the files that changed behind the message of this number.
+#[derive(Drop)]
+struct Since<'v, V> {
+    number: Option<u64>,
+    visitor: &'v mut V,
+}
+
+impl<V: Visitor> Visitor for Since<'_, V> {
+    ghost use Rattle.std.specs.Prelude.{◌≡◌};
+    ghost use Rattle.watchman_sqlite.specs.Records.{VisitsSince};
+
+    ghost visits = { λ old next new. (new.number ≡ old.number)
+        × (new.visitor.ghost_name ≡ old.visitor.ghost_name)
+        × VisitsSince V.visits old.number old.visitor.now next new.visitor.now };
+
+    ghost halts = { λ e. V.halts e };
+
+    fn visit(&mut self, next: Record) -> Result<(), IndexError> {
+        if next.row.is_since(self.number) {
+            self.visitor.visit(next)
+        } else {
+            Ok(())
         }
-        None => visit_all(conn, PRESENT, params![], visitor),
     }
 }

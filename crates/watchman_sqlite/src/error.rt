@@ -38,7 +38,7 @@ pub enum IndexError {
     #[error("out of memory")]
     OutOfMemory(AllocError),
     /// The index has other tables than those of this program.
-    #[error("an index of another version of bser_index: make a new one, and add to it an answer that tells all files")]
+    #[error("an index of another version of bser_index: make a new one by bser_index init, and add to it the answer to what bser_index request prints")]
     OtherLayout,
     /// There is no index at this path.
     #[error("there is no such file")]
@@ -59,7 +59,7 @@ pub enum IndexError {
     #[error("the index has a second name, a hard link: remove one, since a writer looks after one alone")]
     SecondName,
     /// Another program has had the index open for too long.
-    #[error("the index is locked: another program has it open")]
+    #[error("the index is locked: another program has it open, and has had it for too long: see which, or wait longer by --wait")]
     Locked,
     /// Reading the file of the index failed.
     #[error("{0}")]
@@ -88,6 +88,9 @@ pub enum IndexError {
     /// The expression is a text of JSON, and no expression.
     #[error("the expression is neither an array nor a string")]
     NoExpression,
+    /// A term of the expression, by this word, looks at more than the name of a file.
+    #[error("the term {0:?} looks at more than the name of a file: the server tells nothing of a file that no longer matches, so the index would go on listing it; ask by names alone, or for all files")]
+    BeyondNames(&'static str),
     /// The table of files has this word in the place of a type's letter.
     #[error("the index has a file of the type {0}")]
     UnknownType(String),
@@ -95,15 +98,11 @@ pub enum IndexError {
     #[error("the index can count no more messages")]
     TooManyMessages,
     /// A message says that there are no files, and it was not said that the folder is empty.
-    #[error("it says that there are no files: if the folder is empty, add it by add --empty")]
+    #[error("it says that there are no files: if the folder is empty, say so by --empty")]
     NoFiles,
     /// A row lacks a field that is asked for: its word, and the name of the file.
     #[error("the row of {1} lacks the field \"{0}\", which is asked for")]
     RowLacks(&'static str, ByteString),
-    /// A message tells changes since a clock up to which not all was told: that clock, and the last
-    /// one up to which all was.
-    #[error("it tells what changed since {}, and {}: add the answer to what bser_index request prints, and subscribe since then", .0, LastClock(.1.as_ref()))]
-    Gap(ByteString, Option<ByteString>),
 }
 
 impl IndexError {
@@ -118,6 +117,7 @@ impl IndexError {
                 | IndexError::NoField(_)
                 | IndexError::Expression(_)
                 | IndexError::NoExpression
+                | IndexError::BeyondNames(_)
         )
     }
 }
@@ -164,15 +164,40 @@ impl<T: Drop> From<AllocFailed<T>> for IndexError {
     }
 }
 
-/// What is said of the last clock of an index.
+/// Between which clocks something is missing.
 #[derive(Drop)]
-struct LastClock<'c>(Option<&'c ByteString>);
+pub struct GapText<'g> {
+    /// The clock since which a message tells changes, if it says it.
+    pub since: Option<&'g ByteString>,
+    /// The last clock of the index.
+    pub last: Option<&'g ByteString>,
+}
 
-impl fmt::Display for LastClock<'_> {
+impl fmt::Display for GapText<'_> {
     fn fmt<W: fmt::Write>(&self, f: &mut fmt::Formatter<W>) -> fmt::Result {
-        match self.0 {
-            Some(clock) => write!(f, "the last clock of the index is {clock}"),
+        match self.since {
+            Some(since) => write!(f, "it tells what changed since {since}, and ")?,
+            None => f.write_str("it tells some files alone, and ")?,
+        }
+        match self.last {
+            Some(last) => write!(f, "the last clock of the index is {last}"),
             None => f.write_str("the index has no clock"),
+        }
+    }
+}
+
+/// An error of the server, which prints with what helps.
+#[derive(Debug, Drop)]
+pub struct ServerErrorText(pub ByteString);
+
+impl fmt::Display for ServerErrorText {
+    fn fmt<W: fmt::Write>(&self, f: &mut fmt::Formatter<W>) -> fmt::Result {
+        write!(f, "{}", self.0)?;
+        match std::str::from_utf8(self.0.as_bytes()) {
+            Ok(text) if text.contains("is not watched") => f.write_str(
+                ": watch it by watchman watch-project, and make the index with the root and the relative root that it answers",
+            ),
+            _ => Ok(()),
         }
     }
 }

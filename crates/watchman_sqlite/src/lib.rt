@@ -4,16 +4,19 @@
 //! program that writes it is killed.
 #![tactic(auto)]
 
-mod adding;
-mod conditions;
+pub mod adding;
+pub mod conditions;
 pub mod connection;
+pub mod cursors;
+mod entry;
 pub mod error;
-pub mod folding;
 pub mod making;
-pub mod messages;
 pub mod opening;
+mod parameters;
 pub mod record;
 pub mod reopening;
 pub mod schema;
 pub mod snapshot;
+mod storing;
 pub mod subject;
+pub mod taking;

@@ -4,7 +4,7 @@ ghost use Rattle.watchman_sqlite.specs.Errors.{IsOfMaking, IsOfOpening, IsOfPath
 
 use crate::connection::{has_tables, make_tables};
 use crate::error::IndexError;
-use crate::opening::{check_path, open_index};
+use crate::opening::{PATIENCE, check_path, open_index};
 use crate::subject::Subject;
 use sqlite::{Alter, Connection};
 use std::alloc::Global;
@@ -14,7 +14,7 @@ pub fn make_index(rt: &HostRuntime, path: &str, subject: &Subject) -> Result<(),
     ensures { IfErr result (λ e. (IsOfPath e ⊎ IsOfOpening e) ⊎ IsOfMaking e) }
 {
     check_path(rt, path)?;
-    let mut conn = open_index(rt, path)?;
+    let mut conn = open_index(rt, path, PATIENCE)?;
     let made = make_new(rt.alloc(), &mut conn, subject);
     let closed = conn.close();
     made?;

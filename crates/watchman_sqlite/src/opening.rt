@@ -16,11 +16,15 @@ use std::{fs, io, thread};
 /// With what each file of SQLite begins.
 pub const MAGIC: &[u8] = b"SQLite format 3\0";
 
-/// How often an index is tried that another program writes.
+/// How often a copy of an index is tried that another program writes.
 pub const TRIES: u32 = 100;
 
 /// How many milliseconds are waited between two tries.
 const PAUSE: u64 = 50;
+
+/// For how many seconds another program is waited for that has an index open, where nothing else is
+/// asked for.
+pub const PATIENCE: u64 = 60;
 
 /// Waits until the next try.
 pub fn wait(rt: &HostRuntime) {
@@ -28,12 +32,17 @@ pub fn wait(rt: &HostRuntime) {
 }
 
 /// Opens the index at this path to write it, and makes the file where there is none. While another
-/// program has it open, it tries again for some seconds.
-pub fn open_index(rt: &HostRuntime, path: &str) -> Result<Connection<FileStore<File>>, IndexError>
+/// program has it open, it tries again for so many seconds.
+pub fn open_index(
+    rt: &HostRuntime,
+    path: &str,
+    seconds: u64,
+) -> Result<Connection<FileStore<File>>, IndexError>
     ensures opened { IfOk result (λ conn. HasCleanDisk (file_state conn) → IsOpened conn) }
     ensures err { IfErr result (λ e. IsOfPath e ⊎ IsOfOpening e) }
 {
-    for _ in 0..TRIES {
+    let tries = seconds.saturating_mul(1000 / PAUSE).saturating_add(1);
+    for _ in 0..tries {
         match Connection::open(rt, path) {
             Ok(conn) => return Ok(conn),
             Err(Error::SqliteFailure(ErrorCode::DatabaseBusy)) => wait(rt),

@@ -1,148 +1,116 @@
 //! Adds messages to an index that others may use between them.
-ghost use Rattle.std.specs.Prelude.{◌≤◌, IfErr};
+ghost use Rattle.std.specs.Prelude.{◌≡◌, ◌≤◌, None, Ok, IfErr, IfSome};
 ghost use Rattle.watchman_sqlite.specs.Columns.{IsOfDatabase};
 
 use crate::adding::Adder;
-use crate::conditions::Conditions;
 use crate::error::IndexError;
-use crate::messages::{Inputs, Taker, Totals, take_inputs};
 use crate::opening::open_index;
-use bser_shell::reports::Reports;
+use crate::taking::{Taken, Taker};
 use serde_bser::bytestring::ByteString;
-use sqlite::{Connection, File, FileStore};
-use std::io::{Read, Write};
 use watchman_index::changes::Changes;
 
-/// Adds the messages of the inputs to the index at a path. Answers how many there were, and whether
-/// the index could be closed.
-pub fn add_inputs<R: Read + Drop, E: Write>(
-    rt: &HostRuntime,
-    path: &str,
-    may_be_empty: bool,
-    inputs: Inputs<'_, R>,
-    reports: &mut Reports<'_, E>,
-) -> (Totals, Result<(), IndexError>)
-    ensures refused { result.0.refused ≤ 1 }
-    ensures err { IfErr result.1 IsOfDatabase }
-{
-    let mut index = Reopening::new(rt, path, may_be_empty);
-    let totals = take_inputs(rt.alloc(), rt, inputs, &mut index, reports);
-    (totals, index.close())
+/// To which index messages are added, and how.
+#[derive(Debug, Clone, Copy)]
+pub struct Adding<'a> {
+    /// The path of the index.
+    pub path: &'a str,
+    /// Whether a message that says that there are no files is taken.
+    pub may_be_empty: bool,
+    /// For how many seconds another program is waited for that has the index open.
+    pub seconds: u64,
 }
 
-/// The answer to `subscribe`, behind which the server's client may have lost a message.
+/// Adds messages to an index, which is opened for the first of them that are at hand, and closed before
+/// the next is waited for: an open index is locked.
 #[derive(Drop)]
-struct SubscribeGap {
-    clock: ByteString,
-    // how many messages the index had then
-    messages: u64,
-}
-
-/// Adds messages to the index at a path, which is opened for the first of them that are at hand, and
-/// closed before the next is waited for: an open index is locked.
-#[derive(Drop)]
-struct Reopening<'r> {
+pub struct Reopening<'r> {
     rt: &'r HostRuntime,
-    path: &'r str,
-    conditions: Conditions,
-    // before the first message of the subscription
-    subscribed: Option<SubscribeGap>,
-    conn: Option<Connection<FileStore<File>>>,
+    adding: Adding<'r>,
+    adder: Option<Adder>,
 }
 
 impl<'r> Reopening<'r> {
-    /// The index is not open yet. A message that says that there are no files is taken where
-    /// `may_be_empty`.
-    fn new(rt: &'r HostRuntime, path: &'r str, may_be_empty: bool) -> Self {
+    /// The index is not open yet.
+    pub fn new(rt: &'r HostRuntime, adding: Adding<'r>) -> Self {
         Reopening {
             rt,
+            adding,
+            adder: None,
+        }
+    }
+
+    /// What adds to the open index, which is opened for it.
+    pub fn adder(&mut self) -> Result<&mut Adder, IndexError> {
+        let adder = self.take_adder()?;
+        Ok(self.adder.insert(adder))
+    }
+
+    /// Takes what adds to the open index, which is opened for it.
+    fn take_adder(&mut self) -> Result<Adder, IndexError>
+        ensures same { IfSome self.old.adder (λ adder. result ≡ Ok adder) }
+        ensures taken { self.new.adder ≡ None }
+    {
+        if let Some(adder) = self.adder.take() {
+            return Ok(adder);
+        }
+        let Adding {
             path,
-            conditions: Conditions {
-                may_be_empty,
-                follows: false,
-            },
-            subscribed: None,
-            conn: None,
-        }
-    }
-
-    /// The open index.
-    fn opened(&mut self) -> Result<&mut Connection<FileStore<File>>, IndexError> {
-        let conn = match self.conn.take() {
-            Some(conn) => conn,
-            None => open_index(self.rt, self.path)?,
-        };
-        Ok(self.conn.insert(conn))
-    }
-
-    /// What adds to the open index.
-    fn adder(&mut self) -> Result<Adder<'_, FileStore<File>>, IndexError> {
-        let (alloc, conditions) = (self.rt.alloc(), self.conditions);
-        Adder::new(alloc, self.opened()?, conditions)
-    }
-
-    /// Adds the clock of the answer to `subscribe`. How many messages there are before it.
-    fn add_answer(&mut self, clock: &ByteString) -> Result<u64, IndexError> {
-        let mut adder = self.adder()?;
-        adder.add_clock(clock)?;
-        Ok(adder.messages())
-    }
-
-    /// Whether another program has added all that was told up to the answer to `subscribe`, behind
-    /// that answer. Then nothing is missing before the first message of the subscription.
-    fn is_filled(&mut self) -> Result<bool, IndexError> {
-        match self.subscribed.take() {
-            Some(answer) => {
-                let adder = self.adder()?;
-                Ok(adder.is_told_since(answer.messages, &answer.clock))
-            }
-            None => Ok(false),
-        }
+            may_be_empty,
+            seconds,
+        } = self.adding;
+        let conn = open_index(self.rt, path, seconds)?;
+        Adder::new(self.rt.alloc(), conn, may_be_empty)
     }
 
     /// Closes the index, if it is open.
-    fn close(&mut self) -> Result<(), IndexError>
-        ensures { IfErr result IsOfDatabase }
+    pub fn close(&mut self) -> Result<(), IndexError>
+        ensures closed { self.new.adder ≡ None }
+        ensures err { IfErr result IsOfDatabase }
     {
-        if let Some(conn) = self.conn.take() {
-            conn.close()?;
+        match self.adder.take() {
+            Some(adder) => adder.close(),
+            None => Ok(()),
         }
-        Ok(())
     }
 }
 
+/// What works on an index that others may use meanwhile.
+pub trait Worker {
+    // what it is once it has worked
+    ghost works: { Self → Self → Type 0 };
+
+    /// Works on the index, and closes it at the end.
+    fn work(&mut self, index: &mut Reopening<'_>)
+        ensures { works self.old self.new };
+}
+
+/// Has the worker work on an index.
+pub fn work_on<T: Worker>(rt: &HostRuntime, adding: Adding<'_>, worker: &mut T)
+    ensures { T.works worker.old worker.new }
+{
+    let mut index = Reopening::new(rt, adding);
+    worker.work(&mut index);
+}
+
 impl Taker for Reopening<'_> {
+    ghost use Rattle.std.specs.Prelude.{◌≡◌, None};
+
     ghost takes = { λ _ _ _. Unit {0} };
 
-    ghost rests = { λ _ _. Unit {0} };
+    ghost stands = { λ _ _ _. Unit {0} };
 
-    fn begin(&mut self) {
-        self.conditions.follows = false;
-        self.subscribed = None;
-    }
+    ghost rests = { λ old new. new.adder ≡ None };
 
-    fn take_changes(&mut self, changes: Changes) -> Result<(), IndexError> {
-        let is_of_subscription = changes.subscription.is_some();
-        if is_of_subscription {
-            let is_filled = self.is_filled()?;
-            self.conditions.follows = self.conditions.follows || is_filled;
-        }
-        self.adder()?.add_changes(changes)?;
-        if is_of_subscription {
-            self.conditions.follows = true;
-        }
-        Ok(())
-    }
-
-    fn take_subscribed(&mut self, clock: ByteString) -> Result<(), IndexError> {
-        self.conditions.follows = false;
-        let messages = self.add_answer(&clock)?;
-        self.subscribed = Some(SubscribeGap { clock, messages });
-        Ok(())
+    fn take_changes(&mut self, changes: Changes) -> Result<Taken, IndexError> {
+        self.adder()?.add_changes(changes)
     }
 
     fn take_clock(&mut self, clock: ByteString) -> Result<(), IndexError> {
         self.adder()?.add_clock(&clock)
+    }
+
+    fn last_clock(&mut self) -> Result<Option<&ByteString>, IndexError> {
+        Ok(self.adder()?.last_clock())
     }
 
     fn pause(&mut self) -> Result<(), IndexError> {
