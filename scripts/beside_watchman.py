@@ -1,6 +1,5 @@
 """A Watchman server of a test's own, its clients, and indexes of a folder that it watches."""
 import contextlib
-import json
 import os
 import random
 import signal
@@ -10,11 +9,10 @@ import threading
 import time
 
 from bser_messages import decoded, message, messages
+from index_file import PROGRAMS, Index
 from parts import Failure
-from watched_folder import Folder, compared
+from watched_folder import Folder
 
-FIELDS = ("name", "exists", "size", "mode", "mtime_ms", "type")
-PROGRAMS = {}  # the path of each program by its name
 STARTED = []  # processes that are ended with this one
 
 
@@ -34,8 +32,15 @@ def end_started():
 @contextlib.contextmanager
 def beside(*bodies):
     """Runs each of these in a thread beside a block. Each is given the event by which it stops."""
-    stop = threading.Event()
-    threads = [threading.Thread(target=body, args=(stop,), daemon=True) for body in bodies]
+    stop, failed = threading.Event(), []
+
+    def run(body):
+        try:
+            body(stop)
+        except Exception as error:
+            failed.append(error)
+
+    threads = [threading.Thread(target=run, args=(body,), daemon=True) for body in bodies]
     for thread in threads:
         thread.start()
     try:
@@ -44,6 +49,8 @@ def beside(*bodies):
         stop.set()
         for thread in threads:
             thread.join()
+    if failed:
+        raise failed[0]
 
 
 # ---- the server
@@ -82,6 +89,10 @@ class Connection:
         if "error" in answer:
             raise Failure("the server refuses: %r" % answer["error"])
         return answer
+
+    def end(self):
+        """Sends nothing more."""
+        self.socket.shutdown(socket.SHUT_WR)
 
     def close(self):
         self.socket.close()
@@ -128,13 +139,11 @@ class Server:
 
 
 class Proxy:
-    """Stands between a server and its clients. Each message that the server sends is given to
-    `hand_on`, which gives the pieces that the client gets in its place. `recorded` has what each
-    client sent and what the server sent to it."""
+    """Stands between a server and its clients. For each connection `new_hand` makes what is given
+    each message that the server sends, and gives the pieces that the client gets in its place."""
 
-    def __init__(self, path, server, hand_on=lambda one: [one]):
-        self.path, self.server, self.hand_on = path, server, hand_on
-        self.recorded = []
+    def __init__(self, path, server, new_hand):
+        self.path, self.server, self.new_hand = path, server, new_hand
         self.listening = socket.socket(socket.AF_UNIX)
         self.listening.bind(path)
         self.listening.listen(16)
@@ -148,35 +157,57 @@ class Proxy:
             except OSError:
                 client.close()
                 continue
-            asked, told = bytearray(), bytearray()
-            self.recorded.append((asked, told))
-            of_client = (client, upstream, asked, lambda data: [data])
-            of_server = (upstream, client, told, self.by_messages())
-            for words in of_client, of_server:
+            asked, told = self.pieces()
+            for words in (client, upstream, asked), (upstream, client, told):
                 threading.Thread(target=carry, args=words, daemon=True).start()
 
-    def by_messages(self):
-        """What gives the pieces for the client, of the bytes that the server sends next."""
-        rest = b""
+    def pieces(self):
+        """What gives the pieces for the server and for the client, of what the other one sends."""
+        return (lambda data: [data]), by_messages(self.new_hand())
 
-        def pieces(data):
-            nonlocal rest
-            found, rest = messages(rest + data)
-            for one in found:
-                yield from self.hand_on(one)
 
-        return pieces
+class Recorder(Proxy):
+    """Records what each client asks and what the server tells it."""
+
+    def __init__(self, path, server):
+        self.recorded = []
+        super().__init__(path, server, None)
+
+    def pieces(self):
+        streams = bytearray(), bytearray()
+        self.recorded.append(streams)
+        return tuple(recording(stream) for stream in streams)
+
+
+def recording(stream):
+    def pieces(data):
+        stream.extend(data)
+        return [data]
+
+    return pieces
+
+
+def by_messages(hand):
+    """What gives the pieces for the client, of the bytes that the server sends next."""
+    rest = b""
+
+    def pieces(data):
+        nonlocal rest
+        found, rest = messages(rest + data)
+        for one in found:
+            yield from hand(one)
+
+    return pieces
 
 
 class Cut(Exception):
     """Ends a connection."""
 
 
-def carry(source, target, record, pieces):
+def carry(source, target, pieces):
     """Carries what comes until one side ends, or it is cut, and then ends both."""
     try:
         while data := source.recv(1 << 16):
-            record.extend(data)
             for piece in pieces(data):
                 target.sendall(piece)
     except (OSError, Cut):
@@ -188,88 +219,59 @@ def carry(source, target, record, pieces):
             pass
 
 
-# ---- an index
-
-
-class Index:
-    """An index, by its program alone."""
-
-    def __init__(self, path, watch, relative, fields=FIELDS, expression=None):
-        self.path = path
-        words = [word for name in fields for word in ("--field", name)]
-        if expression is not None:
-            words += ["--expression", json.dumps(expression)]
-        self.run("init", path, "--root", watch, "--relative-root", relative, *words)
-
-    def run(self, *words, input=b"", status=0):
-        """What the program writes, which is to end with this status."""
-        done = self.tried(*words, input=input)
-        if done.returncode != status:
-            errors = done.stderr.decode(errors="replace")
-            raise Failure("%s: status %d, %s" % (" ".join(words), done.returncode, errors))
-        return done.stdout
-
-    def tried(self, *words, input=b""):
-        return subprocess.run([PROGRAMS["bser_index"], *words], input=input, capture_output=True)
-
-    def clock(self):
-        return self.run("clock", self.path).decode().strip()
-
-    def add(self, data):
-        """What `add` reports of these messages, and its status."""
-        done = self.tried("add", self.path, input=data)
-        return done.returncode, done.stderr.decode(errors="replace")
-
-    def rows(self):
-        rows = {}
-        for line in self.run("list", "--json", self.path).splitlines():
-            row = json.loads(line)
-            found = compared(*(row.get(name) for name in ("size", "mode", "mtime_ms", "type")))
-            rows[as_bytes(row["name"])] = found
-        return rows
-
-    def changed(self, clock):
-        """The names that have changed since a clock."""
-        return set(self.run("changes", "-z", "--since", clock, self.path).split(b"\0")[:-1])
-
-
-def as_bytes(text):
-    """The bytes of a string of JSON, or of a mark."""
-    return bytes.fromhex(text["$bytes"]) if isinstance(text, dict) else text.encode()
+# ---- what follows it
 
 
 class Follower:
-    """`bser_index add` behind a subscription, each a process."""
+    """`bser_index follow`, whose streams are a connection to the server. `said` has its lines, each
+    with its time."""
 
-    def __init__(self, server, index):
-        request = index.run("request", "--subscribe=live", index.path)
-        pipes = {"stdin": subprocess.PIPE, "stdout": subprocess.PIPE, "stderr": subprocess.DEVNULL}
-        self.client = started([*server.words(), "-p"], **pipes)
-        pipes = {"stdin": self.client.stdout, "stdout": subprocess.DEVNULL}
-        pipes["stderr"] = subprocess.PIPE
-        self.add = started([PROGRAMS["bser_index"], "add", index.path], **pipes)
-        self.client.stdout.close()
-        self.client.stdin.write(request)
-        self.client.stdin.close()
+    def __init__(self, path, index):
+        program = 'EXEC:"%s follow %s",nofork' % (PROGRAMS["bser_index"], index.path)
+        self.start(["socat", "UNIX-CONNECT:" + path, program])
+
+    def start(self, words, **streams):
+        self.process = started(words, stderr=subprocess.PIPE, **streams)
+        self.said = []
+        self.listening = threading.Thread(target=self.listen, daemon=True)
+        self.listening.start()
+
+    def listen(self):
+        with self.process.stderr as lines:
+            for line in lines:
+                self.said.append((time.time(), line.decode(errors="replace").strip()))
 
     def status(self, wait=0):
-        """The status of `add`, where it ends by itself within so many seconds."""
+        """Its status, where it ends by itself within so many seconds."""
         try:
-            return self.add.wait(wait)
+            status = self.process.wait(wait)
         except subprocess.TimeoutExpired:
             return None
+        self.listening.join()
+        return status
 
-    def stop(self, how=signal.SIGTERM):
-        """Ends `add` so, and the client."""
-        self.add.send_signal(how)
-        self.end()
+    def times(self, what):
+        """When it said so."""
+        return [at for at, line in self.said if what in line]
 
-    def end(self):
-        """Ends the client, and waits for both. What `add` reported."""
-        self.client.kill()
-        self.client.wait()
-        _out, errors = self.add.communicate(timeout=60)
-        return errors.decode(errors="replace")
+    def text(self):
+        return "; ".join(line for _at, line in self.said[-3:])
+
+    def end(self, how=signal.SIGKILL):
+        self.process.send_signal(how)
+        self.process.wait()
+        self.listening.join()
+
+
+class Adding(Follower):
+    """`bser_index add`, whose input is a connection over which a subscription was asked for."""
+
+    def __init__(self, path, index):
+        connection = Connection(path)
+        connection.socket.sendall(index.run("request", "--subscribe", "--bser", index.path))
+        words = [PROGRAMS["bser_index"], "add", index.path]
+        self.start(words, stdin=connection.socket.fileno(), stdout=subprocess.DEVNULL)
+        connection.close()
 
 
 class Place:
@@ -283,6 +285,7 @@ class Place:
         self.folder = Folder(os.path.join(os.fsencode(where), b"project"), chance, config or {})
         for name in b"a", b"b", b"c", b"\xff\xfe":
             self.folder.write(name, 1)
+            self.folder.files.append(self.folder.at(name))
         self.server.start()
         self.watch()
 
@@ -292,7 +295,7 @@ class Place:
 
     def index(self, name, **words):
         """A new index, which has been told nothing."""
-        return Index(os.path.join(self.where, name), self.root, self.relative, **words)
+        return Index(os.path.join(self.where, name)).init(self.root, self.relative, **words)
 
     def answer(self, index):
         """The server's answer to what the index asks next."""
@@ -309,12 +312,20 @@ class Place:
         answer = self.server.ask("query", self.root, query)
         return answer["is_fresh_instance"], set(answer["files"])
 
-    def differing(self, index, wait=0, meanwhile=lambda: None):
-        """The names that differ between index and folder, once none does or the time is over."""
+    def ask_others(self, stop):
+        """Asks queries all the time, as another client does, where the server is there."""
+        while not stop.wait(0.1):
+            with contextlib.suppress(OSError, Failure):
+                self.names(expression=["name", "none"])
+
+    def differing(self, index, wait=0, wants=lambda name: True):
+        """The names that differ between index and folder, of those that the index wants, once none
+        does or the time is over."""
         end = time.time() + wait
         while True:
-            meanwhile()
-            wanted, found = self.folder.rows(), index.rows()
+            rows = self.folder.rows().items()
+            wanted = {name: index.kept(row) for name, row in rows if wants(name)}
+            found = index.rows()
             names = wanted.keys() | found.keys()
             differ = {name for name in names if wanted.get(name) != found.get(name)}
             if not differ or time.time() > end:

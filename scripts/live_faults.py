@@ -6,8 +6,9 @@ import shutil
 import subprocess
 import time
 
-from beside_watchman import FIELDS, PROGRAMS, Connection, Follower, Place, Proxy, beside, started
+from beside_watchman import Connection, Follower, Place, Proxy, Recorder, beside, started
 from bser_messages import messages
+from index_file import FIELDS, PROGRAMS
 from parts import Failure
 
 WAIT = 6  # seconds that a program may take to see that what it follows has ended
@@ -36,17 +37,21 @@ def dropped(part, where):
             return [one] if len(seen) % 3 else []
         return [one]
 
-    connection = Connection(Proxy(os.path.join(where, "proxy"), place.server, but_each_third).path)
+    proxy = Proxy(os.path.join(where, "proxy"), place.server, lambda: but_each_third)
+    connection = Connection(proxy.path)
     connection.send(*json.loads(index.run("request", "--subscribe=live", index.path)))
     for number in range(9):
         until(lambda: len(seen) > number)
         place.folder.write(b"%d \xff" % number, 1)
     until(lambda: len(seen) > 9)
-    place.server.kill()
+    connection.end()
     status, errors = index.add(b"".join(iter(connection.receive, None)))
     differ = place.differing(index)
     is_told = status == 1 and errors.count("c:") >= 2
     part.check(is_told or not differ, f"status {status}, {len(differ)} names differ, {errors!r}")
+    place.update(index)
+    differ = place.differing(index)
+    part.check(not differ, f"behind an answer {len(differ)} names differ")
     part.figure(f"{len(seen) // 3} messages dropped")
 
 
@@ -95,15 +100,16 @@ def ends(part, where, end):
     """A follower ends by itself, with a status of its own, behind what ends what it follows."""
     place = Place(where)
     index = place.index("index")
-    follower = Follower(place.server, index)
-    time.sleep(1)
-    place.update(index)
+    follower = Follower(place.server.socket, index)
+    until(lambda: follower.times("follows since"))
     place.folder.write(b"\xff", 1)
-    time.sleep(0.5)
+    until(lambda: b"\xff" in index.rows())
+    begin = time.time()
     end(place)
     status = follower.status(WAIT)
-    errors = follower.end()
-    part.check(status not in (None, 0) and errors, f"status {status}, {errors!r}")
+    follower.end()
+    says = any(at > begin for at, _line in follower.said)
+    part.check(status == 1 and says, f"status {status}, {follower.text()!r}")
 
 
 def watch_deleted(part, where):
@@ -124,7 +130,7 @@ def server_killed(part, where):
 
 
 def client_told_the_end(part, where):
-    """`example_client`, whose streams are the socket, says that the server ends between messages."""
+    """`example_client`, whose streams are the socket, says that the server ends."""
     place = Place(where)
     connection = Connection(place.server.socket).socket
     words = [PROGRAMS["example_client"], place.folder.path]
@@ -150,23 +156,23 @@ def client_told_the_end(part, where):
 def busy_start(part, where):
     """Followers of a folder in which files come and go, while another client asks queries."""
     place = Place(where)
-    with beside(lambda stop: come_and_go(place, stop), lambda stop: ask_others(place, stop)):
-        followed = [start_busy(place, f"index {number}") for number in range(3)]
+    with beside(lambda stop: come_and_go(place, stop), place.ask_others):
+        followed = [start_busy(place, f"index{number}") for number in range(3)]
         time.sleep(1)
         statuses = [follower.status() for _index, follower in followed]
     for (index, follower), status in zip(followed, statuses):
-        differ = place.differing(index, WAIT) if status is None else ()
-        follower.stop()
-        part.check(status is None and not differ, f"status {status}, {len(differ)} names differ")
+        differ = place.differing(index, WAIT)
+        follower.end()
+        what = f"status {status}, {len(differ)} names differ, {follower.text()}"
+        part.check(status is None and not differ, what)
 
 
 def start_busy(place, name):
     """A new index, and a follower of it."""
     index = place.index(name)
     place.update(index)
-    follower = Follower(place.server, index)
+    follower = Follower(place.server.socket, index)
     time.sleep(1)
-    index.add(place.answer(index))
     return index, follower
 
 
@@ -177,12 +183,6 @@ def come_and_go(place, stop):
         os.remove(name) if os.path.exists(name) else place.folder.write(name, 1)
         if stop.wait(0.05):
             return
-
-
-def ask_others(place, stop):
-    """Asks queries as another client does, until it is to stop."""
-    while not stop.wait(0.1):
-        place.names(expression=["name", "none"])
 
 
 def expressions(part, where):
@@ -196,7 +196,7 @@ def expressions(part, where):
             indexes[name] = place.index(name, expression=expression)
             place.update(indexes[name])
         except Failure as refusal:
-            part.check(expression != SUFFIX, str(refusal))
+            part.check("looks at more than" in str(refusal), str(refusal))
     os.remove(place.folder.at(b"a"))
     os.mkdir(place.folder.at(b"a"))
     os.remove(place.folder.at(b"c"))
@@ -212,7 +212,7 @@ def expressions(part, where):
 def version_1(part, where):
     """What `watchman` and the server send each other in version 1, and `bser` reads."""
     place = Place(where)
-    proxy = Proxy(os.path.join(where, "proxy"), place.server)
+    proxy = Recorder(os.path.join(where, "proxy"), place.server)
     request = json.dumps(["query", place.root, {"fields": ["name"]}]).encode()
     subprocess.run(place.server.words("bser", proxy.path), input=request, capture_output=True)
     for stream in proxy.recorded[0]:

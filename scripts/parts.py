@@ -21,7 +21,7 @@ class Part:
         self.figures.append(text)
 
     def end(self, is_known=False):
-        """Prints the part's line. Tells whether it is as it has to be: a fault that is known shows."""
+        """Prints the part's line. Tells whether it is as it has to be: a known fault shows."""
         good = self.runs - len(self.wrong)
         figures = "; " + ", ".join(self.figures) if self.figures else ""
         print(f"{self.word(is_known)} {self.name}: {good} of {self.runs}{figures}", flush=True)
