@@ -1,5 +1,6 @@
 -- A tape that was compared with the message of its tree agreed, and with no other.
-use Rattle.std.proofs.Common.{◌≡◌, inl, inr, ◌≤◌, ◌<◌, ◌+◌, ◌-◌, ◌^◌, ℕ, Bool, cond, List, [], ◌∷◌, ◌++◌, length, take, drop, Some, None, length-append, append-nil, append_assoc, refl, sym, ap, subst, ◌∙◌, arith}
+use Rattle.std.proofs.Common.{◌≡◌, ◌⊎◌, inl, inr, ◌≤◌, ◌<◌, ◌+◌, ◌-◌, ◌^◌, min, ℕ, Bool, cond, List, [], ◌∷◌, ◌++◌, length, take, drop, Option, Some, None, length-append, append-nil, append_assoc, refl, sym, ap, subst, ◌∙◌, arith}
+use Rattle.std.proofs.lemmas.Bool.{cases_lt, lt-ltb}
 use Rattle.std.proofs.lemmas.List.{take_all, nil_from_length, length-drop, drop-drop, drop_at}
 use Rattle.bser_format.specs.Content.{one}
 use Rattle.bser_format.specs.Message.{IsMessage}
@@ -12,15 +13,18 @@ use Rattle.bser_events.specs.Places as places
 use Rattle.bser_events.specs.Places.{TakesIn}
 use Rattle.bser_messages.specs.Descriptions.{cause_of}
 use Rattle.bser_messages.specs.Limited.{TooLongSlice}
-use Rattle.bser_messages.specs.Told.{BeginsTold, SliceUntold}
+use Rattle.bser_events.specs.Cut.{CutIn}
+use Rattle.bser_messages.specs.Told.{BeginsTold, IsCut, LeavesBuilder, SliceUntold}
 use Rattle.bser_messages.specs.declared.description.Description.{Description}
 use Rattle.bser_messages.specs.declared.limits.Limits.{Limits}
 use Rattle.bser_messages.specs.declared.told.Header.{Header}
-use Rattle.bser_messages.specs.declared.told.Reason.TheVariants.{Failed}
-use Rattle.bser_c.specs.Builders.{Agreed, Compares, Parted, StandNext, words_before}
+use Rattle.bser_messages.specs.declared.told.Reason.{Reason}
+use Rattle.bser_messages.specs.declared.told.Reason.TheVariants.{Failed, Stopped}
+use Rattle.bser_messages.specs.declared.told.TellError.{TellError}
+use Rattle.bser_c.specs.Builders.{Agreed, Compares, Parted, StandNext, place_of, words_before}
 use Rattle.bser_c.specs.Tape as tapes
-use Rattle.bser_c.specs.Tape.{AreWordsOfAll, HasTape}
-use Rattle.bser_c.specs.Untaped.{IsSame, LiesIn, untaped_by}
+use Rattle.bser_c.specs.Tape.{AreOfEvents, AreWordsOfAll, HasTape}
+use Rattle.bser_c.specs.Untaped.{AgreeUpTo, IsSame, LiesIn, untaped_by}
 use Rattle.bser_c.specs.declared.comparing.TapeComparison.{TapeComparison}
 use Rattle.bser_c.specs.declared.untape.TapeError.{TapeError}
 use Rattle.bser_c.specs.declared.untape.TapeError.TheVariants.{Memory}
@@ -172,3 +176,87 @@ lies_by _ at words room h = h
 
 pub untaped_lies : (cause : Error) (at words room : ℕ) (u : TapeError) → u ≡ untaped_by cause at → at ≤ words → LiesIn words room u
 untaped_lies cause at words room u by h = subst (λ x. LiesIn words room x) (sym by) (lies_by cause at words room h)
+
+-- ---- the words before others
+
+-- the words of these events, and those of the others
+words_of_both : (input : List ℕ) (es fs : List Event) (a b : List ℕ) → AreWordsOfAll input es a → AreWordsOfAll input fs b → AreWordsOfAll input (es ++ fs) (a ++ b)
+words_of_both input _ fs _ b tapes.none second = second
+words_of_both input _ fs _ b (tapes.more e es these rest first others) second =
+    subst (λ w. AreWordsOfAll input (e ∷ (es ++ fs)) w) (sym (append_assoc these rest b)) (tapes.more e (es ++ fs) these (rest ++ b) first (words_of_both input es fs rest b others second))
+
+-- the words before its place are those of events
+pub record AgreesUpTo (strings words : List ℕ) (c : TapeComparison) : Type 0 where
+  pub words_are : c.words.now ≡ words
+  pub strings_are : c.strings.now ≡ strings
+  pub agree : AreOfEvents strings (take (place_of c) words)
+
+-- no others stood next
+place_before : (c : TapeComparison) → c.at < 2 ^ 64 - 1 → place_of c ≡ c.at
+place_before c h = ap (λ (b : Bool). cond b c.at c.parted) (lt-ltb c.at (2 ^ 64 - 1) h)
+
+pub begun : (strings words : List ℕ) (c : TapeComparison) → c.words.now ≡ words → c.strings.now ≡ strings → c.at ≡ 0 → AgreesUpTo strings words c
+begun strings words c words_are strings_are at =
+    let start : place_of c ≡ 0 = place_before c (omega (arith, at)) ∙ at in
+    record { words_are = words_are; strings_are = strings_are; agree = ([], subst (λ k. AreWordsOfAll strings [] (take k words)) (sym start) tapes.none) }
+
+module _ (strings words : List ℕ) (few : length words < 2 ^ 64 - 1) where
+  one_more : (a b : TapeComparison) (e : Event) → Compares a e b → AgreesUpTo strings words a → AgreesUpTo strings words b
+  one_more a b e (inl agreed) t =
+      let same : b.words.now ≡ words = ap (λ w. w.now) agreed.words ∙ t.words_are in
+      let short : b.at < 2 ^ 64 - 1 = omega (arith, few, agreed.within, ap length t.words_are) in
+      let before : place_of a ≡ a.at = place_before a (omega (arith, short, agreed.longer)) in
+      let behind : place_of b ≡ b.at = place_before b short in
+      let grew : take (place_of b) words ≡ take (place_of a) words ++ agreed.added =
+      ap (λ k. take k words) behind ∙ ap (λ w. take b.at w) (sym same) ∙ agreed.grew ∙ ap (λ w. take a.at w ++ agreed.added) t.words_are ∙ ap (λ k. take k words ++ agreed.added) (sym before) in
+      let one : AreWordsOfAll strings (e ∷ []) agreed.added =
+      subst (λ s. AreWordsOfAll s (e ∷ []) agreed.added) t.strings_are (subst (λ w. AreWordsOfAll a.strings.now (e ∷ []) w) (append-nil agreed.added) (tapes.more e [] agreed.added [] agreed.are tapes.none)) in
+      record {
+        words_are = same;
+        strings_are = ap (λ s. s.now) agreed.strings ∙ t.strings_are;
+        agree = (t.agree.0 ++ e ∷ [], subst (λ w. AreWordsOfAll strings (t.agree.0 ++ e ∷ []) w) (sym grew) (words_of_both strings t.agree.0 (e ∷ []) (take (place_of a) words) agreed.added t.agree.1 one));
+      }
+  one_more a b e (inr parted) t = record {
+    words_are = ap (λ w. w.now) parted.words ∙ t.words_are;
+    strings_are = ap (λ s. s.now) parted.strings ∙ t.strings_are;
+    agree = subst (λ k. AreOfEvents strings (take k words)) (sym parted.place) t.agree;
+  }
+
+  all_more : (a b : TapeComparison) (es : List Event) → ComparesAll a es b → AgreesUpTo strings words a → AgreesUpTo strings words b
+  all_more a b es (none m) t = t
+  all_more a b es (more m n o e rest first after) t = all_more n o rest after (one_more m n e first t)
+
+  -- of a message that was told
+  pub agree_told : (limits : Limits) (message : List ℕ) (before after : TapeComparison) (h : Header) → BeginsTold limits (λ x e p y. Compares x e y) message before after h → AgreesUpTo strings words before → AgreesUpTo strings words after
+  agree_told limits message before after h b t =
+      all_more before after (events b.tells.tree) (compared_in h.start b.tells.bytes before after (events b.tells.tree) b.tells.told) t
+
+  module _ (message : List ℕ) (before after : TapeComparison) (t : AgreesUpTo strings words before) where
+    ended : (at : ℕ) (bytes : List ℕ) → CutIn (λ x e p y. Compares x e y) (λ s x e p y. ⊥) at bytes before after None → AgreesUpTo strings words after
+    ended at bytes (inl (es, takes)) = all_more before after es (compared_in at bytes before after es takes) t
+    ended at bytes (inr (place, stop)) = absurd stop.stops
+
+    cut : (given : ℕ) (header : Option Header) (reason : Reason) → IsCut (λ x e p y. Compares x e y) (λ s x e p y. ⊥) (Some message) before after given header reason → AgreesUpTo strings words after
+    cut given None (Stopped place) h = absurd h
+    cut given None (Failed d) same = subst (AgreesUpTo strings words) (sym same) t
+    cut given (Some header) (Stopped place) h = absurd h.2.cut.stops
+    cut given (Some header) (Failed d) h = ended header.start h.bytes h.cut
+
+    -- and of one that was not
+    pub agree_untold : (u : TellError) → LeavesBuilder (λ x e p y. Compares x e y) (λ s x e p y. ⊥) (Some message) before after u → AgreesUpTo strings words after
+    agree_untold u h = cut u.given u.header u.reason h
+
+  pub agree_before : (c : TapeComparison) (at : ℕ) → AgreesUpTo strings words c → at ≡ min (place_of c) (length words) → AreOfEvents strings (take at words)
+  agree_before c at t is = go (cases_lt (length words) (place_of c))
+    where
+      go : ((length words < place_of c) ⊎ (place_of c ≤ length words)) → AreOfEvents strings (take at words)
+      go (inl behind) = subst (AreOfEvents strings) (take_all (place_of c) words (omega (arith, behind)) ∙ sym (take_all at words (omega (arith, behind, is)))) t.agree
+      go (inr within) = subst (λ k. AreOfEvents strings (take k words)) (omega (arith, within, is)) t.agree
+
+-- whatever the error is
+agreed_by_error : (cause : Error) (at : ℕ) (strings words : List ℕ) → AreOfEvents strings (take at words) → AgreeUpTo strings words (untaped_by cause at)
+agreed_by_error OutOfMemory at strings words h = tt
+agreed_by_error _ at strings words h = h
+
+pub untaped_agrees : (cause : Error) (at : ℕ) (u : TapeError) (strings words : List ℕ) → u ≡ untaped_by cause at → AreOfEvents strings (take at words) → AgreeUpTo strings words u
+untaped_agrees cause at u strings words by h = subst (AgreeUpTo strings words) (sym by) (agreed_by_error cause at strings words h)

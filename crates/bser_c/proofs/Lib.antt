@@ -1,4 +1,5 @@
 pub mod Counts
+pub mod Headers
 pub mod Exports
 pub mod Says
 pub mod Told

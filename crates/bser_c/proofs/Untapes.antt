@@ -13,7 +13,7 @@ use Rattle.bser_format.proofs.Sizes.{length_then}
 use Rattle.bser_c.specs.Fronts.{Put}
 use Rattle.bser_c.specs.Parts.{header_of, parts, size_with_header, with_header}
 use Rattle.bser_c.specs.Tape.{HasTape}
-use Rattle.bser_c.specs.Untaped.{AreTape, AreToldBy, LiesIn, RefusesTape, RefusesWords, WantsBytes}
+use Rattle.bser_c.specs.Untaped.{AgreeUpTo, AreTape, AreToldBy, LiesIn, RefusesTape, RefusesWords, WantsBytes}
 use Rattle.bser_c.specs.declared.front.Front.{Front}
 use Rattle.bser_c.specs.declared.untape.TapeError.{TapeError}
 use Rattle.bser_c.specs.declared.untape.TapeError.TheVariants.{Invalid, TooLong, Memory}
@@ -87,20 +87,23 @@ wants strings words body size told is = record {
 }
 
 pub refused_words : (strings words : List ℕ) (e : TapeError) → RefusesWords strings words e → RefusesTape strings words e
-refused_words strings words (Invalid at) h = λ tape. (let t = tape_told strings words tape in let told = t.told in cc)
+refused_words strings words (Invalid at) h = (λ tape. (let t = tape_told strings words tape in let told = t.told in let none = h.0 in cc), inl h.1)
 refused_words strings words (TooLong size) h = wants strings words h.0 size h.1 h.2
 refused_words strings words Memory h = tt
 
-pub refused_compared : (strings words message : List ℕ) (e : TapeError) → AreToldBy strings words message → (HasTape 128 strings 0 message words → e ≡ Memory) → ((room : ℕ) → LiesIn (length words) room e) → RefusesTape strings words e
-refused_compared strings words message (Invalid at) told memory place = λ tape. (
-    let t = tape_told strings words tape in
-    let same : t.body ≡ told.body = same_Some t.body told.body (sym t.told ∙ told.told) in
-    let is : message ≡ with_header t.body = told.whole ∙ ap (λ b. with_header b) (sym same) in
-    let refused = memory (subst (λ b. HasTape 128 strings 0 b words) (sym is) t.has) in
-    cc
-    )
-refused_compared strings words message (TooLong size) told memory place = absurd (omega (arith, place size))
-refused_compared strings words message Memory told memory place = tt
+pub refused_compared : (strings words message : List ℕ) (e : TapeError) → AreToldBy strings words message → (HasTape 128 strings 0 message words → e ≡ Memory) → ((room : ℕ) → LiesIn (length words) room e) → AgreeUpTo strings words e → RefusesTape strings words e
+refused_compared strings words message (Invalid at) told memory place agree = (
+  λ tape. (
+      let t = tape_told strings words tape in
+      let same : t.body ≡ told.body = same_Some t.body told.body (sym t.told ∙ told.told) in
+      let is : message ≡ with_header t.body = told.whole ∙ ap (λ b. with_header b) (sym same) in
+      let refused = memory (subst (λ b. HasTape 128 strings 0 b words) (sym is) t.has) in
+      cc
+      ),
+  inr (record { body = told.body; told = told.told; before = agree }),
+)
+refused_compared strings words message (TooLong size) told memory place agree = absurd (omega (arith, place size))
+refused_compared strings words message Memory told memory place agree = tt
 
 -- ---- what is written
 

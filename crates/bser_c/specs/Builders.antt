@@ -1,5 +1,5 @@
 -- What the builders of this crate take.
-use Rattle.std.specs.Prelude.{◌≡◌, ◌⊎◌, ◌≤◌, ◌+◌, ◌-◌, ◌^◌, min, ℕ, List, [], ◌∷◌, ◌++◌, length, take, drop}
+use Rattle.std.specs.Prelude.{◌≡◌, ◌⊎◌, ◌≤◌, ◌+◌, ◌-◌, ◌^◌, min, nat_lt, ℕ, List, [], ◌∷◌, ◌++◌, length, take, drop, if◌then◌else◌}
 use Rattle.std.specs.Int.{w64, cast_unsigned}
 use Rattle.bser_events.specs.Events as events
 use Rattle.bser_events.specs.Events.{Event}
@@ -38,6 +38,10 @@ pub record Grew (old : Tape) (p : Place) (e : Event) (new : Tape) : Type 0 where
 abbrev pub words_before : TapeComparison → List ℕ
 words_before c = take c.at c.words.now
 
+-- how many words agreed before any others
+abbrev pub place_of : TapeComparison → ℕ
+place_of c = if nat_lt c.at (2 ^ 64 - 1) then c.at else c.parted
+
 -- the words of an event stand next
 pub record StandNext (c : TapeComparison) (e : Event) : Type 0 where
   pub these : List ℕ
@@ -60,6 +64,7 @@ pub record Parted (old : TapeComparison) (e : Event) (new : TapeComparison) : Ty
   pub words : new.words ≡ old.words
   pub strings : new.strings ≡ old.strings
   pub at : new.at ≡ 2 ^ 64 - 1
+  pub place : place_of new ≡ place_of old
   pub other : StandNext old e → ⊥
 
 -- an event was compared with the words that stand next

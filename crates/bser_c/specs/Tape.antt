@@ -67,6 +67,10 @@ pub data AreWordsOfAll (input : List ℕ) : List Event → List ℕ → Type 0 w
   none : AreWordsOfAll input [] []
   more : (e : Event) (es : List Event) (words rest : List ℕ) → AreWordsOf input e words → AreWordsOfAll input es rest → AreWordsOfAll input (e ∷ es) (words ++ rest)
 
+-- they are the words of some events
+abbrev pub AreOfEvents : List ℕ → List ℕ → Type 0
+AreOfEvents input words = (es : List Event) × AreWordsOfAll input es words
+
 -- the words are the tape of a tree, whose strings stand in the input
 abbrev pub IsTapeOf : List ℕ → Tree → List ℕ → Type 0
 IsTapeOf input t words = AreWordsOfAll input (events.events t) words

@@ -1,7 +1,7 @@
 //! Comparing a tape with a message, event by event.
 ghost use Rattle.std.specs.Prelude.{◌≡◌, ◌-◌, ◌^◌, true, false, length};
 ghost use Rattle.bser_events.specs.Told.{told};
-ghost use Rattle.bser_c.specs.Builders.{Agreed, Compares, StandNext};
+ghost use Rattle.bser_c.specs.Builders.{Agreed, Compares, StandNext, place_of};
 ghost use Rattle.bser_c.specs.Tape.{IsFirst, IsSecond};
 ghost use Rattle.bser_c.specs.Untaped.{IsSame};
 
@@ -74,11 +74,13 @@ impl<'w, 's> TapeComparison<'w, 's> {
     }
 
     /// Returns how many words agreed before any others, and so lie before those that are wrong.
-    pub fn place(&self) -> usize {
-        if self.at == usize::MAX {
-            self.parted
-        } else {
+    pub fn place(&self) -> usize
+        ensures { result ≡ place_of self.now }
+    {
+        if self.at < usize::MAX {
             self.at
+        } else {
+            self.parted
         }
     }
 
@@ -110,8 +112,9 @@ impl<'w, 's> TapeComparison<'w, 's> {
         ensures words { self.new.words ≡ self.old.words }
         ensures strings { self.new.strings ≡ self.old.strings }
         ensures at { self.new.at ≡ 2 ^ 64 - 1 }
+        ensures place { place_of self.new ≡ place_of self.old }
     {
-        if self.at != usize::MAX {
+        if self.at < usize::MAX {
             self.parted = self.at;
             self.at = usize::MAX;
         }

@@ -19,14 +19,14 @@ mod writing;
 ghost use Rattle.std.specs.Prelude.{◌≡◌, ◌≢◌, ◌<◌, ◌≤◌, length, take};
 ghost use Rattle.bser_format.specs.Compact.{fold_templates};
 ghost use Rattle.bser_format.specs.Named.{head, refuses, eof};
-ghost use Rattle.bser_messages.specs.Lengths.{HasLength, IsLengthOfEach};
+ghost use Rattle.bser_messages.specs.Lengths.{HasLength, IsLengthOfEach, RefusesLength};
 ghost use Rattle.bser_canonical.specs.Canon.{canonical};
 ghost use Rattle.bser_canonical.specs.Slices.{RewritesToSize, RewroteSlice};
 ghost use Rattle.bser_canonical.specs.declared.slice.RewriteError.TheVariants.{TooLong};
 ghost use Rattle.bser_c.specs.Codes.{TellsWhy};
 ghost use Rattle.bser_c.specs.Tape.{BeginsWithTape, HasTape, HasTapeOf};
 ghost use Rattle.bser_c.specs.declared.codes.TheConstants.{DONE, TOO_SMALL};
-ghost use Rattle.bser_c.specs.Failures.{IsRefused, Tells, TellsWhyNoLength, TellsWhyUntaped, TellsWhyUnwritten};
+ghost use Rattle.bser_c.specs.Failures.{IsPlaceInHead, IsRefused, Tells, TellsWhyNoLength, TellsWhyUntaped, TellsWhyUnwritten};
 ghost use Rattle.bser_c.specs.Untaped.{WantsBytes};
 
 use crate::codes::{CONTRADICTION, NO_MEMORY, NOT_WHOLE, TAPE_INVALID};
@@ -34,7 +34,10 @@ pub use crate::outcome::BserOutcome;
 use crate::outcome::{done, handed_out, refused, stopped, too_small};
 use crate::reading::tape_of;
 use crate::untape::{TapeError, message_of};
+use bser_bunser::prefix::{Prefix, int_prefix};
 use bser_canonical::slice::{RewriteError, canonical_of, compact_of};
+use bser_format::errors::Error;
+use bser_format::header::HEADER_START;
 use bser_messages::described;
 use bser_messages::description::Description;
 use bser_messages::length::message_length;
@@ -55,7 +58,7 @@ pub extern "C" fn bser_abi_version() -> u32
 }
 
 /// How many bytes the message has that begins with these, its header and its body. Nothing of the
-/// body is looked at.
+/// body is looked at, for an error and its place neither.
 #[unsafe(no_mangle)]
 pub extern "C" fn bser_message_length(alloc: Global, bytes: &[u8]) -> BserOutcome
     ensures done { result.code ≡ DONE → HasLength bytes.now result.length }
@@ -68,17 +71,25 @@ pub extern "C" fn bser_message_length(alloc: Global, bytes: &[u8]) -> BserOutcom
     match message_length(alloc, bytes) {
         Ok(Some(length)) => done(length),
         Ok(None) => stopped(NOT_WHOLE, bytes.len()),
-        Err(error) => refused(&error, place_of_error(alloc, bytes)),
+        Err(error) => refused(&error, place_in_head(&error, bytes)),
     }
 }
 
-/// The place of the message's error, and 0 where there is none.
-fn place_of_error(alloc: Global, bytes: &[u8]) -> usize
-    ensures { result ≤ length bytes.now }
+/// Where the header is wrong that has this error: behind the two bytes that begin each message, before
+/// a byte that is no integer's tag, and else behind the length of the body.
+#[cold]
+fn place_in_head(error: &Error, bytes: &[u8]) -> usize
+    requires { RefusesLength bytes.now error.now }
+    ensures place { IsPlaceInHead error.now bytes.now result }
+    ensures within { result ≤ length bytes.now }
 {
-    match described::from_slice::<Ignored>(alloc, bytes) {
-        Ok(_ignored) => 0,
-        Err(description) => description.place(),
+    match error {
+        Error::DeInvalidMagic { magic } => magic.len(),
+        Error::DeInvalidStartByte { kind: _, byte: _ } => HEADER_START.len(),
+        _ => match int_prefix(&bytes[HEADER_START.len()..]) {
+            Prefix::Found { value: _, len } => HEADER_START.len() + len,
+            _ => bytes.len(),
+        },
     }
 }
 
@@ -126,7 +137,7 @@ pub extern "C" fn bser_of_tape(
         → HasTape 128 strings.now 0 (take result.length out.new) words.now }
     ensures place { result.code ≢ DONE → result.place ≤ length words.now }
     ensures failed { result.code ≢ DONE → result.code ≢ TOO_SMALL
-        → TellsWhyUntaped strings.now words.now result.code }
+        → TellsWhyUntaped strings.now words.now result.code result.place }
     ensures more { result.code ≡ TOO_SMALL → length out.old < result.length }
     ensures wanted { result.code ≡ TOO_SMALL → WantsBytes strings.now words.now result.length }
 {

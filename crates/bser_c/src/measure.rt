@@ -2,6 +2,7 @@
 ghost use Rattle.std.specs.Prelude.{◌≡◌, ◌≤◌, length, IfOk, IfErr, None, option_map};
 ghost use Rattle.bser_format.specs.Canonical.{is_within as within, least_count, least_integer};
 ghost use Rattle.bser_c.specs.Parts.{TellSize, part, parts};
+ghost use Rattle.bser_c.specs.Untaped.{MeanNothingAt};
 
 use crate::tags::{BYTES_KEY, CLOSE, KEY, ROWS};
 use bser_format::header::{
@@ -14,6 +15,7 @@ use bser_format::header::{
 pub(crate) fn size_of(words: &[u64], strings: &[u8]) -> Result<usize, usize>
     ensures told { IfOk result (TellSize strings.now words.now) }
     ensures none { IfErr result (λ _. parts strings.now words.now ≡ None) }
+    ensures there { IfErr result (MeanNothingAt strings.now words.now) }
     ensures place { IfErr result (λ at. at ≤ length words.now) }
 {
     let mut size = 0usize;

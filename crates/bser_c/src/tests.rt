@@ -35,6 +35,20 @@ fn lengths(rt: HostRuntime) {
     assert_eq!(rt; (tag.code, tag.detail, tag.place), (17, 0x0d, 6));
 }
 
+/// What follows a head that announces too much is not looked at.
+#[test]
+fn lengths_that_are_too_great(rt: HostRuntime) {
+    let alloc = rt.alloc();
+    for behind in [0x0eu8, 0x0a, 0x06] {
+        let mut bytes = *b"\x00\x02\x00\x00\x00\x00\x06\xff\xff\xff\xff\xff\xff\xff\x7f\x00";
+        bytes[15] = behind;
+        for len in [15usize, 16] {
+            let great = bser_message_length(alloc, &bytes[..len]);
+            assert_eq!(rt; (great.code, great.detail, great.place), (43, 0, 15));
+        }
+    }
+}
+
 #[test]
 fn tape_of_a_template(rt: HostRuntime) {
     let alloc = rt.alloc();

@@ -5,7 +5,7 @@ ghost use Rattle.bser_c.specs.Fronts.{Puts};
 ghost use Rattle.bser_c.specs.Parts.{header_of, part};
 ghost use Rattle.bser_c.specs.Puts.{PutsAll, PutsPart};
 ghost use Rattle.bser_c.specs.Tape.{HasTape};
-ghost use Rattle.bser_c.specs.Untaped.{AreToldBy, LiesIn, RefusesTape, RefusesWords, untaped_by};
+ghost use Rattle.bser_c.specs.Untaped.{AgreeUpTo, AreToldBy, LiesIn, RefusesTape, RefusesWords, untaped_by};
 ghost use Rattle.bser_c.specs.declared.untape.TapeError.TheVariants.{Memory};
 
 use crate::comparing::TapeComparison;
@@ -165,6 +165,7 @@ fn compare(alloc: Global, words: &[u64], strings: &[u8], message: &[u8]) -> Resu
     ensures refused { HasTape LEVELS strings.now 0 message.now words.now
         → IfErr result (λ e. e ≡ Memory) }
     ensures place { (room : ℕ) → IfErr result (LiesIn (length words.now) room) }
+    ensures agreed { IfErr result (AgreeUpTo strings.now words.now) }
 {
     if is_told(words, strings, message) {
         return Ok(());
@@ -197,6 +198,7 @@ fn compare_slowly(
     ensures refused { HasTape LEVELS strings.now 0 message.now words.now
         → IfErr result (λ e. e ≡ Memory) }
     ensures place { (room : ℕ) → IfErr result (LiesIn (length words.now) room) }
+    ensures agreed { IfErr result (AgreeUpTo strings.now words.now) }
 {
     let mut compared = TapeComparison::new(words, strings);
     let answer = telling::from_slice(alloc, Limits::new(), message, &mut compared);

@@ -12,10 +12,10 @@ found by `get`, or the output fails; or 2 for unknown arguments.";
 const AFTER_GET: &str =
     "Where nothing is at a pointer, a line on standard error says so, and the status is 1.
 With --each it counts the items without a value, and the other values are printed.
-With -z it is a failure too where a string has a NUL.";
+With -z it is a failure too where a string has a NUL. It is left out, and with --each named.";
 
 /// The version of the library.
-const VERSION: &str = "0.4.0";
+const VERSION: &str = "1.0.0";
 
 /// The program's commands, each with its options.
 pub(crate) fn command<'a>(alloc: Global) -> Result<Command<'a>, AllocError> {

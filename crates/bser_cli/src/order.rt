@@ -1,7 +1,8 @@
 //! What the program is asked for.
 
 use crate::lines::Json;
-use crate::pointer::{Get, ValueForm, is_pointer};
+use crate::pointer::{Get, ValueForm};
+use bser_document::pointer::is_pointer;
 use bser_from_json::reading::Strings;
 use bser_from_json::texts::Writing;
 use bser_json::printing::Layout;
@@ -50,7 +51,7 @@ impl fmt::Display for UsageError<'_> {
             UsageError::Command => f.write_str("no command"),
             UsageError::Pointer(word) => write!(
                 f,
-                "{word:?} is no JSON pointer: one begins with /, as /files/0/name, or is empty"
+                "{word:?} is no JSON pointer: one is empty or begins with /, as /files/0/name, with ~0 for a ~ of a key and ~1 for a /"
             ),
         }
     }

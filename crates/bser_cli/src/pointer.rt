@@ -1,15 +1,14 @@
 //! Values of each message.
-ghost use Rattle.std.specs.Prelude.{◌≡◌, is_some};
-ghost use Rattle.bser_document.specs.Pointer.{tokens};
 
 use crate::kept::ShowDocument;
 use bser_document::document::Document;
 use bser_document::item::Item;
 use bser_json::printing::Layout;
 use bser_json::writing::write_json;
-use bser_views::lack::Lack;
+use bser_views::lack::{Lack, LeftOut};
 use bser_views::messages::ViewError;
 use std::alloc::Global;
+use std::fmt;
 use std::io::Write;
 
 /// How a value is printed.
@@ -53,6 +52,9 @@ impl ShowDocument for Get<'_> {
             }
             None => {
                 let value = value_at(document.root(), self.pointer)?;
+                if self.is_unended(value) {
+                    return Err(ViewError::Lacking(Lack::End));
+                }
                 self.put(alloc, value, out)
             }
         }
@@ -68,37 +70,59 @@ impl Get<'_> {
         container: Item<'_>,
         out: &mut W,
     ) -> Result<(), ViewError> {
-        let mut inside = Depth { lacking: 0, all: 0 };
+        let mut left_out = LeftOut::new(alloc);
         if let Some(items) = container.items() {
-            for item in items {
-                self.put_inside(alloc, item, &mut inside, out)?;
+            for (place, item) in items.enumerate() {
+                let step = Step::Item(place);
+                let inside = Inside { step, item };
+                self.put_inside(alloc, inside, &mut left_out, out)?;
             }
         } else if let Some(entries) = container.entries() {
             let sorted = entries.sorted(alloc)?;
-            for (_key, item) in &sorted {
-                self.put_inside(alloc, *item, &mut inside, out)?;
+            for (key, item) in &sorted {
+                let step = Step::Member(*key);
+                let inside = Inside { step, item: *item };
+                self.put_inside(alloc, inside, &mut left_out, out)?;
             }
         } else {
             return Err(ViewError::Lacking(Lack::Container));
         }
-        inside.outcome()
+        if left_out.is_empty() {
+            return Ok(());
+        }
+        Err(ViewError::Lacking(Lack::Inside(left_out)))
     }
 
-    /// Prints the value in one of them, and counts it.
+    /// Prints the value in one of them, or notes that it is left out.
     fn put_inside<W: Write>(
         &self,
         alloc: Global,
-        item: Item<'_>,
-        inside: &mut Depth,
+        inside: Inside<'_>,
+        left_out: &mut LeftOut,
         out: &mut W,
     ) -> Result<(), ViewError> {
-        inside.all = inside.all.saturating_add(1);
+        let Inside { step, item } = inside;
+        left_out.count();
         match item.pointer(self.pointer) {
-            Some(value) => self.put(alloc, value, out),
-            None => {
-                inside.lacking = inside.lacking.saturating_add(1);
+            Some(value) if self.is_unended(value) => {
+                let each = self.each.unwrap_or("");
+                let pointer = format!(in alloc; "{each}{step}{}", self.pointer)?;
+                left_out.add_unended(pointer)?;
                 Ok(())
             }
+            Some(value) => self.put(alloc, value, out),
+            None => {
+                left_out.add_lacking();
+                Ok(())
+            }
+        }
+    }
+
+    /// Whether the value is a string that has a NUL, and is to be ended by one.
+    fn is_unended(&self, item: Item<'_>) -> bool {
+        match item.as_bytes() {
+            Some(bytes) => self.form == ValueForm::Ended && bytes.contains(&0),
+            None => false,
         }
     }
 
@@ -109,9 +133,6 @@ impl Get<'_> {
             ValueForm::Raw | ValueForm::Ended => item.as_bytes(),
         };
         match bytes {
-            Some(bytes) if self.form == ValueForm::Ended && bytes.contains(&0) => {
-                return Err(ViewError::Lacking(Lack::End));
-            }
             Some(bytes) => out.write_all(bytes)?,
             None => {
                 let _out = write_json(alloc, item, self.layout, &mut *out)?;
@@ -130,32 +151,40 @@ impl Get<'_> {
     }
 }
 
-/// How many values of a container were gone into.
+/// A value of a container, and where it is there.
 #[derive(Clone, Copy)]
-struct Depth {
-    lacking: u64,
-    all: u64,
+struct Inside<'d> {
+    step: Step<'d>,
+    item: Item<'d>,
 }
 
-impl Depth {
-    /// The failure where some lack what was asked for.
-    fn outcome(self) -> Result<(), ViewError> {
-        let Depth { lacking, all } = self;
-        if lacking == 0 {
-            return Ok(());
+/// Where a value is in its container. It prints as a pointer from there.
+#[derive(Clone, Copy)]
+enum Step<'k> {
+    Item(usize),
+    Member(&'k str),
+}
+
+impl fmt::Display for Step<'_> {
+    fn fmt<W: fmt::Write>(&self, f: &mut fmt::Formatter<W>) -> fmt::Result {
+        match self {
+            Step::Item(place) => write!(f, "/{place}"),
+            Step::Member(key) => {
+                f.write_char('/')?;
+                for c in key.chars() {
+                    match c {
+                        '~' => f.write_str("~0")?,
+                        '/' => f.write_str("~1")?,
+                        other => f.write_char(other)?,
+                    }
+                }
+                Ok(())
+            }
         }
-        Err(ViewError::Lacking(Lack::Inside { lacking, all }))
     }
 }
 
 /// The value that a pointer leads to.
 fn value_at<'d>(item: Item<'d>, pointer: &str) -> Result<Item<'d>, ViewError> {
     item.pointer(pointer).ok_or(ViewError::Lacking(Lack::Value))
-}
-
-/// Whether a text is a JSON pointer: empty, or with a slash first.
-pub(crate) fn is_pointer(text: &str) -> bool
-    ensures { result ≡ is_some (tokens text.now) }
-{
-    text.is_empty() || text.starts_with('/')
 }

@@ -17,3 +17,4 @@ pub mod Refusals
 pub mod Clean
 pub mod FieldNames
 pub mod Dues
+pub mod Ranges

@@ -1,5 +1,5 @@
 -- What a call on a deserializer answers, by what callers see of it before and after.
-use Rattle.std.specs.Prelude.{◌≡◌, ◌≢◌, ℕ, ℤ, Bool, true, false, MatchBool, List, Some}
+use Rattle.std.specs.Prelude.{◌≡◌, ◌≢◌, ◌⊎◌, ℕ, ℤ, Bool, true, false, MatchBool, List, Some}
 use Rattle.bser_format.specs.Content.{Content, Meaning}
 use Rattle.bser_format.specs.ReadsScalars.{reads_signed, reads_slice, reads_string}
 use Rattle.bser_format.specs.Expected.{Due, node_due, row_due}
@@ -7,7 +7,9 @@ use Rattle.bser_format.specs.Grammar.{Format}
 use Rattle.bser_format.specs.Errors.{error_of}
 use Rattle.bser_format.specs.declared.errors.Complaint.{Complaint}
 use Rattle.bser_format.specs.declared.errors.Error.{Error}
-use Rattle.bser_format.specs.declared.errors.Error.TheVariants.{OutOfMemory}
+use Rattle.bser_format.specs.declared.errors.Complaint.TheVariants.{IntegerOutOfRange}
+use Rattle.bser_format.specs.declared.errors.Error.TheVariants.{DeCustom, OutOfMemory}
+use Rattle.bser_format.specs.declared.errors.Message.TheVariants.{Fixed}
 use Rattle.bser_format.specs.declared.errors.ReadCause.TheVariants.{Failed}
 use Rattle.bser_format.specs.Named as named
 use Rattle.bser_format.specs.Named.{complain, field_of, with_text_keys}
@@ -46,6 +48,16 @@ pub record Keeps (old new : Seen) : Type 0 where
 -- what holds after any error
 abbrev pub HasFailed : Seen → Seen → Type 0
 HasFailed old new = Fails new.refusal old.state.source new.state.source
+
+-- the place of an error is where reading is, or where it was before
+abbrev pub IsPlaced : Seen → Seen → Type 0
+IsPlaced old new =
+    (new.note.begun ≡ old.note.begun) ⊎ (new.note.begun ≡ Some old.state.source.count)
+
+-- the complaint of an integer that the type does not hold
+abbrev pub is_out_of_range : Error → Bool
+is_out_of_range (DeCustom (Fixed IntegerOutOfRange)) = true
+is_out_of_range _ = false
 
 -- whether bytes are borrowed, and not copied
 abbrev pub source_lends : Seen → Bool

@@ -3,7 +3,7 @@ ghost use Rattle.std.specs.Prelude.{◌≡◌, ◌≢◌, ◌<◌, ◌^◌, true
 ghost use Rattle.bser_format.specs.Expected.{nothing_due, node_due, key_due, field_due, row_due};
 ghost use Rattle.bser_format.specs.DueReaders as due_readers;
 ghost use Rattle.bser_format.specs.DueReaders.{nothing_at, stray_at, wrong_type};
-ghost use Rattle.bser_deserializer.specs.Calls.{Keeps, HasFailed, NamesTag, nothing_due_in};
+ghost use Rattle.bser_deserializer.specs.Calls.{Keeps, HasFailed, NamesTag, is_out_of_range, nothing_due_in};
 ghost use Rattle.bser_deserializer.specs.Dues.{IsValueDue, name_at};
 ghost use Rattle.bser_deserializer.specs.Kept.{kept_key, kept_keys};
 ghost use Rattle.bser_deserializer.specs.Reading.{NamesDue, bare};
@@ -178,10 +178,13 @@ impl<R: DeRead> Deserializer<R> {
     /// Fails for a tag of another kind than is asked for, and notes what is wanted.
     #[cold]
     #[inline(never)]
+    #[tactic(auto, using(crate::proofs::Ranges::stray_other))]
     pub(crate) fn refuse_tag(&mut self, wanted: Wanted, tag: u8) -> Refused
         ensures reason { self.new.refusal ≡ stray_at self.old.state.due tag }
         ensures state { self.new.state ≡ refused self.old.state }
         ensures note { self.new.note.finding ≡ Some (Finding.Stray wanted tag) }
+        ensures other { is_out_of_range self.new.refusal ≡ false }
+        ensures begun { self.new.note.begun ≡ self.old.note.begun }
         ensures memory { self.new.refusal ≢ Error.OutOfMemory }
     {
         self.note.finding = Some(Finding::Stray { wanted, tag });
@@ -192,10 +195,13 @@ impl<R: DeRead> Deserializer<R> {
     /// Fails, since no value is expected.
     #[cold]
     #[inline(never)]
+    #[tactic(auto, using(crate::proofs::Ranges::short_other))]
     pub(crate) fn refuse_no_value(&mut self) -> Refused
         requires { IsValueDue self.old.state.due → ⊥ }
         ensures err { HasFailed self.old self.new }
         ensures names { NamesDue bare nothing_at self.new.refusal self.old.state }
+        ensures other { is_out_of_range self.new.refusal ≡ false }
+        ensures begun { self.new.note.begun ≡ self.old.note.begun }
         ensures memory { self.new.refusal ≢ Error.OutOfMemory }
     {
         match self.due {
@@ -212,9 +218,12 @@ impl<R: DeRead> Deserializer<R> {
     }
 
     /// Fails, since nothing is expected: too few items, or a container is still open.
+    #[tactic(auto, using(crate::proofs::Ranges::refused_other))]
     pub(crate) fn refuse_nothing_due(&mut self) -> Refused
         ensures reason { self.new.refusal ≡ nothing_due_in self.old }
+        ensures other { is_out_of_range self.new.refusal ≡ false }
         ensures state { self.new.state ≡ refused self.old.state }
+        ensures note { self.new.note ≡ self.old.note }
         ensures memory { self.new.refusal ≢ Error.OutOfMemory }
     {
         if self.opened != 0 {

@@ -160,6 +160,7 @@ impl<R: DeRead> Deserializer<R> {
     pub fn refuse(&mut self, reason: Error) -> Refused
         ensures reason { self.new.refusal ≡ reason }
         ensures state { self.new.state ≡ refused self.old.state }
+        ensures note { self.new.note ≡ self.old.note }
     {
         self.bunser.refuse(reason)
     }
@@ -170,6 +171,7 @@ impl<R: DeRead> Deserializer<R> {
     pub fn complain(&mut self, complaint: Complaint) -> Refused
         ensures reason { self.new.refusal ≡ complained complaint self.old }
         ensures state { self.new.state ≡ refused self.old.state }
+        ensures note { self.new.note ≡ self.old.note }
         ensures memory { self.new.refusal ≢ Error.OutOfMemory }
     {
         if self.bunser.is_failed() {
@@ -251,6 +253,14 @@ impl<R: DeRead> Deserializer<R> {
         ensures { result ≡ pos (min self.now.state.source.count (2 ^ 63 - 1)) }
     {
         self.bunser.read_count()
+    }
+
+    /// Returns how many bytes were taken. Bytes that are only buffered are not counted.
+    #[inline(always)]
+    pub fn taken(&self) -> usize
+        ensures { result ≡ self.now.state.source.count }
+    {
+        self.bunser.taken()
     }
 
     /// Returns where the body of the message began, by the count of bytes taken; 0 before the

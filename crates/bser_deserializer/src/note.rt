@@ -53,6 +53,8 @@ pub struct Note {
     pub finding: Option<Finding>,
     /// The innermost field whose value is wrong, or that is missing or comes twice.
     pub field: Option<FieldName>,
+    /// How many bytes were taken before the value that is wrong, where it was taken whole.
+    pub begun: Option<usize>,
 }
 
 impl Note {
@@ -60,6 +62,7 @@ impl Note {
     pub const NONE: Note = Note {
         finding: None,
         field: None,
+        begun: None,
     };
 }
 
@@ -80,6 +83,7 @@ impl<R: DeRead> Deserializer<R> {
         ensures reason { self.new.refusal ≡ complained complaint self.old }
         ensures state { self.new.state ≡ refused self.old.state }
         ensures note { self.old.state.source.failed ≡ false → self.new.note.finding ≡ Some finding }
+        ensures begun { self.new.note.begun ≡ self.old.note.begun }
         ensures memory { self.new.refusal ≢ Error.OutOfMemory }
     {
         let failed = self.bunser.is_failed();
@@ -88,6 +92,19 @@ impl<R: DeRead> Deserializer<R> {
             self.note.finding = Some(finding);
         }
         refused
+    }
+
+    /// Notes that the value which is refused next began behind so many bytes.
+    #[cold]
+    #[inline(never)]
+    pub fn note_begun(&mut self, begun: usize)
+        ensures reason { self.new.refusal ≡ self.old.refusal }
+        ensures state { self.new.state ≡ self.old.state }
+        ensures begun { self.new.note.begun ≡ Some begun }
+        ensures finding { self.new.note.finding ≡ self.old.note.finding }
+        ensures field { self.new.note.field ≡ self.old.note.field }
+    {
+        self.note.begun = Some(begun);
     }
 
     /// Passes an answer on, and notes the name at this place where it is an error and no field

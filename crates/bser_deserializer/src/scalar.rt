@@ -1,8 +1,8 @@
 //! Reading scalars.
-ghost use Rattle.std.specs.Prelude.{◌≡◌, ◌≢◌, IfOk, OnErr, OnOk};
+ghost use Rattle.std.specs.Prelude.{◌≡◌, ◌≢◌, false, IfOk, OnErr, OnOk};
 ghost use Rattle.bser_format.specs.ReadsScalars.{reads_bool, reads_unit, reads_real};
 ghost use Rattle.bser_deserializer.specs.Askings.{asking_bool, asking_real, asking_unit};
-ghost use Rattle.bser_deserializer.specs.Calls.{Keeps, Reads, ReadsInteger, RefusesAs, RefusesInteger, RefusesNode, TakesNull};
+ghost use Rattle.bser_deserializer.specs.Calls.{Keeps, Reads, ReadsInteger, RefusesAs, RefusesInteger, RefusesNode, TakesNull, is_out_of_range};
 ghost use Rattle.bser_deserializer.specs.Dues.{IsTagged, IsValueDue};
 ghost use Rattle.bser_deserializer.specs.Holds.{HoldsTruth, HoldsSize, HoldsOne};
 ghost use Rattle.bser_deserializer.specs.Nodes.{tag_node, SeesNode};
@@ -150,6 +150,8 @@ impl<R: DeRead> Deserializer<R> {
         ensures found { IfOk result (ReadsInteger self.old self.new) }
         ensures kept { OnOk result (Keeps self.old self.new) }
         ensures refused { OnErr result (RefusesInteger self.old self.new) }
+        ensures begun { OnErr result (self.new.note.begun ≡ self.old.note.begun) }
+        ensures other { OnErr result (is_out_of_range self.new.refusal ≡ false) }
         ensures memory { OnErr result (self.new.refusal ≢ Error.OutOfMemory) }
     {
         if !self.is_value_due() {
@@ -167,11 +169,14 @@ impl<R: DeRead> Deserializer<R> {
     /// Reads an integer of any width, and buffers its bytes before.
     #[cold]
     #[inline(never)]
+    #[tactic(auto, using(crate::proofs::Ranges::cut_other, crate::proofs::Ranges::refused_other))]
     fn read_i64_slowly(&mut self) -> Answer<i64>
         requires { IsValueDue self.old.state.due }
         ensures found { IfOk result (ReadsInteger self.old self.new) }
         ensures kept { OnOk result (Keeps self.old self.new) }
         ensures refused { OnErr result (RefusesInteger self.old self.new) }
+        ensures begun { OnErr result (self.new.note.begun ≡ self.old.note.begun) }
+        ensures other { OnErr result (is_out_of_range self.new.refusal ≡ false) }
         ensures memory { OnErr result (self.new.refusal ≢ Error.OutOfMemory) }
     {
         match self.bunser.next_int()? {

@@ -1,9 +1,9 @@
 //! Reading strings, and keys as strings.
-ghost use Rattle.std.specs.Prelude.{◌≡◌, string_bytes, IfOk, OnErr, OnOk};
+ghost use Rattle.std.specs.Prelude.{◌≡◌, ◌≢◌, ◌⊎◌, true, false, Some, string_bytes, IfOk, OnErr, OnOk};
 ghost use Rattle.bser_format.specs.Errors.{error_of};
 ghost use Rattle.bser_source.specs.Refs.{bytes_of, is_lent, text_bytes, is_lent_text};
 ghost use Rattle.bser_deserializer.specs.Askings.{asking_string};
-ghost use Rattle.bser_deserializer.specs.Calls.{Keeps, ReadsBytes, ReadsText, RefusesAs, RefusesBytes, RefusesCopy, TakesBytes, TakesName, source_lends};
+ghost use Rattle.bser_deserializer.specs.Calls.{IsPlaced, Keeps, ReadsBytes, ReadsText, RefusesAs, RefusesBytes, RefusesCopy, TakesBytes, TakesName, source_lends};
 ghost use Rattle.bser_deserializer.specs.Dues.{IsTagged};
 ghost use Rattle.bser_deserializer.specs.Reading.{bare, owned};
 ghost use Rattle.bser_deserializer.specs.State.{refused};
@@ -48,8 +48,28 @@ impl<R: DeRead> Deserializer<R> {
     fn refuse_utf8(&mut self) -> Refused
         ensures reason { self.new.refusal ≡ error_of ReadCause.Utf8 }
         ensures state { self.new.state ≡ refused self.old.state }
+        ensures note { self.new.note ≡ self.old.note }
     {
         self.refuse(Error::de_reader_error(ReadCause::Utf8))
+    }
+
+    /// Fails for bytes that are not UTF-8, where this was expected behind so many bytes. Of a byte
+    /// string, which is well-formed, it notes that it began there.
+    #[cold]
+    #[inline(never)]
+    fn refuse_string(&mut self, begun: usize, due: Due, is_text: bool) -> Refused
+        ensures reason { self.new.refusal ≡ error_of ReadCause.Utf8 }
+        ensures state { self.new.state ≡ refused self.old.state }
+        ensures begun { is_text ≡ false → due ≢ Due.Key → self.new.note.begun ≡ Some begun }
+        ensures malformed { is_text ≡ true → self.new.note.begun ≡ self.old.note.begun }
+        ensures key { due ≡ Due.Key → self.new.note.begun ≡ self.old.note.begun }
+        ensures place { (self.new.note.begun ≡ self.old.note.begun)
+            ⊎ (self.new.note.begun ≡ Some begun) }
+    {
+        if !is_text && due != Due::Key {
+            self.note_begun(begun);
+        }
+        self.refuse_utf8()
     }
 
     /// Takes the bytes of the string or key that is expected, UTF-8 or not, and returns whether
@@ -61,6 +81,7 @@ impl<R: DeRead> Deserializer<R> {
         ensures source { IfOk result (λ p. is_lent p.0 ≡ R.Lent.lends) }
         ensures kept { OnOk result (Keeps self.old self.new) }
         ensures refused { OnErr result (RefusesBytes self.old self.new) }
+        ensures begun { OnErr result (self.new.note.begun ≡ self.old.note.begun) }
     {
         match self.due {
             Due::Node | Due::Field | Due::Key => {
@@ -85,6 +106,7 @@ impl<R: DeRead> Deserializer<R> {
         ensures found { IfOk result (TakesBytes (λ v. v.items) self.old self.new) }
         ensures kept { OnOk result (Keeps self.old self.new) }
         ensures refused { OnErr result (RefusesCopy self.old self.new) }
+        ensures begun { OnErr result (self.new.note.begun ≡ self.old.note.begun) }
     {
         match self.due {
             Due::Node | Due::Field | Due::Key => {
@@ -109,6 +131,7 @@ impl<R: DeRead> Deserializer<R> {
         ensures found { IfOk result (TakesName (λ v. v.items) self.old self.new) }
         ensures kept { OnOk result (Keeps self.old self.new) }
         ensures refused { OnErr result (RefusesCopy self.old self.new) }
+        ensures begun { OnErr result (self.new.note.begun ≡ self.old.note.begun) }
     {
         let mut scratch = Vec::new(alloc);
         let bytes = self.take_name(&mut scratch)?;
@@ -127,6 +150,7 @@ impl<R: DeRead> Deserializer<R> {
         ensures source { IfOk result (λ r. is_lent r ≡ R.Lent.lends) }
         ensures kept { OnOk result (Keeps self.old self.new) }
         ensures refused { OnErr result (RefusesBytes self.old self.new) }
+        ensures begun { OnErr result (self.new.note.begun ≡ self.old.note.begun) }
     {
         match name_of(self) {
             None => Err(self.refuse_no_value()),
@@ -176,9 +200,30 @@ where
         ensures source { IfOk result (λ t. is_lent_text t ≡ R.Lent.lends) }
         ensures kept { OnOk result (Keeps self.old self.new) }
         ensures refused { OnErr result (RefusesAs asking_string bare self.old self.new) }
+        ensures place { OnErr result (IsPlaced self.old self.new) }
     {
-        let (bytes, _) = self.take_bytes(scratch)?;
+        let (begun, due) = (self.taken(), self.due);
+        let (bytes, is_text) = self.take_bytes(scratch)?;
         match bytes.to_text() {
+            Ok(text) => Ok(text),
+            Err(_) => Err(self.refuse_string(begun, due, is_text)),
+        }
+    }
+
+    /// Reads a key as [`Deserializer::read_text`] does. One that is not UTF-8 is malformed.
+    #[inline(always)]
+    pub fn read_key<'s>(
+        &mut self,
+        scratch: &'s mut Vec<u8>,
+    ) -> Answer<TextReference<'s, <R::Lent as LendsText>::Text>>
+        ensures found { IfOk result (ReadsText (text_bytes R.Lent.Text.text) self.old self.new) }
+        ensures lent { IfOk result (λ t. is_lent_text t ≡ source_lends self.old) }
+        ensures source { IfOk result (λ t. is_lent_text t ≡ R.Lent.lends) }
+        ensures kept { OnOk result (Keeps self.old self.new) }
+        ensures refused { OnErr result (RefusesAs asking_string bare self.old self.new) }
+    {
+        let (key, _) = self.take_bytes(scratch)?;
+        match key.to_text() {
             Ok(text) => Ok(text),
             Err(cause) => Err(self.refuse(Error::de_reader_error(cause))),
         }
@@ -192,10 +237,12 @@ where
         ensures found { IfOk result (ReadsText string_bytes self.old self.new) }
         ensures kept { OnOk result (Keeps self.old self.new) }
         ensures refused { OnErr result (RefusesAs asking_string owned self.old self.new) }
+        ensures place { OnErr result (IsPlaced self.old self.new) }
     {
-        let (bytes, _) = self.take_copy(alloc)?;
+        let (begun, due) = (self.taken(), self.due);
+        let (bytes, is_text) = self.take_copy(alloc)?;
         if as_text(&bytes).is_none() {
-            return Err(self.refuse_utf8());
+            return Err(self.refuse_string(begun, due, is_text));
         }
         Ok(unsafe { String::from_utf8_unchecked(bytes) })
     }

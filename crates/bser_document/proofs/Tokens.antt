@@ -7,7 +7,7 @@ use Rattle.std.proofs.lemmas.Bool.Decides.{nat_tests}
 use Rattle.std.proofs.lemmas.Fmt.{decimal_is_IsNumeral, decimal_digit, first_decimal, decimal-digits_value, decimal_injective}
 use Rattle.std.proofs.lemmas.Str.Parse.{IsNumeralModel}
 use Rattle.std.proofs.lemmas.Str.Pattern.{IsSplitOnceResult, split_once_first}
-use Rattle.bser_document.specs.Pointer.{before, between_slashes, tokens, is_plain}
+use Rattle.bser_document.specs.Pointer.{before, behind_slashes, between_slashes, has_only_escapes, tokens, is_plain}
 
 -- ---- tokens
 
@@ -47,9 +47,14 @@ part_cut s x h =
 pub part_left : (s : List ℕ) → IsSplitOnceResult 47 s None → between_slashes s ≡ s ∷ []
 part_left s h = last_part s (split_once_first 47 s None h (omega arith))
 
-pub no_tokens : (s : List ℕ) → (length s == 0) ≡ false → ((r : List ℕ) → s ≡ 47 ∷ r → ⊥) → tokens s ≡ None
-no_tokens [] some wrong = cc
-no_tokens (b ∷ s) some wrong = let no : b ≡ 47 → ⊥ = λ e. wrong s (ap (λ b. b ∷ s) e) in grind (arith, nat_tests)
+-- the tokens of a path are what is behind its slashes where its tildes are escapes, and there are none where not
+pub tokens_where : (s : List ℕ) (t : Bool) → has_only_escapes s ≡ t → tokens s ≡ cond t (behind_slashes s) None
+tokens_where s t h = ap (λ t. cond t (behind_slashes s) None) h
+
+-- a path that is not empty has a slash first
+pub no_slash : (s : List ℕ) → (length s == 0) ≡ false → ((r : List ℕ) → s ≡ 47 ∷ r → ⊥) → behind_slashes s ≡ None
+no_slash [] some wrong = cc
+no_slash (b ∷ s) some wrong = let no : b ≡ 47 → ⊥ = λ e. wrong s (ap (λ b. b ∷ s) e) in grind (arith, nat_tests)
 
 -- ---- indexes
 

@@ -1,5 +1,5 @@
 -- The value that a JSON pointer leads to.
-use Rattle.std.specs.Prelude.{◌≡◌, ◌==◌, ◌&&◌, ◌||◌, not, ◌^◌, ◌<◌, ℕ, ◌+◌, Bool, true, List, [], ◌∷◌, Option, Some, None, cond, option_and_then, slice_get}
+use Rattle.std.specs.Prelude.{◌≡◌, ◌==◌, ◌&&◌, ◌||◌, not, ◌^◌, ◌<◌, ℕ, ◌+◌, Bool, true, false, List, [], ◌∷◌, Option, Some, None, cond, option_and_then, slice_get}
 use Rattle.std.specs.Borrow.{Bor}
 use Rattle.std.specs.Fmt.{decimal}
 use Rattle.bser_format.specs.SameTree.{same_bytes}
@@ -16,10 +16,24 @@ abbrev pub between_slashes : List ℕ → List (List ℕ)
 between_slashes [] = [] ∷ []
 between_slashes (b ∷ s) = cond (b == 47) ([] ∷ between_slashes s) (before b (between_slashes s))
 
--- the tokens of a path, one behind each slash; a path that is not empty begins with a slash
+-- what is behind each slash of a path; one that is not empty begins with a slash
+abbrev pub behind_slashes : List ℕ → Option (List (List ℕ))
+behind_slashes [] = Some []
+behind_slashes (b ∷ s) = cond (b == 47) (Some (between_slashes s)) None
+
+-- a digit 0 or 1 comes first
+abbrev pub has_digit_first : List ℕ → Bool
+has_digit_first [] = false
+has_digit_first (b ∷ s) = b == 48 || b == 49
+
+-- behind each tilde stands a digit 0 or 1, so that it is an escape
+abbrev pub has_only_escapes : List ℕ → Bool
+has_only_escapes [] = true
+has_only_escapes (b ∷ s) = (not (b == 126) || has_digit_first s) && has_only_escapes s
+
+-- the tokens of a JSON pointer: what is behind each slash of a path whose tildes are escapes
 abbrev pub tokens : List ℕ → Option (List (List ℕ))
-tokens [] = Some []
-tokens (b ∷ s) = cond (b == 47) (Some (between_slashes s)) None
+tokens s = cond (has_only_escapes s) (behind_slashes s) None
 
 -- a tilde and this digit stand for this byte
 abbrev pub unescaped : ℕ → ℕ → List ℕ → List ℕ
@@ -47,7 +61,7 @@ abbrev pub descendant : List (List ℕ) → Tree → Option Tree
 descendant [] u = Some u
 descendant (s ∷ ss) u = option_and_then (descendant ss) (child s u)
 
--- the value that a path leads to
+-- the value that a JSON pointer leads to; a path that is none leads nowhere
 abbrev pub pointed : List ℕ → Tree → Option Tree
 pointed path u = option_and_then (λ ss. descendant ss u) (tokens path)
 

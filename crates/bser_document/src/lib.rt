@@ -10,7 +10,7 @@ pub mod items;
 mod message;
 pub mod order;
 mod plain;
-mod pointer;
+pub mod pointer;
 mod put;
 mod reading;
 mod replay;

@@ -1,5 +1,5 @@
 //! The keys of a template in rising byte order, and the fields of a row by their places.
-ghost use Rattle.std.specs.Prelude.{◌≡◌, ℕ, List, IfOk, OnOk};
+ghost use Rattle.std.specs.Prelude.{◌≡◌, ℕ, List, [], IfOk, OnOk};
 ghost use Rattle.bser_document.specs.Order.{last_places, shown, value_at, HoldsFields, FindsField};
 ghost use Rattle.bser_document.specs.Rows.{HoldsRows, HoldsRow, Pair};
 
@@ -17,8 +17,10 @@ pub struct RowFields<'d> {
 }
 
 impl<'d> RowFields<'d> {
-    /// Begins with none of these rows read.
-    pub fn new(alloc: Global, rows: Rows<'d>) -> Self {
+    /// Begins with none of these rows read, and so without fields.
+    pub fn new(alloc: Global, rows: Rows<'d>) -> Self
+        ensures { HoldsFields result [] }
+    {
         RowFields {
             document: rows.document,
             places: Vec::new(alloc),

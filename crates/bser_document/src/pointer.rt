@@ -1,10 +1,22 @@
 //! The value that a JSON pointer leads to, and an item by its place.
-ghost use Rattle.std.specs.Prelude.{◌≡◌, ℕ, List, None, Some, option_and_then};
+ghost use Rattle.std.specs.Prelude.{◌≡◌, ℕ, List, None, Some, is_some, option_and_then};
 ghost use Rattle.bser_format.specs.SameTree.{same_bytes};
 ghost use Rattle.bser_format.specs.Tree.{Tree};
 ghost use Rattle.bser_document.specs.Holds.{HoldsItem};
 ghost use Rattle.bser_document.specs.Pairs.{HoldsEntries, FindsItem, last_from};
-ghost use Rattle.bser_document.specs.Pointer.{pointed, descendant, between_slashes, child, item_there, token_text, BeginsText, is_plain, ReadsIndex};
+ghost use Rattle.bser_document.specs.Pointer.{
+  pointed,
+  descendant,
+  between_slashes,
+  child,
+  has_only_escapes,
+  item_there,
+  token_text,
+  tokens,
+  BeginsText,
+  is_plain,
+  ReadsIndex,
+};
 
 use crate::entries::{Entries, pick};
 use crate::item::Item;
@@ -14,12 +26,15 @@ impl<'d> Item<'d> {
     /// the value itself. Any other has a token behind each `/`: in an object a key, of equal keys
     /// the last, and in an array an index, in decimal digits with no zero before others. In a key
     /// `~1` stands for `/`, and `~0` for `~`. `None` where no value is there, and where the path
-    /// does not begin with `/`.
+    /// [is no pointer](is_pointer).
     ///
     /// It takes no memory. An index is found by walking over the items before it.
     pub fn pointer(self, path: &str) -> Option<Item<'d>>
         ensures { (u : Tree) → HoldsItem self.entry u → FindsItem (pointed path.now u) result }
     {
+        if !has_only_escapes(path.as_bytes()) {
+            return None;
+        }
         match path.strip_prefix('/') {
             Some(tokens) => self.descendant(tokens),
             None if path.is_empty() => Some(self),
@@ -83,6 +98,28 @@ impl<'d> Entries<'d> {
         }
         found
     }
+}
+
+/// Whether a text is a JSON pointer (RFC 6901): empty, or with `/` first, and with `0` or `1` behind
+/// each `~`.
+pub fn is_pointer(text: &str) -> bool
+    ensures { result ≡ is_some (tokens text.now) }
+{
+    (text.is_empty() || text.starts_with('/')) && has_only_escapes(text.as_bytes())
+}
+
+/// Whether `0` or `1` is behind each `~`.
+fn has_only_escapes(text: &[u8]) -> bool
+    ensures { result ≡ has_only_escapes text.now }
+{
+    let mut rest = text;
+    while let [first, behind @ ..] = rest {
+        if *first == b'~' && !matches!(behind, [b'0' | b'1', ..]) {
+            return false;
+        }
+        rest = behind;
+    }
+    true
 }
 
 /// Whether the text of a token is this key.

@@ -1,9 +1,10 @@
 -- A real by its 64 bits.
-use Rattle.std.specs.Prelude.{◌≡◌, ℕ, ◌^◌, ◌%◌, List, Option, Some, None, Float, codes, from_bits, to_bits, is_nan, ◌==◌, if◌then◌else◌}
+use Rattle.std.specs.Prelude.{◌≡◌, ℕ, ◌^◌, ◌%◌, List, Option, Some, None, Bool, true, Float, codes, from_bits, to_bits, is_nan, ◌==◌, ◌||◌, if◌then◌else◌}
 use Rattle.std.specs.Int.{w64, to_be_bytes}
 use Rattle.std.specs.Float.{binary64}
 use Rattle.std.specs.Float.Ieee.{nan_bits}
 use Rattle.std.specs.Float.Parse.{parse_float}
+use Rattle.std.specs.List.{list_any}
 use Rattle.bser_format.specs.MarkedText.{marked_text}
 
 -- the number, where the bits are not those of a NaN
@@ -22,9 +23,18 @@ finite bits = if bits % 2 ^ 63 == 0x7ff0000000000000 then None else float_of bit
 abbrev pub bits_text : ℕ → List ℕ
 bits_text bits = marked_text (codes "$real") (to_be_bytes w64 bits)
 
--- a text of the number with these bits: one that reads back as it
+-- a point, or the letter of an exponent
+abbrev pub is_point_or_e : ℕ → Bool
+is_point_or_e c = (c == 46) || ((c == 101) || (c == 69))
+
+-- whether a number's text has a point or an exponent, as no integer's has
+abbrev pub has_point_or_e : List ℕ → Bool
+has_point_or_e s = list_any is_point_or_e s
+
+-- a text of the number with these bits: one that is no integer's, and reads back as it
 abbrev pub IsNumberText : ℕ → List ℕ → Type 0
-IsNumberText bits s = (read : Float) × (parse_float binary64 s ≡ Some read) × (bits_of read ≡ Some bits)
+IsNumberText bits s =
+    (has_point_or_e s ≡ true) × (read : Float) × (parse_float binary64 s ≡ Some read) × (bits_of read ≡ Some bits)
 
 -- a text of the number with these bits, or this one where there is none
 abbrev pub IsNumberTextOr : ℕ → List ℕ → Option Float → List ℕ → Type 0

@@ -1,6 +1,6 @@
 //! Reals, of which a message gives the 64 bits.
 ghost use Rattle.std.specs.Prelude.{◌≡◌};
-ghost use Rattle.bser_format.specs.RealText.{float_of, bits_of, finite, IsNumberText, IsRealText};
+ghost use Rattle.bser_format.specs.RealText.{float_of, bits_of, finite, has_point_or_e, IsNumberText, IsRealText};
 ghost use Rattle.bser_format.specs.SomeText.{WritesSomeOnOk};
 
 use crate::marked::write_marked;
@@ -51,8 +51,20 @@ pub fn write_real<W: Write>(bits: u64, f: &mut fmt::Formatter<W>) -> fmt::Result
     }
 }
 
+/// Whether a number's text has a point or an exponent, as that of an integer never has.
+pub fn has_point_or_e(text: &[u8]) -> bool
+    ensures { result ≡ has_point_or_e text.now }
+{
+    for byte in text {
+        if matches!(*byte, b'.' | b'e' | b'E') {
+            return true;
+        }
+    }
+    false
+}
+
 /// Writes the number with these bits. Std promises nothing of the text that it prints, so that text is
-/// read back before it is written.
+/// looked at and read back before it is written.
 fn write_number<W: Write>(bits: u64, number: f64, f: &mut fmt::Formatter<W>) -> fmt::Result
     ensures { WritesSomeOnOk W.write_str_gives f.old result (IsNumberText bits) f.new }
 {
@@ -64,7 +76,7 @@ fn write_number<W: Write>(bits: u64, number: f64, f: &mut fmt::Formatter<W>) -> 
     let bytes = printed.bytes.get(..printed.len).ok_or(fmt::Error)?;
     let text = str::from_utf8(bytes).map_err(|_| fmt::Error)?;
     let read = text.parse::<f64>().map_err(|_| fmt::Error)?;
-    if bits_of(read) == Some(bits) {
+    if bits_of(read) == Some(bits) && has_point_or_e(bytes) {
         f.write_str(text)
     } else {
         Err(fmt::Error)

@@ -7,3 +7,4 @@ pub mod Outcomes
 pub mod Entries
 pub mod Parts
 pub mod Messages
+pub mod Writing

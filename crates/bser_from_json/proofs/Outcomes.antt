@@ -8,7 +8,7 @@ use Rattle.std.specs.Borrow.{Bor}
 use Rattle.std.specs.declared.alloc.Global.{Global}
 use Rattle.bser_format.specs.Tree.{Tree, array, object, items_of, entries_of}
 use Rattle.bser_from_json.specs.Left.{ComesWhere, IsRefused, LacksToken, Takes, due_to, opens, step_to}
-use Rattle.bser_from_json.specs.Made.{Around, in_array, in_object, Due, goes_on, stops, stops_before, Outcome, makes, refuses, lacks, made, a_value, a_first_member, a_string, end_step, mark_in, member_step, name_of, named_step, new_name, unless_mark, an_end, an_item, end_due, mark_fault, marked_made, at_end, follow, has_level, is_bad, item_step, most_levels, nothing, put, run, step, value_step}
+use Rattle.bser_from_json.specs.Made.{Around, in_array, in_object, Due, goes_on, stops, stops_before, Outcome, makes, refuses, lacks, breaks, made, unmet, a_value, a_first_member, a_string, end_step, mark_in, member_step, name_of, named_step, new_name, unless_mark, an_end, an_item, end_due, mark_fault, marked_made, at_end, follow, has_level, is_bad, item_step, most_levels, nothing, put, run, step, value_step}
 use Rattle.bser_from_json.specs.declared.fault.JsonFault.{JsonFault}
 use Rattle.bser_from_json.specs.declared.fault.JsonFault.TheVariants as faults
 use Rattle.bser_from_json.specs.declared.meaning.Mark.{Mark}
@@ -23,17 +23,17 @@ run_on : (s : Strings) (n m : ℕ) (d : Due) (t : tokens.Token) (rs ts : List to
 unfolding run
 run_on s n m d t rs ts left good count = rw (left, good, count) refl
 
-run_lacks : (s : Strings) (n : ℕ) (d : Due) (ts : List tokens.Token) → at_end n d ≡ lacks n → LacksToken ts → run s n d ts ≡ lacks n
+run_lacks : (s : Strings) (n : ℕ) (d : Due) (ts : List tokens.Token) → (at_end n d ≡ lacks n) × (unmet n d ≡ lacks n) → LacksToken ts → run s n d ts ≡ lacks n
 unfolding run
-run_lacks s n d [] last h = last
-run_lacks s n d (t ∷ ts) last h = rw h refl
+run_lacks s n d [] last h = last.0
+run_lacks s n d (t ∷ ts) last h = rw h last.1
 
 -- a token was taken: the outcome is that behind what it does
 pub taken : (s : Strings) (d : Due) (old new : Tokens) (t : Token) → Takes old new (Ok t) → due_to s old d ≡ step_to s new (step s d (token_of t))
 taken s d old new t h = run_on s old.taken new.taken d (token_of t) old.reader new.reader h.0 h.1 h.2
 
 -- there is none
-pub lacking : (s : Strings) (d : Due) (old new : Tokens) (e : TokenError) → at_end old.taken d ≡ lacks old.taken → Takes old new (Err e) → IsRefused (due_to s old d) e
+pub lacking : (s : Strings) (d : Due) (old new : Tokens) (e : TokenError) → (at_end old.taken d ≡ lacks old.taken) × (unmet old.taken d ≡ lacks old.taken) → Takes old new (Err e) → IsRefused (due_to s old d) e
 lacking s d old new e last h = subst (IsRefused (due_to s old d)) (sym h.0) (run_lacks s old.taken d old.reader last h.1)
 
 -- the same outcome is refused by the same
@@ -54,18 +54,16 @@ no_room os h = by (has_level os) refl
     by true e = absurd (omega (arith, h, ltb-true (length os) most_levels e))
     by false e = refl
 
--- a token behind the value is refused
+-- no token may stand behind the value
 
-run_bad : (s : Strings) (n : ℕ) (d : Due) (t : tokens.Token) (rs ts : List tokens.Token) → rs ≡ t ∷ ts → is_bad t ≡ true → run s n d rs ≡ lacks n
+run_behind : (s : Strings) (n : ℕ) (u : Tree) (t : tokens.Token) (ts : List tokens.Token) (b : Bool) → is_bad t ≡ b → run s n (nothing u) (t ∷ ts) ≡ breaks n
 unfolding run
-run_bad s n d t rs ts left bad = rw left (rw bad refl)
+run_behind s n u t ts true bad = rw bad refl
+run_behind s n u t ts false good = rw good (ap breaks (omega arith))
 
-pub bad_next : (s : Strings) (old : Tokens) (u : Tree) (t : Token) (ts : List tokens.Token) → old.reader ≡ token_of t ∷ ts → is_bad (token_of t) ≡ true → due_to s old (nothing u) ≡ lacks old.taken
-bad_next s old u t ts left bad = run_bad s old.taken (nothing u) (token_of t) old.reader ts left bad
-
-pub refused_end : (s : Strings) (old : Tokens) (u : Tree) (t : Token) (ts : List tokens.Token) (e : TokenError) → old.reader ≡ token_of t ∷ ts → is_bad (token_of t) ≡ false → e ≡ refusals.At faults.NotJson (suc old.taken) → IsRefused (due_to s old (nothing u)) e
-refused_end s old u t ts e left good is =
-    subst (IsRefused (due_to s old (nothing u))) (sym is) (run_on s old.taken (suc old.taken) (nothing u) (token_of t) old.reader ts left good refl)
+pub refused_end : (s : Strings) (old : Tokens) (u : Tree) (t : tokens.Token) (ts : List tokens.Token) (e : TokenError) → old.reader ≡ t ∷ ts → e ≡ refusals.Breaks old.taken → IsRefused (due_to s old (nothing u)) e
+refused_end s old u t ts e left is =
+    subst (IsRefused (due_to s old (nothing u))) (sym is) (ap (run s old.taken (nothing u)) left ∙ run_behind s old.taken u t ts (is_bad t) refl)
 
 -- the exit of a `?`
 

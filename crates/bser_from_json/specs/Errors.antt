@@ -1,19 +1,20 @@
 -- The error of a text, and its place.
 use Rattle.std.specs.Prelude.{◌≡◌, ℕ, ◌+◌, ◌-◌, List, drop, Option, Some, None, ⊤}
 use Rattle.bser_from_json.specs.Lines.{place_in}
-use Rattle.bser_from_json.specs.Made.{Outcome, makes, refuses, lacks}
-use Rattle.bser_from_json.specs.Places.{first_fault, token_place}
+use Rattle.bser_from_json.specs.Made.{Outcome, makes, refuses, lacks, breaks}
+use Rattle.bser_from_json.specs.Places.{first_fault, place_behind, token_place}
 use Rattle.bser_from_json.specs.declared.fault.JsonFault.{JsonFault}
 use Rattle.bser_from_json.specs.declared.fault.JsonError.{JsonError}
 use Rattle.bser_from_json.specs.declared.fault.JsonError.TheVariants as errors
 use Rattle.bser_from_json.specs.declared.fault.Place.{Place}
 
--- the fault that an outcome is in its text, and how many bytes stand before it. Where a token lacks, the
--- bytes there say why
+-- the fault that an outcome is in its text, and how many bytes stand before it. Where a token lacks, or another
+-- stands there than may, the bytes there say why
 abbrev pub fault_in : List ℕ → Outcome → Option (JsonFault × ℕ)
 fault_in text (makes u) = None
 fault_in text (refuses f n) = Some (f, token_place text (n - 1))
 fault_in text (lacks n) = Some (first_fault (drop (token_place text n) text), token_place text n)
+fault_in text (breaks n) = Some (first_fault (drop (place_behind text n) text), place_behind text n)
 
 -- the error is this fault at this place
 abbrev pub IsAt : JsonFault → Place → JsonError → Type 0

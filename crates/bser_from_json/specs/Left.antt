@@ -12,7 +12,7 @@ use Rattle.bser_from_json.specs.declared.tokens.TokenError.{TokenError}
 use Rattle.bser_from_json.specs.declared.tokens.TokenError.TheVariants as refusals
 use Rattle.bser_from_json.specs.declared.tokens.Tokens.{Tokens}
 use Rattle.bser_from_json.specs.Bodies.{Follows}
-use Rattle.bser_from_json.specs.Made.{Around, Due, Step, Outcome, refuses, lacks, follow, is_bad, most_levels, nothing, put, run}
+use Rattle.bser_from_json.specs.Made.{Around, Due, Step, Outcome, refuses, lacks, breaks, follow, is_bad, most_levels, nothing, put, run}
 
 -- what is due comes to this with the tokens that are left
 abbrev pub due_to : Strings → Tokens → Due → Outcome
@@ -26,6 +26,7 @@ step_to s left step = follow left.taken step (due_to s left)
 abbrev pub IsRefused : Outcome → TokenError → Type 0
 IsRefused o (refusals.At f n) = o ≡ refuses f n
 IsRefused o (refusals.Lacks n) = o ≡ lacks n
+IsRefused o (refusals.Breaks n) = o ≡ breaks n
 IsRefused o refusals.OutOfMemory = ⊤
 
 -- the body of a tree was put behind the bytes, and with it the outcome is this; or the outcome is the refusal

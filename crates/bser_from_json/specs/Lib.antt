@@ -5,3 +5,4 @@ pub mod Lines
 pub mod Made
 pub mod Places
 pub mod Scalars
+pub mod Written

@@ -23,3 +23,9 @@ behind_bytes p bs = fold behind_byte p bs
 -- the place in a text of the byte that so many stand before
 abbrev pub place_in : List ℕ → ℕ → Place
 place_in text n = behind_bytes (record { line = 1; column = 1 }) (take n text)
+
+-- the place in a text that begins at the first one, where in that text it is the second
+abbrev pub around : Place → Place → Place
+around p q =
+    if nat_lt 1 q.line then record { line = min (p.line + (q.line - 1)) (2 ^ 64 - 1); column = q.column }
+    else record { line = p.line; column = min (p.column + (q.column - 1)) (2 ^ 64 - 1) }

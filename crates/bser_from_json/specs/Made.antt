@@ -1,12 +1,12 @@
 -- What is made of a JSON text, token by token.
-use Rattle.std.specs.Prelude.{ℕ, ℤ, pos, negsuc, suc, ◌-◌, ◌^◌, List, [], ◌∷◌, ◌++◌, length, drop, Bool, true, false, not, ◌&&◌, ◌||◌, ◌==◌, nat_lt, Option, Some, None, Result, Ok, Err, Float, codes, is_some, to_bits, slice_index, if◌then◌else◌}
+use Rattle.std.specs.Prelude.{ℕ, ℤ, pos, negsuc, suc, ◌-◌, ◌^◌, List, [], ◌∷◌, ◌++◌, length, drop, Bool, true, false, not, ◌&&◌, ◌==◌, nat_lt, Option, Some, None, Result, Ok, Err, Float, codes, is_some, to_bits, slice_index, if◌then◌else◌}
 use Rattle.std.specs.BTreeMap.{insert_entry}
 use Rattle.std.specs.Char.{digit_value}
 use Rattle.std.specs.Cmp.Lexicographic.{slice_cmp}
 use Rattle.std.specs.Float.{binary64, float_is_finite}
 use Rattle.std.specs.Float.Parse.{parse_float}
 use Rattle.std.specs.Int.{w64, from_be_bytes}
-use Rattle.std.specs.List.{list_all, list_any}
+use Rattle.std.specs.List.{list_all}
 use Rattle.std.specs.Map.{lookup}
 use Rattle.std.specs.Ordering.{nat_cmp}
 use Rattle.std.specs.Str.{bytes_eq}
@@ -14,6 +14,7 @@ use Rattle.std.specs.Str.Parse.{signed_digits_value, without_leading_sign}
 use Rattle.hex.specs.Hex.{decode_of}
 use Rattle.hex.specs.declared.error.FromHexError.{FromHexError}
 use Rattle.json.specs.Token as tokens
+use Rattle.bser_format.specs.RealText.{has_point_or_e}
 use Rattle.bser_format.specs.Tree.{Tree, null, boolean, integer, real, bytes, text, array, object, items_of, entries_of}
 use Rattle.bser_from_json.specs.declared.fault.JsonFault.{JsonFault}
 use Rattle.bser_from_json.specs.declared.fault.JsonFault.TheVariants as faults
@@ -24,12 +25,9 @@ use Rattle.bser_from_json.specs.declared.meaning.Mark.TheVariants as marks
 
 -- ---- a number
 
-abbrev pub is_point_or_e : ℕ → Bool
-is_point_or_e c = (c == 46) || ((c == 101) || (c == 69))
-
 -- whether a number is an integer: it has no point and no exponent, and is not `-0`
 abbrev pub is_whole : List ℕ → Bool
-is_whole s = not (bytes_eq s (codes "-0")) && not (list_any is_point_or_e s)
+is_whole s = not (bytes_eq s (codes "-0")) && not (has_point_or_e s)
 
 abbrev pub is_digit : ℕ → Bool
 is_digit c = nat_lt (digit_value c) 10
@@ -131,11 +129,14 @@ pub data Due : Type 0 where
   an_end : Tree → List Around → Due
   nothing : Tree → Due
 
--- what a token does: something is due behind it; or it is refused; or the one before it is
+-- what a token does: something is due behind it; or it is refused; or the one before it is; or what stands
+-- right behind it is; or what stands right behind the one before it
 pub data Step : Type 0 where
   goes_on : Due → Step
   stops : JsonFault → Step
   stops_before : JsonFault → Step
+  breaks_behind : Step
+  breaks_before : Step
 
 -- a value is put into what is around it
 abbrev pub put : Tree → List Around → Due
@@ -161,6 +162,7 @@ value_step s os (tokens.number t) = put_made os (number_made t)
 value_step s os (tokens.string t) = goes_on (put (string_made s t) os)
 value_step s os tokens.begin_array = if has_level os then goes_on (an_item [] os) else stops faults.TooDeep
 value_step s os tokens.begin_object = goes_on (a_first_member os)
+value_step s os (tokens.key k) = breaks_behind
 value_step s os _ = stops faults.NotJson
 
 abbrev pub item_step : Strings → List Tree → List Around → tokens.Token → Step
@@ -174,6 +176,7 @@ named_step es os (Err f) = stops f
 abbrev pub member_step : List (List ℕ × Tree) → List Around → tokens.Token → Step
 member_step es os tokens.end_object = goes_on (put (object (entries_of es)) os)
 member_step es os (tokens.key k) = named_step es os (new_name es (name_of k))
+member_step es os (tokens.string k) = breaks_behind
 member_step es os _ = stops faults.NotJson
 
 -- an object that is no mark has a level
@@ -207,35 +210,44 @@ step s (a_first_member os) t = first_step os t
 step s (a_member es os) t = member_step es os t
 step s (a_string m os) t = end_due m os (marked_made m t)
 step s (an_end u os) t = end_step u os t
-step s (nothing u) t = stops faults.NotJson
+step s (nothing u) t = breaks_before
 
 -- ---- what a text comes to
 
--- a tree is made; or a token of this number is refused, from 1 on; or behind so many there is none
+-- a tree is made; or a token of this number is refused, from 1 on; or behind so many, each with its comma or
+-- colon, there is none; or right behind so many stands what may not
 pub data Outcome : Type 0 where
   makes : Tree → Outcome
   refuses : JsonFault → ℕ → Outcome
   lacks : ℕ → Outcome
+  breaks : ℕ → Outcome
 
 abbrev pub is_bad : tokens.Token → Bool
 is_bad tokens.bad = true
 is_bad _ = false
 
+-- where there is no token: behind a whole value nothing may stand
+abbrev pub unmet : ℕ → Due → Outcome
+unmet n (nothing u) = breaks n
+unmet n _ = lacks n
+
 -- where no token is left
 abbrev pub at_end : ℕ → Due → Outcome
 at_end n (nothing u) = makes u
-at_end n _ = lacks n
+at_end n d = unmet n d
 
 -- the token of this number did this, and then `on` what is due follows
 abbrev pub follow : ℕ → Step → (Due → Outcome) → Outcome
 follow n (goes_on d) on = on d
 follow n (stops f) on = refuses f n
 follow n (stops_before f) on = refuses f (n - 1)
+follow n breaks_behind on = breaks n
+follow n breaks_before on = breaks (n - 1)
 
 -- behind so many tokens this is due, and these are left
 unfoldable pub run : Strings → ℕ → Due → List tokens.Token → Outcome
 run s n d [] = at_end n d
-run s n d (t ∷ ts) = if is_bad t then lacks n else follow (suc n) (step s d t) (λ e. run s (suc n) e ts)
+run s n d (t ∷ ts) = if is_bad t then unmet n d else follow (suc n) (step s d t) (λ e. run s (suc n) e ts)
 
 -- what the tokens of a text make
 abbrev pub made : Strings → List tokens.Token → Outcome

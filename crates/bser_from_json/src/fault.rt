@@ -1,11 +1,12 @@
 //! What is wrong with a JSON text, and where.
-ghost use Rattle.std.specs.Prelude.{◌≡◌, ◌≤◌, count_by, length, false};
+ghost use Rattle.std.specs.Prelude.{◌≡◌, ◌≤◌, count_by, length, false, IfOk};
 ghost use Rattle.json.specs.Word.{is_space};
-ghost use Rattle.bser_from_json.specs.Lines.{behind_bytes, begins_character, place_in};
-ghost use Rattle.bser_from_json.specs.Places.{begins_high, begins_lone, begins_low, begins_pair, first_fault, string_fault};
+ghost use Rattle.bser_from_json.specs.Lines.{around, behind_bytes, begins_character, place_in};
+ghost use Rattle.bser_from_json.specs.Places.{begins_a_literal, begins_high, begins_lone, begins_low, begins_pair, first_fault, is_hex, is_high, is_low, lacks_a_digit, string_fault, word_fault};
 
+use json::is_number;
 use memchr::memchr;
-use std::alloc::AllocError;
+use std::alloc::{AllocError, Global};
 use std::fmt;
 
 /// Why a text is not taken.
@@ -89,7 +90,9 @@ impl Place {
     }
 
     /// The place of a text that begins here, where in that text it is `inner`.
-    pub(crate) fn around(self, inner: Place) -> Place {
+    pub(crate) fn around(self, inner: Place) -> Place
+        ensures { result ≡ around self inner }
+    {
         if inner.line > 1 {
             return Place {
                 line: self.line.saturating_add(inner.line - 1),
@@ -141,20 +144,51 @@ pub(crate) fn is_blank(byte: u8) -> bool
     matches!(byte, b' ' | b'\t' | b'\n' | b'\r')
 }
 
-/// Why no token begins here.
-pub(crate) fn fault_of(rest: &[u8]) -> JsonFault
-    ensures { result ≡ first_fault rest.now }
+/// Why no token begins here, where the text ends behind these bytes.
+pub(crate) fn fault_of(alloc: Global, rest: &[u8]) -> Result<JsonFault, AllocError>
+    ensures { IfOk result (λ fault. fault ≡ first_fault rest.now) }
 {
     let Some((first, behind)) = rest.split_first() else {
-        return JsonFault::EndsEarly;
+        return Ok(JsonFault::EndsEarly);
     };
     if rest.starts_with(b"NaN") || rest.starts_with(b"Infinity") || rest.starts_with(b"-Infinity") {
-        return JsonFault::NotANumber;
+        return Ok(JsonFault::NotANumber);
     }
     if *first == b'"' {
-        return string_fault(behind);
+        return Ok(string_fault(behind));
     }
-    JsonFault::NotJson
+    word_fault(alloc, rest)
+}
+
+/// Why a word is none.
+fn word_fault(alloc: Global, rest: &[u8]) -> Result<JsonFault, AllocError>
+    ensures { IfOk result (λ fault. fault ≡ word_fault rest.now) }
+{
+    if begins_a_literal(rest) || lacks_a_digit(alloc, rest)? {
+        return Ok(JsonFault::EndsEarly);
+    }
+    Ok(JsonFault::NotJson)
+}
+
+/// Whether `true`, `false` or `null` begins with these bytes.
+fn begins_a_literal(rest: &[u8]) -> bool
+    ensures { result ≡ begins_a_literal rest.now }
+{
+    b"true".starts_with(rest) || b"false".starts_with(rest) || b"null".starts_with(rest)
+}
+
+/// Whether these bytes are a number, but for a digit at its end.
+fn lacks_a_digit(alloc: Global, rest: &[u8]) -> Result<bool, AllocError>
+    ensures { IfOk result (λ lacks. lacks ≡ lacks_a_digit rest.now) }
+{
+    match std::str::from_utf8(rest) {
+        Ok(text) => {
+            let mut number = String::from_str(alloc, text)?;
+            number.push_str("0")?;
+            Ok(is_number(number.as_str()))
+        }
+        Err(_) => Ok(false),
+    }
 }
 
 /// Why a string is none, of which this stands behind its first quote.
@@ -208,12 +242,9 @@ fn begins_high(bytes: &[u8]) -> bool
     ensures { result ≡ begins_high bytes.now }
 {
     match bytes {
-        [
-            b'u',
-            b'd' | b'D',
-            b'8' | b'9' | b'a' | b'b' | b'A' | b'B',
-            ..
-        ] => true,
+        [b'u', b'd' | b'D', half, third, fourth, ..] => is_high(*half)
+            && is_hex(*third)
+            && is_hex(*fourth),
         _ => false,
     }
 }
@@ -223,9 +254,32 @@ fn begins_low(bytes: &[u8]) -> bool
     ensures { result ≡ begins_low bytes.now }
 {
     match bytes {
-        [b'u', b'd' | b'D', b'c'..=b'f' | b'C'..=b'F', ..] => true,
+        [b'u', b'd' | b'D', half, third, fourth, ..] => is_low(*half)
+            && is_hex(*third)
+            && is_hex(*fourth),
         _ => false,
     }
+}
+
+/// Whether the digit is the second of the first half of a pair of surrogates.
+fn is_high(digit: u8) -> bool
+    ensures { result ≡ is_high digit }
+{
+    matches!(digit, b'8' | b'9' | b'a' | b'b' | b'A' | b'B')
+}
+
+/// Whether the digit is the second of the second half of a pair of surrogates.
+fn is_low(digit: u8) -> bool
+    ensures { result ≡ is_low digit }
+{
+    matches!(digit, b'c'..=b'f' | b'C'..=b'F')
+}
+
+/// Whether the byte is a hexadecimal digit.
+fn is_hex(byte: u8) -> bool
+    ensures { result ≡ is_hex byte }
+{
+    byte.is_ascii_hexdigit()
 }
 
 /// Why there is no value.

@@ -5,6 +5,7 @@ mod body;
 pub mod fault;
 mod incoming;
 pub mod meaning;
+mod part;
 mod places;
 pub mod reading;
 mod split;

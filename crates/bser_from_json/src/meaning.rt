@@ -1,11 +1,10 @@
 //! What JSON's scalars stand for, and the marks and names that its keys are.
 ghost use Rattle.std.specs.Prelude.{◌≡◌, ℕ, List, IfOk, option_map};
-ghost use Rattle.std.specs.List.{list_any};
 ghost use Rattle.json.specs.Reads.{token_of};
 ghost use Rattle.bser_format.specs.Tree.{Tree};
 ghost use Rattle.bser_value.specs.ValueView.{tree_of};
 ghost use Rattle.bser_from_json.specs.Bodies.{AreNamed};
-ghost use Rattle.bser_from_json.specs.Made.{integer_made, is_point_or_e, is_whole, digits_made, marked_made, mark_fault, mark_key, mark_of, name_of, new_name, number_made, string_made};
+ghost use Rattle.bser_from_json.specs.Made.{integer_made, is_whole, digits_made, marked_made, mark_fault, mark_key, mark_of, name_of, new_name, number_made, string_made};
 ghost use Rattle.bser_from_json.specs.Scalars.{IsMade, IsNamed};
 ghost use Rattle.bser_from_json.specs.declared.meaning.Mark.TheVariants as marks;
 
@@ -13,6 +12,7 @@ use crate::body::EntrySpan;
 use crate::fault::JsonFault;
 use crate::reading::Strings;
 use bser_format::bytestring::ByteString;
+use bser_format::real::has_point_or_e;
 use bser_value::value::Value;
 use hex::{FromHex, FromHexError};
 use json::Token;
@@ -140,18 +140,6 @@ fn is_whole(text: &str) -> bool
     ensures { result ≡ is_whole text.now }
 {
     text != "-0" && !has_point_or_e(text.as_bytes())
-}
-
-/// Whether one of the bytes is a point or begins an exponent.
-fn has_point_or_e(bytes: &[u8]) -> bool
-    ensures { result ≡ list_any is_point_or_e bytes.now }
-{
-    for byte in bytes {
-        if matches!(*byte, b'.' | b'e' | b'E') {
-            return true;
-        }
-    }
-    false
 }
 
 /// The name that a key stands for.

@@ -16,15 +16,14 @@ ghost use Rattle.bser_from_json.specs.Made.{
   member_step,
   value_step,
 };
-ghost use Rattle.bser_from_json.specs.Errors.{IsAt, IsErrorOf};
+ghost use Rattle.bser_from_json.specs.Errors.{IsErrorOf};
 ghost use Rattle.bser_from_json.specs.Bodies.{MakesMessage};
 ghost use Rattle.bser_from_json.specs.Left.{ComesInside, ComesTo, ComesWhere, IsPut, IsRefused, due_to, opens, step_to};
-ghost use Rattle.bser_from_json.specs.Lines.{place_in};
 
 use crate::body::{EntrySpan, message, no_parts, with_array, with_key, with_object, with_value};
-use crate::fault::{JsonError, JsonFault, fault_of, place_of};
+use crate::fault::{JsonError, JsonFault};
 use crate::meaning::{Mark, new_name, number_of, string_of};
-use crate::places::token_place;
+use crate::part::Part;
 use crate::tokens::{TokenError, Tokens};
 use bser_deserializer::deserializer::LEVELS;
 use bser_messages::message::from_slice;
@@ -88,34 +87,8 @@ pub fn message_of<'t>(
     let front = gap(alloc)?;
     match reading.whole(&mut tokens, front) {
         Ok(bytes) => Ok(message(bytes)?),
-        Err(refusal) => Err(error_of(refusal, whole, text, start)),
+        Err(refusal) => Err(Part { whole, text, start }.error_of(alloc, refusal)?),
     }
-}
-
-/// The error of a refusal in a text that begins at byte `start` of `whole`.
-fn error_of(refusal: TokenError, whole: &str, text: &str, start: usize) -> JsonError
-    ensures { (o : Outcome) → IsRefused o refusal → IsErrorOf whole.now text.now start o result }
-{
-    let bytes = text.as_bytes();
-    match refusal {
-        TokenError::OutOfMemory => JsonError::OutOfMemory,
-        TokenError::At(fault, number) => {
-            let offset = token_place(bytes, number.saturating_sub(1));
-            error_at(fault, whole, start, offset)
-        }
-        TokenError::Lacks(count) => {
-            let offset = token_place(bytes, count);
-            error_at(fault_of(&bytes[offset..]), whole, start, offset)
-        }
-    }
-}
-
-/// A fault behind so many bytes of a text that begins at byte `start` of `whole`.
-fn error_at(fault: JsonFault, whole: &str, start: usize, offset: usize) -> JsonError
-    ensures { IsAt fault (place_in whole.now (start + offset)) result }
-{
-    let place = place_of(whole.as_bytes(), start.saturating_add(offset));
-    JsonError::Text { fault, place }
 }
 
 /// How a text is read.
@@ -175,6 +148,7 @@ impl Reading {
                 Ok(number) => Ok(number),
                 Err(fault) => Err(tokens.refuse(fault)),
             },
+            Token::Key(_) => Err(tokens.break_off()),
             _ => Err(tokens.refuse(JsonFault::NotJson)),
         }
     }
@@ -252,6 +226,7 @@ impl Reading {
             let key = match next {
                 Token::EndObject => return Ok(with_object(self.alloc, bytes, &entries, &parts)?),
                 Token::Key(key) => key,
+                Token::String(_) => return Err(tokens.break_off()),
                 _ => return Err(tokens.refuse(JsonFault::NotJson)),
             };
             let name = match new_name(key, &entries) {

@@ -1,15 +1,30 @@
 //! JSON texts written as messages.
+ghost use Rattle.std.specs.Prelude.{◌≡◌, ◌∷◌, [], List, ℕ, IfErr, IfOk, MatchResult, OnOk};
+ghost use Rattle.std.specs.Io.KnownBytes.{Appends};
+ghost use Rattle.bser_format.specs.Compact.{compact_message};
+ghost use Rattle.bser_value.specs.ValueView.{tree_of};
+ghost use Rattle.bser_from_json.specs.Written.{
+  BreaksOff,
+  IsMessageOf,
+  LeavesText,
+  IsNoText,
+  IsWithin,
+  LacksMessage,
+  LeavesTexts,
+  WritesText,
+  WritesTexts,
+};
 
 use crate::fault::{JsonError, JsonFault, Place, place_of};
 use crate::incoming::ReadTexts;
 use crate::reading::{Strings, message_of, value_of};
 use bser_format::errors::Error;
-use bser_ser::push_all;
 use bser_shell::counted::CountedInput;
 use bser_source::device::Watched;
 use bser_value::compact::serialize_compact;
+use bser_value::value::Value;
 use std::alloc::Global;
-use std::io::{Read, Write};
+use std::io::{ErrorKind, Read, Write};
 use std::{fmt, io};
 
 /// How messages are written.
@@ -34,7 +49,9 @@ pub enum TextError {
 
 impl TextError {
     /// The error of a text that begins at this place.
-    fn within(self, start: Place) -> TextError {
+    fn within(self, start: Place) -> TextError
+        ensures { IsWithin self start result }
+    {
         match self {
             TextError::Json(JsonError::Text { fault, place }) => TextError::Json(JsonError::Text {
                 fault,
@@ -46,8 +63,24 @@ impl TextError {
 }
 
 impl From<JsonError> for TextError {
+    ghost use Rattle.bser_from_json.specs.declared.texts.TextError.TheVariants.{Json};
+    ghost use Rattle.std.specs.Prelude.{◌≡◌};
+
+    ghost from_gives = { λ error e. e ≡ Json error };
+
     fn from(error: JsonError) -> Self {
         TextError::Json(error)
+    }
+}
+
+impl From<Error> for TextError {
+    ghost use Rattle.bser_from_json.specs.declared.texts.TextError.TheVariants.{Message};
+    ghost use Rattle.std.specs.Prelude.{◌≡◌};
+
+    ghost from_gives = { λ error e. e ≡ Message error };
+
+    fn from(error: Error) -> Self {
+        TextError::Message(error)
     }
 }
 
@@ -61,19 +94,30 @@ impl fmt::Display for TextError {
     }
 }
 
-/// Writes a message for each JSON text of `input`; blanks may stand between them. Those before an
-/// error are written, and all that came before the input is read again. Its reports count them.
+/// Writes a message for each JSON text of `input`; blanks may stand between them. Its reports count
+/// them, and all of them are written and flushed before the input is read again.
+///
+/// With an error the messages of the texts before it were written. `Json` is the fault of the next
+/// text, of which nothing was written. `Message` is that of the output, of memory, or of a message
+/// longer than `i64::MAX` bytes: then perhaps a beginning of one more was written. `Input` is the
+/// reader's own error.
 pub fn write_messages<R: Read, W: Write, E: Write>(
     alloc: Global,
     writing: Writing,
     input: &mut CountedInput<'_, '_, R, E>,
     out: &mut W,
-) -> Result<(), TextError> {
+) -> Result<(), TextError>
+    ensures written { OnOk result
+        (WritesTexts writing (W.contents out.old) (W.contents out.new)) }
+    ensures refused { IfErr result
+        (LeavesTexts writing (W.contents out.old) (W.contents out.new)) }
+{
     let mut incoming = ReadTexts::new(alloc);
     for _ in 0..u64::MAX {
         if incoming.advance() {
-            if let Err(error) = write_text(alloc, writing, incoming.text(), out) {
-                return Err(error.within(incoming.place()));
+            match write_text(alloc, writing, incoming.text(), out) {
+                Ok(()) => {}
+                Err(error) => return Err(error.within(incoming.place())),
             }
             input.reports().count_message();
             input.reports().work(incoming.text().len());
@@ -97,24 +141,65 @@ fn write_text<W: Write>(
     writing: Writing,
     bytes: &[u8],
     out: &mut W,
-) -> Result<(), TextError> {
+) -> Result<(), TextError>
+    ensures written { OnOk result
+        (WritesText writing bytes.now (W.contents out.old) (W.contents out.new)) }
+    ensures refused { IfErr result
+        (LeavesText writing bytes.now (W.contents out.old) (W.contents out.new)) }
+{
     let text = text_of(bytes)?;
-    let mut out = Watched::new(out);
-    let written = if writing.is_compact {
+    let message = message_in(alloc, writing, text)?;
+    Ok(write_bytes(&message, out)?)
+}
+
+/// The message of a text.
+fn message_in(alloc: Global, writing: Writing, text: &str) -> Result<Vec<u8>, TextError>
+    ensures made { IfOk result (λ message. IsMessageOf writing text.now message.items) }
+    ensures refused { IfErr result (LacksMessage writing text.now) }
+{
+    if writing.is_compact {
         let value = value_of(alloc, writing.strings, text, text, 0)?;
-        serialize_compact(alloc, &mut out, &value)
-    } else {
-        let message = message_of(alloc, writing.strings, text, text, 0)?;
-        push_all(&mut out, &message).map_err(Error::Io)
-    };
-    match written {
-        Ok(()) => Ok(()),
-        Err(error) => Err(TextError::Message(error)),
+        return Ok(compact_of(alloc, value)?);
+    }
+    Ok(message_of(alloc, writing.strings, text, text, 0)?)
+}
+
+/// The compact message of a value.
+fn compact_of(alloc: Global, value: Value) -> bser_format::errors::Result<Vec<u8>>
+    ensures { IfOk result (λ message. message.items ≡ compact_message (tree_of value)) }
+{
+    let mut writer = Watched::new(Vec::new(alloc));
+    match serialize_compact(alloc, &mut writer, &value) {
+        Ok(()) => Ok(writer.into_inner()),
+        Err(Error::Io(_)) => Err(Error::OutOfMemory),
+        Err(error) => Err(error),
     }
 }
 
+/// Writes these bytes.
+fn write_bytes<W: Write>(bytes: &[u8], out: &mut W) -> bser_format::errors::Result<()>
+    ensures { MatchResult result
+        (λ _. Appends (W.contents out.old) (W.contents out.new) bytes.now)
+        (λ _. BreaksOff bytes.now (W.contents out.old) (W.contents out.new)) }
+{
+    let mut rest = bytes;
+    while !rest.is_empty() {
+        match out.write(rest) {
+            Ok(0) => {
+                let fault = io::Error::new(ErrorKind::WriteZero, "nothing taken");
+                return Err(Error::Io(fault));
+            }
+            Ok(count) => rest = rest.split_at(count).1,
+            Err(fault) => return Err(Error::Io(fault)),
+        }
+    }
+    Ok(())
+}
+
 /// The bytes as a text.
-fn text_of(bytes: &[u8]) -> Result<&str, TextError> {
+fn text_of(bytes: &[u8]) -> Result<&str, TextError>
+    ensures { MatchResult result (λ text. text.now ≡ bytes.now) (IsNoText bytes.now) }
+{
     match std::str::from_utf8(bytes) {
         Ok(text) => Ok(text),
         Err(error) => Err(TextError::Json(JsonError::Text {

@@ -12,8 +12,10 @@ use std::alloc::{AllocError, AllocFailed};
 pub(crate) enum TokenError {
     /// The token of this number is not taken, from 1 on.
     At(JsonFault, usize),
-    /// The text has no token behind so many.
+    /// The text has no token behind so many, each with its comma or colon.
     Lacks(usize),
+    /// What stands right behind so many tokens is none that may.
+    Breaks(usize),
     OutOfMemory,
 }
 

@@ -22,7 +22,7 @@ Where something is missing before a message, it asks again. It ends with the sta
 server ends the stream or the subscription, or tells an error, and says so on standard error.";
 
 /// The version of the library.
-const VERSION: &str = "0.4.0";
+const VERSION: &str = "1.0.0";
 
 /// Watchman's letters for the types of files.
 const TYPES: &[&str] = &["f", "d", "l", "b", "c", "p", "s", "D", "?"];

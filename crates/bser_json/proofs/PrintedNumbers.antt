@@ -17,8 +17,8 @@ use Rattle.std.specs.Float.Parse.{parse_float}
 use Rattle.std.proofs.lemmas.Fmt.{parse-signed_decimal, decimal_is_IsNumeral}
 use Rattle.std.proofs.lemmas.Slice.Eq.{bytes_eq-Decides}
 use Rattle.bser_format.specs.Tree.{integer, real}
-use Rattle.bser_format.specs.RealText.{float_of}
-use Rattle.bser_from_json.specs.Made.{is_point_or_e, is_whole, integer_made, number_made}
+use Rattle.bser_format.specs.RealText.{float_of, is_point_or_e}
+use Rattle.bser_from_json.specs.Made.{is_whole, integer_made, number_made}
 use Rattle.bser_from_json.proofs.Numbers.{is_integer, integer_of, integer_true, parsed_integer}
 
 -- ---- an integer's decimal text makes it again

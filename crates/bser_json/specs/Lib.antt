@@ -1,4 +1,5 @@
 pub mod Alike
+pub mod Output
 pub mod Printed
 pub mod Retagged
 pub mod Said

@@ -2,6 +2,7 @@
 #![tactic(auto)]
 
 pub mod laws;
+pub mod output;
 mod pieces;
 pub mod printing;
 mod text;

@@ -1,5 +1,6 @@
 //! A JSON text that is written token by token, on one line or on several.
-ghost use Rattle.std.specs.Prelude.{◌≡◌, [], ◌∷◌, ◌++◌, List, Option, ℕ, IfOk, OnOk};
+ghost use Rattle.std.specs.Prelude.{◌≡◌, [], ◌∷◌, ◌++◌, List, Option, ℕ, true, OnOk};
+ghost use Rattle.std.specs.Bool.{OnTrue};
 ghost use Rattle.std.specs.Io.KnownBytes.{Appends};
 ghost use Rattle.json.specs.Layout.{after};
 ghost use Rattle.json.specs.Print.{IsPrintable, begins};
@@ -64,15 +65,17 @@ impl<W: Write + Drop> Printing<W> {
         }
     }
 
-    /// Writes what is not written, and gives the writer back.
-    pub(crate) fn finish(self) -> Result<W, PrintError>
-        ensures { (start : Option (List ℕ)) (layout : layouts.Layout) (ts : List tokens.Token)
-            → Prints W.contents start layout ts self
-            → IfOk result (λ out. Appends start (W.contents out) (laid_out layout ts)) }
+    /// Gives the writer back, and tells whether the text is whole. Where all of it was put, it is
+    /// whole once what is kept is written.
+    pub(crate) fn finish(self, is_put: bool) -> (W, bool)
+        ensures put { OnTrue result.1 (is_put ≡ true) }
+        ensures written { (start : Option (List ℕ)) (layout : layouts.Layout)
+            (ts : List tokens.Token) → Prints W.contents start layout ts self
+            → OnTrue result.1 (Appends start (W.contents result.0) (laid_out layout ts)) }
     {
         let Printing { mut out, text, .. } = self;
-        out.write_all(&text)?;
-        Ok(out)
+        let is_whole = is_put && out.write_all(&text).is_ok();
+        (out, is_whole)
     }
 }
 

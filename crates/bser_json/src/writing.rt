@@ -1,5 +1,5 @@
 //! A value as JSON.
-ghost use Rattle.std.specs.Prelude.{◌≡◌, ◌∷◌, ◌++◌, ℕ, List, [], codes, IfOk, OnOk};
+ghost use Rattle.std.specs.Prelude.{◌≡◌, ◌∷◌, ◌++◌, ℕ, List, [], codes, IfErr, IfOk, OnOk};
 ghost use Rattle.std.specs.Float.{float_is_finite};
 ghost use Rattle.std.specs.Map.{keys_of};
 ghost use Rattle.bser_format.specs.Tree.{Tree, integer, array, object, entries, entries_of};
@@ -12,6 +12,8 @@ ghost use Rattle.bser_document.specs.Rows.{HoldsRows, Pair, row_object, row_obje
 ghost use Rattle.bser_document.specs.Sorted.{Lists};
 ghost use Rattle.bser_document.specs.Walks.{HoldsItems};
 ghost use Rattle.bser_format.specs.Normal.{last_entries};
+ghost use Rattle.bser_source.specs.Watched.{failures_of};
+ghost use Rattle.bser_json.specs.Output.{IsAccounted};
 ghost use Rattle.json.specs.Token as tokens;
 ghost use Rattle.bser_json.specs.Printed.{Puts};
 ghost use Rattle.bser_json.specs.Said.{
@@ -25,6 +27,7 @@ ghost use Rattle.bser_json.specs.Said.{
   WritesText,
 };
 
+use crate::output::{Output, Unwritten};
 use crate::printing::{Layout, Printing};
 use bser_deserializer::deserializer::MOST_LEVELS;
 use bser_document::entries::Entries;
@@ -51,20 +54,24 @@ const MOST_AROUND: usize = 2 * MOST_LEVELS;
 /// bits, and a key that begins with `$` gets one `$` more. But for spaces and the texts of finite reals
 /// that is what `{}` prints.
 ///
-/// The text is written as it is made, that of a long string too. The errors are that there is no
-/// memory, and those of the writer, which then has taken some of the text.
+/// The text is written as it is made, that of a long string too. Where the writer fails, also by an
+/// interruption or by taking nothing, its error is `Output`, and it is asked no more. Else the error
+/// is `Memory`. With an error the writer comes back too, and has taken some of the text.
 pub fn write_json<W: Write + Drop>(
     alloc: Global,
     item: Item<'_>,
     layout: Layout,
     out: W,
-) -> Result<W, PrintError>
-    ensures { (u : Tree) → HoldsItem item.entry u
+) -> Result<W, Unwritten<W>>
+    ensures text { (u : Tree) → HoldsItem item.entry u
         → IfOk result (λ new. WritesText layout u (W.contents out) (W.contents new)) }
+    ensures refused { IfErr result (λ unwritten.
+        IsAccounted unwritten.error (failures_of unwritten.out)) }
 {
-    let mut printing = Printing::new(alloc, layout, out);
-    put_item(alloc, item, MOST_AROUND, &mut printing)?;
-    printing.finish()
+    let mut printing = Printing::new(alloc, layout, Output::new(out));
+    let is_put = put_item(alloc, item, MOST_AROUND, &mut printing).is_ok();
+    let (out, is_whole) = printing.finish(is_put);
+    out.end(is_whole)
 }
 
 /// Puts an item that is inside of fewer containers than `MOST_AROUND`, by `room`.

@@ -17,7 +17,7 @@ use Rattle.bser_source.specs.Window.{Window, left}
 use Rattle.bser_source.specs.Slice.{slice_fresh}
 use Rattle.bser_bunser.specs.Refusal.{failures_by}
 use Rattle.bser_bunser.specs.Names as bunser
-use Rattle.bser_bunser.specs.Names.{Agree, Blame, MayBeLeft, RefusedAs}
+use Rattle.bser_bunser.specs.Names.{Agree, Blame, MayBeLeft, Names, Outside, RefusedAs, RefusesBy}
 use Rattle.bser_deserializer.specs.Reading.{Asking, OutsideBy, ExcusedBy, IsRefusal, MayRefuse, refusing, Needs}
 use Rattle.bser_messages.specs.Messages.{ReadsMessage, NamesMessage, RefusesMessage, IsMemory, NamesSlice, RefusesSlice, MayCome, IsReaderFault, IsOutside, NamesReader, RefusesReader, BeginWithHead}
 
@@ -75,6 +75,18 @@ slice_refused n reads asks needs e bytes a t fresh v =
       excuse = λ text rest c readable known. slice_excused needs (length text) e bytes (u.excuse text rest (c, readable) (ap Some (append-nil bytes ∙ known)));
       memory = slice_memory needs e bytes u.may;
     }
+
+-- what the bytes of a slice are to blame for
+pub slice_blamed : {X : Type 0} (r : named.Reader X) (e : Error) (bytes : List ℕ) (a t : Window) → a ≡ slice_fresh bytes → RefusesBy r e a t → r bytes ≡ named.refuses e
+slice_blamed r e bytes a t fresh u = go e (subst (λ w. Names r e w) fresh u.names) u.memory
+  where
+    go : (e : Error) → Names r e (slice_fresh bytes) → (e ≡ OutOfMemory → ⊥) → r bytes ≡ named.refuses e
+    go e (inl (b, m, bad)) spared = ap r (sym (slice_left bytes b m)) ∙ bad
+    go OutOfMemory (inr h) spared = absurd (spared refl)
+    go (DeReaderError (Reader fault)) (inr h) spared = absurd (let l = h in cc)
+    go (DeReaderError Failed) (inr (inl h)) spared = absurd cc
+    go (DeReaderError Failed) (inr (inr h)) spared = absurd (let l = h.0 in cc)
+    go e (inr h) spared = absurd h
 
 -- a head in front of what is left of a slice is in front of the slice
 pub slice_head : (bytes : List ℕ) (a : Window) → a ≡ slice_fresh bytes → BeginWithHead (left a) → BeginWithHead (Some bytes)
@@ -159,6 +171,20 @@ reader_refused n reads asks needs e a t owned fresh v =
       names = reader_named n needs asks e a.beyond a.failures t.failures a.through owned v.failures u.names;
       excuse = λ text rest c readable known. reader_excused needs (length text) e a.beyond a.failures t.failures a.through owned v.failures readable.message.short (u.excuse text rest (c, readable) (fresh_left a.beyond a.failures a.through (text ++ rest) known));
     }
+
+-- what is to blame for an error of a reader
+pub reader_blamed : {X : Type 0} (r : named.Reader X) (e : Error) (remaining : Option (List ℕ)) (before after : ℕ) (through : Option GName) → after ≡ failures_by e before
+    → Names r e (reader_fresh remaining before through) → ((b : List ℕ) × MayCome remaining b × (r b ≡ named.refuses e)) ⊎ IsOutside r remaining before after e
+reader_blamed r e remaining before after through same (inl (b, m, bad)) = inl (b, reader_left remaining before through b m, bad)
+reader_blamed r e remaining before after through same (inr h) = inr (go e same h)
+  where
+    go : (e : Error) → after ≡ failures_by e before → Outside (RefusedAs r) e (reader_fresh remaining before through) → IsOutside r remaining before after e
+    go OutOfMemory same h = tt
+    go (DeReaderError (Reader fault)) same h = subst (Blamed before) (sym same) (blamed_more before)
+    go (DeReaderError Failed) same (inl h) = absurd cc
+    go (DeReaderError Failed) same (inr (lends, o)) =
+        record { text = o.text; comes = reader_comes remaining before through o.text o.comes; few = o.few; long = omega (arith, o.long) }
+    go e same h = absurd h
 
 -- a head in front of what is left of a reader
 pub reader_head : (remaining : Option (List ℕ)) (failures : ℕ) (through : Option GName) (a : Window) → a ≡ reader_fresh remaining failures through → BeginWithHead (left a) → BeginWithHead remaining

@@ -2,7 +2,7 @@
 use Rattle.std.proofs.Common.{◌≡◌, ℕ, ◌+◌, ◌-◌, ◌≤◌, ◌<◌, ◌^◌, min, Bool, true, List, [], ◌∷◌, ◌++◌, Option, None, Some, length, take, length-append, append-nil, refl, sym, ap, subst, ◌∙◌, arith, inl, inr}
 use Rattle.std.specs.Prelude.{pos, if◌then◌else◌, IsTrue, IfSome, IsSome}
 use Rattle.std.specs.Borrow.{GName, MutBor}
-use Rattle.bser_messages.proofs.Sources.{reader_fresh, fresh_left}
+use Rattle.bser_messages.proofs.Sources.{reader_blamed, reader_fresh, fresh_left}
 use Rattle.std.proofs.lemmas.Int.{ints}
 use Rattle.bser_format.specs.Content.{one}
 use Rattle.bser_format.specs.Expand.{expand}
@@ -16,8 +16,9 @@ use Rattle.bser_format.proofs.Frames.{framed}
 use Rattle.bser_source.specs.Window.{Window, Grown, Took, left, with_limit}
 use Rattle.bser_source.specs.Slice.{slice_fresh}
 use Rattle.bser_source.proofs.Windows.{left_took, left_grown}
-use Rattle.bser_bunser.specs.Names.{Names}
-use Rattle.bser_bunser.specs.Refusal.{Fails}
+use Rattle.bser_bunser.specs.Names.{Names, RefusedAs, RefusesBy}
+use Rattle.bser_bunser.proofs.Names.{blames_before}
+use Rattle.bser_bunser.specs.Refusal.{Fails, failures_by}
 use Rattle.bser_events.specs.Events.{Event, TakesAll, events}
 use Rattle.bser_events.specs.Cut.{Cut, nowhere}
 use Rattle.bser_events.specs.Places.{Placed, PlacedAs, TakesIn}
@@ -39,7 +40,8 @@ use Rattle.bser_messages.specs.Messages.{ReadsBody}
 use Rattle.bser_messages.specs.Limited.{RefusesSliceWithin, RefusesWithin}
 use Rattle.bser_messages.specs.declared.limits.Limits.{Limits}
 use Rattle.bser_messages.specs.declared.told.Header.{Header}
-use Rattle.bser_messages.specs.Told.{TellsMessage, BeginsTold, TookTold, ReadsTold, BeginWithHeader, BodyCut, BodyUntold, IsReasonOf, IsReasonWithin, IsStop, NextUntold, SliceUntold}
+use Rattle.bser_messages.specs.declared.told.TellError.{TellError}
+use Rattle.bser_messages.specs.Told.{TellsMessage, BeginsTold, TookTold, ReadsTold, BeginWithHeader, BodyCut, BodyUntold, IsFailure, IsReasonOf, IsReasonWithin, IsStop, NextFailsEarly, NextUntold, RefusesHead, SliceUntold}
 use Rattle.bser_messages.specs.Streams.{RefusesNextOf}
 use Rattle.bser_source.specs.declared.device.Source as source
 use Rattle.bser_messages.specs.declared.told.Reason.{Reason}
@@ -264,6 +266,25 @@ pub stops_late : (asked : Option Place) (cause : Error) (given : ℕ) (reason : 
 stops_late asked cause given (Stopped place) None is late quiet stop = absurd (let e = sym is.1 ∙ quiet refl in cc)
 stops_late asked cause given (Stopped place) (Some h) is late quiet stop = refl
 stops_late asked cause given (Failed d) h is late quiet stop = late (sym is.1 ∙ stop)
+
+-- nothing was told of a header
+pub fails_early : (P : Error → Type 0) (asked : Option Place) (cause : Error) (given : ℕ) (reason : Reason) → IsReasonOf asked cause given reason → asked ≡ None → P cause → IsFailure P reason
+fails_early P asked cause given (Stopped place) is quiet p = absurd (let e = sym is.1 ∙ quiet in cc)
+fails_early P asked cause given (Failed d) is quiet p = subst P (sym is.1) p
+
+-- the same of a reader's next message
+pub next_fails_early : {S : Type 0} (asked : Option Place) (cause : Error) (given : ℕ) (told : source.Ghosts S) (old new : S) (e : TellError) → IsReasonOf asked cause given e.reason → (e.header ≡ None → asked ≡ None)
+    → (e.header ≡ None → RefusesHead (told.remaining old) (told.failures old) (told.failures new) cause) → NextFailsEarly told old new e
+next_fails_early asked cause given told old new e is quiet refused none =
+    fails_early (RefusesHead (told.remaining old) (told.failures old) (told.failures new)) asked cause given e.reason is (quiet none) (refused none)
+
+-- the header of a reader's next message, of which the first byte was buffered
+pub next_head : (e : Error) (old remaining : Option (List ℕ)) (before after failures : ℕ) (through : Option GName) (a b t : Window) → a ≡ reader_fresh remaining failures through → remaining ≡ old → failures ≡ before
+    → t.failures ≡ after → Grown 1 a b → RefusesBy named.head e b t → RefusesHead old before after e
+next_head e old remaining before after failures through a b t fresh same counted last grown u =
+    let counts : t.failures ≡ failures_by e failures = u.err.failures ∙ ap (failures_by e) (grown.failures ∙ ap (λ w. w.failures) fresh) in
+    let names : Names named.head e (reader_fresh remaining failures through) = subst (Names named.head e) fresh (blames_before (RefusedAs named.head) 1 e a b grown u.names) in
+    rw (sym same, sym counted, sym last) (reader_blamed named.head e remaining failures t.failures through counts names)
 
 pub reason_within : (asked : Option Place) (cause : Error) (given : ℕ) (reason : Reason) → IsReasonOf asked cause given reason → IsReasonWithin given reason
 reason_within asked cause given (Stopped place) is = omega (arith, is.2)

@@ -1,5 +1,5 @@
 -- What callers see of a description.
-use Rattle.std.specs.Prelude.{◌≡◌, ◌≤◌, ◌-◌, ◌==◌, ◌&&◌, ℕ, ℤ, pos, negsuc, min, List, Bool, true, false, Option, None, Result, Ok, Err, is_none, option_map, if◌then◌else◌}
+use Rattle.std.specs.Prelude.{◌≡◌, ◌≤◌, ◌-◌, ◌==◌, ◌&&◌, ℕ, ℤ, pos, negsuc, min, List, Bool, true, false, Option, Some, None, Result, Ok, Err, is_none, option_map, if◌then◌else◌}
 use Rattle.bser_format.specs.EnumName.{kept}
 use Rattle.bser_format.specs.declared.errors.Error.{Error}
 use Rattle.bser_format.specs.declared.errors.Error.TheVariants.{DeCustom, DeInvalidStartByte, DeReaderError, DeRecursionLimitExceeded}
@@ -57,13 +57,19 @@ abbrev pub is_taken : Error → Note → Bool
 is_taken (DeInvalidStartByte NextItem b) n = (b == 0x0c) && is_none n.finding
 is_taken _ n = false
 
--- the place of an error with this cause and note, after count bytes of an input of len bytes: that
--- of an early end is the end of the input, and nothing is behind it
+-- the bytes before what is wrong, where it was taken whole, or else those that were taken
+abbrev pub before : Option ℕ → ℤ → ℕ → ℕ
+before (Some begun) count len = min begun len
+before None count len = at_most count len
+
+-- the place of an error with this cause and note, after count bytes of an input of len bytes. It is
+-- where the value begins that the type does not take. An early end is at the end of the input, and
+-- nothing is behind it.
 abbrev pub place_in : Error → Note → ℤ → ℕ → ℕ
 place_in cause note count len =
     if is_early_end cause then len
-    else if is_taken cause note then at_most count len - 1
-    else at_most count len
+    else if is_taken cause note then before note.begun count len - 1
+    else before note.begun count len
 
 -- the place is one of len bytes or right behind them, which is that of an early end
 pub record LiesWithin (len : ℕ) (d : Description) : Type 0 where

@@ -3,12 +3,14 @@ use Rattle.std.specs.Prelude.{◌≡◌, ◌⊎◌, ◌≤◌, ◌<◌, ℕ, ◌
 use Rattle.std.specs.Io.KnownBytes.{Consumes}
 use Rattle.bser_format.specs.Tree.{Tree}
 use Rattle.bser_format.specs.Message.{Head, IsMessage}
+use Rattle.bser_format.specs.Named as named
 use Rattle.bser_format.specs.NamedLaws.{HasTextKeys}
 use Rattle.bser_format.specs.ReadsAny.{reads_ignored}
 use Rattle.bser_format.specs.declared.errors.Error.{Error}
 use Rattle.bser_format.specs.declared.errors.Error.TheVariants.{DeReaderError, DeTooLong, OutOfMemory}
 use Rattle.bser_format.specs.declared.errors.ReadCause.TheVariants.{Eof, Reader}
 use Rattle.bser_source.specs.Device.{Blamed}
+use Rattle.bser_bunser.specs.Names.{RefusesBy}
 use Rattle.bser_source.specs.Window.{Window, Took, left, with_limit}
 use Rattle.bser_source.specs.declared.device.Source as source
 use Rattle.bser_events.specs.Events.{Event, events}
@@ -23,6 +25,7 @@ use Rattle.bser_deserializer.specs.Seen.{Seen}
 use Rattle.bser_deserializer.specs.State.{refused}
 use Rattle.bser_messages.specs.Descriptions.{LiesWithin, cause_of}
 use Rattle.bser_messages.specs.Limited.{RefusesSliceWithin, RefusesWithin}
+use Rattle.bser_messages.specs.Messages.{MayCome, IsOutside}
 use Rattle.bser_messages.specs.Streams.{StaysAtEnd, RefusesNextOf}
 use Rattle.bser_messages.specs.declared.limits.Limits.{Limits}
 use Rattle.bser_messages.specs.declared.told.Header.{Header}
@@ -98,6 +101,25 @@ IsStop (Failed d) = cause_of d ≡ OutOfMemory
 -- the builder stops, and memory runs out, only after the header
 abbrev pub StopsLate : TellError → Type 0
 StopsLate e = IsStop e.reason → IsSome e.header
+
+-- reporting failed, with an error of which this holds
+abbrev pub IsFailure : (Error → Type 0) → Reason → Type 0
+IsFailure P (Stopped place) = ⊥
+IsFailure P (Failed d) = P (cause_of d)
+
+-- where no header is told, the error is that of the header at the start of these bytes
+abbrev pub FailsEarly : List ℕ → TellError → Type 0
+FailsEarly bytes e = e.header ≡ None → IsFailure (λ cause. named.head bytes ≡ named.refuses cause) e.reason
+
+-- the header of what is left is refused, or there is a reason outside it
+abbrev pub RefusesHead : Option (List ℕ) → ℕ → ℕ → Error → Type 0
+RefusesHead left before after e =
+    ((b : List ℕ) × MayCome left b × (named.head b ≡ named.refuses e)) ⊎ IsOutside named.head left before after e
+
+-- where no header is told, the error is that of the header of a reader's next message
+abbrev pub NextFailsEarly : {S : Type 0} → source.Ghosts S → S → S → TellError → Type 0
+NextFailsEarly told old new e =
+    e.header ≡ None → IsFailure (RefusesHead (told.remaining old) (told.failures old) (told.failures new)) e.reason
 
 -- the place is one of len bytes or right behind them
 abbrev pub IsReasonWithin : ℕ → Reason → Type 0
@@ -200,6 +222,10 @@ MessageCut takes stopped before after old (Some h) = BodyCut takes stopped h old
 abbrev pub MessageUntold : Limits → Seen → Seen → Error → Type 0
 MessageUntold limits old new e =
     RefusesWithin limits.levels limits.bytes reads_ignored (Some asking_ignored) owned e old.state.source new.state.source
+
+-- where no header was taken, the error is the header's
+abbrev pub MessageFailsEarly : Seen → Seen → Option Header → Error → Type 0
+MessageFailsEarly old new h e = h ≡ None → RefusesBy named.head e old.state.source new.state.source
 
 -- a body of at most m bytes was reported
 abbrev pub BodyTold : {B : Type 0} → ℕ → ℕ → (B → Event → Place → B → Type 0) → B → B → Seen → Seen → Type 0

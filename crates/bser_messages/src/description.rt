@@ -1,11 +1,11 @@
 //! The description of an error.
 ghost use Rattle.std.specs.Prelude.{◌≡◌, option_map};
-ghost use Rattle.bser_messages.specs.Descriptions.{at_most, cause_of, field_of, is_early_end, is_taken, note_of, place_in, place_of};
+ghost use Rattle.bser_messages.specs.Descriptions.{at_most, before, cause_of, field_of, is_early_end, is_taken, note_of, place_in, place_of};
 
 use crate::locating::Target;
 use crate::progress::Progress;
 pub use bser_deserializer::note::{FieldName, Finding, Note, Wanted};
-use bser_format::errors::{Error, Kind, Message, ReadCause};
+use bser_format::errors::{Complaint, Error, Kind, Message, ReadCause};
 use bser_format::header::{
     BSER_ARRAY, BSER_BYTESTRING, BSER_FALSE, BSER_INT8, BSER_INT64, BSER_NULL, BSER_OBJECT,
     BSER_REAL, BSER_SKIP, BSER_TEMPLATE, BSER_TRUE, BSER_UTF8STRING, HeaderByte,
@@ -27,8 +27,8 @@ pub struct Description {
 }
 
 /// Describes an error with this cause, after so much progress in an input of `len` bytes. An early
-/// end is at the end of the input, and nothing is behind it. A byte that may not be there is behind
-/// the place, and of what else is wrong the end is at it.
+/// end is at the end of the input, and nothing is behind it. A value that the type does not take
+/// begins at the place, and what is malformed is as far as it.
 pub(crate) fn description_of(cause: Error, progress: Progress, len: usize) -> Description
     ensures cause { cause_of result ≡ cause }
     ensures place { place_of result ≡ place_in cause progress.note progress.count len }
@@ -37,7 +37,7 @@ pub(crate) fn description_of(cause: Error, progress: Progress, len: usize) -> De
     let place = if ends_early(&cause) {
         len
     } else {
-        let behind = place_within(progress.count, len);
+        let behind = place_before(progress.note.begun, progress.count, len);
         behind.saturating_sub(usize::from(is_taken(&cause, &progress.note)))
     };
     Description {
@@ -74,6 +74,17 @@ fn is_taken(cause: &Error, note: &Note) -> bool
     }
 }
 
+/// How many bytes come before what is wrong, where it was taken whole, or else were taken; and no
+/// more than `len`.
+fn place_before(begun: Option<usize>, count: i64, len: usize) -> usize
+    ensures { result ≡ before begun count len }
+{
+    match begun {
+        Some(begun) => begun.min(len),
+        None => place_within(count, len),
+    }
+}
+
 /// So many bytes, and no more than `len`.
 fn place_within(count: i64, len: usize) -> usize
     ensures { result ≡ at_most count len }
@@ -97,9 +108,16 @@ impl Description {
         cause
     }
 
-    /// Returns the place of the error, as a number of bytes from the start of the message. These
-    /// are the bytes before a byte that may not be there, and for other errors those up to the end
-    /// of what is wrong. The place of an early end is the end of the input.
+    /// Returns the place of the error, as a number of bytes from the start of the message.
+    ///
+    /// They are those before the value that the type does not take. Of an array or an object with
+    /// too few parts, or without a field, they are those up to its end; with too many, those before
+    /// the part that is too many, and of a field that comes twice those before its second value. Of
+    /// malformed bytes they are those before the byte that may not be there, or up to the end of the
+    /// number, string or body that is refused. The place of an early end is the end of the input.
+    ///
+    /// Of an enum's name alone, where a payload is wanted, they are those up to its end, and of an
+    /// enum's object of several entries those before the first entry.
     pub fn place(&self) -> usize
         ensures { result ≡ place_of self.now }
     {
@@ -115,8 +133,21 @@ impl Description {
                 None => Target::Last,
             },
             (Some(Finding::Stray { .. }), _) => Target::Next,
+            _ if self.note.begun.is_some() => Target::Next,
             (Some(_), _) => Target::Last,
             (None, Error::DeRecursionLimitExceeded { .. }) => Target::Innermost,
+            (
+                None,
+                Error::DeCustom {
+                    msg: Message::Fixed(Complaint::TooFewItems),
+                },
+            ) => Target::LastWhole,
+            (
+                None,
+                Error::DeCustom {
+                    msg: Message::Fixed(Complaint::ItemsLeft),
+                },
+            ) => Target::Next,
             (None, _) if failed == Some(self.place) => Target::Innermost,
             (None, _) => Target::Last,
         }

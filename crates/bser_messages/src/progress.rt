@@ -1,6 +1,6 @@
 //! How far a message was read.
 ghost use Rattle.std.specs.Prelude.{◌≡◌, ◌-◌, ◌^◌, min, pos};
-ghost use Rattle.bser_messages.specs.Descriptions.{cause_of, place_of, note_of, place_in};
+ghost use Rattle.bser_messages.specs.Descriptions.{LiesWithin, cause_of, place_of, note_of, place_in};
 
 use crate::description::{Description, description_of};
 use bser_deserializer::deserializer::Deserializer;
@@ -49,6 +49,7 @@ impl Progress {
     pub(crate) fn describe(self, cause: Error, len: usize) -> Description
         ensures cause { cause_of result ≡ cause }
         ensures place { place_of result ≡ place_in cause self.note self.count len }
+        ensures within { LiesWithin len result }
         ensures note { note_of result ≡ self.note }
     {
         description_of(cause, self, len)

@@ -5,11 +5,13 @@ ghost use Rattle.bser_deserializer.specs.declared.deserializer.TheConstants.{MOS
 ghost use Rattle.bser_messages.specs.Messages.{Same};
 ghost use Rattle.bser_messages.specs.Told.{
   BeginsTold,
+  FailsEarly,
   HasPlace,
   IsNextTold,
   IsReasonOf,
   KnowsHeader,
   LeavesBuilder,
+  NextFailsEarly,
   NextUntold,
   SliceUntold,
   StopsLate,
@@ -52,6 +54,7 @@ pub fn from_slice<B: Builder>(
     ensures failed { IfErr result (λ e. SliceUntold limits B.asks bytes.now e.reason) }
     ensures header { IfErr result (KnowsHeader (Some bytes.now)) }
     ensures late { IfErr result StopsLate }
+    ensures early { IfErr result (FailsEarly bytes.now) }
     ensures place { IfErr result HasPlace }
     ensures given { IfErr result (λ e. e.given ≡ length bytes.now) }
     ensures cut { IfErr result
@@ -88,6 +91,7 @@ pub fn next_message<S: Source, B: Builder>(
         NextUntold limits B.asks S.Source reader.old reader.new e.reason) }
     ensures header { IfErr result (KnowsHeader (S.remaining reader.old)) }
     ensures late { IfErr result StopsLate }
+    ensures early { IfErr result (NextFailsEarly S.Source reader.old reader.new) }
     ensures place { IfErr result HasPlace }
     ensures cut { IfErr result (LeavesBuilder B.takes B.stopped
         (S.remaining reader.old) builder.old builder.new) }

@@ -43,7 +43,7 @@ pub enum Reason {
 pub struct TellError {
     /// Why the message was not reported whole.
     pub reason: Reason,
-    /// The message's header, where it was taken.
+    /// The message's header, where it was taken: `None` only where the header itself failed.
     pub header: Option<Header>,
     /// How many bytes the reader gave from the start of the message on, at most `usize::MAX`; the
     /// bytes of a slice.

@@ -11,6 +11,7 @@ ghost use Rattle.bser_messages.specs.Told.{
   BodyUntold,
   IsReasonOf,
   MessageCut,
+  MessageFailsEarly,
   MessageTold,
   MessageUntold,
 };
@@ -70,6 +71,8 @@ pub(crate) fn tell_message<R: DeRead, B: Builder>(
     ensures header { IfErr result (λ cut.
         IfSome cut.header (BeginWithHeader (left from.old.state.source))) }
     ensures late { IfErr result (λ cut. cut.cause ≡ OutOfMemory → IsSome cut.header) }
+    ensures early { IfErr result (λ cut.
+        MessageFailsEarly from.old from.new cut.header cut.cause) }
     ensures cut { IfErr result (λ cut.
         MessageCut B.takes B.stopped builder.old builder.new from.old.state.source
         cut.header) }

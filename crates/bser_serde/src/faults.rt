@@ -31,6 +31,8 @@ pub(crate) enum FormatError {
 enum LastRead {
     /// What begins behind so many bytes.
     Part(usize),
+    /// Nothing, where null is wanted and something else begins behind so many bytes.
+    NoNull(usize),
     /// A container of so many levels, as a whole.
     Container(usize),
 }
@@ -95,13 +97,18 @@ impl<'m> Named<'m> {
                 let depth = ahead.depth.saturating_add(levels);
                 self.at(here, depth, Whole::Last, reason)
             }
-            LastRead::Part(place) if place == here => self.ahead(ahead, reason),
-            LastRead::Part(place) => self.at(place, ahead.depth, Whole::No, reason),
+            LastRead::Part(place) | LastRead::NoNull(place) if place != here => {
+                self.at(place, ahead.depth, Whole::No, reason)
+            }
+            _ => self.ahead(ahead, reason),
         }
     }
 
     /// The value that was read last is none that the type holds.
     fn unheld(&self, ahead: Ahead) -> FormatError {
+        if let LastRead::NoNull(_) = self.last {
+            return self.stray(ahead, Wanted::Null);
+        }
         let last = match self.last {
             LastRead::Part(place) if !ahead.is_row => self.message.get(place..).unwrap_or(&[]),
             _ => &[],
@@ -138,6 +145,11 @@ impl<'m> Naming for Named<'m> {
     #[inline(always)]
     fn passed(&mut self, left: usize) {
         self.last = LastRead::Part(self.place(left));
+    }
+
+    #[inline(always)]
+    fn not_null(&mut self, left: usize) {
+        self.last = LastRead::NoNull(self.place(left));
     }
 
     #[inline(always)]

@@ -35,8 +35,9 @@ pub enum Reason {
 pub struct Misfit {
     /// Why the type does not read it.
     pub reason: Reason,
-    /// How many bytes of the message stand before the value that is not read. Of a field that is
-    /// missing it is the end of its object, or of its row.
+    /// How many bytes of the message come before the value that the type does not take, the part
+    /// that is too many, or the second value of a field. Of an array or an object with too few parts,
+    /// or without a field, they are those up to its end, or to that of its row.
     pub place: usize,
     /// The way to that value. Of a field that is missing it is where the field would be.
     pub path: Path,

@@ -120,7 +120,11 @@ impl<'m, N: Naming, K: KnownBody> Format for KeptWalk<'m, N, K> {
     fn take_unit(&mut self, _input: &[u8]) -> Result<bool, N::Error> {
         let before = self.walk.left();
         let read = self.walk.unit();
-        self.told(before, Ok(read))
+        let answer = self.told(before, Ok(read));
+        if !read {
+            self.names.not_null(before);
+        }
+        answer
     }
 
     #[inline(always)]
@@ -141,7 +145,9 @@ impl<'m, N: Naming, K: KnownBody> Format for KeptWalk<'m, N, K> {
         let before = self.walk.left();
         let read = self.walk.has_item();
         let comes = self.told(before, read)?;
-        if !comes {
+        if comes {
+            self.names.passed(before);
+        } else {
             self.names.ended(levels);
         }
         Ok(comes)

@@ -29,8 +29,11 @@ pub trait Naming: Drop {
     /// out what the kit's derives keep for the sharing.
     const TAKES_MAPS: bool;
 
-    /// Something was read that so many bytes began before.
+    /// Something was read, or is to be read, that begins before the last so many bytes.
     fn passed(&mut self, left: usize);
+
+    /// Null is wanted, and what begins before the last so many bytes is not null.
+    fn not_null(&mut self, left: usize);
 
     /// A container of so many levels ended.
     fn ended(&mut self, levels: usize);
@@ -53,6 +56,9 @@ impl<const MAPS: bool> Naming for Unnamed<MAPS> {
 
     #[inline(always)]
     fn passed(&mut self, _left: usize) {}
+
+    #[inline(always)]
+    fn not_null(&mut self, _left: usize) {}
 
     #[inline(always)]
     fn ended(&mut self, _levels: usize) {}

@@ -98,7 +98,7 @@ where
     ensures found { IfOk result (ReadsName names.now from.old from.new) }
     ensures refused { OnErr result (RefusesName from.old from.new) }
 {
-    let name = from.read_text(scratch)?;
+    let name = from.read_key(scratch)?;
     Ok(find_field(names, name.get_ref().as_bytes()))
 }
 

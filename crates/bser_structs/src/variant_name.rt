@@ -1,8 +1,10 @@
 //! The names of an enum's variants.
-ghost use Rattle.std.specs.Prelude.{◌≡◌, IfOk, OnErr, OnOk};
+ghost use Rattle.std.specs.Prelude.{◌≡◌, Some, IfOk, OnErr, OnOk};
+ghost use Rattle.bser_deserializer.specs.Calls.{complained};
+ghost use Rattle.bser_deserializer.specs.State.{refused};
 ghost use Rattle.bser_structs.specs.VariantCalls.{Finds, FindsField, FindsKey, HasFailed, Misses, MissesKey, awaiting_first_key, entries_left};
 
-use bser_bunser::refusal::Answer;
+use bser_bunser::refusal::{Answer, Refused};
 use bser_deserializer::container::MapHead;
 use bser_deserializer::cursor::{Cursor, keys_of, name_of};
 use bser_deserializer::deserializer::Deserializer;
@@ -19,10 +21,23 @@ where
     ensures err { OnErr result (HasFailed from.old from.new) }
     ensures names { OnErr result (Misses variants.now from.old from.new) }
 {
+    let begun = from.taken();
     match read_name(from, variants)? {
         Field::Known(place) => Ok(place),
-        Field::Unknown => Err(from.complain(Complaint::UnknownVariant)),
+        Field::Unknown => Err(refuse_name(from, begun)),
     }
+}
+
+/// Fails for a name that no variant has, which began behind so many bytes.
+#[cold]
+#[inline(never)]
+fn refuse_name<R: DeRead>(from: &mut Deserializer<R>, begun: usize) -> Refused
+    ensures reason { from.new.refusal ≡ complained Complaint.UnknownVariant from.old }
+    ensures state { from.new.state ≡ refused from.old.state }
+    ensures begun { from.new.note.begun ≡ Some begun }
+{
+    from.note_begun(begun);
+    from.complain(Complaint::UnknownVariant)
 }
 
 /// Reads the name that is expected, and returns its place in `variants`, if it has one.

@@ -131,7 +131,7 @@ impl<'a, R: DeRead> MapAccess<'a, R> {
     /// then.
     ///
     /// A name takes memory only where the source copies. A key that is not UTF-8 fails as in
-    /// [`Deserializer::read_text`], and where a value is expected the error is
+    /// [`Deserializer::read_key`], and where a value is expected the error is
     /// [`Complaint::ValueOpen`]. After an error each later call of the deserializer fails.
     #[inline(always)]
     pub fn next_field(&mut self, names: &[&str]) -> Answer<Option<Field>>
@@ -168,7 +168,7 @@ where
         return Ok(field);
     }
     let mut scratch = Vec::new(from.allocator());
-    let name = from.read_text(&mut scratch)?;
+    let name = from.read_key(&mut scratch)?;
     Ok(find_field(names, name.get_ref().as_bytes()))
 }
 

@@ -130,10 +130,7 @@ fn items<I: Inner>(alloc: Global, bytes: &[u8], count: usize, levels: usize) -> 
     if count > bytes.len() {
         return None;
     }
-    let mut items = match Vec::with_capacity(alloc, count) {
-        Ok(items) => items,
-        Err(_) => return None,
-    };
+    let mut items = Vec::new(alloc);
     let mut rest = bytes;
     for _ in 0..count {
         let Read {
@@ -218,10 +215,7 @@ fn rows<'b, I: Inner>(
     if height > bytes.len() {
         return None;
     }
-    let mut objects = match Vec::with_capacity(alloc, height) {
-        Ok(objects) => objects,
-        Err(_) => return None,
-    };
+    let mut objects = Vec::new(alloc);
     let mut rest = bytes;
     for _ in 0..height {
         let Read {

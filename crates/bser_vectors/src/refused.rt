@@ -15,8 +15,7 @@ pub struct RefusedMessage<'a> {
     words: &'a str,
     /// The field that has to be named, or `-`.
     pub field: &'a str,
-    first: usize,
-    last: usize,
+    place: usize,
     /// The path that has to be named.
     pub path: &'a str,
 }
@@ -24,22 +23,21 @@ pub struct RefusedMessage<'a> {
 impl<'a> RefusedMessage<'a> {
     /// Takes a line apart at its tabs. A place that is no number is 0.
     pub fn parse(alloc: Global, line: &'a str) -> Result<Self, FromHexError> {
-        let [name, kind, message, words, field, first, last, path, ..] = columns(line, "\t");
+        let [name, kind, message, words, field, _, _, place, path] = columns(line, "\t");
         Ok(RefusedMessage {
             name,
             kind,
             message: hex::decode(alloc, message)?,
             words,
             field,
-            first: first.parse().unwrap_or(0),
-            last: last.parse().unwrap_or(0),
+            place: place.parse().unwrap_or(0),
             path,
         })
     }
 
-    /// Whether the text has the words that it has to have, and the place is one that may be.
+    /// Whether the text has the words that it has to have, and the place is the one that has to be.
     pub fn is_described(&self, text: &str, place: usize) -> bool {
-        has_words(text, self.words) && self.first <= place && place <= self.last
+        has_words(text, self.words) && place == self.place
     }
 }
 

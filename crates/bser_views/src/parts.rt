@@ -1,7 +1,10 @@
 //! The parts of a line, put as bytes.
-ghost use Rattle.std.specs.Prelude.{◌≤◌, ◌+◌, length};
+ghost use Rattle.std.specs.Prelude.{◌≤◌, ◌+◌, IsTrue, length};
+ghost use Rattle.std.specs.Bool.{OnTrue};
+ghost use Rattle.std.specs.Float.{float_is_finite};
 
-use crate::quoted::Quoted;
+use crate::quoted::{Quoted, Real};
+use bser_format::real::float_of;
 use itoa::{Buffer, Integer, write_digits};
 use std::io;
 use std::io::Write;
@@ -12,6 +15,12 @@ const INDENT: usize = 46;
 
 /// How many levels of the indentation are put with the columns.
 const LEVELS: usize = 9;
+
+/// How many multiples of 2^-25 one is.
+const STEPS: f64 = 33554432.0;
+
+/// A number from which on each real is whole, 2^53.
+const WHOLE: f64 = 9007199254740992.0;
 
 /// Puts where a part stands: the offset of its first byte, its tag if it has one, how many bytes it
 /// has, and two spaces for each level.
@@ -74,6 +83,36 @@ pub(crate) fn put_number<W: Write, I: Integer>(out: &mut W, number: I) -> io::Re
     let mut buffer = Buffer::new();
     out.write_all(buffer.format(number).as_bytes())?;
     out.write_all(b"\n")
+}
+
+/// Puts a real by its bits, as [`Real`] prints it, and a line's end.
+#[inline(always)]
+pub(crate) fn put_real<W: Write>(out: &mut W, bits: u64) -> io::Result<()> {
+    match float_of(bits) {
+        Some(number) if is_printed_alike(number) => {
+            let mut buffer = ryu::Buffer::new();
+            out.write_all(buffer.format_finite(number).as_bytes())?;
+            out.write_all(b"\n")
+        }
+        _ => writeln!(out, "{}", Real(bits)),
+    }
+}
+
+/// Whether the number is finite, and `ryu` prints it as `{:?}` does.
+///
+/// From 1e-5 on to 1e-4 only `{:?}` puts an exponent. Of two shortest texts that are as near, it takes
+/// the greater, and `ryu` the even one. A number between two such texts has at most 18 decimal
+/// digits, so it is below 1e16 and a multiple of 2^-25.
+#[inline(always)]
+fn is_printed_alike(number: f64) -> bool
+    ensures { OnTrue result (IsTrue (float_is_finite number)) }
+{
+    let size = number.abs();
+    let is_laid_out_alike = size < 1e-5 || size >= 1e-4;
+    let steps = size * STEPS;
+    let is_multiple = steps >= WHOLE || (steps as u64) as f64 == steps;
+    let is_between_texts = size < 1e16 && is_multiple;
+    number.is_finite() && is_laid_out_alike && !is_between_texts
 }
 
 /// Puts bytes in quotes, as [`Quoted`] prints them, and a line's end.

@@ -3,9 +3,8 @@
 use crate::flushing::Flushing;
 use crate::messages::{View, ViewError};
 use crate::open::OpenView;
-use crate::parts::{put_columns, put_levels, put_number, put_quoted};
+use crate::parts::{put_columns, put_levels, put_number, put_quoted, put_real};
 use crate::print_error::PrintError;
-use crate::quoted::Real;
 use bser_events::builder::{Builder, Stop};
 use bser_events::event::{Event, Place};
 use bser_messages::limits::Limits;
@@ -271,7 +270,7 @@ fn put_kind<W: Write>(out: &mut W, event: Event<'_>, place: Place) -> io::Result
 fn put_value<W: Write>(out: &mut W, event: Event<'_>, place: Place) -> io::Result<()> {
     match event {
         Event::Int(number) => put_number(out, number),
-        Event::Real(bits) => writeln!(out, "{}", Real(bits)),
+        Event::Real(bits) => put_real(out, bits),
         Event::Bytes(bytes) => put_quoted(out, bytes),
         Event::Text(text) => put_quoted(out, text.as_bytes()),
         Event::Key(key) => put_quoted(out, key.as_bytes()),

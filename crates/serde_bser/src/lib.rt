@@ -21,6 +21,7 @@ pub mod document {
     pub use bser_document::entries::{Entries, Entry};
     pub use bser_document::item::{Item, ItemKind as Kind};
     pub use bser_document::items::Items;
+    pub use bser_document::pointer::is_pointer;
     pub use bser_document::rows::{Row, Rows};
 }
 

@@ -1,5 +1,5 @@
 //! A short message whose value is long.
-use crate::run::{output_of, run_command_to};
+use crate::run::{output_of, print_run};
 use anyhow::Result;
 use bser_vectors::commands::closed_behind;
 use std::alloc::Global;
@@ -21,23 +21,11 @@ pub fn print_amplifying(rt: &HostRuntime) -> Result<()> {
     println!(rt; "its last row as JSON: {} bytes", row.len())?;
     let cut = message.len().saturating_sub(1);
     for words in [&["show"], &["json"], &["canon"]] {
-        print_run(rt, words, &message)?;
+        print_run(rt, words, &message, closed_behind(TAKEN))?;
     }
     for words in [&["summary"], &["json"], &["canon"]] {
-        print_run(rt, words, &message[..cut])?;
+        print_run(rt, words, &message[..cut], closed_behind(TAKEN))?;
     }
-    Ok(())
-}
-
-/// Runs a command on a message, of whose output a front is taken, and prints what it left.
-fn print_run(rt: &HostRuntime, words: &[&str; 1], message: &[u8]) -> Result<()> {
-    let run = run_command_to(rt, words, message, closed_behind(TAKEN))?;
-    let output = String::from_utf8_lossy(rt.alloc(), &run.output)?;
-    let errors = str::from_utf8(&run.errors)?;
-    println!(rt;
-        "{}: status {}, {output:?}, {errors:?}",
-        words[0], run.status
-    )?;
     Ok(())
 }
 

@@ -7,8 +7,9 @@
 //! compared with its JSON, of some files too. `refused.tsv` has messages that are malformed, with what
 //! has to be reported of them and where, and `wrong-refused.tsv` wrong lines. A message is cut behind
 //! each of its bytes. Of files that come byte by byte is compared what is written before each read. Then
-//! commands are run on a short message whose value is long. At last the messages of a recorded session
-//! are added to an index, which is compared after each with tables that were folded elsewhere.
+//! commands are run to an output that takes nothing, and on a short message whose value is long. At last
+//! the messages of a recorded session are added to an index, which is compared after each with tables
+//! that were folded elsewhere.
 #![tactic(auto)]
 
 mod amplifying;
@@ -21,6 +22,7 @@ mod printed;
 mod refusal;
 mod run;
 mod session;
+mod untaken;
 mod waiting;
 
 use crate::amplifying::print_amplifying;
@@ -31,6 +33,7 @@ use crate::printed::compare_printed;
 use crate::refusal::{compare_cuts, compare_refusals};
 use crate::run::print_session;
 use crate::session::compare_session;
+use crate::untaken::print_untaken;
 use crate::waiting::compare_waits;
 use anyhow::Result;
 
@@ -53,6 +56,7 @@ fn main(rt: HostRuntime) -> Result<()> {
         "three.bser",
     )?;
     compare_waits(&rt, &[&["from-json"]], "texts.json")?;
+    print_untaken(&rt, "one-row.bser")?;
     print_amplifying(&rt)?;
     compare_session(&rt)
 }

@@ -1,7 +1,7 @@
 //! Messages that are malformed, and what each command reports of them.
 //!
 //! A line of a list has what is wrong, the message in hexadecimal digits, the words that have to be
-//! reported, and the first and the last place that may be. Behind an `or` are other words that may be.
+//! reported, and the place. Behind an `or` are other words that may be.
 use crate::commands::COMMANDS;
 use crate::run::{output_of, run_command};
 use anyhow::{Context, Result};
@@ -42,8 +42,7 @@ pub fn compare_cuts(rt: &HostRuntime, file: &str) -> Result<()> {
             name: file,
             message: "",
             words: "end of input",
-            first: cut,
-            last: cut,
+            place: cut,
         };
         let front = message.get(..cut).context("outside")?;
         for words in [&["show"], &["json"], &["summary"], &["canon"]] {
@@ -64,20 +63,18 @@ struct MalformedMessage<'a> {
     name: &'a str,
     message: &'a str,
     words: &'a str,
-    first: usize,
-    last: usize,
+    place: usize,
 }
 
 impl<'a> MalformedMessage<'a> {
     /// Takes a line apart.
     fn parse(line: &'a str) -> Result<Self> {
-        let [name, message, words, first, last, ..] = columns(line, "\t");
+        let [name, message, words, place, ..] = columns(line, "\t");
         Ok(MalformedMessage {
             name,
             message,
             words,
-            first: first.parse()?,
-            last: last.parse()?,
+            place: place.parse()?,
         })
     }
 
@@ -125,8 +122,7 @@ impl<'a> MalformedMessage<'a> {
             Some((place, _advice)) => place,
             None => behind.trim_end(),
         };
-        let place = place.parse::<usize>()?;
-        if place < self.first || self.last < place {
+        if place.parse::<usize>()? != self.place {
             return Ok(Some("another place"));
         }
         if !has_words(text, self.words) || errors.lines().count() != 1 {

@@ -80,13 +80,26 @@ pub fn run_index(rt: &HostRuntime, words: &str, input: &[u8]) -> Result<CommandR
 }
 
 /// Runs `bser` with these words behind its name, on this input. The output is taken by the plan.
-pub fn run_command_to(
+fn run_command_to(
     rt: &HostRuntime,
     words: &[&str],
     input: &[u8],
     plan: Plan,
 ) -> Result<CommandRun> {
     run_planned(rt, &Bser::new(rt.alloc(), rt), words, input, plan)
+}
+
+/// Runs a command on a message, of whose output as much is taken as the plan says, and prints what it
+/// left.
+pub fn print_run(rt: &HostRuntime, words: &[&str; 1], message: &[u8], plan: Plan) -> Result<()> {
+    let run = run_command_to(rt, words, message, plan)?;
+    let output = String::from_utf8_lossy(rt.alloc(), &run.output)?;
+    let errors = str::from_utf8(&run.errors)?;
+    println!(rt;
+        "{}: status {}, {output:?}, {errors:?}",
+        words[0], run.status
+    )?;
+    Ok(())
 }
 
 /// Runs `bser` with these words behind its name on these streams, and answers its status.

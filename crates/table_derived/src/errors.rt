@@ -4,7 +4,9 @@ use bser_serde::{ReadError, from_reader, from_slice};
 use bser_vectors::answers::FilesAnswer;
 use bser_vectors::counts::CaseCounts;
 use bser_vectors::devices::{Plan, PlannedReader};
+use bser_vectors::enums::TestEnum;
 use bser_vectors::refused::RefusedMessage;
+use serde::{Deserialize, DeserializeOwned};
 use serde_bser::device::Watched;
 use std::alloc::Global;
 use std::fs;
@@ -23,21 +25,37 @@ pub fn compare_all(rt: &HostRuntime, file: &str) -> Result<()> {
     Ok(())
 }
 
-/// Prints how the message is refused as an answer, and answers whether it is so as it has to be, from
-/// a slice and from a reader.
+/// Prints how the message is refused as its type, and answers whether it is so as it has to be. What
+/// is no message is none of an answer either.
 fn compare(rt: &HostRuntime, case: &RefusedMessage<'_>) -> Result<bool> {
+    match case.kind {
+        "i8" => compare_as::<i8>(rt, case, &case.message),
+        "String" => compare_as::<String>(rt, case, &case.message),
+        "char" => compare_as::<char>(rt, case, &case.message),
+        "tup2" => compare_as::<(i64, i64)>(rt, case, &case.message),
+        "vec_TestEnum" => compare_as::<Vec<TestEnum<String>>>(rt, case, &case.message),
+        _ => compare_as::<FilesAnswer>(rt, case, &case.message),
+    }
+}
+
+/// The same as this type, from a slice and from a reader.
+fn compare_as<'de, T: Deserialize<'de> + DeserializeOwned>(
+    rt: &HostRuntime,
+    case: &RefusedMessage<'_>,
+    message: &'de [u8],
+) -> Result<bool> {
     let alloc = rt.alloc();
-    let Err(refusal) = from_slice::<FilesAnswer>(alloc, &case.message) else {
+    let Err(refusal) = from_slice::<T>(alloc, message) else {
         println!(rt; "{}: accepted", case.name)?;
         return Ok(false);
     };
     let text = refusal.to_string(alloc)?;
     println!(rt; "{}: {text}", case.name)?;
     let is_right = is_described(alloc, case, text.as_str(), &refusal)?;
-    let mut reader = Watched::new(PlannedReader::new(&case.message, Plan::pieces(7)));
-    Ok(match from_reader::<_, FilesAnswer>(alloc, &mut reader) {
-        Ok(_answer) => false,
-        Err(ReadError::Ended) => is_right && case.message.is_empty(),
+    let mut reader = Watched::new(PlannedReader::new(message, Plan::pieces(7)));
+    Ok(match from_reader::<_, T>(alloc, &mut reader) {
+        Ok(_value) => false,
+        Err(ReadError::Ended) => is_right && message.is_empty(),
         Err(other) => is_right && other.to_string(alloc)? == text,
     })
 }
@@ -56,7 +74,7 @@ fn is_described(
             let path = misfit.path.to_string(alloc)?;
             case.is_described(text, misfit.place)
                 && path.as_str() == case.path
-                && path.as_str().contains(case.field)
+                && (case.field == "-" || path.as_str().contains(case.field))
         }
         _ => false,
     })

@@ -2,16 +2,20 @@
 //!
 //! The file `errors.tsv` has a line for each message: what it shows, the type that it is read as, the
 //! message in hexadecimal digits, the words that its description has to have, the field that has to be
-//! named, or `-`, the first and the last place that it may have, and the path. The first line has the
-//! columns' names. The file `wrong-errors.tsv` has such lines of which each is wrong.
+//! named, or `-`, where the part that is refused begins and ends, the place, and the path. The first
+//! line has the columns' names. What is read as a `Value` is read as a `Document` too. The file
+//! `wrong-errors.tsv` has such lines of which each is wrong.
 use anyhow::{Context, Result};
 use bser_vectors::answers::FilesAnswer;
 use bser_vectors::devices::{Plan, PlannedReader};
+use bser_vectors::enums::TestEnum;
 use bser_vectors::refused::RefusedMessage;
 use serde_bser::de::{Deserialize, DeserializeOwned};
 use serde_bser::describe;
 use serde_bser::describe::Description;
 use serde_bser::device::Watched;
+use serde_bser::document::Document;
+use serde_bser::tell::{Limits, Reason};
 use serde_bser::value::Value;
 use std::alloc::Global;
 use std::fs;
@@ -57,13 +61,27 @@ pub fn compare_refusals(rt: &HostRuntime, file: &str) -> Result<()> {
 /// described otherwise, or not as it has to be.
 fn compare_case(rt: &HostRuntime, line: &str) -> Result<u64> {
     let case = RefusedMessage::parse(rt.alloc(), line)?;
-    let refused = refusal(rt.alloc(), &case, 0)?;
+    let refused = refusal(rt.alloc(), &case, case.kind, 0)?;
     let text = refused.to_string(rt.alloc())?;
     let path = refused.path(rt.alloc(), &case.message)?;
     println!(rt; "{}: {text}, in {path}", case.name)?;
+    let mut wrong = count_wrong(rt, &case, case.kind, text.as_str())?;
+    if case.kind == "Value" {
+        wrong = wrong.saturating_add(count_wrong(rt, &case, "Document", text.as_str())?);
+    }
+    Ok(wrong)
+}
+
+/// From how many sources the message is refused otherwise as this type, or not as it has to be.
+fn count_wrong(
+    rt: &HostRuntime,
+    case: &RefusedMessage<'_>,
+    kind: &str,
+    expected: &str,
+) -> Result<u64> {
     let mut wrong = 0u64;
     for pieces in PIECES {
-        if !is_right(rt, &case, pieces, text.as_str())? {
+        if !is_right(rt, case, kind, pieces, expected)? {
             wrong = wrong.saturating_add(1);
         }
     }
@@ -75,10 +93,11 @@ fn compare_case(rt: &HostRuntime, line: &str) -> Result<u64> {
 fn is_right(
     rt: &HostRuntime,
     case: &RefusedMessage<'_>,
+    kind: &str,
     pieces: usize,
     expected: &str,
 ) -> Result<bool> {
-    let refusal = refusal(rt.alloc(), case, pieces)?;
+    let refusal = refusal(rt.alloc(), case, kind, pieces)?;
     let text = refusal.to_string(rt.alloc())?;
     let path = refusal
         .path(rt.alloc(), &case.message)?
@@ -88,19 +107,44 @@ fn is_right(
         && refusal.field().unwrap_or("-") == case.field
         && path.as_str() == case.path;
     if !is_right {
-        println!(rt; "  wrong in pieces of {pieces}: {text}, in {path}")?;
+        println!(rt; "  wrong as {kind} in pieces of {pieces}: {text}, in {path}")?;
     }
     Ok(is_right)
 }
 
-/// How the case's message is refused as its type.
-fn refusal(alloc: Global, case: &RefusedMessage<'_>, pieces: usize) -> Result<Description> {
-    match case.kind {
+/// How the case's message is refused as this type.
+fn refusal(
+    alloc: Global,
+    case: &RefusedMessage<'_>,
+    kind: &str,
+    pieces: usize,
+) -> Result<Description> {
+    match kind {
         "Value" => refusal_of::<Value>(alloc, &case.message, pieces),
+        "Document" => untold_of(alloc, &case.message, pieces),
         "Answer" => refusal_of::<FilesAnswer>(alloc, &case.message, pieces),
+        "i8" => refusal_of::<i8>(alloc, &case.message, pieces),
+        "String" => refusal_of::<String>(alloc, &case.message, pieces),
+        "char" => refusal_of::<char>(alloc, &case.message, pieces),
+        "tup2" => refusal_of::<(i64, i64)>(alloc, &case.message, pieces),
+        "vec_TestEnum" => refusal_of::<Vec<TestEnum<String>>>(alloc, &case.message, pieces),
         _ => None,
     }
     .context("a message that is accepted, or no such type")
+}
+
+/// How the message is refused as a document. That no byte is left is an error of a slice alone.
+fn untold_of(alloc: Global, message: &[u8], pieces: usize) -> Option<Description> {
+    let untold = if pieces == 0 || message.is_empty() {
+        Document::from_slice(alloc, Limits::new(), message).err()?
+    } else {
+        let mut reader = Watched::new(PlannedReader::new(message, Plan::pieces(pieces)));
+        Document::next_message(alloc, Limits::new(), &mut reader).err()?
+    };
+    match untold.reason {
+        Reason::Failed(description) => Some(description),
+        Reason::Stopped { place: _ } => None,
+    }
 }
 
 /// How the message is refused as this type, read from a slice or from a reader of so many bytes a

@@ -1,7 +1,7 @@
 //! A client that sends requests in the midst of its events.
 use anyhow::{Context, Result};
 use bser_vectors::session::SentMessage;
-use client_following::events::next_event;
+use client_following::events::{events_of, next_event};
 use serde_bser::bytestring::ByteString;
 use serde_bser::device::Watched;
 use watchman_client::bounds::Bounds;
@@ -45,6 +45,25 @@ pub fn print_asking(rt: &HostRuntime, stream: &[u8], messages: &[SentMessage]) -
         let now: Clock<ByteString> = client.request(&request)?;
         let kept = client.has_kept();
         println!(rt; "asked behind it: {}, an event is kept: {kept}", now.clock)?;
+    }
+    Ok(())
+}
+
+/// Prints the events, where nothing is asked between them.
+pub fn print_events(rt: &HostRuntime, stream: &[u8], messages: &[SentMessage]) -> Result<()> {
+    let mut server = Vec::new(rt.alloc());
+    for place in [5, 6, 7] {
+        let message = messages.get(place).context("too few messages")?;
+        server.extend_from_slice(message.bytes(stream))?;
+    }
+    let writer = Watched::new(Vec::new(rt.alloc()));
+    let reader = Watched::new(server.as_slice());
+    let mut client = Client::new(rt.alloc(), BOUNDS, reader, writer);
+    for event in events_of::<ByteString, File<ByteString>, _, _>(&mut client) {
+        match event? {
+            Event::Files(changed) => println!(rt; "then changes at {}", changed.clock)?,
+            _event => println!(rt; "then another event")?,
+        }
     }
     Ok(())
 }

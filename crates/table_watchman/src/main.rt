@@ -23,13 +23,13 @@ mod requests;
 mod session;
 mod told;
 
-use crate::asking::print_asking;
+use crate::asking::{print_asking, print_events};
 use crate::following::{print_below, print_early, print_following, print_made};
 use crate::line::PrintedMessage;
 use crate::needed::print_needed;
 use crate::requests::compare_requests;
 use crate::session::compare_session;
-use crate::told::print_message;
+use crate::told::{check_event, print_message};
 use anyhow::{Context, Result};
 use bser_vectors::counts::CaseCounts;
 use bser_vectors::session::sent_messages;
@@ -57,7 +57,8 @@ fn main(rt: HostRuntime) -> Result<()> {
         followed,
         &fs::read_to_string(&rt, "events.tsv")?,
     )?;
-    print_asking(&rt, &stream, followed)
+    print_asking(&rt, &stream, followed)?;
+    print_events(&rt, &stream, followed)
 }
 
 /// Reads each message of the list, and prints how many are not read as the list says.
@@ -81,6 +82,7 @@ fn print_session(rt: &HostRuntime, file: &str) -> Result<()> {
         if line.name.starts_with("session/") && matches!(line.answer, "clock" | "-") {
             let message = hex::decode(rt.alloc(), line.message)?;
             print_message(rt, &message)?;
+            check_event(rt.alloc(), &message)?;
         }
         if line.name.contains("-version") {
             println!(rt; "{}", line.name)?;

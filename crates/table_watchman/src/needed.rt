@@ -1,5 +1,5 @@
 //! Which capabilities a server lacks.
-use anyhow::Result;
+use anyhow::{Result, ensure};
 use serde_bser::bytestring::ByteString;
 use serde_bser::de::{Deserialize, from_slice};
 use watchman_types::version::{CapabilityName, Version};
@@ -28,6 +28,11 @@ fn print_missing<'m, S: CapabilityName + Deserialize<&'m [u8]>>(
 ) -> Result<()> {
     let version: Version<S> = from_slice(rt.alloc(), bytes)?;
     for needed in NEEDED {
+        let has_all = needed.iter().all(|name| version.has_capability(name));
+        ensure!(
+            has_all == version.missing_capability(needed).is_none(),
+            "{needed:?}"
+        );
         match version.missing_capability(needed) {
             Some(name) => println!(rt; "of {needed:?} the server lacks {name}")?,
             None => println!(rt; "of {needed:?} the server lacks nothing")?,

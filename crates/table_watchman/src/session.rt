@@ -12,10 +12,13 @@ use crate::session::fold::fold_session;
 use anyhow::{Context, Result, bail, ensure};
 use bser_vectors::session::SentMessage;
 use serde_bser::device::Watched;
+use serde_bser::from_slice;
+use serde_bser::value::Value;
 use std::alloc::Global;
 use watchman_client::bounds::Bounds;
 use watchman_client::client::Client;
 use watchman_client::errors::ClientError;
+use watchman_client::reading::{read_answer, read_owned_answer};
 
 /// What a client keeps of the session.
 const BOUNDS: Bounds = Bounds {
@@ -54,10 +57,31 @@ fn print_bounds(rt: &HostRuntime, stream: &[u8], message: &SentMessage) -> Resul
         let mut client = Client::new(rt.alloc(), bounds, Watched::new(bytes), writer);
         client.send(&"request")?;
         match client.answer() {
-            Ok(()) => println!(rt; "at most {message_bytes} bytes: an answer")?,
+            Ok(()) => {
+                check_read(rt.alloc(), client.read_owned(), bytes)?;
+                println!(rt; "at most {message_bytes} bytes: an answer")?;
+            }
             Err(error) => println!(rt; "at most {message_bytes} bytes: {error}")?,
         }
     }
+    Ok(())
+}
+
+/// Compares the answer that was read with what each other call reads of its bytes.
+fn check_read(alloc: Global, read: Result<Value, ClientError>, bytes: &[u8]) -> Result<()> {
+    let answer = read?;
+    ensure!(
+        read_answer::<Value>(alloc, bytes)? == answer,
+        "lent otherwise"
+    );
+    ensure!(
+        read_owned_answer::<Value>(alloc, bytes)? == answer,
+        "owned otherwise"
+    );
+    ensure!(
+        from_slice::<Value>(alloc, bytes)? == answer,
+        "read otherwise"
+    );
     Ok(())
 }
 
@@ -102,7 +126,12 @@ fn check_cut(
     for message in messages {
         if message.end <= cut && !message.is_unsolicited {
             client.send(&"request")?;
+            ensure!(client.is_waiting(), "a request that is not outstanding");
             client.answer()?;
+            ensure!(
+                !client.is_waiting(),
+                "a request that is outstanding behind its answer"
+            );
             check_message(stream, message, client.message())?;
         }
     }
@@ -119,10 +148,12 @@ fn check_cut(
         }
     }
     match client.next_unsolicited() {
-        Ok(false) if clean => Ok(()),
-        Err(ClientError::Failed) if !clean => Ok(()),
+        Ok(false) if clean => {}
+        Err(ClientError::Failed) if !clean => {}
         _other => bail!("another message at {cut}"),
     }
+    ensure!(client.has_failed() != clean, "failed otherwise at {cut}");
+    Ok(())
 }
 
 /// Compares a message that was given with the one recorded.

@@ -1,8 +1,12 @@
 //! What messages tell, for people.
-use anyhow::Result;
+use anyhow::{Result, bail};
 use serde_bser::bytestring::ByteString;
+use serde_bser::from_slice;
+use std::alloc::Global;
 use watchman_types::file::File;
-use watchman_types::message::{Event, Message, read_message};
+use watchman_types::header::Header;
+use watchman_types::kind::{EventKind, MessageKind};
+use watchman_types::message::{Event, Message, read_event, read_message};
 use watchman_types::watch::Clock;
 
 /// Prints what the message tells: an answer to `clock`, or what came in its place.
@@ -22,4 +26,22 @@ pub fn print_message(rt: &HostRuntime, bytes: &[u8]) -> Result<()> {
         Message::Event(_event) => println!(rt; "another event")?,
     }
     Ok(())
+}
+
+/// Checks of an event that what its kind alone is read as is of that kind.
+pub fn check_event(alloc: Global, bytes: &[u8]) -> Result<()> {
+    let header: Header = from_slice(alloc, bytes)?;
+    let MessageKind::Event(kind) = header.kind() else {
+        return Ok(());
+    };
+    let event: Event<ByteString, File<ByteString>> = read_event(alloc, header.event_kind(), bytes)?;
+    match (kind, &event) {
+        (EventKind::Log, Event::Log(_))
+        | (EventKind::StateEntered, Event::StateEntered(_))
+        | (EventKind::StateLeft, Event::StateLeft(_))
+        | (EventKind::Canceled, Event::Canceled(_))
+        | (EventKind::Files, Event::Files(_))
+        | (EventKind::Other, Event::Other) => Ok(()),
+        _ => bail!("an event of another kind"),
+    }
 }

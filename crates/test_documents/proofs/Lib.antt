@@ -1,1 +1,3 @@
+pub mod Computed
+pub mod Spelling
 pub mod ReadBack

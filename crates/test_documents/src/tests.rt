@@ -1,6 +1,7 @@
 //! Tests of documents, frames, structs and whole messages.
 mod answers;
 mod frames;
+mod kinds;
 mod messages;
 mod parts;
 mod pointer;

@@ -8,3 +8,4 @@ pub mod Since
 pub mod Stored
 pub mod Tables
 pub mod Visits
+pub mod Plain

@@ -8,3 +8,4 @@ pub mod Questions
 pub mod Records
 pub mod Subjects
 pub mod Taken
+pub mod Schemas

@@ -10,6 +10,7 @@ pub mod connection;
 pub mod cursors;
 mod entry;
 pub mod error;
+pub mod laws;
 pub mod making;
 pub mod opening;
 mod parameters;

@@ -3,7 +3,7 @@ ghost use Rattle.std.specs.Prelude.{◌≡◌, ◌≤◌, length};
 ghost use Rattle.json.specs.Reads.{token_of};
 ghost use Rattle.bser_from_json.specs.Made.{is_bad};
 ghost use Rattle.bser_from_json.specs.Left.{EndsThere, Takes};
-ghost use Rattle.bser_from_json.specs.declared.tokens.TokenError.TheVariants.{At};
+ghost use Rattle.bser_from_json.specs.declared.tokens.TokenError.TheVariants.{At, Breaks};
 
 use crate::fault::JsonFault;
 use crate::tokens::{TokenError, Tokens};
@@ -32,18 +32,21 @@ impl<'a> Tokens<'a> {
         TokenError::At(fault, self.taken)
     }
 
+    /// Refuses what stands right behind the token that was taken last.
+    pub(crate) fn break_off(&self) -> TokenError
+        ensures { result ≡ Breaks self.now.taken }
+    {
+        TokenError::Breaks(self.taken)
+    }
+
     /// No token may follow.
     pub(crate) fn end(&mut self) -> Result<(), TokenError>
         ensures { EndsThere self.old result }
     {
-        let Some(token) = self.reader.next() else {
-            return Ok(());
-        };
-        if is_bad(token) {
-            return Err(TokenError::Lacks(self.taken));
+        match self.reader.next() {
+            Some(_) => Err(self.break_off()),
+            None => Ok(()),
         }
-        self.taken += 1;
-        Err(self.refuse(JsonFault::NotJson))
     }
 }
 

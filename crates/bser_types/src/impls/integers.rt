@@ -1,7 +1,8 @@
 //! Reading integers.
-ghost use Rattle.std.specs.Prelude.{◌≡◌, ◌≢◌, ◌≤ℤ◌, ℤ, Bool, refl, Some, IfOk, OnErr};
+ghost use Rattle.std.specs.Prelude.{◌≡◌, ◌≢◌, ◌≤ℤ◌, ℤ, Bool, true, refl, Some, IfOk, OnErr};
 ghost use Rattle.bser_format.specs.ReadsScalars.{is_signed, is_unsigned, reads_integer, reads_signed, reads_unsigned};
 ghost use Rattle.bser_deserializer.specs.Askings.{asking_integer};
+ghost use Rattle.bser_deserializer.specs.Calls.{is_out_of_range};
 ghost use Rattle.bser_deserializer.specs.Reading.{bare};
 ghost use Rattle.bser_deserializer.specs.Holds.{HoldsNumber, HoldsSize};
 ghost use Rattle.bser_deserializer.specs.State.{refused};
@@ -17,13 +18,15 @@ use bser_source::read::DeRead;
 use bser_source::reference::LendsText;
 use std::alloc::Global;
 
-/// Fails for an integer that the type does not hold, and notes it.
+/// Fails for an integer that the type does not hold, which began behind so many bytes, and notes it.
 #[cold]
 #[inline(never)]
-fn refuse_number<R: DeRead>(from: &mut Deserializer<R>, number: i64) -> Refused
+fn refuse_number<R: DeRead>(from: &mut Deserializer<R>, begun: usize, number: i64) -> Refused
     ensures reason { from.new.refusal ≡ out_of_range from.old.state }
     ensures state { from.new.state ≡ refused from.old.state }
+    ensures begun { from.new.note.begun ≡ Some begun }
 {
+    from.note_begun(begun);
     from.complain_of(Complaint::IntegerOutOfRange, Finding::OutOfRange(number))
 }
 
@@ -36,11 +39,14 @@ fn read_within<R: DeRead>(from: &mut Deserializer<R>, least: i64, most: i64) -> 
     ensures high { IfOk result (λ v. v ≤ℤ most) }
     ensures refused { OnErr result ((fits : ℤ → Bool) → LiesWithin fits least most
         → RefusesDue (reads_integer fits) (Some (asking_integer fits)) bare from.old from.new) }
+    ensures place { OnErr result (is_out_of_range from.new.refusal ≡ true
+        → from.new.note.begun ≡ Some from.old.state.source.count) }
     ensures memory { OnErr result (from.new.refusal ≢ Error.OutOfMemory) }
 {
+    let begun = from.taken();
     let number = from.read_i64()?;
     if number < least || most < number {
-        return Err(refuse_number(from, number));
+        return Err(refuse_number(from, begun, number));
     }
     Ok(number)
 }

@@ -4,13 +4,15 @@ ghost use Rattle.std.specs.Cow.{IsBorrowedStr};
 ghost use Rattle.bser_format.specs.ReadsScalars.{reads_slice, reads_string, reads_byte_string, reads_char, one_char};
 ghost use Rattle.bser_deserializer.specs.HoldsTexts.{HoldsBytes, HoldsChar, char_content};
 ghost use Rattle.bser_deserializer.specs.Askings.{asking_bytes, asking_string, asking_char};
+ghost use Rattle.bser_deserializer.specs.Calls.{complained};
+ghost use Rattle.bser_deserializer.specs.State.{refused};
 ghost use Rattle.bser_deserializer.specs.Reading.{TakesNoMemory, copying, owned, lending};
 ghost use Rattle.bser_types.specs.Accesses.{ReadsDue, RefusesDue};
 ghost use Rattle.bser_types.specs.Askings.{asking_byte_string};
 ghost use Rattle.bser_types.specs.HoldsCows.{HoldsCow};
 
 use crate::deserialize::{Deserialize, OwnedShape, Shape};
-use bser_bunser::refusal::Answer;
+use bser_bunser::refusal::{Answer, Refused};
 use bser_deserializer::cursor::Cursor;
 use bser_deserializer::deserializer::Deserializer;
 use bser_deserializer::node::Node;
@@ -200,16 +202,29 @@ impl<L: LendsText> Deserialize<L> for char {
     #[inline(always)]
     fn deserialize<R: DeRead<Lent = L>>(alloc: Global, from: &mut Deserializer<R>) -> Answer<char> {
         let mut scratch = Vec::new(alloc);
+        let begun = from.taken();
         let text = from.read_text(&mut scratch)?;
         match only_char(text.get_ref()) {
             Some(only) => Ok(only),
-            None => Err(from.complain(Complaint::WrongType)),
+            None => Err(refuse_text(from, begun)),
         }
     }
 }
 
 impl OwnedShape for char {
     ghost owned = { refl };
+}
+
+/// Fails for a text of another number of characters, which began behind so many bytes.
+#[cold]
+#[inline(never)]
+fn refuse_text<R: DeRead>(from: &mut Deserializer<R>, begun: usize) -> Refused
+    ensures reason { from.new.refusal ≡ complained Complaint.WrongType from.old }
+    ensures state { from.new.state ≡ refused from.old.state }
+    ensures begun { from.new.note.begun ≡ Some begun }
+{
+    from.note_begun(begun);
+    from.complain(Complaint::WrongType)
 }
 
 /// The text's only character.

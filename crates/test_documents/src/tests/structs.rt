@@ -2,6 +2,7 @@
 //! written for them.
 mod choices;
 mod files;
+mod forms;
 mod named;
 mod objects;
 mod queries;

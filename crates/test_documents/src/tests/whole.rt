@@ -28,3 +28,17 @@ fn messages_are_kept_one_after_another(rt: HostRuntime) {
     let end = Document::next_message(rt.alloc(), Limits::new(), &mut reader);
     assert!(rt; end.expect(&rt, "the end is no error").is_none());
 }
+
+#[test]
+fn a_message_is_kept_in_the_memory_of_one_before(rt: HostRuntime) {
+    let mut reader = Watched::new(MESSAGES);
+    let array = next(&rt, rt.alloc(), &mut reader);
+    let limits = Limits::new();
+    let kept = Document::next_message_in(rt.alloc(), Some(array), limits, &mut reader);
+    let number = kept
+        .expect(&rt, "it is read")
+        .expect(&rt, "a message is left");
+    assert_eq!(rt; number.root().as_i64(), Some(7));
+    // one node, and no string
+    assert_eq!(rt; number.weight(), 1);
+}

@@ -34,7 +34,7 @@ fn misfits(rt: HostRuntime) {
         VERSION,
         "wrong type: a text where an integer is wanted, at byte 21, in version",
     );
-    let text = "a value that the type does not hold, at byte 8, in .";
+    let text = "wrong type: a truth value where null is wanted, at byte 8, in .";
     check_refused::<()>(&rt, alloc, FALSE, text);
 }
 

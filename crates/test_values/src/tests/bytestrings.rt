@@ -1,6 +1,7 @@
-//! The texts of byte strings.
-use super::checks::{check_debug, check_text};
+//! The texts and the bytes of byte strings.
+use super::checks::{check_bytes, check_debug, check_text};
 use bser_format::bytestring::ByteString;
+use bser_format::escaped::escaped_bytes;
 use std::alloc::Global;
 use std::process::Abort;
 
@@ -43,4 +44,20 @@ fn a_byte_string_is_escaped_shown_and_debugged(rt: HostRuntime) {
         check_text(&rt, rt.alloc(), &value, shown);
         check_debug(&rt, rt.alloc(), &value, debugged);
     }
+}
+
+#[test]
+fn a_byte_string_gives_its_bytes_back_as_a_text_where_they_are_one(rt: HostRuntime) {
+    let text = String::from_str(rt.alloc(), "a/b").expect(&rt, "memory is left");
+    let mut name = ByteString::from_string(text);
+    if let Some(byte) = name.as_mut_bytes().get_mut(1) {
+        *byte = b'-';
+    }
+    let text = name.into_string().ok().expect(&rt, "it is a text");
+    check_bytes(&rt, text.as_bytes(), b"a-b");
+    let stray = byte_string(&rt, rt.alloc(), b"a\xff").into_string().err();
+    let bytes = stray.expect(&rt, "it is no text").into_bytes();
+    check_bytes(&rt, &bytes, b"a\xff");
+    let escaped = escaped_bytes(rt.alloc(), &bytes).expect(&rt, "memory is left");
+    check_bytes(&rt, escaped.as_bytes(), b"a\\xff");
 }

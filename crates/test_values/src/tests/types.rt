@@ -6,4 +6,5 @@ mod faults;
 mod lent;
 mod lists;
 mod maps;
+mod parts;
 mod printed;

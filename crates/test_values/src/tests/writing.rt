@@ -125,6 +125,27 @@ fn a_put_that_is_refused_for_memory_can_be_put_again(rt: HostRuntime) {
     );
 }
 
+/// Puts the greatest integer, the bits of a real, and a character.
+fn put_scalars<W: Sink>(out: &mut Serializer<W>) -> Result<(), Error> {
+    out.put_u64(9223372036854775807)?;
+    out.put_real_bits(0x400921fb54442d18)?;
+    out.put_char('\u{1f4a9}')
+}
+
+#[test]
+fn puts_an_integer_a_real_and_a_character(rt: HostRuntime) {
+    let mut out = in_memory(rt.alloc());
+    put_scalars(&mut out).expect(&rt, "each is put");
+    let too_great = "Err(SerU64TooBig { v: 9223372036854775808 })";
+    check_debug(&rt, rt.alloc(), out.put_u64(9223372036854775808), too_great);
+    let writer = out.finish().expect(&rt, "the writer takes the rest");
+    check_bytes(
+        &rt,
+        writer.get_ref(),
+        b"\x06\xff\xff\xff\xff\xff\xff\xff\x7f\x07\x18\x2d\x44\x54\xfb\x21\x09\x40\x0d\x03\x04\xf0\x9f\x92\xa9",
+    );
+}
+
 /// A variant with fields.
 const STRUCT_VARIANT: WrittenEnum = WrittenEnum::TestStruct {
     abc: (),

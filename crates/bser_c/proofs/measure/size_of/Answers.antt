@@ -1,6 +1,6 @@
 -- Two words more, or nothing more.
 use Rattle.std.proofs.Common.{rules, arith, ◌<◌, ◌+◌, ◌*◌, length, sym, subst, ◌∙◌}
-use Rattle.bser_c.proofs.Steps.{BeginsSize, size_empty, size_more, size_all}
+use Rattle.bser_c.proofs.Steps.{BeginsSize, size_empty, size_more, size_stops, size_all}
 use Rattle.bser_c.proofs.measure.size_of.Goals as goal
 
 pub loop-i-init : goal.loop-i-init
@@ -14,3 +14,8 @@ loop-i-preserved c =
 
 pub returns-clause-told : goal.returns-clause-told
 returns-clause-told c = size_all c.args.strings.now c.args.words.now (2 * c.loop-i.i) c.loop-i.size c.loop-i.invariant (search rules)
+
+pub returns-in-None-clause-there : goal.returns-in-None-clause-there
+returns-in-None-clause-there c =
+    let h : 2 * c.loop-i.i + 1 < length c.args.words.now = search rules in
+    size_stops c.args.strings.now c.args.words.now (2 * c.loop-i.i) c.loop-i.size c.loop-i.invariant h (sym c.size_of_part.ensures ∙ c.in-None.is)

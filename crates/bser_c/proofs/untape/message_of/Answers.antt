@@ -8,4 +8,4 @@ returns-in_err-compare-clause-place c = search (rules, c.in_err-compare.ensures.
 
 pub returns-in_err-compare-clause-refused : goal.returns-in_err-compare-clause-refused
 returns-in_err-compare-clause-refused c =
-    search (rules, refused_compared c.args.strings.now c.args.words.now (take c.in_ok-size.size c.write.new.out) _ c.in_ok-size.ensures.told c.in_err-compare.ensures.refused c.in_err-compare.ensures.place)
+    search (rules, refused_compared c.args.strings.now c.args.words.now (take c.in_ok-size.size c.write.new.out) _ c.in_ok-size.ensures.told c.in_err-compare.ensures.refused c.in_err-compare.ensures.place c.in_err-compare.ensures.agreed)

@@ -34,7 +34,7 @@ pub returns-clause-refused : goal.returns-clause-refused
 returns-clause-refused c =
     let o = made c.args.strings (tokens c.args.text.now) in
     let same = made_is c.args.strings c.new-tokens.result (tokens c.args.text.now) (c.new-tokens.ensures.reader ∙ c.in_ok-reader.ensures.ok) c.new-tokens.ensures.taken in
-    c.error_of.ensures o (subst (λ p. IsRefused p c.in-Err.refusal) (sym same) c.in-Err.ensures)
+    c.in_ok-error_of-in-Err.ensures o (subst (λ p. IsRefused p c.in-Err.refusal) (sym same) c.in-Err.ensures)
 
 pub returns-in-Ok-clause-made : goal.returns-in-Ok-clause-made
 returns-in-Ok-clause-made c =

@@ -1,7 +1,9 @@
 -- A slice whose message was told, and one that was not.
-use Rattle.std.proofs.Common.{rules, ap, ◌∙◌, append-nil}
+use Rattle.std.proofs.Common.{◌≡◌, rules, ap, sym, ◌∙◌, append-nil}
 use Rattle.bser_messages.proofs.Slices.{slice_refused_within}
-use Rattle.bser_messages.proofs.Tellings.{slice_through, slice_reason, stops_late, reason_within}
+use Rattle.bser_messages.proofs.Sources.{slice_blamed}
+use Rattle.bser_format.specs.Named.{head, refuses}
+use Rattle.bser_messages.proofs.Tellings.{fails_early, slice_through, slice_reason, stops_late, reason_within}
 use Rattle.bser_messages.proofs.Throughs.{left_cut, quiet}
 use Rattle.bser_source.specs.Window.{left}
 use Rattle.bser_events.specs.Watched.{builder_of, asked_at}
@@ -25,6 +27,13 @@ pub returns-clause-late : goal.returns-clause-late
 returns-clause-late g c = λ stop.
     rw c.untold.ensures.header (stops_late c.asked_place-asked.result c.in-Err.cut.cause _ c.untold.result.reason c.in-Err.cut.header c.untold.ensures.reason c.in-Err.ensures.late
     (λ none. c.asked_place-asked.ensures.place ∙ quiet _ _ asked_at c.in-Err.cut.header _ c.new-watched.result c.tell_message-answer.new.builder c.in-Err.ensures.cut c.new-watched.ensures.asked none) stop)
+
+pub returns-clause-early : goal.returns-clause-early
+returns-clause-early g c = λ none.
+    let alone = sym c.untold.ensures.header ∙ none in
+    fails_early (λ cause. head c.args.bytes.now ≡ refuses cause) c.asked_place-asked.result c.in-Err.cut.cause _ c.untold.result.reason c.untold.ensures.reason
+    (c.asked_place-asked.ensures.place ∙ quiet _ _ asked_at c.in-Err.cut.header _ c.new-watched.result c.tell_message-answer.new.builder c.in-Err.ensures.cut c.new-watched.ensures.asked alone)
+    (slice_blamed head c.in-Err.cut.cause c.args.bytes.now _ _ (c.unread-from.ensures.source ∙ c.new.ensures) (c.in-Err.ensures.early alone))
 
 pub returns-clause-place : goal.returns-clause-place
 returns-clause-place g c = rw c.untold.ensures.given (reason_within c.asked_place-asked.result c.in-Err.cut.cause _ c.untold.result.reason c.untold.ensures.reason)

@@ -1,5 +1,5 @@
 -- The next message of a reader, told or not.
-use Rattle.std.proofs.Common.{rules, ap, refl, ◌∙◌}
+use Rattle.std.proofs.Common.{rules, ap, refl, sym, ◌∙◌}
 use Rattle.std.specs.Prelude.{Some}
 use Rattle.bser_format.specs.ReadsAny.{reads_ignored}
 use Rattle.bser_deserializer.specs.Askings.{asking_ignored}
@@ -7,7 +7,7 @@ use Rattle.bser_deserializer.specs.Reading.{owned}
 use Rattle.bser_events.specs.Watched.{builder_of, asked_at}
 use Rattle.bser_messages.proofs.Nexts.{next_known, next_refused, over}
 use Rattle.bser_messages.proofs.Sources.{fresh_known}
-use Rattle.bser_messages.proofs.Tellings.{next_header, next_reason, reader_through, stops_late, reason_within}
+use Rattle.bser_messages.proofs.Tellings.{next_fails_early, next_head, next_header, next_reason, reader_through, stops_late, reason_within}
 use Rattle.bser_messages.proofs.Throughs.{left_cut, quiet}
 use Rattle.bser_source.specs.Window.{left}
 use Rattle.bser_source.proofs.Windows.{left_grown}
@@ -44,6 +44,14 @@ pub returns-in-Err-answer-clause-late : goal.returns-in-Err-answer-clause-late
 returns-in-Err-answer-clause-late g c = λ stop.
     rw c.untold.ensures.header (stops_late c.asked_place-asked.result c.in-Err-answer.cut.cause _ c.untold.result.reason c.in-Err-answer.cut.header c.untold.ensures.reason c.in-Err-answer.ensures.late
     (λ none. c.asked_place-asked.ensures.place ∙ quiet _ _ asked_at c.in-Err-answer.cut.header _ c.new-watched.result c.tell_message-answer.new.builder c.in-Err-answer.ensures.cut c.new-watched.ensures.asked none) stop)
+
+pub returns-in-Err-answer-clause-early : goal.returns-in-Err-answer-clause-early
+returns-in-Err-answer-clause-early g c =
+    let fresh = c.new-read.ensures.window in
+    let early = rw c.unread-from.ensures.source at c.in-Err-answer.ensures.early in
+    next_fails_early c.asked_place-asked.result c.in-Err-answer.cut.cause _ g.S.Source c.args.reader.now _ c.untold.result c.untold.ensures.reason
+    (λ none. c.asked_place-asked.ensures.place ∙ quiet _ _ asked_at c.in-Err-answer.cut.header _ c.new-watched.result c.tell_message-answer.new.builder c.in-Err-answer.ensures.cut c.new-watched.ensures.asked (sym c.untold.ensures.header ∙ none))
+    (λ none. next_head c.in-Err-answer.cut.cause _ _ _ _ _ _ _ _ _ fresh (ap (λ r. g.S.Source.remaining r.now) c.new.ensures) (ap (λ r. g.S.Source.failures r.now) c.new.ensures) (search rules) c.in-Ok.ensures.ok.filled.grown (early (sym c.untold.ensures.header ∙ none)))
 
 pub returns-in-Err-answer-clause-place : goal.returns-in-Err-answer-clause-place
 returns-in-Err-answer-clause-place g c = rw c.untold.ensures.given (reason_within c.asked_place-asked.result c.in-Err-answer.cut.cause _ c.untold.result.reason c.untold.ensures.reason)

@@ -14,6 +14,11 @@ pub returns-in-Err-clause-failed : goal.returns-in-Err-clause-failed
 returns-in-Err-clause-failed g c =
     rw (c.take_refusal.ensures.reason, ap (λ (z : State). z.source) c.take_refusal.ensures.state) (head_untold c.args.limits _ _ _ c.in-Err.ensures.err c.in-Err.ensures.names)
 
+pub returns-in-Err-clause-early : goal.returns-in-Err-clause-early
+returns-in-Err-clause-early g c = λ none.
+    let r = c.take_refusal.ensures in
+    rw (r.reason, ap (λ (z : State). z.source) r.state) (record { err = c.in-Err.ensures.err; names = c.in-Err.ensures.names; memory = c.in-Err.ensures.memory })
+
 pub returns-in-Ok-end-clause-found : goal.returns-in-Ok-end-clause-found
 returns-in-Ok-end-clause-found g c =
     let h = c.header_of-header.ensures in

@@ -7,4 +7,4 @@ pub returns-in-Unknown-clause-names : goal.returns-in-Unknown-clause-names
 returns-in-Unknown-clause-names g c =
     let s : State = c.args.from.now.state in
     let m : State = c.read_name.new.from.state in
-    unknown_names (map (λ r. r.now) c.args.variants.now) _ s m c.in_ok-place.field-0 c.in_ok-place.ensures.found c.in-Unknown.is c.complain.ensures.reason
+    unknown_names (map (λ r. r.now) c.args.variants.now) _ s m c.in_ok-place.field-0 c.in_ok-place.ensures.found c.in-Unknown.is c.refuse_name.ensures.reason

@@ -1,9 +1,9 @@
-//! A reader that keeps how far it was asked.
+//! A reader that keeps how far it was asked, and how often.
 use bser_vectors::devices::{Plan, PlannedReader};
 use std::io;
 use std::io::Read;
 
-/// Gives bytes by a plan, and keeps how far it was asked at most.
+/// Gives bytes by a plan, and keeps how far it was asked at most, and how often.
 #[derive(Drop)]
 pub struct AskedReader<'a> {
     inner: PlannedReader<'a>,
@@ -24,6 +24,11 @@ impl<'a> AskedReader<'a> {
     /// The place in the stream behind the last byte that it was asked for.
     pub fn asked(&self) -> usize {
         self.asked
+    }
+
+    /// How often it was asked.
+    pub fn calls(&self) -> u64 {
+        self.inner.calls
     }
 }
 

@@ -37,5 +37,7 @@ fn messages_are_read_in_one_call(rt: HostRuntime) {
     check_debug(&rt, alloc, frames.next_message::<i64>(), "Ok(Some(5))");
     assert_eq!(rt; frames.frame(), FIVE);
     assert_eq!(rt; frames.position(), 20);
+    // of each message the header and the body take one read
+    assert_eq!(rt; frames.get_ref().get_ref().calls(), 4);
     check_debug(&rt, alloc, frames.next_message::<i64>(), "Ok(None)");
 }

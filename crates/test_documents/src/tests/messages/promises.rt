@@ -1,16 +1,16 @@
 //! Each law is answered with memory, so that none speaks of errors alone.
 use super::{check_bytes, check_read, value_of};
-use bser_source::device::Watched;
-use bser_vectors::messages::ROWS;
-use laws::agreement::read_both_ways;
-use laws::bounds::read_within_bounds;
-use laws::least::{compactly_rewritten, rewritten};
-use laws::messages::{have_one_compact_message, have_one_message};
-use laws::returned::{
+use bser_laws::agreement::read_both_ways;
+use bser_laws::bounds::read_within_bounds;
+use bser_laws::least::{compactly_rewritten, rewritten};
+use bser_laws::messages::{have_one_compact_message, have_one_message};
+use bser_laws::returned::{
     ReadBack, compactly_written_and_read, compactly_written_and_read_on, written_and_read,
     written_and_read_on,
 };
-use laws::templates::{read_written_out, read_written_out_on};
+use bser_laws::templates::{read_written_out, read_written_out_on};
+use bser_source::device::Watched;
+use bser_vectors::messages::ROWS;
 use serde_bser::errors::Result;
 use serde_bser::value::Value;
 use std::alloc::Global;

@@ -2,6 +2,7 @@
 use crate::tests::readers::source_of;
 use crate::tests::texts::is_printed;
 use bser_bunser::bunser::{Bunser, PduInfo};
+use bser_bunser::prefix::{Look, Token};
 use bser_source::read::DeRead;
 use bser_source::slice_read::SliceRead;
 use bser_source::text::as_text;
@@ -16,10 +17,28 @@ enum WindowCall {
     Head,
     /// An integer of any width.
     Int,
+    /// An integer of one byte, after its tag.
+    I8,
+    /// An integer of two bytes, after its tag.
+    I16,
     /// An integer of four bytes, after its tag.
     I32,
+    /// An integer of eight bytes, after its tag.
+    I64,
     /// The bits of a real, after its tag.
     Real,
+    /// The bits of a real, after its tag, where an error is kept.
+    Bits,
+    /// An integer of any width, where an error is kept.
+    Look,
+    /// An integer of which nine bytes are buffered.
+    Buffered,
+    /// A string's head: whether it has the tag of a text, and its length.
+    Token,
+    /// The length and the bytes of a string.
+    Str,
+    /// The length and the bytes of a string, as a copy.
+    Copy,
     /// So many bytes.
     Bytes(i64),
     /// So many bytes are passed over.
@@ -43,8 +62,12 @@ fn is_taken<R: DeRead>((call, text): Step, from: &mut Bunser<R>) -> bool {
         return false;
     };
     match call {
+        WindowCall::I8 => tag == 0x03 && is_printed(from.next_i8(), text),
+        WindowCall::I16 => tag == 0x04 && is_printed(from.next_i16(), text),
         WindowCall::I32 => tag == 0x05 && is_printed(from.next_i32(), text),
+        WindowCall::I64 => tag == 0x06 && is_printed(from.next_i64(), text),
         WindowCall::Real => tag == 0x07 && is_printed(from.next_f64(), text),
+        WindowCall::Bits => tag == 0x07 && is_printed(from.next_bits(), text),
         _ => {
             from.discard();
             is_printed(tag, text)
@@ -57,6 +80,29 @@ fn are_bytes<R: DeRead>(alloc: Global, len: i64, text: &str, from: &mut Bunser<R
     match from.read_bytes(len, &mut scratch) {
         Ok(read) => is_printed(as_text(read.get_ref()), text),
         Err(error) => is_printed(error, text),
+    }
+}
+
+fn is_string<R: DeRead>(alloc: Global, text: &str, from: &mut Bunser<R>) -> bool {
+    let mut scratch = Vec::new(alloc);
+    match from.next_string(&mut scratch) {
+        Ok(read) => is_printed(as_text(read.get_ref()), text),
+        Err(refused) => is_printed(refused, text),
+    }
+}
+
+/// Whether what is taken at once is this: a string's head, or an integer.
+fn is_piece<R: DeRead>((call, text): Step, from: &mut Bunser<R>) -> bool {
+    match call {
+        WindowCall::Token => match from.token() {
+            Ok(Token::Str { is_text, len }) => is_printed((is_text, len), text),
+            _ => false,
+        },
+        WindowCall::Look => match from.next_int() {
+            Ok(Look::Taken(number)) => is_printed(number, text),
+            _ => false,
+        },
+        _ => from.fill(9).is_ok() && is_printed(from.buffered_int(), text),
     }
 }
 
@@ -79,6 +125,11 @@ fn is_answered<R: DeRead>(
     match call {
         WindowCall::Head => is_head(info, text, from),
         WindowCall::Int => is_printed(from.check_next_int(), text),
+        WindowCall::Copy => is_printed(from.next_copy(alloc), text),
+        WindowCall::Str => is_string(alloc, text, from),
+        WindowCall::Token | WindowCall::Look | WindowCall::Buffered => {
+            is_piece((call, text), from)
+        }
         WindowCall::Bytes(len) => are_bytes(alloc, len, text, from),
         WindowCall::Pass(len) => is_printed(from.pass(len), text),
         WindowCall::Peek => is_printed(from.peek(), text),
@@ -143,11 +194,37 @@ static KINDS_STEPS: [Step; 19] = [
     (WindowCall::End, "Ok(())"),
 ];
 
+/// An array of -2, 513, -9223372036854775808, `abc` under the tag of byte strings, 5 in eight bytes,
+/// the real next to pi, `xy` under the tag of byte strings, and `abc` under that of texts.
+const WIDTHS: &[u8] =
+    b"\x00\x02\x00\x00\x00\x00\x03\x34\x00\x03\x08\x03\xfe\x04\x01\x02\x06\x00\x00\x00\x00\x00\x00\x00\x80\x02\x03\x03abc\x06\x05\x00\x00\x00\x00\x00\x00\x00\x07\x18\x2d\x44\x54\xfb\x21\x09\x40\x02\x03\x02xy\x0d\x03\x03abc";
+
+/// Each part by the call that is for it alone.
+static WIDTHS_STEPS: [Step; 15] = [
+    (WindowCall::Head, "(0, 52, 8)"),
+    (WindowCall::Byte, "0"),
+    (WindowCall::Look, "8"),
+    (WindowCall::I8, "Ok(-2)"),
+    (WindowCall::I16, "Ok(513)"),
+    (WindowCall::I64, "Ok(-9223372036854775808)"),
+    (WindowCall::Byte, "2"),
+    (WindowCall::Copy, "Ok([97, 98, 99])"),
+    (WindowCall::Buffered, "Some(5)"),
+    (WindowCall::Bits, "Ok(4614256656552045848)"),
+    (WindowCall::Byte, "2"),
+    (WindowCall::Str, "Some(\"xy\")"),
+    (WindowCall::Token, "(true, 3)"),
+    (WindowCall::Pass(3), "Ok(())"),
+    (WindowCall::End, "Ok(())"),
+];
+
 #[test]
 fn each_call_takes_its_part_however_the_bytes_come(rt: HostRuntime) {
-    check_source(&rt, rt.alloc(), &KINDS_STEPS, SliceRead::new(KINDS));
-    for most in [1, 2, 3, 7, 4096] {
-        check_reader(&rt, rt.alloc(), &KINDS_STEPS, KINDS, (most, usize::MAX));
+    for (steps, bytes) in [(KINDS_STEPS.as_slice(), KINDS), (&WIDTHS_STEPS, WIDTHS)] {
+        check_source(&rt, rt.alloc(), steps, SliceRead::new(bytes));
+        for most in [1, 2, 3, 7, 4096] {
+            check_reader(&rt, rt.alloc(), steps, bytes, (most, usize::MAX));
+        }
     }
 }
 

@@ -62,7 +62,7 @@ static REFUSED: [(&[u8], Described); 4] = [
             29,
         ),
     ),
-    (NEGATIVE, (Some("size"), Some(Finding::OutOfRange(-1)), 31)),
+    (NEGATIVE, (Some("size"), Some(Finding::OutOfRange(-1)), 29)),
     (TWICE, (Some("size"), Some(Finding::Repeated), 38)),
     (MISSING, (Some("size"), Some(Finding::Missing), 22)),
 ];

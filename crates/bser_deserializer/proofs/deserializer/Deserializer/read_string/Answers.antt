@@ -21,9 +21,9 @@ pub returns-then-is_none-clause-refused : goal.returns-then-is_none-clause-refus
 returns-then-is_none-clause-refused g c =
     let s : State = c.args.self.now.state in
     let m : State = c.take_copy.new.self.state in
-    let n : State = c.refuse_utf8.new.self.state in
+    let n : State = c.refuse_string.new.self.state in
     let bad = told_none c.as_text.result _ _ _ c.deref.ensures.value c.as_text.ensures (c.is_none.ensures ∙ ap not c.if-is_none.true) in
-    rw c.refuse_utf8.ensures.reason (owning reads_string asking_string _ s n (text_not_utf8 s m n _ _ c.in_ok-bytes.ensures.found bad c.refuse_utf8.ensures.state))
+    rw c.refuse_string.ensures.reason (owning reads_string asking_string _ s n (text_not_utf8 s m n _ _ c.in_ok-bytes.ensures.found bad c.refuse_string.ensures.state))
 
 pub returns-clause-found : goal.returns-clause-found
 returns-clause-found g c =

@@ -21,5 +21,5 @@ pub returns-in-Err-clause-refused : goal.returns-in-Err-clause-refused
 returns-in-Err-clause-refused g c =
     let s : State = c.args.self.now.state in
     let m : State = c.take_bytes.new.self.state in
-    let n : State = c.refuse.new.self.state in
-    rw (c.refuse.ensures.reason, c.de_reader_error.ensures, c.in-Err.ensures.cause) (text_not_utf8 s m n _ _ c.in_ok-bytes.ensures.found c.in-Err.ensures.err c.refuse.ensures.state)
+    let n : State = c.refuse_string.new.self.state in
+    rw c.refuse_string.ensures.reason (text_not_utf8 s m n _ _ c.in_ok-bytes.ensures.found c.in-Err.ensures.err c.refuse_string.ensures.state)

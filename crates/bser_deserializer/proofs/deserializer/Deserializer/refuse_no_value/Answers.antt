@@ -4,6 +4,8 @@ use Rattle.bser_deserializer.specs.State.{State}
 use Rattle.bser_deserializer.specs.Dues.{due_of, IsTagged}
 use Rattle.bser_deserializer.specs.Reading.{NamesDue, bare}
 use Rattle.bser_deserializer.specs.View.{seen_of}
+use Rattle.bser_deserializer.specs.declared.note.Note.{Note}
+use Rattle.bser_deserializer.proofs.Ranges.{refused_other}
 use Rattle.bser_deserializer.proofs.Tags.{peeked, stray_names, complained_names, complained_fails, nothing_kind, untagged_asked}
 use Rattle.bser_deserializer.proofs.deserializer.Deserializer.refuse_no_value.Goals as goal
 
@@ -26,6 +28,8 @@ returns-in_default g c =
       err = complained_fails wrong_type _ s.source _ tt c.complain.ensures.reason (ap (λ (z : State). z.source) c.complain.ensures.state);
       names = complained_names bare (asked nothing_at s.opened s.due) wrong_type _ s.source c.complain.ensures.reason
           (λ x. ap (λ d. asked nothing_at s.opened d x) (sym here) ∙ untagged_asked s.opened ks c.self.inside.place c.self.inside.due x (rw (← c.self.view_is) at c.requires) c.in_default.not-Key some);
+      begun = ap (λ (n : Note). n.begun) c.complain.ensures.note;
+      other = refused_other s.source.failed wrong_type _ refl c.complain.ensures.reason;
       memory = c.complain.ensures.memory;
     })
 
@@ -38,5 +42,7 @@ returns-in_default-2 g c =
           (ap (λ (z : State). z.source) c.refuse_nothing_due.ensures.state);
       names = complained_names bare (asked nothing_at s.opened s.due) (nothing_here s.opened) _ s.source c.refuse_nothing_due.ensures.reason
           (λ x. ap (λ d. asked nothing_at s.opened d x) none);
+      begun = ap (λ (n : Note). n.begun) c.refuse_nothing_due.ensures.note;
+      other = c.refuse_nothing_due.ensures.other;
       memory = c.refuse_nothing_due.ensures.memory;
     })

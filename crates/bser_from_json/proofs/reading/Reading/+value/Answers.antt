@@ -29,7 +29,7 @@ array-returns-in_err-token-clause-comes t c =
     let e = c.in_err-token.field-0.0 in
     rw p.1 (λ os h. refused_is _ p.0 e p.2
     (refused_same _ _ e (array_begun s c.args.tokens.now os (room os c.args.levels h c.if-levels-eq0.false) ∙ parts.2 os h)
-    (lacking s (an_item parts.0 os) c.loop-items.tokens c.next.new.self e refl c.in_err-token.ensures.taken)))
+    (lacking s (an_item parts.0 os) c.loop-items.tokens c.next.new.self e (refl, refl) c.in_err-token.ensures.taken)))
 
 pub array-returns-in-EndArray-clause-comes : goal.array-returns-in-EndArray-clause-comes
 array-returns-in-EndArray-clause-comes t c =
@@ -79,7 +79,7 @@ pub object-returns-in_err-first-clause-comes : goal.object-returns-in_err-first-
 object-returns-in_err-first-clause-comes t c =
     let p = err_from_is_err_and c.from_residual.result c.from_residual.ensures.1 in
     let e = c.in_err-first.field-0.0 in
-    rw p.1 (λ os h. refused_is _ p.0 e p.2 (lacking c.args.self.now.strings (a_first_member os) c.args.tokens.now c.next.new.self e refl c.in_err-first.ensures.taken))
+    rw p.1 (λ os h. refused_is _ p.0 e p.2 (lacking c.args.self.now.strings (a_first_member os) c.args.tokens.now c.next.new.self e (refl, refl) c.in_err-first.ensures.taken))
 
 pub object-returns-in-Some-clause-comes : goal.object-returns-in-Some-clause-comes
 object-returns-in-Some-clause-comes t c =
@@ -131,7 +131,7 @@ members-returns-in_err-token-clause-comes t c =
     let named = c.in-Ok.ensures es (stand_named _ _ es parts.1.stand) in
     rw p.1 (λ os h. refused_is _ p.0 e p.2
     (refused_same _ _ e (parts.2 os h ∙ member_named s c.loop-next.tokens es os c.loop-next.next c.in-Key.key name c.in-Key.is named)
-    (lacking s (a_value (in_object es name ∷ os)) c.loop-next.tokens c.next.new.self e refl c.in_err-token.ensures.taken)))
+    (lacking s (a_value (in_object es name ∷ os)) c.loop-next.tokens c.next.new.self e (refl, refl) c.in_err-token.ensures.taken)))
 
 pub members-returns-in_err-parts-3-clause-comes : goal.members-returns-in_err-parts-3-clause-comes
 members-returns-in_err-parts-3-clause-comes t c =
@@ -161,7 +161,7 @@ members-returns-in_err-next-clause-comes t c =
     rw p.1 (λ os h. refused_is _ p.0 e p.2
     (refused_same _ (due_to s c.value.new.tokens (a_member more os)) e (parts.2 os h ∙ member_named s c.loop-next.tokens es os c.loop-next.next c.in-Key.key name c.in-Key.is named
     ∙ taken s (a_value (in_object es name ∷ os)) c.loop-next.tokens c.next.new.self c.in_ok-token.token c.in_ok-token.ensures.taken ∙ put.2 (in_object es name ∷ os) (omega (arith, h)))
-    (lacking s (a_member more os) c.value.new.tokens c.next-in-loop-next.new.self e refl c.in_err-next.ensures.taken)))
+    (lacking s (a_member more os) c.value.new.tokens c.next-in-loop-next.new.self e (refl, refl) c.in_err-next.ensures.taken)))
 
 pub members-loop-next-preserved : goal.members-loop-next-preserved
 members-loop-next-preserved t c = (

@@ -12,7 +12,7 @@ use Rattle.bser_from_json.proofs.reading.Reading.marked.Goals as goal
 pub returns-in_err-token-clause-comes : goal.returns-in_err-token-clause-comes
 returns-in_err-token-clause-comes c =
     let p = err_from_is_err_and c.from_residual.result c.from_residual.ensures.1 in
-    rw p.1 (λ os any. refused_is _ p.0 c.in_err-token.field-0.0 p.2 (lacking c.args.self.now.strings (a_string c.args.mark os) c.args.tokens.now c.next.new.self c.in_err-token.field-0.0 refl c.in_err-token.ensures.taken))
+    rw p.1 (λ os any. refused_is _ p.0 c.in_err-token.field-0.0 p.2 (lacking c.args.self.now.strings (a_string c.args.mark os) c.args.tokens.now c.next.new.self c.in_err-token.field-0.0 (refl, refl) c.in_err-token.ensures.taken))
 
 pub returns-in_default-clause-comes : goal.returns-in_default-clause-comes
 returns-in_default-clause-comes c os any =
@@ -29,7 +29,7 @@ returns-in_err-next-clause-comes c =
     let e = c.in_err-next.field-0.0 in
     rw p.1 (λ os any. refused_is _ p.0 e p.2
     (refused_same _ _ e (mark_taken s m os c.args.tokens.now c.next.new.self c.in_ok-token.token u c.in_ok-token.ensures.taken some)
-    (lacking s (an_end u os) c.next.new.self c.next-2.new.self e refl c.in_err-next.ensures.taken)))
+    (lacking s (an_end u os) c.next.new.self c.next-2.new.self e (refl, refl) c.in_err-next.ensures.taken)))
 
 pub returns-in_ok-with_value-in-EndObject-clause-comes : goal.returns-in_ok-with_value-in-EndObject-clause-comes
 returns-in_ok-with_value-in-EndObject-clause-comes c =

@@ -9,7 +9,7 @@ pub returns-in_err-first : goal.returns-in_err-first
 returns-in_err-first c =
     let p = err_from_is_err_and c.from_residual.result c.from_residual.ensures.1 in
     let e = c.in_err-first.field-0.0 in
-    rw p.1 (refused_is _ p.0 e p.2 (lacking c.args.self.now.strings (a_value []) c.args.tokens.now c.next.new.self e refl c.in_err-first.ensures.taken))
+    rw p.1 (refused_is _ p.0 e p.2 (lacking c.args.self.now.strings (a_value []) c.args.tokens.now c.next.new.self e (refl, refl) c.in_err-first.ensures.taken))
 
 pub returns-in_err-all : goal.returns-in_err-all
 returns-in_err-all c =

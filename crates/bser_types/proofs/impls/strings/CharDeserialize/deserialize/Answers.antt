@@ -14,4 +14,4 @@ returns-in_err-text-clause-refused g c =
 pub returns-clause-refused : goal.returns-clause-refused
 returns-clause-refused g c =
     not_one_char (text_bytes g.L.Text.LendingText.text) _ c.args.from.now.state c.read_text.new.self.state _ c.in_ok-text.text c.in_ok-text.ensures.found
-    (ap (λ b. one_char (chars b)) (sym c.get_ref.ensures) ∙ sym c.in-None.ensures) c.complain.ensures.reason c.complain.ensures.state
+    (ap (λ b. one_char (chars b)) (sym c.get_ref.ensures) ∙ sym c.in-None.ensures) c.refuse_text.ensures.reason c.refuse_text.ensures.state

@@ -1,0 +1,4 @@
+pub mod Alike
+pub mod Back
+pub mod Shorter
+pub mod WrittenOut

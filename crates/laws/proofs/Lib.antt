@@ -1,6 +1,0 @@
-pub mod Alike
-pub mod Back
-pub mod Shorter
-pub mod WrittenOut
-pub mod Computed
-pub mod Spelling
