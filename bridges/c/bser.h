@@ -9,7 +9,7 @@
  *     is initialised. Where the length is 0 the pointer may be null. Words are aligned as uint64_t is.
  *   - What a call writes overlaps nothing that it reads, and no other thread writes either meanwhile.
  *   - malloc, realloc and free are those of one allocator.
- * A call takes at most 48 bytes of memory for each byte that it reads, or 16,384 for a short message,
+ * A call takes at most 64 bytes of memory for each byte that it reads, or 16,384 for a short message,
  * and bser_compact 128, or 512,000.
  * bser_canonical, bser_compact and bser_describe call themselves at most 128 levels deep, and the calls
  * of tapes 8.
@@ -24,13 +24,23 @@
 extern "C" {
 #endif
 
-/* The version of this header. bser_abi_version() gives that of the library. */
+/* The version of the release. */
+#define BSER_VERSION "1.0.0"
+
+/* The version of these calls. bser_abi_version() gives that of the library which is linked.
+ *
+ * What is promised: while the library is libkuvtsada_bser.so.1, no call goes, and no call, code, tag or word of a tape
+ * changes its meaning. Calls and codes may be added, and then this number rises. So a program works with each library
+ * whose number is not below that of the header that it was compiled with, if it takes a code that it does not know as
+ * an error. A tape has no other tags than those of this header. */
 #define BSER_ABI_VERSION 1
 
 typedef struct {
     uint32_t code;   /* BSER_OK, or why nothing of use was written */
     uint32_t detail; /* the byte that an error is about, or 0; of a tape, the message's capabilities */
-    size_t place;    /* how many bytes or words lie before what is wrong; of a tape, the message's bytes */
+    size_t place;    /* how many bytes lie before the one that may not be there, or up to the end of the number,
+                      * string or body that is refused; of a tape as input, how many words before what is wrong;
+                      * of a tape that was written, the message's bytes */
     size_t length;   /* how many bytes or words were written, or are wanted */
 } bser_outcome;
 
@@ -67,8 +77,8 @@ enum bser_code {
 /* BSER_ABI_VERSION of the library. */
 uint32_t bser_abi_version(void);
 
-/* How many bytes the message has that begins with these. What follows its head is not looked at, so
- * 15 bytes are enough. */
+/* How many bytes the message has that begins with these. What follows its head is not looked at, for an
+ * error and its place neither, so 15 bytes are enough. */
 bser_outcome bser_message_length(const uint8_t *bytes, size_t len);
 
 /* Why the message at the start of the bytes cannot be read, where, and in which part of it: a line

@@ -1,6 +1,7 @@
 /* Calls all exports on messages and on mutations of them, in buffers of just their size, and checks
- * that the answers fit together; on slices of no bytes that are null pointers; and on the messages in
- * several threads at once. Built with the sanitizers of addresses and of undefined behaviour.
+ * that the answers fit together; on slices of no bytes that are null pointers; on heads that are refused;
+ * and on the messages in several threads at once. Built with the sanitizers of addresses and of undefined
+ * behaviour.
  *
  * The arguments are how many mutations to make in all, and files: a message each (.bser), or lines
  * whose second column is a message in hexadecimal (.tsv). */
@@ -77,6 +78,22 @@ static void check_nulls(void) {
     NULLS(bser_describe(NULL, 0, NULL, 0), BSER_TOO_SMALL, 0, line);
     NULLS(bser_describe(NULL, 0, out, sizeof out), BSER_OK, 0, line);
     NULLS(bser_describe(message, len, NULL, 0), BSER_OK, 0, 0);
+}
+
+/* What follows a head is not looked at, for an error and its place neither. */
+static void check_heads(void) {
+    static const uint8_t great[][24] = {
+        {0, 2, 0, 0, 0, 0, 6, 0xff, 0xff, 0xff, 0xff, 0xff, 0xff, 0xff, 0x7f, 0x0e},
+        {0, 2, 0, 0, 0, 0, 6, 0xff, 0xff, 0xff, 0xff, 0xff, 0xff, 0xff, 0x7f, 0x0a},
+        {0, 2, 0, 0, 0, 0, 6, 0xff, 0xff, 0xff, 0xff, 0xff, 0xff, 0xff, 0x7f, 6, 0, 0, 0, 0, 0, 0, 0, 0x80}};
+    static const uint8_t magic[] = {'{', '}'}, tag[] = {0, 2, 0, 0, 0, 0, 0x0d};
+    static const uint8_t negative[] = {0, 2, 0, 0, 0, 0, 4, 0xff, 0xff};
+    for (size_t i = 0; i < sizeof great / sizeof *great; i++)
+        for (size_t len = 15; len <= sizeof *great; len++)
+            check_outcome("too great", bser_message_length(great[i], len), BSER_COUNT_TOO_GREAT, 15, 0);
+    check_outcome("magic", bser_message_length(magic, sizeof magic), BSER_BAD_MAGIC, 2, 0);
+    check_outcome("tag", bser_message_length(tag, sizeof tag), BSER_BAD_LENGTH_TAG, 6, 0);
+    check_outcome("negative", bser_message_length(negative, sizeof negative), BSER_NEGATIVE_LENGTH, 9, 0);
 }
 
 /* Writes into no room, and then into just what is wanted. The memory is the caller's. */
@@ -290,6 +307,7 @@ int main(int argc, char **argv) {
     if (argc < 3 || bser_abi_version() != BSER_ABI_VERSION) return 2;
     for (int i = 2; i < argc; i++) read_file(argv[i]);
     check_nulls();
+    check_heads();
     check_threads();
     for (size_t i = 0; i < message_count; i++) check(messages[i].bytes, messages[i].len, next());
     unsigned long mutations = strtoul(argv[1], NULL, 10);

@@ -79,13 +79,22 @@ static int add_string(tape *t, unsigned tag, const char *bytes, size_t len) {
     return add_place(t, tag, t->len - len, len);
 }
 
-/* A str without what UTF-8 cannot say: surrogates. Code that the collector runs meanwhile may drop it. No
- * exception is made on the way, since the collector may run where one is allocated. */
-static int put_lossy(tape *t, unsigned tag, PyObject *x) {
+/* A surrogate that is no escaped byte. */
+static int not_encoded(void) {
+    if (PyErr_ExceptionMatches(PyExc_UnicodeEncodeError)) {
+        PyErr_Clear();
+        raise_error(encode_error, "a str with a lone surrogate", BSER_OK, 0, 0);
+    }
+    return -1;
+}
+
+/* A str in UTF-8, with the bytes that it has escaped. Code that the collector runs meanwhile may drop it. No
+ * exception is made but for an error, since the collector may run where one is allocated. */
+static int put_encoded(tape *t, unsigned tag, PyObject *x) {
     Py_INCREF(x);
-    PyObject *bytes = PyUnicode_AsEncodedString(x, "utf-8", "ignore");
+    PyObject *bytes = PyUnicode_AsEncodedString(x, "utf-8", "surrogateescape");
     Py_DECREF(x);
-    if (bytes == NULL) return -1;
+    if (bytes == NULL) return not_encoded();
     int added = add_string(t, tag, PyBytes_AS_STRING(bytes), (size_t)PyBytes_GET_SIZE(bytes));
     Py_DECREF(bytes);
     return added;
@@ -96,7 +105,7 @@ static int put_bytes(tape *t, unsigned tag, PyObject *x) {
 }
 
 static int put_str(tape *t, unsigned tag, PyObject *x) {
-    if (!PyUnicode_IS_ASCII(x)) return put_lossy(t, tag, x);
+    if (!PyUnicode_IS_ASCII(x)) return put_encoded(t, tag, x);
     return add_string(t, tag, (const char *)PyUnicode_1BYTE_DATA(x), (size_t)PyUnicode_GET_LENGTH(x));
 }
 
@@ -178,6 +187,63 @@ static int put_entries(tape *t, PyObject *x, int levels) {
     return add_close(t);
 }
 
+/* Puts pairs of keys and values, which code may change meanwhile too. */
+static int put_pairs(tape *t, PyObject *pairs, int levels) {
+    Py_ssize_t count = PyList_GET_SIZE(pairs);
+    if (add(t, BSER_OBJECT, (size_t)count, 0) < 0) return -1;
+    for (Py_ssize_t i = 0; i < count; i++) {
+        if (PyList_GET_SIZE(pairs) != count) return changed();
+        PyObject *pair = PyList_GET_ITEM(pairs, i);
+        if (!PyTuple_Check(pair) || PyTuple_GET_SIZE(pair) != 2) {
+            PyErr_SetString(PyExc_TypeError, "the items of a mapping have to be pairs");
+            return -1;
+        }
+        Py_INCREF(pair);
+        int added = put_entry(t, PyTuple_GET_ITEM(pair, 0), PyTuple_GET_ITEM(pair, 1), levels);
+        Py_DECREF(pair);
+        if (added < 0) return -1;
+    }
+    return add_close(t);
+}
+
+static int too_deep(void) {
+    raise_error(encode_error, "more than 128 levels", BSER_TOO_DEEP, 0, 0);
+    return -1;
+}
+
+/* The list of a sequence's items, or of a mapping's pairs; else NULL and an exception. */
+static PyObject *parts_of(PyObject *x, int *is_mapping) {
+    *is_mapping = 1;
+    if (Py_IS_TYPE(x, &object_type)) return object_pairs(x);
+    if (PyType_HasFeature(Py_TYPE(x), Py_TPFLAGS_MAPPING)) return PyMapping_Items(x);
+    *is_mapping = 0;
+    if (PyType_HasFeature(Py_TYPE(x), Py_TPFLAGS_SEQUENCE)) return PySequence_List(x);
+    return raise_error(encode_error, "Unsupported value type", BSER_OK, 0, 0);
+}
+
+/* Puts what is no list, tuple or dict by the parts that it has at the start. The caller owns it. */
+static int put_other(tape *t, PyObject *x, int levels) {
+    int is_mapping, added;
+    int is_buffer = PyByteArray_Check(x) || PyMemoryView_Check(x);
+    PyObject *parts = is_buffer ? PyBytes_FromObject(x) : parts_of(x, &is_mapping);
+    if (parts == NULL) return -1;
+    if (is_buffer)
+        added = put_bytes(t, BSER_BYTES, parts);
+    else if (levels == 0)
+        added = too_deep();
+    else
+        added = is_mapping ? put_pairs(t, parts, levels - 1) : put_items(t, parts, levels - 1);
+    Py_DECREF(parts);
+    return added;
+}
+
+static int put_owned(tape *t, PyObject *x, int levels) {
+    Py_INCREF(x);
+    int added = put_other(t, x, levels);
+    Py_DECREF(x);
+    return added;
+}
+
 /* Puts a value. It is owned where code may run before its last byte is taken. */
 static int put(tape *t, PyObject *x, int levels) {
     if (x == Py_None) return add(t, BSER_NULL, 0, 0);
@@ -188,13 +254,9 @@ static int put(tape *t, PyObject *x, int levels) {
     int is_list = PyList_Check(x) || PyTuple_Check(x);
     if (!is_list && !PyDict_Check(x)) {
         if (PyFloat_Check(x)) return put_real(t, x);
-        raise_error(encode_error, "Unsupported value type", BSER_OK, 0, 0);
-        return -1;
+        return put_owned(t, x, levels);
     }
-    if (levels == 0) {
-        raise_error(encode_error, "more than 128 levels", BSER_TOO_DEEP, 0, 0);
-        return -1;
-    }
+    if (levels == 0) return too_deep();
     Py_INCREF(x);
     int added = is_list ? put_items(t, x, levels - 1) : put_entries(t, x, levels - 1);
     Py_DECREF(x);

@@ -61,6 +61,14 @@ static PyObject *described(const message *m, size_t place) {
     return PyUnicode_FromString(text);
 }
 
+PyObject *raise_head(const message *m, bser_outcome outcome) {
+    char text[64];
+    size_t place = place_in(m, outcome.place);
+    if (outcome.code != BSER_COUNT_TOO_GREAT) return raise_outcome(m, outcome);
+    PyOS_snprintf(text, sizeof text, "count too great, at byte %zu", place);
+    return raise_error(decode_error, text, outcome.code, place, outcome.detail);
+}
+
 PyObject *raise_outcome(const message *m, bser_outcome outcome) {
     if (outcome.code == BSER_NO_MEMORY) return PyErr_NoMemory();
     size_t place = place_in(m, outcome.place);

@@ -88,7 +88,7 @@ static int read_info(info *found, message *m) {
         return -1;
     }
     if (outcome.code != BSER_OK) {
-        raise_outcome(m, outcome);
+        raise_head(m, outcome);
         return -1;
     }
     found->len = outcome.length - m->shift;

@@ -26,6 +26,9 @@ extern PyObject *bser_error, *decode_error, *encode_error;
 int add_errors(PyObject *module);
 PyObject *raise_error(PyObject *type, const char *text, uint32_t code, size_t place, uint32_t byte);
 PyObject *raise_outcome(const message *m, bser_outcome outcome);
+/* An error of bser_message_length. It is told by the head alone: bser_describe reads on where that
+ * announces too much. */
+PyObject *raise_head(const message *m, bser_outcome outcome);
 
 /* head.c */
 int open_bytes(message *m, PyObject *bytes);
@@ -42,6 +45,7 @@ PyObject *pdu_len(PyObject *module, PyObject *buffer);
 /* object.c */
 extern PyTypeObject object_type;
 PyObject *new_object(PyObject *keys, PyObject *values, int has_list);
+PyObject *object_pairs(PyObject *self);
 
 /* arguments.c */
 int take_all_arguments(const char *call, const char *const *names, PyObject **taken, PyObject *const *args,

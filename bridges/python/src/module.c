@@ -57,8 +57,8 @@ static struct PyModuleDef definition = {
 };
 
 PyMODINIT_FUNC PyInit__bser(void) {
-    if (bser_abi_version() != BSER_ABI_VERSION) {
-        PyErr_SetString(PyExc_ImportError, "the library has another version than bser.h");
+    if (bser_abi_version() < BSER_ABI_VERSION) {
+        PyErr_SetString(PyExc_ImportError, "the library is older than its header bser.h");
         return NULL;
     }
     if (PyType_Ready(&object_type) < 0) return NULL;

@@ -50,6 +50,18 @@ static PyObject *object_item(PyObject *self, Py_ssize_t at) {
     return Py_NewRef(PyTuple_GET_ITEM(values, at));
 }
 
+/* The list of the object's keys, each with its value. */
+PyObject *object_pairs(PyObject *self) {
+    object *o = (object *)self;
+    PyObject *pairs = PyList_New(0);
+    for (Py_ssize_t i = 0; pairs != NULL && i < PyTuple_GET_SIZE(o->values); i++) {
+        PyObject *pair = PyTuple_Pack(2, PyTuple_GET_ITEM(o->keys, i), PyTuple_GET_ITEM(o->values, i));
+        if (pair == NULL || PyList_Append(pairs, pair) < 0) Py_CLEAR(pairs);
+        Py_XDECREF(pair);
+    }
+    return pairs;
+}
+
 static PyObject *no_key(PyObject *key) {
     PyErr_Format(PyExc_AttributeError, "the object has no key '%U'", key);
     return NULL;

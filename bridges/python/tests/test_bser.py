@@ -1,11 +1,15 @@
 """Tests of the package, against values that were made by hand or elsewhere."""
 
+import array
+import collections
+import collections.abc
 import gc
 import hashlib
 import io
 import math
 import os
 import sys
+import types
 import unittest
 from pathlib import Path
 
@@ -116,6 +120,59 @@ class Tables(unittest.TestCase):
         print(f"version 1: {count}")
 
 
+    def test_places(self):
+        """What is no message is told at the place that each way of reading tells."""
+        count = 0
+        names, *cases = rows("errors.tsv")
+        for case in (dict(zip(names, row)) for row in cases):
+            # (a message of version 1 is read here, and refused for its body)
+            if case["read as"] != "Value" or case["case"] == "version 1":
+                continue
+            with self.assertRaises(bser.BserDecodeError) as caught:
+                bser.loads(bytes.fromhex(case["message"]))
+            self.assertEqual(caught.exception.place, int(case["place"]), case["case"])
+            count += 1
+        self.assertGreater(count, 15)
+        print(f"places: {count}")
+
+
+class Pairs(collections.abc.Mapping):
+    """A mapping of these items."""
+
+    def __init__(self, pairs):
+        self.pairs = pairs
+
+    def __len__(self):
+        return len(self.pairs)
+
+    def __iter__(self):
+        return iter(self.pairs)
+
+    def __getitem__(self, key):
+        return dict(self.pairs)[key]
+
+    def items(self):
+        return self.pairs
+
+
+class Failing(collections.abc.Sequence):
+    def __len__(self):
+        return 1
+
+    def __getitem__(self, at):
+        return 1 // 0
+
+
+class Sized:
+    """Has a length and items, and is neither a mapping nor a sequence."""
+
+    def __len__(self):
+        return 1
+
+    def __getitem__(self, at):
+        return 1
+
+
 class Values(unittest.TestCase):
     def test_reals(self):
         for real in (0.0, -0.0, 1.5, 1e300, math.inf, -math.inf, 5e-324):
@@ -212,7 +269,63 @@ class Values(unittest.TestCase):
         self.assertEqual(str(caught.exception), "a key that is not UTF-8")
         with self.assertRaises(bser.BserEncodeError):
             bser.dumps(1, version=3)
-        self.assertEqual(bser.dumps("a\ud800b"), bser.dumps(b"ab"))
+
+    def test_dumps_surrogates(self):
+        """A str has the bytes that it escapes, and nothing of it is left out."""
+        for name in (b"a\xff", b"caf\xc3\xa9", b"\xed\xa0\x80", bytes(range(1, 256))):
+            text = name.decode("utf-8", "surrogateescape")
+            message = bser.dumps([text])
+            self.assertEqual(bser.loads(message), [name])
+            self.assertEqual(bser.loads(message, True, "utf-8", "surrogateescape"), [text])
+        self.assertEqual(bser.dumps("a\udcff").hex(), "000105" "05000000" "020302" "61ff")
+        self.assertEqual(bser.dumps({"\udcc3\udca9": 1}), bser.dumps({"é": 1}))
+        for wrong, why in (("a\ud800b", "a str with a lone surrogate"), ("\udc7f", "a str with a lone surrogate"),
+                           ({"a\udcff": 1, "a": 2}, "a key that is not UTF-8"),
+                           ({"a\ud800": 1}, "a str with a lone surrogate")):
+            with self.assertRaises(bser.BserEncodeError) as caught:
+                bser.dumps(wrong)
+            self.assertEqual(str(caught.exception), why)
+
+    def test_dumps_others(self):
+        """Bytes, sequences and mappings of other types are written as bytes, arrays and objects."""
+        numbers, letters = "0003030300" "03010302", "0103010203016102" "0301ff"
+        for value, body in (
+                (range(3), numbers), (array.array("h", [0, 1, 2]), numbers), (collections.deque(range(3)), numbers),
+                (collections.UserList(range(3)), numbers), (range(0), "000300"), (array.array("d", [1.5]), "000301" "07000000000000f83f"),
+                (bytearray(b"a\xff"), "02030261ff"), (memoryview(b"a\xff"), "02030261ff"), (memoryview(b"a\0\xff")[::2], "02030261ff"),
+                (memoryview(array.array("B", [97, 255])), "02030261ff"), (bytearray(), "020300"),
+                (collections.UserDict({"a": b"\xff"}), letters), (types.MappingProxyType({"a": b"\xff"}), letters),
+                (collections.ChainMap({"a": b"\xff"}, {"a": 2}), letters), (types.MappingProxyType({}), "010300"),
+                (collections.OrderedDict(a=b"\xff"), letters), (Pairs([("a", b"\xff")]), letters)):
+            message = bytes.fromhex(body)
+            self.assertEqual(bser.dumps(value).hex(), "000105" + len(message).to_bytes(4, "little").hex() + body, value)
+        rows = bser.loads(TEMPLATE, False)
+        self.assertEqual(bser.loads(bser.dumps(rows)), [{"a": 2, "b": None}])
+        self.assertEqual(bser.loads(bser.dumps([range(2), {"x": bytearray(b"y")}])), [[0, 1], {"x": b"y"}])
+
+    def test_dumps_no_others(self):
+        """What is neither is refused, and so are a mapping of wrong items and one that fails."""
+        for wrong in (Sized(), iter([1]), {1, 2}, frozenset(), (n for n in range(3)), range, 1j):
+            with self.assertRaises(bser.BserEncodeError) as caught:
+                bser.dumps(wrong)
+            self.assertEqual(str(caught.exception), "Unsupported value type")
+        for wrong in (Pairs([("a", 1, 2)]), Pairs([5]), collections.UserDict({1: 2})):
+            with self.assertRaises(TypeError):
+                bser.dumps(wrong)
+        with self.assertRaises(ZeroDivisionError):
+            bser.dumps(Failing())
+        with self.assertRaises(ValueError):
+            released = memoryview(b"a")
+            released.release()
+            bser.dumps(released)
+        for deep in (collections.UserList, lambda x: types.MappingProxyType({"a": x[0]})):
+            value = 1
+            for _ in range(128):
+                value = deep([value])
+            self.assertEqual(len(bser.loads(bser.dumps(value))), 1)
+            with self.assertRaises(bser.BserEncodeError) as caught:
+                bser.dumps(deep([value]))
+            self.assertEqual(str(caught.exception), "more than 128 levels")
 
     def test_errors(self):
         message = bytes.fromhex("00010305" "0003010314"[:10])
@@ -239,6 +352,17 @@ class Values(unittest.TestCase):
             with self.assertRaises(bser.BserDecodeError) as caught:
                 bser.pdu_len(wrong)
             self.assertEqual(caught.exception.code, code)
+
+    def test_pdu_that_announces_too_much(self):
+        """One text, code and place, whatever follows the head."""
+        length = b"\x06" + 7 * b"\xff" + b"\x7f"
+        for behind in (b"", b"\x0e", b"\x0a", b"\x06" + 7 * b"\0" + b"\x80"):
+            for head, place in ((b"\0\2\0\0\0\0", 15), (b"\0\1", 11)):
+                for call in (bser.pdu_info, bser.pdu_len):
+                    with self.assertRaises(bser.BserDecodeError) as caught:
+                        call(head + length + behind)
+                    self.assertEqual(str(caught.exception), f"count too great, at byte {place}")
+                    self.assertEqual((caught.exception.code, caught.exception.place), (43, place))
 
     def test_load(self):
         file = io.BytesIO(b"\0\1\3\1\x0a" + TEMPLATE + b"\0\1\3\1\x08" + b"\0\2\0")

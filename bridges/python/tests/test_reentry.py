@@ -1,16 +1,19 @@
 """Tests of Python code that runs while a call does: finalizers, codecs, files and other threads."""
 
 import codecs
+import collections
 import gc
 import io
 import sys
 import threading
+import types
 import unittest
 import weakref
 
 import kuvtsada_bser as bser
 
 NAMES = [f"a\udcff{i}" for i in range(2000)]  # as surrogateescape gives names that are no UTF-8
+KEYS = [f"é{i}" for i in range(2000)]
 FILES = {f"k{i}": [b"v%d" % i] * 3 for i in range(300)}
 
 
@@ -50,7 +53,7 @@ class Changed(unittest.TestCase):
     """What is written changes meanwhile, by code that the collector runs at the next object that it tracks, or
     with its own thresholds: a message or a RuntimeError comes of it."""
 
-    def check(self, make, change, when, objects):
+    def check(self, make, change, when, objects, lengths=None):
         value = make()
         gc.disable()
         gc.collect()
@@ -68,13 +71,13 @@ class Changed(unittest.TestCase):
             undo()
             gc.set_threshold(*threshold)
         if message is not None:
-            self.assertEqual(len(bser.loads(message)), len(make()))
+            self.assertIn(len(bser.loads(message)), lengths or [len(make())])
 
-    def check_all(self, make, *changes):
+    def check_all(self, make, *changes, lengths=None):
         for when in (by_callback, by_weak_reference, by_finalizer):
             for change in changes:
                 with self.subTest(when=when.__name__):
-                    self.check(make, change, when, 0)
+                    self.check(make, change, when, 0, lengths)
 
     def test_list(self):
         self.check_all(lambda: NAMES + [b"y" * 50] * 2000, list.clear, lambda x: x.extend(x), list.reverse)
@@ -88,8 +91,21 @@ class Changed(unittest.TestCase):
                        lambda x: x.update({"more": 1}), lambda x: [x.pop(str(i)) for i in range(1000)])
 
     def test_names(self):
-        """Keys that are not UTF-8 as they stand."""
-        self.check_all(lambda: dict.fromkeys(NAMES, b"y" * 50), dict.clear)
+        """Keys that are not UTF-8 as they stand in memory."""
+        self.check_all(lambda: dict.fromkeys(KEYS, b"y" * 50), dict.clear)
+
+    def test_pairs(self):
+        """Mappings of other types, whose pairs the collector alone finds; they may be empty at the start."""
+
+        def clear_pairs(_value):
+            for found in gc.get_objects():
+                if type(found) is list and len(found) == len(KEYS) and type(found[0]) is tuple:
+                    found.clear()
+
+        entries = dict.fromkeys(KEYS, NAMES[0])
+        self.check_all(lambda: types.MappingProxyType(dict(entries)), clear_pairs, lengths=[0, len(KEYS)])
+        self.check_all(lambda: collections.UserDict(entries), collections.UserDict.clear, clear_pairs,
+                       lengths=[0, len(KEYS)])
 
     def test_thresholds(self):
         for objects in range(640, 721):

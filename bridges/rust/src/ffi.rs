@@ -13,6 +13,7 @@ pub struct Outcome {
 pub const OK: u32 = 0;
 pub const NOT_WHOLE: u32 = 1;
 pub const TOO_SMALL: u32 = 2;
+pub const COUNT_TOO_GREAT: u32 = 43;
 pub const ABI_VERSION: u32 = 1;
 
 type Rewrite = unsafe extern "C" fn(*const u8, usize, *mut u8, usize) -> Outcome;

@@ -1,15 +1,6 @@
 //! Looking into a tape.
 
-const ARRAY: u64 = 0x00;
-const OBJECT: u64 = 0x01;
-const BYTES: u64 = 0x02;
-const INT: u64 = 0x06;
-const REAL: u64 = 0x07;
-const TRUE: u64 = 0x08;
-const FALSE: u64 = 0x09;
-const TEMPLATE: u64 = 0x0b;
-const TEXT: u64 = 0x0d;
-const CLOSE: u64 = 0x11;
+use crate::tags::*;
 
 /// Of which kind a value is.
 #[derive(Debug, Clone, Copy, PartialEq, Eq)]
@@ -49,11 +40,11 @@ impl<'t> Item<'t> {
     }
 
     fn tag(&self) -> u64 {
-        if self.row.is_some() { OBJECT } else { self.words[self.at] & 0xff }
+        if self.row.is_some() { OBJECT } else { tag_of(self.words[self.at]) }
     }
 
     fn count_at(&self, at: usize) -> usize {
-        (self.words[at] >> 8) as usize
+        count_of(self.words[at])
     }
 
     fn string_at(&self, at: usize) -> &'t [u8] {
@@ -65,7 +56,7 @@ impl<'t> Item<'t> {
     fn after(&self, mut at: usize) -> usize {
         let mut open = 0usize;
         loop {
-            match self.words[at] & 0xff {
+            match tag_of(self.words[at]) {
                 ARRAY | OBJECT | TEMPLATE => open += 1,
                 CLOSE => open -= 1,
                 _ => {}

@@ -15,16 +15,8 @@ pub struct Tape<'b> {
 impl<'b> Tape<'b> {
     /// Reads the message at the start of the bytes, of at most 128 levels. What follows it is ignored.
     pub fn read(bytes: &'b [u8]) -> Result<Tape<'b>, Error> {
-        assert_eq!(ffi::abi_version(), ffi::ABI_VERSION, "another archive than this crate is for");
-        let mut words = vec![0; bytes.len() / 2 + 16];
-        let mut found = ffi::tape(bytes, &mut words);
-        while found.code == ffi::TOO_SMALL {
-            words = vec![0; found.length];
-            found = ffi::tape(bytes, &mut words);
-        }
-        if found.code != ffi::OK {
-            return Err(Error::of_bytes(found, bytes));
-        }
+        let mut words = Vec::new();
+        let found = read_words(bytes, &mut words)?;
         words.truncate(found.length);
         Ok(Tape {
             bytes,
@@ -49,35 +41,73 @@ impl<'b> Tape<'b> {
         self.len
     }
 
+    /// The bytes that were read, which the words have places in.
+    #[cfg(feature = "serde")]
+    pub(crate) fn bytes(&self) -> &'b [u8] {
+        self.bytes
+    }
+
     /// The words, as `bser.h` describes them.
     pub fn words(&self) -> &[u64] {
         &self.words
     }
 }
 
+/// Writes the tape of the message at the start of the bytes into the words, which grow where they are too few, and
+/// answers what the call told. Behind the tape they have what was there before.
+pub(crate) fn read_words(bytes: &[u8], words: &mut Vec<u64>) -> Result<Outcome, Error> {
+    assert!(ffi::abi_version() >= ffi::ABI_VERSION, "an older archive than this crate is for");
+    let mut wanted = bytes.len() / 2 + 16;
+    loop {
+        if words.len() < wanted {
+            *words = vec![0; wanted];
+        }
+        let found = ffi::tape(bytes, words);
+        match found.code {
+            ffi::OK => return Ok(found),
+            ffi::TOO_SMALL => wanted = found.length,
+            _ => return Err(Error::of_bytes(found, bytes)),
+        }
+    }
+}
+
 /// How many bytes the message has that begins with these, or `None` where more are needed to tell.
+/// What follows its head is not looked at, for an error neither.
 pub fn message_length(bytes: &[u8]) -> Result<Option<usize>, Error> {
     let outcome = ffi::message_length(bytes);
     match outcome.code {
         ffi::OK => Ok(Some(outcome.length)),
         ffi::NOT_WHOLE => Ok(None),
-        _ => Err(Error::of_bytes(outcome, bytes)),
+        _ => Err(Error::of_head(outcome, bytes)),
     }
 }
 
 /// The bytes that a call writes, once it has the room that it wants.
 fn written(room: usize, call: impl Fn(&mut [u8]) -> Outcome) -> Result<Vec<u8>, Outcome> {
-    let mut out = vec![0; room];
-    let mut outcome = call(&mut out);
-    while outcome.code == ffi::TOO_SMALL {
-        out = vec![0; outcome.length];
-        outcome = call(&mut out);
-    }
-    if outcome.code != ffi::OK {
-        return Err(outcome);
-    }
-    out.truncate(outcome.length);
+    let mut out = Vec::new();
+    let length = write_to(&mut out, room, call)?;
+    out.truncate(length);
     Ok(out)
+}
+
+/// Writes what a call writes into the bytes, which grow where there is no room, and answers how many they are.
+pub(crate) fn write_to(
+    out: &mut Vec<u8>,
+    room: usize,
+    call: impl Fn(&mut [u8]) -> Outcome,
+) -> Result<usize, Outcome> {
+    let mut wanted = room;
+    loop {
+        if out.len() < wanted {
+            *out = vec![0; wanted];
+        }
+        let outcome = call(out);
+        match outcome.code {
+            ffi::OK => return Ok(outcome.length),
+            ffi::TOO_SMALL => wanted = outcome.length,
+            _ => return Err(outcome),
+        }
+    }
 }
 
 /// The canonical message of the value of the message at the start of the bytes.

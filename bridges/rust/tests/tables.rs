@@ -109,12 +109,32 @@ fn recorded() {
 }
 
 #[test]
+fn places() {
+    let mut count = 0;
+    let table = rows("errors.tsv");
+    let column = |name: &str| table[0].iter().position(|other| other == name).unwrap();
+    for row in table.iter().skip(1).filter(|row| row[column("read as")] == "Value") {
+        let error = Tape::read(&bytes_of(&row[column("message")])).unwrap_err();
+        assert_eq!(error.place().to_string(), row[column("place")], "{row:?}: {error}");
+        count += 1;
+    }
+    assert!(count > 15);
+    println!("places: {count}");
+}
+
+#[test]
 fn errors() {
     let error = Tape::read(b"\x00\x02\x00\x00\x00\x00\x03\x04\x00\x03\x01\x14").unwrap_err();
     assert_eq!((error.code(), error.byte(), error.place()), (16, 0x14, 11));
     let text = "unknown byte 0x14 where a value is wanted, at byte 11, in [0]";
     assert_eq!(error.to_string(), text);
     assert_eq!(message_length(b"\x00\x02"), Ok(None));
+    for behind in [&b""[..], b"\x0e", b"\x0a", b"\x06\x00\x00\x00\x00\x00\x00\x00\x80"] {
+        let head = &b"\x00\x02\x00\x00\x00\x00\x06\xff\xff\xff\xff\xff\xff\xff\x7f"[..];
+        let error = message_length(&[head, behind].concat()).unwrap_err();
+        assert_eq!((error.code(), error.byte(), error.place()), (43, 0, 15));
+        assert_eq!(error.to_string(), "count too great, at byte 15");
+    }
     let error = message_of(&[0x100, 0, 0x0a, 0], b"").unwrap_err();
     assert_eq!(error.code(), 4);
     let error = message_of(&[0x20d, 1], b"ab").unwrap_err();

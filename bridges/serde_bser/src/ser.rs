@@ -1,0 +1,2 @@
+//! Writing.
+pub use kuvtsada_bser::serialize;
