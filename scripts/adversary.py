@@ -10,7 +10,7 @@ import time
 
 from beside_watchman import Adding, Cut, Follower, Place, Proxy, beside, started
 
-QUIET = 10  # seconds without a change, behind which each index has to be as the folder
+LATEST = 300  # seconds at most until an index has read a last change, beside load
 CLOCKS = 50  # old clocks of each index that are compared
 ROUND = 60  # seconds at most from a start of the server until the folder is quiet
 KILLS = signal.SIGKILL, signal.SIGTERM
@@ -139,7 +139,7 @@ class Watched:
         self.index = place.index(name, **words)
         self.kept = [Kept(proxy.path, self.index, way) for way in ways]
         self.pause = pause
-        self.clocks, self.fresh, self.wrong, self.again = [], [], [], 0
+        self.clocks, self.fresh, self.wrong, self.again, self.waited = [], [], [], 0, 0
 
     def wants(self, name):
         """Whether the index is to have a file of this name."""
@@ -183,10 +183,15 @@ class Watched:
         times = self.fresh + [time for kept in self.kept for time in kept.times(FRESH)]
         return any(time >= at - OVERLAP for time in times)
 
-    def check_rows(self, part):
-        """Compares the index with the folder, which is quiet."""
-        differ = self.place.differing(self.index, wants=self.wants)
-        part.check(not differ, f"{self.name}: {len(differ)} names differ {sorted(differ)[:5]}")
+    def check_rows(self, part, last, rows):
+        """Compares the index with the rows of the folder, which is quiet, once it has read the last
+        change: beside load that takes a while."""
+        waited = self.place.until_read(self.index, last, LATEST)
+        self.waited = max(self.waited, waited or 0)
+        differ = self.index.differing({name: rows[name] for name in rows if self.wants(name)})
+        what = f"{len(differ)} names differ {sorted(differ)[:5]}"
+        is_read = waited is not None
+        part.check(is_read and not differ, f"{self.name}: last change read {is_read}, {what}")
 
     def check_clocks(self, part):
         """Compares what changed since its old clocks with what the server and the folder say."""
@@ -258,15 +263,16 @@ def adversary(part, where, seconds, files, seed):
     kept = [kept for it in watched for kept in it.kept]
     rounds = max(1, seconds // ROUND)
     with beside(*(body for it in watched for body in it.bodies())):
-        for _ in range(rounds):
+        for number in range(rounds):
             changing = lambda stop: change(place.folder, files, stop)
             with load(), beside(changing, place.ask_others):
                 kill(place, kept, seconds / rounds)
             proxy.is_honest = True
-            place.folder.write(b"the last \xff.txt", 1)
-            time.sleep(QUIET)
+            last = b"last %d \xff.txt" % number
+            place.folder.write(last, 1)
+            rows = place.folder.rows()
             for it in watched:
-                it.check_rows(part)
+                it.check_rows(part, last, rows)
             proxy.is_honest = False
     for it in watched:
         it.check_clocks(part)
@@ -283,6 +289,8 @@ def report(part, place, proxy, watched, kept):
     ends = sum(len(it.past) for it in kept)
     part.figure(f"ends of followers {ends}")
     part.figure(f"clocks {sum(min(CLOCKS, len(it.clocks)) for it in watched)}")
+    waited = max(it.waited for it in watched)
+    part.figure(f"seconds waited for a last change to be read, at most {waited:.1f}")
     again = " ".join(f"{it.name} {it.again}" for it in watched)
     part.figure(f"names told again that changed shortly before a clock: {again}")
 
@@ -308,11 +316,15 @@ def starts(part, where, files):
         time.sleep(ALIVE * EACH)
         for follower in followers[-ALIVE:]:
             check_start(part, follower)
+    last = b"last \xff"
+    place.folder.write(last, 1)
     for index in indexes[:-ALIVE]:
         place.update(index)
     for index, follower in zip(indexes, followers):
-        differ = place.differing(index, QUIET)
-        part.check(not differ, f"{len(differ)} names differ, {follower.text()}")
+        waited = place.until_read(index, last, LATEST)
+        differ = place.differing(index)
+        what = f"{len(differ)} names differ, {follower.text()}"
+        part.check(waited is not None and not differ, f"last change read {waited}, {what}")
     part.figure(f"changes {len(place.folder.done)}")
 
 

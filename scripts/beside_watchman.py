@@ -318,16 +318,19 @@ class Place:
             with contextlib.suppress(OSError, Failure):
                 self.names(expression=["name", "none"])
 
-    def differing(self, index, wait=0, wants=lambda name: True):
-        """The names that differ between index and folder, of those that the index wants, once none
-        does or the time is over."""
-        end = time.time() + wait
-        while True:
-            rows = self.folder.rows().items()
-            wanted = {name: index.kept(row) for name, row in rows if wants(name)}
-            found = index.rows()
-            names = wanted.keys() | found.keys()
-            differ = {name for name in names if wanted.get(name) != found.get(name)}
-            if not differ or time.time() > end:
-                return differ
+    def until_read(self, index, name, wait):
+        """For how many seconds it was waited until the index knows a file of this name. None where it
+        does not within so many seconds."""
+        begin = time.time()
+        while index.tried("stat", index.path, "--names", input=name + b"\0").returncode != 0:
+            if time.time() - begin > wait:
+                return None
             time.sleep(0.5)
+        return time.time() - begin
+
+    def differing(self, index, wait=0):
+        """The names that differ between index and folder, once none does or the time is over."""
+        end = time.time() + wait
+        while (differ := index.differing(self.folder.rows())) and time.time() < end:
+            time.sleep(0.5)
+        return differ

@@ -51,11 +51,16 @@ class Index:
         return set(self.run("list", "-z", self.path, *words).split(b"\0")[:-1])
 
     def rows(self):
-        rows = {}
-        for line in self.run("list", "--json", self.path).splitlines():
-            row = json.loads(line)
-            rows[as_bytes(row["name"])] = compared(*(row.get(field) for field in COMPARED))
-        return rows
+        lines = self.run("list", "--json", self.path).splitlines()
+        rows = json.loads(b"[%s]" % b",".join(lines))
+        return {as_bytes(row["name"]): compared(*map(row.get, COMPARED)) for row in rows}
+
+    def differing(self, rows):
+        """The names that differ between these rows of a folder and the index."""
+        wanted = {name: self.kept(row) for name, row in rows.items()}
+        found = self.rows()
+        names = wanted.keys() | found.keys()
+        return {name for name in names if wanted.get(name) != found.get(name)}
 
     def kept(self, row):
         """What the index keeps of a row."""

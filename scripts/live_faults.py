@@ -7,11 +7,11 @@ import subprocess
 import time
 
 from beside_watchman import Connection, Follower, Place, Proxy, Recorder, beside, started
-from bser_messages import messages
+from bser_messages import decoded, messages
 from index_file import FIELDS, PROGRAMS
 from parts import Failure
 
-WAIT = 6  # seconds that a program may take to see that what it follows has ended
+WAIT = 30  # seconds that a program may take, beside load, to see what it waits for
 SUFFIX = ["suffix", "txt"]
 EXPRESSIONS = {
     "suffix": SUFFIX,
@@ -150,6 +150,29 @@ def client_told_the_end(part, where):
     part.check(client.returncode > 0, f"status {client.returncode}, {lines[-1:]}")
 
 
+def index_made_anew(part, where):
+    """A follower whose index is removed makes no other. It adds nothing to one of another folder that
+    was put in its place."""
+    place = Place(where)
+    place.folder.write(os.path.join(place.folder.project, b"beside/file"), 1)
+    for relative in None, "beside":
+        index = place.index(relative or "removed")
+        follower = Follower(place.server.socket, index)
+        until(lambda: follower.times("follows since"))
+        for path in index.path, index.path + "-wal":
+            os.remove(path)
+        if relative:
+            index.init(place.root, relative)
+            place.update(index)
+        place.folder.write(b"%d \xff" % bool(relative), 1)
+        status = follower.status(WAIT)
+        follower.end()
+        found = index.names() if os.path.exists(index.path) else None
+        wanted = place.names(relative_root=relative)[1] if relative else None
+        what = f"status {status}, {found} for {wanted}, {follower.text()!r}"
+        part.check(status == 1 and found == wanted, what)
+
+
 # ---- others
 
 
@@ -183,6 +206,26 @@ def come_and_go(place, stop):
         os.remove(name) if os.path.exists(name) else place.folder.write(name, 1)
         if stop.wait(0.05):
             return
+
+
+def state_clock(part, where):
+    """A follower keeps the clock of a state that begins, with which no file comes."""
+    place = Place(where)
+    index = place.index("index")
+    follower = Follower(place.server.socket, index)
+    until(lambda: follower.times("follows since"))
+    other = Connection(place.server.socket)
+    other.ask("subscribe", place.root, "other", {"fields": ["name"]})
+    other.send("state-enter", place.root, "build")
+    told = {}
+    while told.get("state-enter") != b"build" or "clock" not in told:
+        told = decoded(other.receive())
+    words = ["changes", "--since", told["clock"].decode(), index.path]
+    until(lambda: b"fresh instance" not in index.tried(*words).stdout)
+    done = index.tried(*words)
+    other.close()
+    follower.end()
+    part.check(done.stdout.count(b"\n") == 1, f"{done.stdout!r}, {follower.text()!r}")
 
 
 def expressions(part, where):
@@ -228,8 +271,10 @@ FAULTS = {
     "watch-deleted": watch_deleted,
     "root-removed": root_removed,
     "server-killed": server_killed,
+    "made-anew": index_made_anew,
     "client-end": client_told_the_end,
     "busy-start": busy_start,
+    "state-clock": state_clock,
     "expressions": expressions,
     "version-1": version_1,
 }
