@@ -28,7 +28,10 @@ fn print_missing<'m, S: CapabilityName + Deserialize<&'m [u8]>>(
 ) -> Result<()> {
     let version: Version<S> = from_slice(rt.alloc(), bytes)?;
     for needed in NEEDED {
-        let has_all = needed.iter().all(|name| version.has_capability(name));
+        let mut has_all = true;
+        for name in needed {
+            has_all = has_all && version.has_capability(name);
+        }
         ensure!(
             has_all == version.missing_capability(needed).is_none(),
             "{needed:?}"
