@@ -19,8 +19,9 @@ const LEVELS: usize = 9;
 /// How many multiples of 2^-25 one is.
 const STEPS: f64 = 33554432.0;
 
-/// A number from which on each real is whole, 2^53.
-const WHOLE: f64 = 9007199254740992.0;
+/// The number from which on each real is whole, 2^52. A sum of a smaller one with it is rounded to a
+/// whole number.
+const WHOLE: f64 = 4503599627370496.0;
 
 /// Puts where a part stands: the offset of its first byte, its tag if it has one, how many bytes it
 /// has, and two spaces for each level.
@@ -110,7 +111,7 @@ fn is_printed_alike(number: f64) -> bool
     let size = number.abs();
     let is_laid_out_alike = size < 1e-5 || size >= 1e-4;
     let steps = size * STEPS;
-    let is_multiple = steps >= WHOLE || (steps as u64) as f64 == steps;
+    let is_multiple = steps >= WHOLE || steps + WHOLE - WHOLE == steps;
     let is_between_texts = size < 1e16 && is_multiple;
     number.is_finite() && is_laid_out_alike && !is_between_texts
 }
