@@ -65,7 +65,11 @@ impl fmt::Display for Reason {
 
 impl fmt::Display for Misfit {
     fn fmt<W: fmt::Write>(&self, f: &mut fmt::Formatter<W>) -> fmt::Result {
-        write!(f, "{}, at byte {}, in {}", self.reason, self.place, self.path)
+        write!(
+            f,
+            "{}, at byte {}, in {}",
+            self.reason, self.place, self.path
+        )
     }
 }
 

@@ -29,7 +29,10 @@ fn main(rt: HostRuntime) -> Result<ExitCode> {
                     println!(rt; "{:>10} {}", file.size, file.name)?;
                 }
             }
-            Err(ReadError::Misfit(it)) => println!(rt; "{}: {}, at byte {}", it.path, it.reason, it.place)?,
+            Err(ReadError::Misfit(it)) => println!(rt;
+                "{}: {}, at byte {}",
+                it.path, it.reason, it.place
+            )?,
             Err(ReadError::Ended) => return Ok(ExitCode::SUCCESS),
             Err(error) => {
                 eprintln!(rt; "{error}")?;
