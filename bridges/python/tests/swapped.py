@@ -4,13 +4,12 @@ Argument: python/tests/tests.py of Watchman's sources.
 """
 
 import importlib.util
-import sys
 import unittest
 
+# these lines are those of the package's page
+import sys
 import pywatchman
-
 import kuvtsada_bser
-
 sys.modules["pywatchman.bser"] = kuvtsada_bser
 pywatchman.bser = kuvtsada_bser
 

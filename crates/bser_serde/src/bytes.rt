@@ -4,15 +4,22 @@ use serde::{
 };
 use serde_bser::bytestring::ByteString;
 use std::alloc::Global;
+use std::fmt;
 
 /// A byte string that is owned. It is read from a byte string or a text, and written as a byte
-/// string. A `Vec<u8>` is an array of numbers.
+/// string. A `Vec<u8>` is an array of numbers. It prints as its [`ByteString`] does.
 #[derive(Debug, PartialEq, Eq, PartialOrd, Ord, Drop)]
 pub struct ByteBuf(pub ByteString);
 
 /// A byte string that is borrowed from a slice. It is read and written as a [`ByteBuf`] is.
 #[derive(Debug, Clone, Copy, PartialEq, Eq, PartialOrd, Ord, Drop)]
 pub struct Bytes<'a>(pub &'a [u8]);
+
+impl fmt::Display for ByteBuf {
+    fn fmt<W: fmt::Write>(&self, f: &mut fmt::Formatter<W>) -> fmt::Result {
+        write!(f, "{}", self.0)
+    }
+}
 
 impl Described for ByteBuf {}
 

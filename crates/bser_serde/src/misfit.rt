@@ -3,7 +3,7 @@ use serde_bser::describe::{FieldName, Path, Wanted};
 use serde_bser::document::Kind;
 use std::fmt;
 
-/// Why a type does not read a message.
+/// Why a type does not read a message. It prints as a few words, as `out of range: -1`.
 #[derive(Debug, Drop)]
 pub enum Reason {
     /// A value of another kind than the type reads.
@@ -43,33 +43,37 @@ pub struct Misfit {
     pub path: Path,
 }
 
+impl fmt::Display for Reason {
+    fn fmt<W: fmt::Write>(&self, f: &mut fmt::Formatter<W>) -> fmt::Result {
+        match self {
+            Reason::WrongType { wanted, found } => {
+                let (found, wanted) = (kind_name(*found), wanted_name(*wanted));
+                write!(f, "wrong type: {found} where {wanted} is wanted")
+            }
+            Reason::OutOfRange(number) => write!(f, "out of range: {number}"),
+            Reason::NotUtf8 => f.write_str("invalid UTF-8"),
+            Reason::Invalid => f.write_str("a value that the type does not hold"),
+            Reason::Missing(name) => write!(f, "field \"{name}\": missing"),
+            Reason::Repeated(name) => write!(f, "field \"{name}\": repeated"),
+            Reason::UnknownField => f.write_str("unknown field"),
+            Reason::UnknownVariant => f.write_str("unknown variant"),
+            Reason::WrongLength => f.write_str("an array of another length than the type has"),
+            Reason::Custom(text) => write!(f, "{text}"),
+        }
+    }
+}
+
 impl fmt::Display for Misfit {
     fn fmt<W: fmt::Write>(&self, f: &mut fmt::Formatter<W>) -> fmt::Result {
-        write_reason(&self.reason, f)?;
-        write!(f, ", at byte {}, in {}", self.place, self.path)
+        write!(
+            f,
+            "{}, at byte {}, in {}",
+            self.reason, self.place, self.path
+        )
     }
 }
 
 impl std::error::Error for Misfit {}
-
-/// Writes why the type does not read it.
-fn write_reason<W: fmt::Write>(reason: &Reason, f: &mut fmt::Formatter<W>) -> fmt::Result {
-    match reason {
-        Reason::WrongType { wanted, found } => {
-            let (found, wanted) = (kind_name(*found), wanted_name(*wanted));
-            write!(f, "wrong type: {found} where {wanted} is wanted")
-        }
-        Reason::OutOfRange(number) => write!(f, "out of range: {number}"),
-        Reason::NotUtf8 => f.write_str("invalid UTF-8"),
-        Reason::Invalid => f.write_str("a value that the type does not hold"),
-        Reason::Missing(name) => write!(f, "field \"{name}\": missing"),
-        Reason::Repeated(name) => write!(f, "field \"{name}\": repeated"),
-        Reason::UnknownField => f.write_str("unknown field"),
-        Reason::UnknownVariant => f.write_str("unknown variant"),
-        Reason::WrongLength => f.write_str("an array of another length than the type has"),
-        Reason::Custom(text) => write!(f, "{text}"),
-    }
-}
 
 /// What a value of this kind is called.
 fn kind_name(kind: Kind) -> &'static str {
