@@ -231,19 +231,19 @@ module _ (strings words : List ℕ) (few : length words < 2 ^ 64 - 1) where
   agree_told limits message before after h b t =
       all_more before after (events b.tells.tree) (compared_in h.start b.tells.bytes before after (events b.tells.tree) b.tells.told) t
 
-  module _ (message : List ℕ) (before after : TapeComparison) (t : AgreesUpTo strings words before) where
-    ended : (at : ℕ) (bytes : List ℕ) → CutIn (λ x e p y. Compares x e y) (λ s x e p y. ⊥) at bytes before after None → AgreesUpTo strings words after
-    ended at bytes (inl (es, takes)) = all_more before after es (compared_in at bytes before after es takes) t
-    ended at bytes (inr (place, stop)) = absurd stop.stops
+  module _ (limits : Limits) (message : List ℕ) (before after : TapeComparison) (t : AgreesUpTo strings words before) where
+    ended : (at : ℕ) (bytes : List ℕ) → CutIn (λ x e p y. Compares x e y) (λ s x e p y. ⊥) limits.levels at bytes before after None → AgreesUpTo strings words after
+    ended at bytes (es, first, inl takes) = all_more before after es (compared_in at bytes before after es takes) t
+    ended at bytes (es, first, inr (place, stop)) = absurd stop.stops
 
-    cut : (given : ℕ) (header : Option Header) (reason : Reason) → IsCut (λ x e p y. Compares x e y) (λ s x e p y. ⊥) (Some message) before after given header reason → AgreesUpTo strings words after
+    cut : (given : ℕ) (header : Option Header) (reason : Reason) → IsCut limits (λ x e p y. Compares x e y) (λ s x e p y. ⊥) (Some message) before after given header reason → AgreesUpTo strings words after
     cut given None (Stopped place) h = absurd h
     cut given None (Failed d) same = subst (AgreesUpTo strings words) (sym same) t
-    cut given (Some header) (Stopped place) h = absurd h.2.cut.stops
+    cut given (Some header) (Stopped place) h = absurd h.2.cut.2.stops
     cut given (Some header) (Failed d) h = ended header.start h.bytes h.cut
 
     -- and of one that was not
-    pub agree_untold : (u : TellError) → LeavesBuilder (λ x e p y. Compares x e y) (λ s x e p y. ⊥) (Some message) before after u → AgreesUpTo strings words after
+    pub agree_untold : (u : TellError) → LeavesBuilder limits (λ x e p y. Compares x e y) (λ s x e p y. ⊥) (Some message) before after u → AgreesUpTo strings words after
     agree_untold u h = cut u.given u.header u.reason h
 
   pub agree_before : (c : TapeComparison) (at : ℕ) → AgreesUpTo strings words c → at ≡ min (place_of c) (length words) → AreOfEvents strings (take at words)

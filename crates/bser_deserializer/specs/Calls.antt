@@ -18,7 +18,7 @@ use Rattle.bser_format.specs.Clauses.{after_a_refusal}
 use Rattle.bser_source.specs.Window.{Window}
 use Rattle.bser_bunser.specs.Names.{Names}
 use Rattle.bser_bunser.specs.Refusal.{Fails}
-use Rattle.bser_events.specs.Events.{Event}
+use Rattle.bser_events.specs.Events.{Event, events}
 use Rattle.bser_events.specs.Places.{Placed, PlacedAs, SpellsEvent, AnyBytes}
 use Rattle.bser_events.specs.Cut.{Cut}
 use Rattle.bser_events.specs.declared.builder.Stop.{Stop}
@@ -212,10 +212,10 @@ abbrev pub NameTold : {B : Type 0} → (B → Event → Place → B → Type 0) 
 NameTold takes place before after old new =
     TellsName (PlacedAs AnyBytes takes) place old.state.keys (old.state.source, before) (new.state.source, after)
 
--- some events of a value were reported to the builder, each once and in order, and then it took no
+-- the first events of a value were reported to the builder, each once and in order, and then it took no
 -- more, or no more were reported
 abbrev pub ValueCut : {B : Type 0} → (B → Event → Place → B → Type 0) → (Stop → B → Event → Place → B → Type 0) → B → B → Seen → Type 0
-ValueCut takes stopped before after old = Cut takes stopped (old.state.source, before) after
+ValueCut takes stopped before after old = Cut takes stopped (with_text_keys old.state.levels) events (old.state.source, before) after
 
 -- what is expected, whatever it is, gives the first error
 abbrev pub RefusesAny : Seen → Seen → Type 0

@@ -29,8 +29,8 @@ impl<R: DeRead> Deserializer<R> {
     /// error is the first one in the order of reading, as the plain reader answers it. A builder
     /// that takes no more, and no room for the containers that are open or for a string over a
     /// reader, are [`Error::OutOfMemory`]. After an error where a value is expected the builder
-    /// took some of its events, each once and in order, and then no more, or took no more at the
-    /// next one; else no clause says what it is.
+    /// took the first events of a value, each once and in order, and then no more, or took no more at
+    /// the next one; else no clause says what it is.
     ///
     /// A row's beginning and end, and its keys, have no bytes of their own. A key that is expected
     /// by itself is placed as if under the tag of what is reported.

@@ -3,7 +3,6 @@ use Rattle.std.proofs.Common.{◌≡◌, ℕ, ◌+◌, ◌-◌, ◌≤◌, Bool,
 use Rattle.std.specs.Prelude.{Some, None}
 use Rattle.std.proofs.lemmas.List.{take_all}
 use Rattle.bser_format.specs.Tree as trees
-use Rattle.bser_format.specs.Tree.{Tree}
 use Rattle.bser_format.specs.Grammar.{SpellsCount}
 use Rattle.bser_format.specs.declared.errors.Kind.TheVariants.{MapKey}
 use Rattle.bser_format.specs.Named.{Reader, reads, and_then, give, front, string, utf8, text_of, field_of, with_text_keys}

@@ -9,6 +9,7 @@ pub mod Measures
 pub mod Outcomes
 pub mod InFront
 pub mod Runs
+pub mod Firsts
 pub mod Cuts
 pub mod Asked
 pub mod Binds

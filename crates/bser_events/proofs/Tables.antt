@@ -285,7 +285,7 @@ pub rows_refused : (n w m : ℕ) (ks : List (List ℕ)) (x : List ℕ) → w ≡
 rows_refused n w zero ks x is never = absurd (never refl)
 rows_refused n w (suc m) ks x is never = ap (λ z. rows_body (with_text_keys n) ks z (suc m) x) is
 
-rows_read : (n w m : ℕ) (ks : List (List ℕ)) (x : List ℕ) → (w ≡ 0 → m ≡ 0)
+pub rows_read : (n w m : ℕ) (ks : List (List ℕ)) (x : List ℕ) → (w ≡ 0 → m ≡ 0)
     → rows_body (with_text_keys n) ks w m x ≡ and_then (λ l. give (template ks (rows_of l.1))) (parts_of n (parts.Rows 0 m w) x)
 rows_read n zero zero ks x fits = refl
 rows_read n zero (suc m) ks x fits = absurd (let e = fits refl in omega (arith, e))
@@ -294,7 +294,7 @@ rows_read n (suc w) m ks x fits = sym (map_then (many (many (field_of (with_text
 pub key_count : (n : ℕ) (b : List ℕ) (ks : List (List ℕ)) → keys_at n (b ++ []) ≡ reads ks [] → length ks ≡ n
 key_count n b ks h = (many_always Anything (text_of kinds.TemplateKey) (always (text_of kinds.TemplateKey)) n (b ++ []) [] ks h).1
 
-table_whole : (n w m : ℕ) (ks : List (List ℕ)) (l : Left (parts.Rows 0 m w)) → length ks ≡ w → Fits (parts.Rows 0 m w) l
+pub table_whole : (n w m : ℕ) (ks : List (List ℕ)) (l : Left (parts.Rows 0 m w)) → length ks ≡ w → Fits (parts.Rows 0 m w) l
     → events.events (template ks (rows_of l.1)) ≡ ((open_template w ∷ key_events ks) ++ open_rows m ∷ []) ++ (left_events (parts.Rows 0 m w) l ++ close ∷ [])
 table_whole n w m ks ([], rs) keys fits =
     ap (λ z. (open_template z ∷ key_events ks) ++ (open_rows (length (rows (rows_of rs))) ∷ (row_events (rows_of rs) ++ close ∷ []))) keys
@@ -373,7 +373,7 @@ object_at takes n k t a b before after is level works same told =
     (subst (λ z. Opened takes (value_rest z (tokens.Object k)) (frame_of (n - 1) (parts.Entries k)) a b before after) (sym (one_more n (level (subst IsContainer (sym is) tt))))
     (object_opened takes (n - 1) k a b before after works same told))
 
-less_by_one : (n : ℕ) → n - 1 ≡ less_one n
+pub less_by_one : (n : ℕ) → n - 1 ≡ less_one n
 less_by_one zero = refl
 less_by_one (suc n) = omega arith
 

@@ -12,12 +12,13 @@ use Rattle.bser_source.specs.Window.{Window, Filled, Took, consumed, closed}
 use Rattle.bser_source.proofs.Windows.{took_then, took_filled}
 use Rattle.bser_bunser.specs.Refusal.{Fails}
 use Rattle.bser_bunser.specs.Names.{Names, RefusedAs}
-use Rattle.bser_bunser.specs.Tagged.{TookCounted}
+use Rattle.bser_bunser.specs.Tagged.{TookCounted, SpellsCounted}
 use Rattle.bser_bunser.proofs.Names.{blames_more, names_untaken, names_taken, names_rejected}
 use Rattle.bser_bunser.proofs.Readers.{front_there, string_there}
 use Rattle.bser_bunser.proofs.Refusals.{fails_untaken}
 use Rattle.bser_events.specs.Events as events
 use Rattle.bser_events.specs.Events.{Event}
+use Rattle.bser_events.specs.Cut.{FirstOf}
 use Rattle.bser_events.specs.Found.{Found, Refuses, text_bytes}
 use Rattle.bser_events.specs.Places.{begins_as_text}
 use Rattle.bser_events.proofs.Takings.{takes_one}
@@ -45,6 +46,15 @@ text_found takes n s given t a b c before after len took lent same is end told =
   told = takes_one takes before after (events.text s) (subst (λ u. takes before (events.text u) after) (same ∙ lent) told);
 }
 
+pub text_first : (n : ℕ) (s given t : List ℕ) → length s ≡ n → given ≡ s → t ≡ given → IsUtf8 given → FirstOf (text_bytes n) (λ u. events.text u ∷ []) (events.text t ∷ [])
+text_first n s given t len lent same is = record {
+  text = s;
+  value = s;
+  rest = [];
+  passes = λ x. ap (and_then utf8) (front_there n s len x) ∙ utf8_reads s x (subst (λ u. IsUtf8 u) lent is);
+  whole = ap (λ z. events.text z ∷ []) (sym (same ∙ lent));
+}
+
 pub text_refused : (n : ℕ) (s given : List ℕ) (a b : Window) → length s ≡ n → Took a b s → given ≡ s → (IsUtf8 given → ⊥) → Names (text_bytes n) utf8_wanted a
 text_refused n s given a b len took lent never =
     names_taken (text_bytes n) utf8_wanted a b s
@@ -61,6 +71,9 @@ bytes_found takes n s given a b c before after len took lent end told = record {
   passes = front_there n s len;
   told = takes_one takes before after (events.bytes s) (subst (λ u. takes before (events.bytes u) after) lent told);
 }
+
+pub bytes_first : (n : ℕ) (s given : List ℕ) → length s ≡ n → given ≡ s → FirstOf (front n) (λ u. events.bytes u ∷ []) (events.bytes given ∷ [])
+bytes_first n s given len lent = record { text = s; value = s; rest = []; passes = front_there n s len; whole = ap (λ z. events.bytes z ∷ []) (sym lent) }
 
 -- ---- keys
 
@@ -103,18 +116,30 @@ pub tag_kept : (tag : ℕ) (a b c : Window) (is : is_key_tag tag ≡ true) (fill
 unfolding tag_taken
 tag_kept tag a b c is filled first end = refl
 
+pub key_passes : (kind : Kind) (s text : List ℕ) (tag : ℕ) → IsStringTag tag → SpellsCounted s text → IsUtf8 s → (x : List ℕ) → text_of kind (tag ∷ (text ++ x)) ≡ reads s x
+key_passes kind s text tag either spelled is x =
+    let one = ap (and_then utf8) (string_there s text spelled x) ∙ utf8_reads s x is in
+    after_tag kind tag (λ o. o ≡ reads s x) (text ++ x) either one (ap (and_then utf8) one ∙ utf8_reads s x is)
+
+pub key_first : (kind : Kind) (s given t : List ℕ) (a m b : Window) → TookKeyTag a m → TookCounted m b s → given ≡ s → t ≡ given → IsUtf8 given
+    → FirstOf (text_of kind) (λ u. events.key u ∷ []) (events.key t ∷ [])
+key_first kind s given t a m b tagged counted lent same is = record {
+  text = (tagged.tag ∷ []) ++ counted.text;
+  value = s;
+  rest = [];
+  passes = key_passes kind s counted.text tagged.tag tagged.either counted.spelled (subst (λ u. IsUtf8 u) lent is);
+  whole = ap (λ z. events.key z ∷ []) (sym (same ∙ lent));
+}
+
 pub key_found : {B : Type 0} (takes : B → Event → B → Type 0) (kind : Kind) (s given t : List ℕ) (a m b c : Window) (before after : B)
     → TookKeyTag a m → TookCounted m b s → given ≡ s → t ≡ given → IsUtf8 given → c ≡ b → takes before (events.key t) after
     → Found takes (text_of kind) (λ u. events.key u ∷ []) a c before after
 key_found takes kind s given t a m b c before after tagged counted lent same is end told =
-    let utf8_is : IsUtf8 s = subst (λ u. IsUtf8 u) lent is in
     record {
       text = (tagged.tag ∷ []) ++ counted.text;
       value = s;
       took = subst (λ w. Took a w ((tagged.tag ∷ []) ++ counted.text)) (sym end) (took_then a m b (tagged.tag ∷ []) counted.text tagged.took counted.took);
-      passes = λ x.
-          let one = ap (and_then utf8) (string_there s counted.text counted.spelled x) ∙ utf8_reads s x utf8_is in
-          after_tag kind tagged.tag (λ o. o ≡ reads s x) (counted.text ++ x) tagged.either one (ap (and_then utf8) one ∙ utf8_reads s x utf8_is);
+      passes = key_passes kind s counted.text tagged.tag tagged.either counted.spelled (subst (λ u. IsUtf8 u) lent is);
       told = takes_one takes before after (events.key s) (subst (λ u. takes before (events.key u) after) (same ∙ lent) told);
     }
 

@@ -2,9 +2,8 @@
 ghost use Rattle.std.specs.Prelude.{◌≡◌, ◌≤◌, ◌<◌, true, false, length, string_bytes, OnOk, OnErr};
 ghost use Rattle.bser_format.specs.Named.{front};
 ghost use Rattle.bser_format.specs.declared.errors.Error.TheVariants.{OutOfMemory};
-ghost use Rattle.bser_events.specs.Cut.{CutFrom, Stops};
+ghost use Rattle.bser_events.specs.Cut.{CutsBytes, CutsText, Stops};
 ghost use Rattle.bser_bunser.specs.Calls.{Keeps, Closes};
-ghost use Rattle.bser_bunser.specs.declared.prefix.Token.TheVariants.{Str};
 ghost use Rattle.bser_events.specs.Events as events;
 ghost use Rattle.bser_events.specs.Found.{TellsText, TellsBytes, RefusesTelling, text_bytes};
 ghost use Rattle.bser_events.specs.Places.{place_at, reading_at};
@@ -34,8 +33,7 @@ pub(crate) fn gather_text<R: DeRead, B: Builder>(
     ensures kept { OnOk result (Keeps bunser.old bunser.new) }
     ensures err { OnErr result (RefusesTelling B.stops (text_bytes len) bunser.old bunser.new) }
     ensures cut { OnErr result
-        (CutFrom B.takes B.stopped start (Str true len) bunser.old.window builder.old
-        builder.new) }
+        (CutsText B.takes B.stopped len start bunser.old builder.old builder.new) }
 {
     let mut bytes = Vec::new(alloc);
     bunser.gather(len, &mut bytes)?;
@@ -63,8 +61,7 @@ pub(crate) fn gather_bytes<R: DeRead, B: Builder>(
     ensures kept { OnOk result (Keeps bunser.old bunser.new) }
     ensures err { OnErr result (RefusesTelling B.stops (front len) bunser.old bunser.new) }
     ensures cut { OnErr result
-        (CutFrom B.takes B.stopped start (Str false len) bunser.old.window builder.old
-        builder.new) }
+        (CutsBytes B.takes B.stopped len start bunser.old builder.old builder.new) }
 {
     let mut bytes = Vec::new(alloc);
     bunser.gather(len, &mut bytes)?;

@@ -1,6 +1,6 @@
 //! What follows a token where a value begins.
 ghost use Rattle.std.specs.Prelude.{◌≡◌, ◌≢◌, ◌≤◌, ◌<◌, true, false, MatchBool, IfOk, OnOk, OnErr};
-ghost use Rattle.bser_events.specs.Cut.{Cut, CutFrom};
+ghost use Rattle.bser_events.specs.Cut.{CutsKeys, CutsRest, CutsTemplate};
 ghost use Rattle.bser_bunser.specs.Calls.{Keeps};
 ghost use Rattle.bser_bunser.specs.Tokens.{LengthFits};
 ghost use Rattle.bser_events.specs.Frames.{IsSmall};
@@ -52,7 +52,7 @@ pub fn read_after<R: DeRead, B: Builder>(
     ensures err { OnErr result
         (RefusesTelling B.stops (value_rest levels token) bunser.old bunser.new) }
     ensures cut { OnErr result
-        (CutFrom B.takes B.stopped start token bunser.old.window builder.old builder.new) }
+        (CutsRest B.takes B.stopped levels token start bunser.old builder.old builder.new) }
 {
     if let Some(event) = scalar(token) {
         tell(bunser, builder, event, start, false)?;
@@ -107,8 +107,7 @@ fn read_table<R: DeRead, B: Builder>(
     ensures kept { OnOk result (Keeps bunser.old bunser.new) }
     ensures err { OnErr result (RefusesTelling B.stops (table_at levels) bunser.old bunser.new) }
     ensures cut { OnErr result
-        (CutFrom B.takes B.stopped start Token.Template bunser.old.window builder.old
-        builder.new) }
+        (CutsTemplate B.takes B.stopped levels start bunser.old builder.old builder.new) }
 {
     bunser.fill(1)?;
     let byte = bunser.buffered()[0];
@@ -161,7 +160,7 @@ fn read_keys<R: DeRead, B: Builder>(
     ensures kept { OnOk result (Keeps bunser.old bunser.new) }
     ensures err { OnErr result (RefusesTelling B.stops (keys_at count) bunser.old bunser.new) }
     ensures cut { OnErr result
-        (Cut B.takes B.stopped (bunser.old.window, builder.old) builder.new) }
+        (CutsKeys B.takes B.stopped count bunser.old builder.old builder.new) }
 {
     for _ in 0..count {
         read_key(bunser, Kind::TemplateKey, scratch, builder)?;

@@ -4,7 +4,7 @@ ghost use Rattle.std.specs.Prelude.{◌≡◌, ◌≤◌, ◌++◌, ◌∷◌, [
 ghost use Rattle.bser_format.specs.declared.errors.Kind.TheVariants as kinds;
 ghost use Rattle.bser_format.specs.Named.{text_of};
 ghost use Rattle.bser_format.specs.declared.errors.Error.TheVariants.{OutOfMemory};
-ghost use Rattle.bser_events.specs.Cut.{Cut};
+ghost use Rattle.bser_events.specs.Cut.{CutsKey, CutsValue};
 ghost use Rattle.bser_bunser.specs.Calls.{Keeps, Closes};
 ghost use Rattle.bser_events.specs.Found.{TellsValue, TellsDueKey, RefusesValue, RefusesTelling};
 
@@ -30,8 +30,8 @@ use bser_source::read::DeRead;
 /// `Error::DeRecursionLimitExceeded`, before its count is looked at. A builder that takes no more, a
 /// scratch over a reader and `frames` that do not grow are `Error::OutOfMemory`; `frames` with
 /// room for as many containers as there are levels need not grow. After an error each later call of
-/// `bunser` fails. The builder took some events, each once and in order, and then no more, or took
-/// no more at the next one.
+/// `bunser` fails. The builder took the first events of a value, each once and in order, and then no
+/// more, or took no more at the next one.
 ///
 /// `frames` and `scratch` are room for the reading, and what they held is dropped.
 ///
@@ -50,7 +50,7 @@ pub fn read_value<R: DeRead, B: Builder>(
     ensures refused { OnErr result
         (RefusesValue B.stops (vec_capacity frames.old) levels bunser.old bunser.new) }
     ensures cut { OnErr result
-        (Cut B.takes B.stopped (bunser.old.window, builder.old) builder.new) }
+        (CutsValue B.takes B.stopped levels bunser.old builder.old builder.new) }
 {
     check_working(bunser)?;
     frames.clear();
@@ -111,7 +111,7 @@ fn read_due_key<R: DeRead, B: Builder>(
     ensures err { OnErr result
         (RefusesTelling B.stops (text_of kinds.MapKey) bunser.old bunser.new) }
     ensures cut { OnErr result
-        (Cut B.takes B.stopped (bunser.old.window, builder.old) builder.new) }
+        (CutsKey B.takes B.stopped kinds.MapKey bunser.old builder.old builder.new) }
 {
     match due {
         Part::Entry => read_key(bunser, Kind::MapKey, scratch, builder),

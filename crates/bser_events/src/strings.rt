@@ -1,9 +1,8 @@
 //! Strings and keys, read and reported.
 ghost use Rattle.std.specs.Prelude.{◌≡◌, ◌≤◌, ◌<◌, ◌^◌, true, false, OnOk, OnErr};
 ghost use Rattle.bser_format.specs.Named.{front, text_of};
-ghost use Rattle.bser_events.specs.Cut.{Cut, CutFrom};
+ghost use Rattle.bser_events.specs.Cut.{CutsBytes, CutsKey, CutsText};
 ghost use Rattle.bser_bunser.specs.Calls.{Keeps};
-ghost use Rattle.bser_bunser.specs.declared.prefix.Token.TheVariants.{Str};
 ghost use Rattle.bser_events.specs.Found.{TellsText, TellsBytes, TellsKey, RefusesTelling, text_bytes};
 ghost use Rattle.bser_events.specs.Places.{reading_at};
 
@@ -35,8 +34,7 @@ pub fn read_text<R: DeRead, B: Builder>(
     ensures kept { OnOk result (Keeps bunser.old bunser.new) }
     ensures err { OnErr result (RefusesTelling B.stops (text_bytes len) bunser.old bunser.new) }
     ensures cut { OnErr result
-        (CutFrom B.takes B.stopped start (Str true len) bunser.old.window builder.old
-        builder.new) }
+        (CutsText B.takes B.stopped len start bunser.old builder.old builder.new) }
 {
     if len > count_octets(bunser.buffered()) && len > WINDOW {
         return gather_text(bunser, *scratch.allocator(), len, start, builder);
@@ -65,8 +63,7 @@ pub fn read_bytes<R: DeRead, B: Builder>(
     ensures kept { OnOk result (Keeps bunser.old bunser.new) }
     ensures err { OnErr result (RefusesTelling B.stops (front len) bunser.old bunser.new) }
     ensures cut { OnErr result
-        (CutFrom B.takes B.stopped start (Str false len) bunser.old.window builder.old
-        builder.new) }
+        (CutsBytes B.takes B.stopped len start bunser.old builder.old builder.new) }
 {
     if builder.wants_bytes() {
         if len > count_octets(bunser.buffered()) && len > WINDOW {
@@ -97,7 +94,7 @@ pub fn read_key<R: DeRead, B: Builder>(
     ensures kept { OnOk result (Keeps bunser.old bunser.new) }
     ensures err { OnErr result (RefusesTelling B.stops (text_of kind) bunser.old bunser.new) }
     ensures cut { OnErr result
-        (Cut B.takes B.stopped (bunser.old.window, builder.old) builder.new) }
+        (CutsKey B.takes B.stopped kind bunser.old builder.old builder.new) }
 {
     let start = taken(bunser);
     bunser.fill(1)?;

@@ -9,10 +9,13 @@ use Rattle.bser_format.specs.Expand.{expand}
 use Rattle.bser_format.specs.Grammar.{Spells}
 use Rattle.bser_format.specs.Message.{Head, IsMessage}
 use Rattle.bser_format.specs.Named as named
+use Rattle.bser_format.specs.Named.{with_text_keys}
 use Rattle.bser_format.specs.ReadsAny.{reads_ignored}
 use Rattle.bser_format.specs.declared.errors.Error.{Error}
 use Rattle.bser_format.specs.declared.errors.Error.TheVariants.{OutOfMemory}
 use Rattle.bser_format.proofs.Frames.{framed}
+use Rattle.bser_format.proofs.Fronts.{value_reads}
+use Rattle.bser_format.proofs.TextKeys.{text_keys_sift}
 use Rattle.bser_source.specs.Window.{Window, Grown, Took, left, with_limit}
 use Rattle.bser_source.specs.Slice.{slice_fresh}
 use Rattle.bser_source.proofs.Windows.{left_took, left_grown}
@@ -20,10 +23,10 @@ use Rattle.bser_bunser.specs.Names.{Names, RefusedAs, RefusesBy}
 use Rattle.bser_bunser.proofs.Names.{blames_before}
 use Rattle.bser_bunser.specs.Refusal.{Fails, failures_by}
 use Rattle.bser_events.specs.Events.{Event, TakesAll, events}
-use Rattle.bser_events.specs.Cut.{Cut, nowhere}
+use Rattle.bser_events.specs.Cut.{Cut}
 use Rattle.bser_events.specs.Places.{Placed, PlacedAs, TakesIn}
 use Rattle.bser_events.specs.declared.builder.Stop.{Stop}
-use Rattle.bser_events.proofs.Cuts.{cut_then}
+use Rattle.bser_events.proofs.Cuts.{told_cut}
 use Rattle.bser_events.proofs.Placings.{ToldIn, takes_in}
 use Rattle.bser_format.specs.Expected.{node_due}
 use Rattle.bser_deserializer.specs.Calls.{spells_due}
@@ -190,15 +193,27 @@ end_untold limits takes before after h e a s t begins fresh tells short k failed
 
 -- a builder that was told the whole body
 pub all_told : {B : Type 0} (takes : B → Event → Place → B → Type 0) (stopped : Stop → B → Event → Place → B → Type 0) (before after : B) (s t : State) → s.due ≡ node_due
-    → TookAny (PlacedAs (spells_due s.due) takes) (s.source, before) (t.source, after) s t → Cut takes stopped (s.source, before) after
+    → TookAny (PlacedAs (spells_due s.due) takes) (s.source, before) (t.source, after) s t → Cut takes stopped (with_text_keys s.levels) events (s.source, before) after
 all_told takes stopped before after s t due k =
-    cut_then takes stopped (s.source, before) (t.source, after) (events k.tree) after
-    (subst (λ d. TakesAll (PlacedAs (spells_due d) takes) (s.source, before) (events k.tree) (t.source, after)) due k.told) (nowhere t.source after)
+    told_cut takes stopped (with_text_keys s.levels) events (s.source, before) (t.source, after) (events k.tree)
+    (record {
+      text = k.text;
+      value = k.tree;
+      rest = [];
+      passes = λ x. (text_keys_sift s.levels (k.text ++ x)).kept k.tree x (value_reads s.levels k.tree k.text x (k.spelled due)) k.keys;
+      whole = sym (append-nil (events k.tree));
+    })
+    (subst (λ d. TakesAll (PlacedAs (spells_due d) takes) (s.source, before) (events k.tree) (t.source, after)) due k.told)
 
-pub body_cut : {B : Type 0} (takes : B → Event → Place → B → Type 0) (stopped : Stop → B → Event → Place → B → Type 0) (before after : B) (n : ℕ) (h : Header) (a : Window) (s : State) → Begins n a s → a.count ≡ 0 → Tells h s
-    → Cut takes stopped (s.source, before) after → BodyCut takes stopped h a before after
-body_cut takes stopped before after n h a s begins fresh tells cut =
-    record { text = begins.took.text; body = s.source; took = begins.took.took; start = head_start n a s h begins fresh tells; cut = cut }
+pub body_cut : {B : Type 0} (limits : Limits) (takes : B → Event → Place → B → Type 0) (stopped : Stop → B → Event → Place → B → Type 0) (before after : B) (h : Header) (a : Window) (s : State) → Begins limits.levels a s → a.count ≡ 0 → Tells h s
+    → Cut takes stopped (with_text_keys s.levels) events (s.source, before) after → BodyCut limits takes stopped h a before after
+body_cut limits takes stopped before after h a s begins fresh tells cut = record {
+  text = begins.took.text;
+  body = s.source;
+  took = begins.took.took;
+  start = head_start limits.levels a s h begins fresh tells;
+  cut = subst (λ n. Cut takes stopped (with_text_keys n) events (s.source, before) after) begins.levels cut;
+}
 
 -- ---- to one who holds the slice or the reader
 

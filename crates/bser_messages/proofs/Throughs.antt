@@ -6,7 +6,7 @@ use Rattle.bser_source.specs.Window.{Window, left, with_limit}
 use Rattle.bser_source.proofs.Windows.{left_took}
 use Rattle.bser_format.specs.declared.errors.Error.{Error}
 use Rattle.bser_events.specs.Events.{Event}
-use Rattle.bser_events.specs.Cut.{StoppedIn, CutIn}
+use Rattle.bser_events.specs.Cut.{StoppedIn, CutAt, CutIn}
 use Rattle.bser_events.specs.Places as places
 use Rattle.bser_events.specs.Places.{TakesIn}
 use Rattle.bser_events.specs.declared.builder.Stop.{Stop}
@@ -14,6 +14,7 @@ use Rattle.bser_events.specs.declared.builder.Stop.TheVariants.{Memory, Asked}
 use Rattle.bser_events.specs.declared.event.Place.{Place}
 use Rattle.bser_events.proofs.Asked.{WatchedTakes, WatchedStops, watched_cut, watched_told}
 use Rattle.bser_messages.specs.Told.{MessageCut, BodyCut, CutBehind, IsCut, IsReasonOf}
+use Rattle.bser_messages.specs.declared.limits.Limits.{Limits}
 use Rattle.bser_messages.specs.declared.told.Header.{Header}
 use Rattle.bser_messages.specs.declared.told.Reason.{Reason}
 use Rattle.bser_messages.specs.declared.told.Reason.TheVariants.{Stopped, Failed}
@@ -48,25 +49,25 @@ told_through takes of asked at bytes a b es told =
 
 -- ---- what was cut off
 
-lent_stop : {B : Type 0} (takes : B → Event → Place → B → Type 0) (stopped : Stop → B → Event → Place → B → Type 0) (why : Stop) (at : ℕ) (bytes : List ℕ) (a b : MutBor B) (p : Place)
-    → StoppedIn (LentTakes takes) (LentStops stopped) why at bytes a p b → (b.ghost_name ≡ a.ghost_name) × StoppedIn takes stopped why at bytes a.now p b.now
-lent_stop takes stopped why at bytes a b p k =
+lent_stop : {B : Type 0} (takes : B → Event → Place → B → Type 0) (stopped : Stop → B → Event → Place → B → Type 0) (why : Stop) (at : ℕ) (bytes : List ℕ) (a b : MutBor B) (es : List Event) (p : Place)
+    → StoppedIn (LentTakes takes) (LentStops stopped) why at bytes a es p b → (b.ghost_name ≡ a.ghost_name) × StoppedIn takes stopped why at bytes a.now es p b.now
+lent_stop takes stopped why at bytes a b es p k =
     let told = lent_told takes at k.front a k.mid k.took k.told in
-    (k.stops.0 ∙ told.0, record { took = k.took; next = k.next; front = k.front; own = k.own; mid = k.mid.now; whole = k.whole; spelled = k.spelled; told = told.1; stands = k.stands; stops = k.stops.1 })
+    (k.stops.0 ∙ told.0, record { took = k.took; next = k.next; front = k.front; own = k.own; mid = k.mid.now; all = k.all; whole = k.whole; spelled = k.spelled; told = told.1; stands = k.stands; stops = k.stops.1 })
 
-lent_cut : {B : Type 0} (takes : B → Event → Place → B → Type 0) (stopped : Stop → B → Event → Place → B → Type 0) (at : ℕ) (bytes : List ℕ) (a b : MutBor B) (asked : Option Place)
-    → CutIn (LentTakes takes) (LentStops stopped) at bytes a b asked → (b.ghost_name ≡ a.ghost_name) × CutIn takes stopped at bytes a.now b.now asked
-lent_cut takes stopped at bytes a b (Some p) k = lent_stop takes stopped Asked at bytes a b p k
-lent_cut takes stopped at bytes a b None (inl k) = (let told = lent_told takes at bytes a b k.0 k.1 in (told.0, inl (k.0, told.1)))
-lent_cut takes stopped at bytes a b None (inr k) = (let stop = lent_stop takes stopped Memory at bytes a b k.0 k.1 in (stop.0, inr (k.0, stop.1)))
+lent_cut : {B : Type 0} (takes : B → Event → Place → B → Type 0) (stopped : Stop → B → Event → Place → B → Type 0) (at : ℕ) (bytes : List ℕ) (a b : MutBor B) (es : List Event) (asked : Option Place)
+    → CutAt (LentTakes takes) (LentStops stopped) at bytes a es b asked → (b.ghost_name ≡ a.ghost_name) × CutAt takes stopped at bytes a.now es b.now asked
+lent_cut takes stopped at bytes a b es (Some p) k = lent_stop takes stopped Asked at bytes a b es p k
+lent_cut takes stopped at bytes a b es None (inl k) = (let told = lent_told takes at bytes a b es k in (told.0, inl told.1))
+lent_cut takes stopped at bytes a b es None (inr k) = (let stop = lent_stop takes stopped Memory at bytes a b es k.0 k.1 in (stop.0, inr (k.0, stop.1)))
 
 -- behind a header
-cut_behind : {B W : Type 0} (takes : B → Event → Place → B → Type 0) (stopped : Stop → B → Event → Place → B → Type 0) (of : W → MutBor B) (asked : W → Option Place) (known : Option (List ℕ)) (h : Header) (a : Window) (x y : W) (before after : B)
+cut_behind : {B W : Type 0} (limits : Limits) (takes : B → Event → Place → B → Type 0) (stopped : Stop → B → Event → Place → B → Type 0) (of : W → MutBor B) (asked : W → Option Place) (known : Option (List ℕ)) (h : Header) (a : Window) (x y : W) (before after : B)
     → a.count ≡ 0 → ((l : List ℕ) → known ≡ Some l → left a ≡ Some l) → asked x ≡ None → (of x).now ≡ before → ((of y).ghost_name ≡ (of x).ghost_name → (of y).now ≡ after)
-    → BodyCut (Through of asked takes) (StopsThrough of asked stopped) h a x y → CutBehind takes stopped known h before after (asked y)
-cut_behind takes stopped of asked known h a x y before after fresh same none first last k =
-    let c = watched_cut of asked (LentTakes takes) (LentStops stopped) (k.body, x) y k.cut k.took.failed none in
-    let p = lent_cut takes stopped k.body.count c.text (of x) (of y) (asked y) c.cut in
+    → BodyCut limits (Through of asked takes) (StopsThrough of asked stopped) h a x y → CutBehind limits takes stopped known h before after (asked y)
+cut_behind limits takes stopped of asked known h a x y before after fresh same none first last k =
+    let c = watched_cut of asked (LentTakes takes) (LentStops stopped) (k.body, x) k.cut.all y k.cut.cut k.took.failed none in
+    let p = lent_cut takes stopped k.body.count c.text (of x) (of y) k.cut.all (asked y) c.cut in
     let at : k.body.count ≡ h.start = omega (arith, fresh, k.took.count, k.start) in
     record {
       head = k.text;
@@ -76,26 +77,26 @@ cut_behind takes stopped of asked known h a x y before after fresh same none fir
           let r = left_took a (with_limit a.limit k.body) k.text l k.took (same l is) in
           let q = left_took k.body c.end c.text r.0 c.took r.1 in
           (q.0, r.2 ∙ ap (λ z. k.text ++ z) q.2);
-      cut = subst (λ z. CutIn takes stopped z c.text before after (asked y)) at
-          (subst (λ z. CutIn takes stopped k.body.count c.text z after (asked y)) first
-          (subst (λ z. CutIn takes stopped k.body.count c.text (of x).now z (asked y)) (last p.0) p.1));
+      cut = (k.cut.all, k.cut.first, subst (λ z. CutAt takes stopped z c.text before k.cut.all after (asked y)) at
+          (subst (λ z. CutAt takes stopped k.body.count c.text z k.cut.all after (asked y)) first
+          (subst (λ z. CutAt takes stopped k.body.count c.text (of x).now k.cut.all z (asked y)) (last p.0) p.1)));
     }
 
 -- what the builder is, by the reason
-pub left_cut : {B W : Type 0} (takes : B → Event → Place → B → Type 0) (stopped : Stop → B → Event → Place → B → Type 0) (of : W → MutBor B) (asked : W → Option Place) (known : Option (List ℕ)) (h : Option Header) (a : Window) (x y : W) (before after : B)
+pub left_cut : {B W : Type 0} (limits : Limits) (takes : B → Event → Place → B → Type 0) (stopped : Stop → B → Event → Place → B → Type 0) (of : W → MutBor B) (asked : W → Option Place) (known : Option (List ℕ)) (h : Option Header) (a : Window) (x y : W) (before after : B)
     (was : Option Place) (cause : Error) (given : ℕ) (r : Reason)
     → a.count ≡ 0 → ((l : List ℕ) → known ≡ Some l → left a ≡ Some l) → asked x ≡ None → (of x).now ≡ before → ((of y).ghost_name ≡ (of x).ghost_name → (of y).now ≡ after)
-    → was ≡ asked y → IsReasonOf was cause given r → MessageCut (Through of asked takes) (StopsThrough of asked stopped) x y a h → IsCut takes stopped known before after given h r
-left_cut takes stopped of asked known None a x y before after was cause given (Stopped place) fresh same none first last is reason k =
+    → was ≡ asked y → IsReasonOf was cause given r → MessageCut limits (Through of asked takes) (StopsThrough of asked stopped) x y a h → IsCut limits takes stopped known before after given h r
+left_cut limits takes stopped of asked known None a x y before after was cause given (Stopped place) fresh same none first last is reason k =
     absurd (let e = sym reason.1 ∙ is ∙ ap asked k ∙ none in cc)
-left_cut takes stopped of asked known None a x y before after was cause given (Failed d) fresh same none first last is reason k =
+left_cut limits takes stopped of asked known None a x y before after was cause given (Failed d) fresh same none first last is reason k =
     sym (last (ap (λ z. (of z).ghost_name) k)) ∙ ap (λ z. (of z).now) k ∙ first
-left_cut takes stopped of asked known (Some h) a x y before after was cause given (Stopped place) fresh same none first last is reason k =
-    (reason.0, reason.2, subst (CutBehind takes stopped known h before after) (sym is ∙ reason.1) (cut_behind takes stopped of asked known h a x y before after fresh same none first last k))
-left_cut takes stopped of asked known (Some h) a x y before after was cause given (Failed d) fresh same none first last is reason k =
-    subst (CutBehind takes stopped known h before after) (sym is ∙ reason.0) (cut_behind takes stopped of asked known h a x y before after fresh same none first last k)
+left_cut limits takes stopped of asked known (Some h) a x y before after was cause given (Stopped place) fresh same none first last is reason k =
+    (reason.0, reason.2, subst (CutBehind limits takes stopped known h before after) (sym is ∙ reason.1) (cut_behind limits takes stopped of asked known h a x y before after fresh same none first last k))
+left_cut limits takes stopped of asked known (Some h) a x y before after was cause given (Failed d) fresh same none first last is reason k =
+    subst (CutBehind limits takes stopped known h before after) (sym is ∙ reason.0) (cut_behind limits takes stopped of asked known h a x y before after fresh same none first last k)
 
 -- before the header it was told nothing
-pub quiet : {W : Type 0} (takes : W → Event → Place → W → Type 0) (stopped : Stop → W → Event → Place → W → Type 0) (asked : W → Option Place) (h : Option Header) (a : Window) (x y : W)
-    → MessageCut takes stopped x y a h → asked x ≡ None → h ≡ None → asked y ≡ None
-quiet takes stopped asked h a x y k none is = ap asked (subst (MessageCut takes stopped x y a) is k) ∙ none
+pub quiet : {W : Type 0} (limits : Limits) (takes : W → Event → Place → W → Type 0) (stopped : Stop → W → Event → Place → W → Type 0) (asked : W → Option Place) (h : Option Header) (a : Window) (x y : W)
+    → MessageCut limits takes stopped x y a h → asked x ≡ None → h ≡ None → asked y ≡ None
+quiet limits takes stopped asked h a x y k none is = ap asked (subst (MessageCut limits takes stopped x y a) is k) ∙ none

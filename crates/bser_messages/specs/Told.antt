@@ -4,6 +4,7 @@ use Rattle.std.specs.Io.KnownBytes.{Consumes}
 use Rattle.bser_format.specs.Tree.{Tree}
 use Rattle.bser_format.specs.Message.{Head, IsMessage}
 use Rattle.bser_format.specs.Named as named
+use Rattle.bser_format.specs.Named.{with_text_keys}
 use Rattle.bser_format.specs.NamedLaws.{HasTextKeys}
 use Rattle.bser_format.specs.ReadsAny.{reads_ignored}
 use Rattle.bser_format.specs.declared.errors.Error.{Error}
@@ -152,27 +153,28 @@ IsReasonOf asked cause given (Failed d) = (asked ≡ None) × (cause_of d ≡ ca
 -- ---- the builder after an error
 
 -- the bytes left, where they are known, begin with a header of the length that h gives, and then
--- with bytes that spell what the builder took, and the event at which it took no more
-pub record CutBehind {B : Type 0} (takes : B → Event → Place → B → Type 0) (stopped : Stop → B → Event → Place → B → Type 0) (left : Option (List ℕ)) (h : Header) (before after : B) (asked : Option Place) : Type 0 where
+-- with bytes that spell what the builder took, and the event at which it took no more: these are the
+-- first events of a value within the levels
+pub record CutBehind {B : Type 0} (limits : Limits) (takes : B → Event → Place → B → Type 0) (stopped : Stop → B → Event → Place → B → Type 0) (left : Option (List ℕ)) (h : Header) (before after : B) (asked : Option Place) : Type 0 where
   pub head : List ℕ
   pub bytes : List ℕ
   pub start : h.start ≡ length head
   pub front : (x : List ℕ) → left ≡ Some x → (rest : List ℕ) × (x ≡ head ++ (bytes ++ rest))
-  pub cut : CutIn takes stopped h.start bytes before after asked
+  pub cut : CutIn takes stopped limits.levels h.start bytes before after asked
 
 -- Before the header nothing was reported to it. It wanted no more where the reason is that it
 -- stopped, at an event that ends there, and else it never asked to stop.
-abbrev pub IsCut : {B : Type 0} → (B → Event → Place → B → Type 0) → (Stop → B → Event → Place → B → Type 0) → Option (List ℕ) → B → B → ℕ → Option Header → Reason → Type 0
-IsCut takes stopped left before after given None (Stopped place) = ⊥
-IsCut takes stopped left before after given None (Failed d) = after ≡ before
-IsCut takes stopped left before after given (Some h) (Stopped place) =
-    (p : Place) × (place ≡ min p.end given) × CutBehind takes stopped left h before after (Some p)
-IsCut takes stopped left before after given (Some h) (Failed d) = CutBehind takes stopped left h before after None
+abbrev pub IsCut : {B : Type 0} → Limits → (B → Event → Place → B → Type 0) → (Stop → B → Event → Place → B → Type 0) → Option (List ℕ) → B → B → ℕ → Option Header → Reason → Type 0
+IsCut limits takes stopped left before after given None (Stopped place) = ⊥
+IsCut limits takes stopped left before after given None (Failed d) = after ≡ before
+IsCut limits takes stopped left before after given (Some h) (Stopped place) =
+    (p : Place) × (place ≡ min p.end given) × CutBehind limits takes stopped left h before after (Some p)
+IsCut limits takes stopped left before after given (Some h) (Failed d) = CutBehind limits takes stopped left h before after None
 
--- the builder took events that the bytes behind the header spell, each once and in order, and then no
--- more, or took no more at the next one
-abbrev pub LeavesBuilder : {B : Type 0} → (B → Event → Place → B → Type 0) → (Stop → B → Event → Place → B → Type 0) → Option (List ℕ) → B → B → TellError → Type 0
-LeavesBuilder takes stopped left before after e = IsCut takes stopped left before after e.given e.header e.reason
+-- the builder took the first events of a value, which the bytes behind the header spell, each once and
+-- in order, and then no more, or took no more at the next one
+abbrev pub LeavesBuilder : {B : Type 0} → Limits → (B → Event → Place → B → Type 0) → (Stop → B → Event → Place → B → Type 0) → Option (List ℕ) → B → B → TellError → Type 0
+LeavesBuilder limits takes stopped left before after e = IsCut limits takes stopped left before after e.given e.header e.reason
 
 -- ---- going on
 
@@ -206,17 +208,17 @@ MessageTold limits takes before after old new h =
     ReadsTold limits takes old.state.source new.state.source before after h
 
 -- the builder after an error behind this header
-pub record BodyCut {B : Type 0} (takes : B → Event → Place → B → Type 0) (stopped : Stop → B → Event → Place → B → Type 0) (h : Header) (old : Window) (before after : B) : Type 0 where
+pub record BodyCut {B : Type 0} (limits : Limits) (takes : B → Event → Place → B → Type 0) (stopped : Stop → B → Event → Place → B → Type 0) (h : Header) (old : Window) (before after : B) : Type 0 where
   pub text : List ℕ
   pub body : Window
   pub took : Took old (with_limit old.limit body) text
   pub start : h.start ≡ length text
-  pub cut : Cut takes stopped (body, before) after
+  pub cut : Cut takes stopped (with_text_keys limits.levels) events (body, before) after
 
 -- the builder after an error, and the header, where that was taken
-abbrev pub MessageCut : {B : Type 0} → (B → Event → Place → B → Type 0) → (Stop → B → Event → Place → B → Type 0) → B → B → Window → Option Header → Type 0
-MessageCut takes stopped before after old None = after ≡ before
-MessageCut takes stopped before after old (Some h) = BodyCut takes stopped h old before after
+abbrev pub MessageCut : {B : Type 0} → Limits → (B → Event → Place → B → Type 0) → (Stop → B → Event → Place → B → Type 0) → B → B → Window → Option Header → Type 0
+MessageCut limits takes stopped before after old None = after ≡ before
+MessageCut limits takes stopped before after old (Some h) = BodyCut limits takes stopped h old before after
 
 -- a deserializer's message is refused as one that is passed over
 abbrev pub MessageUntold : Limits → Seen → Seen → Error → Type 0

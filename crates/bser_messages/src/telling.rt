@@ -41,8 +41,9 @@ use std::alloc::Global;
 /// before it, and the last at the message's end. The error is the first one in the order of
 /// reading, as [`from_slice_limited`](crate::limited_slice::from_slice_limited) answers it for an
 /// `Ignored`; or out of memory, for the containers that are open or by the builder; or that the
-/// builder wanted no more. After an error the builder took events that the bytes behind the header
-/// spell, each once and in order, and then no more, or took no more at the next one.
+/// builder wanted no more. After an error the builder took the first events of a value, which the
+/// bytes behind the header spell, each once and in order, and then no more, or took no more at the
+/// next one.
 pub fn from_slice<B: Builder>(
     alloc: Global,
     limits: Limits,
@@ -58,7 +59,7 @@ pub fn from_slice<B: Builder>(
     ensures place { IfErr result HasPlace }
     ensures given { IfErr result (λ e. e.given ≡ length bytes.now) }
     ensures cut { IfErr result
-        (LeavesBuilder B.takes B.stopped (Some bytes.now) builder.old builder.new) }
+        (LeavesBuilder limits B.takes B.stopped (Some bytes.now) builder.old builder.new) }
 {
     let mut from = Deserializer::unread(alloc, SliceRead::new(bytes));
     let mut watched = WatchedBuilder::new(builder);
@@ -93,7 +94,7 @@ pub fn next_message<S: Source, B: Builder>(
     ensures late { IfErr result StopsLate }
     ensures early { IfErr result (NextFailsEarly S.Source reader.old reader.new) }
     ensures place { IfErr result HasPlace }
-    ensures cut { IfErr result (LeavesBuilder B.takes B.stopped
+    ensures cut { IfErr result (LeavesBuilder limits B.takes B.stopped
         (S.remaining reader.old) builder.old builder.new) }
 {
     let mut read = IoRead::new(CountedSource::new(reader));

@@ -74,8 +74,8 @@ pub(crate) fn tell_message<R: DeRead, B: Builder>(
     ensures early { IfErr result (λ cut.
         MessageFailsEarly from.old from.new cut.header cut.cause) }
     ensures cut { IfErr result (λ cut.
-        MessageCut B.takes B.stopped builder.old builder.new from.old.state.source
-        cut.header) }
+        MessageCut limits B.takes B.stopped builder.old builder.new
+        from.old.state.source cut.header) }
 {
     match from.read_head(limits.levels) {
         Ok(()) => {}

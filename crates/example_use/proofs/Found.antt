@@ -8,6 +8,7 @@ use Rattle.serde_bser.specs.Places.{TakesIn, SpellsEvent}
 use Rattle.bser_events.specs.declared.builder.Stop.{Stop}
 use Rattle.bser_events.specs.declared.event.Place.{Place}
 use Rattle.bser_messages.specs.Told.{LeavesBuilder, IsCut}
+use Rattle.bser_messages.specs.declared.limits.Limits.{Limits}
 use Rattle.bser_messages.specs.declared.told.Header.{Header}
 use Rattle.bser_messages.specs.declared.told.Reason.{Reason}
 use Rattle.bser_messages.specs.declared.told.Reason.TheVariants.{Stopped}
@@ -41,11 +42,11 @@ joined : (head before key own rest : List ℕ) → head ++ (((before ++ key) ++ 
 joined head before key own rest =
     ap (λ l. head ++ l) (append_assoc (before ++ key) own rest ∙ append_assoc before key (own ++ rest)) ∙ sym (append_assoc head before (key ++ (own ++ rest)))
 
-found_cut : (bytes : List ℕ) (before after : Search) (given place : ℕ) (h : Option Header) → before.is_next ≡ false → IsCut Goes Stops (Some bytes) before after given h (Stopped place) → IfSome after.found (Finds bytes)
-found_cut bytes before after given place None fresh k = absurd k
-found_cut bytes before after given place (Some h) fresh k =
+found_cut : (limits : Limits) (bytes : List ℕ) (before after : Search) (given place : ℕ) (h : Option Header) → before.is_next ≡ false → IsCut limits Goes Stops (Some bytes) before after given h (Stopped place) → IfSome after.found (Finds bytes)
+found_cut limits bytes before after given place None fresh k = absurd k
+found_cut limits bytes before after given place (Some h) fresh k =
     let c = k.2 in
-    let s = c.cut in
+    let s = c.cut.2 in
     let f = c.front bytes refl in
     let n = s.stops.0 in
     let whole : c.bytes ≡ s.front ++ s.own = s.whole in
@@ -63,6 +64,6 @@ found_cut bytes before after given place (Some h) fresh k =
       }
     ])
 
-pub found_in : (bytes : List ℕ) (before after : Search) (e : TellError) (place : ℕ) → e.reason ≡ Stopped place → before.is_next ≡ false → LeavesBuilder Goes Stops (Some bytes) before after e → IfSome after.found (Finds bytes)
-found_in bytes before after e place is fresh k =
-    found_cut bytes before after e.given place e.header fresh (subst (IsCut Goes Stops (Some bytes) before after e.given e.header) is k)
+pub found_in : (limits : Limits) (bytes : List ℕ) (before after : Search) (e : TellError) (place : ℕ) → e.reason ≡ Stopped place → before.is_next ≡ false → LeavesBuilder limits Goes Stops (Some bytes) before after e → IfSome after.found (Finds bytes)
+found_in limits bytes before after e place is fresh k =
+    found_cut limits bytes before after e.given place e.header fresh (subst (IsCut limits Goes Stops (Some bytes) before after e.given e.header) is k)

@@ -35,11 +35,11 @@ returns-in-Ok-2-clause-agreed c =
 pub returns-in-Failed-clause-agreed : goal.returns-in-Failed-clause-agreed
 returns-in-Failed-clause-agreed c =
     let start = begun c.args.strings.now c.args.words.now c.new-compared.result (ap (λ w. w.now) c.new-compared.ensures.words) (ap (λ s. s.now) c.new-compared.ensures.strings) c.new-compared.ensures.at in
-    let end = agree_untold c.args.strings.now c.args.words.now (search rules) c.args.message.now c.new-compared.result c.from_slice-answer.new.builder start c.in-Err.untold c.in-Err.ensures.cut in
+    let end = agree_untold c.args.strings.now c.args.words.now (search rules) c.new.result c.args.message.now c.new-compared.result c.from_slice-answer.new.builder start c.in-Err.untold c.in-Err.ensures.cut in
     untaped_agrees c.cause.result.now c.min-at.result c.of_error.result c.args.strings.now c.args.words.now c.of_error.ensures (agree_before c.args.strings.now c.args.words.now (search rules) c.from_slice-answer.new.builder c.min-at.result end (search rules))
 
 pub returns-in-Stopped-clause-agreed : goal.returns-in-Stopped-clause-agreed
 returns-in-Stopped-clause-agreed c =
     let start = begun c.args.strings.now c.args.words.now c.new-compared.result (ap (λ w. w.now) c.new-compared.ensures.words) (ap (λ s. s.now) c.new-compared.ensures.strings) c.new-compared.ensures.at in
-    let end = agree_untold c.args.strings.now c.args.words.now (search rules) c.args.message.now c.new-compared.result c.from_slice-answer.new.builder start c.in-Err.untold c.in-Err.ensures.cut in
+    let end = agree_untold c.args.strings.now c.args.words.now (search rules) c.new.result c.args.message.now c.new-compared.result c.from_slice-answer.new.builder start c.in-Err.untold c.in-Err.ensures.cut in
     agree_before c.args.strings.now c.args.words.now (search rules) c.from_slice-answer.new.builder c.min-at.result end (search rules)

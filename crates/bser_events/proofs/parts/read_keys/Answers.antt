@@ -3,11 +3,12 @@ use Rattle.std.proofs.lemmas.Result.{err_from_is_err_and}
 use Rattle.bser_format.specs.declared.errors.Kind.TheVariants.{TemplateKey}
 use Rattle.bser_format.specs.Named.{text_of}
 use Rattle.bser_events.specs.Found.{keys_at}
-use Rattle.bser_events.specs.Events.{key}
+use Rattle.bser_events.specs.Events.{key, key_events}
 use Rattle.bser_events.specs.Places.{Placed}
 use Rattle.bser_events.proofs.Midways.{midway_begins, midway_found, midway_refused}
 use Rattle.bser_events.proofs.Tables.{KeysLeft, keys_begin, keys_due, keys_end}
-use Rattle.bser_events.proofs.Cuts.{in_any, cut_then}
+use Rattle.bser_events.proofs.Cuts.{in_any, cut_in}
+use Rattle.bser_events.proofs.Firsts.{key_none, keys_left_first}
 use Rattle.bser_events.proofs.parts.read_keys.Goals as goal
 
 pub loop-init : goal.loop-init
@@ -35,4 +36,7 @@ returns-clause-ok g c =
     keys_end (Placed g.B.Builder.takes) c.args.count _ _ _ _ _ last c.loop.invariant.midway
 
 pub returns-in_err-read_key-clause-cut : goal.returns-in_err-read_key-clause-cut
-returns-in_err-read_key-clause-cut g c = in_any _ _ (cut_then g.B.Builder.takes g.B.Builder.stopped _ _ _ _ c.loop.invariant.midway.told c.in_err-read_key.ensures.cut)
+returns-in_err-read_key-clause-cut g c =
+    let more : c.args.count - c.loop.counter ≡ suc (c.args.count - (c.loop.counter + 1)) = omega (arith, c.loop-test.true) in
+    in_any _ _ (cut_in g.B.Builder.takes g.B.Builder.stopped (keys_at c.args.count) key_events (text_of TemplateKey) (λ s. key s ∷ []) (KeysLeft (c.args.count - (c.loop.counter + 1))) _ _ _ _ _ (keys_left_first (c.args.count - (c.loop.counter + 1))) (key_none TemplateKey) c.in_err-read_key.ensures.cut
+    (keys_due (Placed g.B.Builder.takes) c.args.count _ _ _ _ _ _ more c.loop.invariant.midway))

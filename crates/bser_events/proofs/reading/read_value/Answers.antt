@@ -11,14 +11,13 @@ use Rattle.bser_events.specs.Found.{value_rest, FoundOrOpened, IsInside}
 use Rattle.bser_events.specs.Around.{around}
 use Rattle.bser_events.specs.Events.{events, skip}
 use Rattle.bser_events.specs.Places.{Placed}
-use Rattle.bser_events.proofs.Leads.{Leads, leads_begins}
+use Rattle.bser_events.proofs.Leads.{Leads, frame_of, leads_begins}
 use Rattle.bser_events.proofs.Midways.{midway_begins, midway_done, midway_popped, midway_key, midway_token, midway_skip, midway_value, midway_opened, midway_pushed, midway_at, key_refused, token_refused, midway_refused}
 use Rattle.bser_events.proofs.Placings.{piece_placed, placed_by, closed_placed, moved}
 use Rattle.bser_events.proofs.Measures.{pushed, deep_popped, popped_falls, deep_taken, part_taken, deep_pushed, pushed_falls}
 use Rattle.bser_events.proofs.Outcomes.{is_well, is_ill, same_window}
 use Rattle.bser_events.proofs.Runs.{run_begins, run_on, piece_within, run_refused, memory_refused, ran, ran_at, ran_due, ran_out, all_left, falls_first, falls_on, ran_falls, pieces_left, pieces_fall, Falls}
-use Rattle.bser_events.specs.Cut.{nowhere}
-use Rattle.bser_events.proofs.Cuts.{in_any, cut_here, cut_then, cut_by, cut_close, cut_piece, if_ill}
+use Rattle.bser_events.proofs.Cuts.{if_ill, in_any, cut_here, leads_cut, close_cut, part_cut, due_cut, entry_cut, part_none, part_skip, part_token, piece_cut}
 use Rattle.bser_events.proofs.reading.read_value.Goals.{in-Some+in_default-due_piece, in_default}
 use Rattle.bser_events.proofs.reading.read_value.Goals as goal
 
@@ -221,7 +220,7 @@ parts-preserved g c =
     }
 
 pub returns-in_err-check_working-clause-cut : goal.returns-in_err-check_working-clause-cut
-returns-in_err-check_working-clause-cut g c = cut_here g.B.Builder.takes g.B.Builder.stopped _ _ _
+returns-in_err-check_working-clause-cut g c = cut_here g.B.Builder.takes g.B.Builder.stopped (with_text_keys c.args.levels) events _ _ _
 
 pub returns-then-is_err-clause-cut : goal.returns-then-is_err-clause-cut
 returns-then-is_err-clause-cut g c =
@@ -229,7 +228,8 @@ returns-then-is_err-clause-cut g c =
     let bytes = c.buffered-bytes.result.now in
     let within = piece_within c.in-Some.wanted c.pieces.at _ _ bytes c.pieces.invariant.inside c.in-Some-due_piece.ensures.front in
     let stops = if_ill _ c.take.result (c.is_err.ensures.negation ∙ ap not c.if-is_err.true) c.take.ensures.stopped in
-    cut_then g.B.Builder.takes g.B.Builder.stopped _ _ _ _ m.told (cut_piece g.B.Builder.takes g.B.Builder.stopped c.pieces.at c.in-Some-due_piece.piece.len c.taken-begun.result c.saturating_add.result _ c.place-place.result c.in-Some-due_piece.piece.is_text bytes _ _ _ (sym c.buffered-bytes.ensures) c.pieces.invariant.octets within m.took.failed c.taken-begun.ensures c.saturating_add.ensures c.place-place.ensures c.in-Some-due_piece.ensures.mark stops)
+    let cut = piece_cut g.B.Builder.takes g.B.Builder.stopped c.in-Some.wanted c.pieces.frame.levels c.pieces.at c.in-Some-due_piece.piece.len c.taken-begun.result c.saturating_add.result _ c.place-place.result c.in-Some-due_piece.piece.is_text bytes _ _ _ c.in-Some-due_piece.ensures.front (sym c.buffered-bytes.ensures) c.pieces.invariant.octets within m.took.failed c.taken-begun.ensures c.saturating_add.ensures c.place-place.ensures c.in-Some-due_piece.ensures.mark stops in
+    due_cut g.B.Builder.takes g.B.Builder.stopped _ _ c.in-Some.wanted c.pieces.frame.levels (frame_of c.pieces.frame.levels c.pieces.frame.parts ∷ reverse (around c.parts.outermost c.parts.frames.items)) _ _ _ _ _ cut (ran_due (Placed g.B.Builder.takes) _ _ _ _ c.in-Some.wanted _ c.pieces.frame.parts _ _ _ _ _ refl c.in-Some.is m)
 
 pub returns-in_err-tell_close-clause-cut : goal.returns-in_err-tell_close-clause-cut
 returns-in_err-tell_close-clause-cut g c =
@@ -237,7 +237,7 @@ returns-in_err-tell_close-clause-cut g c =
     let same : c.match-due.due ≡ c.pieces.due = elim c.match-due.branch [ in-Some+in_default-due_piece w ↦ w.due-is ∙ sym w.in-Some.is | in_default w ↦ w.due-is ] in
     let m = ran (Placed g.B.Builder.takes) _ _ _ _ _ _ _ _ _ _ _ _ _ _ _ _ (λ w. (w, c.pieces.builder)) c.parts.invariant.midway c.next-due.ensures.counted (λ m. c.pieces.invariant.run _ (sym c.buffered-bytes.ensures) c.taken-begun.ensures m) c.consume.ensures.window in
     let out = ran_out (Placed g.B.Builder.takes) _ _ _ _ _ _ _ _ _ _ _ same c.in_default-due.is m in
-    in_any _ _ (cut_then g.B.Builder.takes g.B.Builder.stopped _ _ _ _ out.told (cut_close g.B.Builder.takes g.B.Builder.stopped _ _ _ out.took.failed c.in_err-tell_close.ensures.stopped))
+    in_any _ _ (close_cut g.B.Builder.takes g.B.Builder.stopped _ _ c.pieces.frame c.in-Some-pop_frame.outer _ _ _ _ _ _ _ around out.next.1 c.in_err-tell_close.ensures.stopped (all_left (Placed g.B.Builder.takes) _ _ _ _ _ _ _ _ _ out))
 
 pub returns-in_err-read_due_key-clause-cut : goal.returns-in_err-read_due_key-clause-cut
 returns-in_err-read_due_key-clause-cut g c =
@@ -245,7 +245,8 @@ returns-in_err-read_due_key-clause-cut g c =
     let m = ran (Placed g.B.Builder.takes) _ _ _ _ _ _ _ _ _ _ _ _ _ _ _ _ (λ w. (w, c.pieces.builder)) c.parts.invariant.midway c.next-due.ensures.counted (λ m. c.pieces.invariant.run _ (sym c.buffered-bytes.ensures) c.taken-begun.ensures m) c.consume.ensures.window in
     let n = c.pieces.frame.levels in
     let m0 = ran_due (Placed g.B.Builder.takes) _ _ _ _ c.in-Some-due.due n c.pieces.frame.parts _ _ _ _ _ same c.in-Some-due.is m in
-    in_any _ _ (cut_then g.B.Builder.takes g.B.Builder.stopped _ _ _ _ m0.told (c.in_err-read_due_key.ensures.cut))
+    let cut = entry_cut g.B.Builder.takes g.B.Builder.stopped c.in-Some-due.due n _ _ c.in_err-read_due_key.ensures.entry c.in_err-read_due_key.ensures.cut in
+    in_any _ _ (due_cut g.B.Builder.takes g.B.Builder.stopped _ _ c.in-Some-due.due n (frame_of c.pieces.frame.levels c.pieces.frame.parts ∷ reverse (around c.parts.outermost c.parts.frames.items)) _ _ _ _ _ cut m0)
 
 pub returns-in_err-token-clause-cut : goal.returns-in_err-token-clause-cut
 returns-in_err-token-clause-cut g c =
@@ -254,7 +255,7 @@ returns-in_err-token-clause-cut g c =
     let n = c.pieces.frame.levels in
     let m0 = ran_due (Placed g.B.Builder.takes) _ _ _ _ c.in-Some-due.due n c.pieces.frame.parts _ _ _ _ _ same c.in-Some-due.is m in
     let m1 = midway_key (Placed g.B.Builder.takes) _ c.in-Some-due.due n _ _ _ _ _ _ _ c.in_ok-read_due_key.ensures.ok m0 in
-    in_any _ _ (cut_then g.B.Builder.takes g.B.Builder.stopped _ _ _ _ m1.told (nowhere _ _))
+    in_any _ _ (part_cut g.B.Builder.takes g.B.Builder.stopped _ _ c.in-Some-due.due n (frame_of c.pieces.frame.levels c.pieces.frame.parts ∷ reverse (around c.parts.outermost c.parts.frames.items)) _ _ _ _ _ (part_none g.B.Builder.takes g.B.Builder.stopped c.in-Some-due.due n _ _) m1)
 
 pub returns-in_err-tell-clause-cut : goal.returns-in_err-tell-clause-cut
 returns-in_err-tell-clause-cut g c =
@@ -264,7 +265,7 @@ returns-in_err-tell-clause-cut g c =
     let m0 = ran_due (Placed g.B.Builder.takes) _ _ _ _ c.in-Some-due.due n c.pieces.frame.parts _ _ _ _ _ same c.in-Some-due.is m in
     let m1 = midway_key (Placed g.B.Builder.takes) _ c.in-Some-due.due n _ _ _ _ _ _ _ c.in_ok-read_due_key.ensures.ok m0 in
     let is = rw c.if-is_skipped.true at c.is_skipped.ensures in
-    in_any _ _ (cut_then g.B.Builder.takes g.B.Builder.stopped _ _ _ _ m1.told (cut_by g.B.Builder.takes g.B.Builder.stopped _ _ skip _ _ _ _ _ c.in_ok-token.ensures.ok.took c.in_ok-token.ensures.start (refl, subst (λ z. SpellsToken z c.in_ok-token.ensures.ok.text) is.1 c.in_ok-token.ensures.ok.spelled) c.in_err-tell.ensures.stopped))
+    in_any _ _ (part_cut g.B.Builder.takes g.B.Builder.stopped _ _ c.in-Some-due.due n (frame_of c.pieces.frame.levels c.pieces.frame.parts ∷ reverse (around c.parts.outermost c.parts.frames.items)) _ _ _ _ _ (part_skip g.B.Builder.takes g.B.Builder.stopped c.in-Some-due.due n _ c.in_ok-token.token _ _ _ _ is c.in_ok-token.ensures.start c.in_ok-token.ensures.ok c.in_err-tell.ensures.stopped) m1)
 
 pub returns-in_err-inner-clause-cut : goal.returns-in_err-inner-clause-cut
 returns-in_err-inner-clause-cut g c =
@@ -273,7 +274,9 @@ returns-in_err-inner-clause-cut g c =
     let n = c.pieces.frame.levels in
     let m0 = ran_due (Placed g.B.Builder.takes) _ _ _ _ c.in-Some-due.due n c.pieces.frame.parts _ _ _ _ _ same c.in-Some-due.is m in
     let m1 = midway_key (Placed g.B.Builder.takes) _ c.in-Some-due.due n _ _ _ _ _ _ _ c.in_ok-read_due_key.ensures.ok m0 in
-    in_any _ _ (cut_then g.B.Builder.takes g.B.Builder.stopped _ _ _ _ m1.told (c.in_err-inner.ensures.cut _ _ c.in_ok-token.ensures.start c.in_ok-token.ensures.ok.took c.in_ok-token.ensures.ok.spelled))
+    let never = rw c.if-is_skipped.false at c.is_skipped.ensures in
+    let cut = c.in_err-inner.ensures.cut _ _ c.in_ok-token.ensures.start c.in_ok-token.ensures.ok.took c.in_ok-token.ensures.ok.spelled in
+    in_any _ _ (part_cut g.B.Builder.takes g.B.Builder.stopped _ _ c.in-Some-due.due n (frame_of c.pieces.frame.levels c.pieces.frame.parts ∷ reverse (around c.parts.outermost c.parts.frames.items)) _ _ _ _ _ (part_token g.B.Builder.takes g.B.Builder.stopped c.in-Some-due.due n c.in_ok-token.token _ _ _ _ c.in_ok-token.ensures.ok c.in_ok-token.ensures.level never cut) m1)
 
 pub returns-in_err-push_frame-clause-cut : goal.returns-in_err-push_frame-clause-cut
 returns-in_err-push_frame-clause-cut g c =
@@ -286,4 +289,4 @@ returns-in_err-push_frame-clause-cut g c =
     let m2 = midway_token (Placed g.B.Builder.takes) _ c.in-Some-due.due n c.in_ok-token.token _ _ _ _ _ _ c.in_ok-token.ensures.ok c.in_ok-token.ensures.level never m1 in
     let opened = subst (FoundOrOpened (Placed g.B.Builder.takes) (value_rest n c.in_ok-token.token) _ _ _ _) c.in-Some-2.is (c.in_ok-inner.ensures.ok _ _ c.in_ok-token.ensures.start c.in_ok-token.ensures.ok.took c.in_ok-token.ensures.ok.spelled) in
     let m3 = midway_opened (Placed g.B.Builder.takes) _ events (value_rest n c.in_ok-token.token) c.in-Some-2.inner c.pieces.frame _ _ _ _ _ _ _ opened m2 in
-    in_any _ _ (cut_then g.B.Builder.takes g.B.Builder.stopped _ _ _ _ m3.told (nowhere _ _))
+    in_any _ _ (leads_cut g.B.Builder.takes g.B.Builder.stopped _ _ _ _ _ _ _ m3)

@@ -26,13 +26,13 @@ returns-clause-failed g c =
 pub returns-clause-late : goal.returns-clause-late
 returns-clause-late g c = λ stop.
     rw c.untold.ensures.header (stops_late c.asked_place-asked.result c.in-Err.cut.cause _ c.untold.result.reason c.in-Err.cut.header c.untold.ensures.reason c.in-Err.ensures.late
-    (λ none. c.asked_place-asked.ensures.place ∙ quiet _ _ asked_at c.in-Err.cut.header _ c.new-watched.result c.tell_message-answer.new.builder c.in-Err.ensures.cut c.new-watched.ensures.asked none) stop)
+    (λ none. c.asked_place-asked.ensures.place ∙ quiet c.args.limits _ _ asked_at c.in-Err.cut.header _ c.new-watched.result c.tell_message-answer.new.builder c.in-Err.ensures.cut c.new-watched.ensures.asked none) stop)
 
 pub returns-clause-early : goal.returns-clause-early
 returns-clause-early g c = λ none.
     let alone = sym c.untold.ensures.header ∙ none in
     fails_early (λ cause. head c.args.bytes.now ≡ refuses cause) c.asked_place-asked.result c.in-Err.cut.cause _ c.untold.result.reason c.untold.ensures.reason
-    (c.asked_place-asked.ensures.place ∙ quiet _ _ asked_at c.in-Err.cut.header _ c.new-watched.result c.tell_message-answer.new.builder c.in-Err.ensures.cut c.new-watched.ensures.asked alone)
+    (c.asked_place-asked.ensures.place ∙ quiet c.args.limits _ _ asked_at c.in-Err.cut.header _ c.new-watched.result c.tell_message-answer.new.builder c.in-Err.ensures.cut c.new-watched.ensures.asked alone)
     (slice_blamed head c.in-Err.cut.cause c.args.bytes.now _ _ (c.unread-from.ensures.source ∙ c.new.ensures) (c.in-Err.ensures.early alone))
 
 pub returns-clause-place : goal.returns-clause-place
@@ -42,6 +42,6 @@ pub returns-clause-cut : goal.returns-clause-cut
 returns-clause-cut g c =
     let fresh = c.unread-from.ensures.source ∙ c.new.ensures in
     rw (c.untold.ensures.given, c.untold.ensures.header)
-    (left_cut g.B.Builder.takes g.B.Builder.stopped builder_of asked_at (Some c.args.bytes.now) c.in-Err.cut.header _ c.new-watched.result c.tell_message-answer.new.builder c.args.builder.now _
+    (left_cut c.args.limits g.B.Builder.takes g.B.Builder.stopped builder_of asked_at (Some c.args.bytes.now) c.in-Err.cut.header _ c.new-watched.result c.tell_message-answer.new.builder c.args.builder.now _
     c.asked_place-asked.result c.in-Err.cut.cause _ c.untold.result.reason (ap (λ w. w.count) fresh) (λ l is. ap left fresh ∙ ap Some (append-nil c.args.bytes.now) ∙ is)
     c.new-watched.ensures.asked (ap (λ r. r.now) c.new-watched.ensures.builder) (λ same. search rules) c.asked_place-asked.ensures.place c.untold.ensures.reason c.in-Err.ensures.cut)

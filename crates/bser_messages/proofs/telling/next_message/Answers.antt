@@ -43,14 +43,14 @@ returns-in-Eof-clause-found g c =
 pub returns-in-Err-answer-clause-late : goal.returns-in-Err-answer-clause-late
 returns-in-Err-answer-clause-late g c = λ stop.
     rw c.untold.ensures.header (stops_late c.asked_place-asked.result c.in-Err-answer.cut.cause _ c.untold.result.reason c.in-Err-answer.cut.header c.untold.ensures.reason c.in-Err-answer.ensures.late
-    (λ none. c.asked_place-asked.ensures.place ∙ quiet _ _ asked_at c.in-Err-answer.cut.header _ c.new-watched.result c.tell_message-answer.new.builder c.in-Err-answer.ensures.cut c.new-watched.ensures.asked none) stop)
+    (λ none. c.asked_place-asked.ensures.place ∙ quiet c.args.limits _ _ asked_at c.in-Err-answer.cut.header _ c.new-watched.result c.tell_message-answer.new.builder c.in-Err-answer.ensures.cut c.new-watched.ensures.asked none) stop)
 
 pub returns-in-Err-answer-clause-early : goal.returns-in-Err-answer-clause-early
 returns-in-Err-answer-clause-early g c =
     let fresh = c.new-read.ensures.window in
     let early = rw c.unread-from.ensures.source at c.in-Err-answer.ensures.early in
     next_fails_early c.asked_place-asked.result c.in-Err-answer.cut.cause _ g.S.Source c.args.reader.now _ c.untold.result c.untold.ensures.reason
-    (λ none. c.asked_place-asked.ensures.place ∙ quiet _ _ asked_at c.in-Err-answer.cut.header _ c.new-watched.result c.tell_message-answer.new.builder c.in-Err-answer.ensures.cut c.new-watched.ensures.asked (sym c.untold.ensures.header ∙ none))
+    (λ none. c.asked_place-asked.ensures.place ∙ quiet c.args.limits _ _ asked_at c.in-Err-answer.cut.header _ c.new-watched.result c.tell_message-answer.new.builder c.in-Err-answer.ensures.cut c.new-watched.ensures.asked (sym c.untold.ensures.header ∙ none))
     (λ none. next_head c.in-Err-answer.cut.cause _ _ _ _ _ _ _ _ _ fresh (ap (λ r. g.S.Source.remaining r.now) c.new.ensures) (ap (λ r. g.S.Source.failures r.now) c.new.ensures) (search rules) c.in-Ok.ensures.ok.filled.grown (early (sym c.untold.ensures.header ∙ none)))
 
 pub returns-in-Err-answer-clause-place : goal.returns-in-Err-answer-clause-place
@@ -62,7 +62,7 @@ returns-in-Err-answer-clause-cut g c =
     let grown = c.in-Ok.ensures.ok.filled.grown in
     let cut = rw c.unread-from.ensures.source at c.in-Err-answer.ensures.cut in
     rw (c.untold.ensures.given, c.untold.ensures.header)
-    (left_cut g.B.Builder.takes g.B.Builder.stopped builder_of asked_at _ c.in-Err-answer.cut.header _ c.new-watched.result c.tell_message-answer.new.builder c.args.builder.now _
+    (left_cut c.args.limits g.B.Builder.takes g.B.Builder.stopped builder_of asked_at _ c.in-Err-answer.cut.header _ c.new-watched.result c.tell_message-answer.new.builder c.args.builder.now _
     c.asked_place-asked.result c.in-Err-answer.cut.cause _ c.untold.result.reason (grown.count ∙ ap (λ w. w.count) fresh)
     (λ x known. left_grown 1 _ _ x grown (fresh_known _ _ _ _ x fresh (ap (λ r. g.S.Source.remaining r.now) c.new.ensures ∙ known)))
     c.new-watched.ensures.asked (ap (λ r. r.now) c.new-watched.ensures.builder) (λ same. search rules) c.asked_place-asked.ensures.place c.untold.ensures.reason cut)

@@ -57,7 +57,7 @@ returns-in-Err-end-clause-cut g c =
     let h = c.header_of-header.ensures in
     let tells : Tells c.header_of-header.result c.read_head.new.self.state = record { capabilities = h.capabilities; start = h.start; len = h.len } in
     let begins = c.in-Ok.ensures.ok in
-    body_cut g.B.Builder.takes g.B.Builder.stopped _ _ c.args.limits.levels c.header_of-header.result _ c.read_head.new.self.state begins c.requires.start tells
+    body_cut c.args.limits g.B.Builder.takes g.B.Builder.stopped _ _ c.header_of-header.result _ c.read_head.new.self.state begins c.requires.start tells
     (all_told g.B.Builder.takes g.B.Builder.stopped _ _ c.read_head.new.self.state c.tell_body.new.from.state begins.due c.in-Ok-tell_body.ensures.found.1)
 
 pub returns-in-Err-tell_body-clause-cut : goal.returns-in-Err-tell_body-clause-cut
@@ -65,5 +65,5 @@ returns-in-Err-tell_body-clause-cut g c =
     let h = c.header_of-header.ensures in
     let tells : Tells c.header_of-header.result c.read_head.new.self.state = record { capabilities = h.capabilities; start = h.start; len = h.len } in
     let begins = c.in-Ok.ensures.ok in
-    body_cut g.B.Builder.takes g.B.Builder.stopped _ _ c.args.limits.levels c.header_of-header.result _ c.read_head.new.self.state begins c.requires.start tells
+    body_cut c.args.limits g.B.Builder.takes g.B.Builder.stopped _ _ c.header_of-header.result _ c.read_head.new.self.state begins c.requires.start tells
     (c.in-Err-tell_body.ensures.cut begins.due)
