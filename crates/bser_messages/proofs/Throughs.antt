@@ -6,7 +6,7 @@ use Rattle.bser_source.specs.Window.{Window, left, with_limit}
 use Rattle.bser_source.proofs.Windows.{left_took}
 use Rattle.bser_format.specs.declared.errors.Error.{Error}
 use Rattle.bser_events.specs.Events.{Event}
-use Rattle.bser_events.specs.Cut.{StoppedIn, CutAt, CutIn}
+use Rattle.bser_events.specs.Cut.{StoppedIn, CutAt}
 use Rattle.bser_events.specs.Places as places
 use Rattle.bser_events.specs.Places.{TakesIn}
 use Rattle.bser_events.specs.declared.builder.Stop.{Stop}
