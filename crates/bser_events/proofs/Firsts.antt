@@ -23,7 +23,7 @@ use Rattle.bser_events.specs.Pieces.{InFront, IsScalar}
 use Rattle.bser_events.specs.declared.frame.Frame.{Frame}
 use Rattle.bser_events.specs.declared.frame.Remaining.{Remaining}
 use Rattle.bser_events.specs.declared.frame.Remaining.TheVariants.{Items, Entries, Rows}
-use Rattle.bser_events.proofs.Begins.{value_begins, field_begins, skip_there}
+use Rattle.bser_events.proofs.Begins.{value_begins, skip_there}
 use Rattle.bser_events.proofs.Leads.{Leads, Awaits, closes}
 use Rattle.bser_events.proofs.Midways.{Midway}
 use Rattle.bser_events.proofs.Tables.{At, KeysLeft, after_width, after_keys, key_count, length-items, length-entries, rows_read, table_whole}
