@@ -289,4 +289,4 @@ returns-in_err-push_frame-clause-cut g c =
     let m2 = midway_token (Placed g.B.Builder.takes) _ c.in-Some-due.due n c.in_ok-token.token _ _ _ _ _ _ c.in_ok-token.ensures.ok c.in_ok-token.ensures.level never m1 in
     let opened = subst (FoundOrOpened (Placed g.B.Builder.takes) (value_rest n c.in_ok-token.token) _ _ _ _) c.in-Some-2.is (c.in_ok-inner.ensures.ok _ _ c.in_ok-token.ensures.start c.in_ok-token.ensures.ok.took c.in_ok-token.ensures.ok.spelled) in
     let m3 = midway_opened (Placed g.B.Builder.takes) _ events (value_rest n c.in_ok-token.token) c.in-Some-2.inner c.pieces.frame _ _ _ _ _ _ _ opened m2 in
-    in_any _ _ (leads_cut g.B.Builder.takes g.B.Builder.stopped _ _ _ _ _ _ _ m3)
+    in_any _ _ (leads_cut g.B.Builder.takes g.B.Builder.stopped _ _ (c.in-Some-2.inner ∷ c.pieces.frame ∷ reverse (around c.parts.outermost c.parts.frames.items)) _ _ _ _ m3)
