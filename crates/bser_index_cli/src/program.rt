@@ -294,6 +294,7 @@ fn stat<S: Alter, R, W: Write, E: Write>(
 fn adding_of<'a>(path: &'a str, manner: Manner) -> Adding<'a> {
     Adding {
         path,
+        held: None,
         may_be_empty: manner.may_be_empty,
         seconds: manner.seconds,
     }

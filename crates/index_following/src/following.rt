@@ -11,8 +11,8 @@ use bser_value::value::Value;
 use serde_bser::bytestring::ByteString;
 use sqlite::{Alter, Connection};
 use std::alloc::Global;
-use std::io;
 use std::io::{BufReader, ErrorKind, Read, Write};
+use std::{fs, io};
 use watchman_client::bounds::Bounds;
 use watchman_client::client::Client;
 use watchman_client::errors::ClientError;
@@ -75,6 +75,10 @@ fn follow<R: Read + Drop, W: Write + Drop, E: Write>(
         return Err(IndexError::NoSubject);
     }
     check_path(rt, path)?;
+    let file = match fs::open(rt, path) {
+        Ok(file) => file,
+        Err(fault) => return Err(IndexError::Reader(fault)),
+    };
     let input = match BufReader::with_capacity(alloc, BUFFERED, input) {
         Ok(buffered) => Watched::new(buffered),
         Err(fault) => return Err(IndexError::Reader(fault)),
@@ -86,6 +90,10 @@ fn follow<R: Read + Drop, W: Write + Drop, E: Write>(
         client: Client::new(alloc, BOUNDS, input, output),
         reports,
         are_sent: true,
+    };
+    let adding = Adding {
+        held: Some(&file),
+        ..adding
     };
     work_on(rt, adding, &mut follower);
     Ok(follower.are_sent)
@@ -157,9 +165,8 @@ impl<R: Read + Drop, W: Write + Drop, E: Write> Follower<'_, '_, '_, R, W, E> {
             if self.is_at_rest() {
                 index.close()?;
             }
-            if let Some(changes) = self.next_files()? {
-                self.take_event(index, changes)?;
-            }
+            let told = self.next_event()?;
+            self.take_told(index, told)?;
         }
         Ok(())
     }
@@ -212,9 +219,8 @@ impl<R: Read + Drop, W: Write + Drop, E: Write> Follower<'_, '_, '_, R, W, E> {
             Asked::Subscription(None),
         )?;
         self.exchange(index, &message)?;
-        if let Told::ServerError(error) = self.told()? {
-            return Err(FollowError::Server(ServerErrorText(error)));
-        }
+        let told = self.told()?;
+        self.take_told(index, told)?;
         if let Some(clock) = since {
             let path = self.path;
             let _written = writeln!(self.reports, "bser_index: {path}: follows since {clock}");
@@ -222,8 +228,8 @@ impl<R: Read + Drop, W: Write + Drop, E: Write> Follower<'_, '_, '_, R, W, E> {
         Ok(())
     }
 
-    /// Sends a request, and takes its answer. The index is closed meanwhile. Where too many events come
-    /// before the answer, the first of them are dropped: the answer tells what they told.
+    /// Sends a request, and waits for its answer. The index is closed meanwhile. Where too many events come
+    /// before the answer, the files of the first are dropped: the answer tells what they told.
     fn exchange(&mut self, index: &mut Reopening<'_>, message: &Value) -> Result<(), FollowError> {
         index.close()?;
         self.client.send(message)?;
@@ -231,7 +237,11 @@ impl<R: Read + Drop, W: Write + Drop, E: Write> Follower<'_, '_, '_, R, W, E> {
             match self.client.answer() {
                 Ok(()) => return Ok(()),
                 Err(ClientError::Full) => {
-                    let _dropped = self.next_files()?;
+                    match self.next_event()? {
+                        Told::Files(_dropped) => {}
+                        told => self.take_told(index, told)?,
+                    }
+                    index.close()?;
                 }
                 Err(failure) => return Err(self.fault_of(failure)),
             }
@@ -259,24 +269,28 @@ impl<R: Read + Drop, W: Write + Drop, E: Write> Follower<'_, '_, '_, R, W, E> {
         }
     }
 
-    /// The files that the next event tells. `None` for an event of another kind. Fails where it is
-    /// the last one.
-    fn next_files(&mut self) -> Result<Option<Changes>, FollowError> {
+    /// What the next event tells.
+    fn next_event(&mut self) -> Result<Told, FollowError> {
         match self.client.next_unsolicited() {
-            Ok(true) => {}
-            Ok(false) => return Err(FollowError::Ended),
-            Err(failure) => return Err(self.fault_of(failure)),
-        }
-        match self.told()? {
-            Told::Files(changes) => Ok(Some(changes)),
-            Told::ServerError(error) => Err(FollowError::Server(ServerErrorText(error))),
-            Told::Canceled(name) => Err(FollowError::Canceled(name)),
-            Told::Clock(_) | Told::Subscribed(_) | Told::Nothing => Ok(None),
+            Ok(true) => Ok(self.told()?),
+            Ok(false) => Err(FollowError::Ended),
+            Err(failure) => Err(self.fault_of(failure)),
         }
     }
 
-    /// Takes what an event tells. What it leaves out is asked for.
-    fn take_event(
+    /// Takes what a message tells. Fails where it is the last one.
+    fn take_told(&mut self, index: &mut Reopening<'_>, told: Told) -> Result<(), FollowError> {
+        match told {
+            Told::Files(changes) => self.take_files(index, changes),
+            Told::Clock(clock) | Told::Subscribed(clock) => Ok(index.take_clock(clock)?),
+            Told::ServerError(error) => Err(FollowError::Server(ServerErrorText(error))),
+            Told::Canceled(name) => Err(FollowError::Canceled(name)),
+            Told::Nothing => Ok(()),
+        }
+    }
+
+    /// Takes which files an event tells. What it leaves out is asked for.
+    fn take_files(
         &mut self,
         index: &mut Reopening<'_>,
         changes: Changes,

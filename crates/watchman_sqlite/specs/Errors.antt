@@ -1,7 +1,7 @@
 -- What errors are of.
-use Rattle.std.specs.Prelude.{Bool, true, false}
+use Rattle.std.specs.Prelude.{◌⊎◌, Bool, true, false, Option, IsSome}
 use Rattle.watchman_sqlite.specs.declared.error.IndexError.{IndexError}
-use Rattle.watchman_sqlite.specs.declared.error.IndexError.TheVariants.{BeyondNames, Database, Exists, Expression, Folder, Locked, Missing, NoExpression, NoField, NoIndex, OtherLayout, OutOfMemory, Reader, RelativeRoot, Root, SecondName, UnknownType, Unreadable, Unwritable}
+use Rattle.watchman_sqlite.specs.declared.error.IndexError.TheVariants.{BeyondNames, Database, Exists, Expression, Folder, Gone, Locked, Missing, NoExpression, NoField, NoIndex, OtherLayout, OutOfMemory, Reader, RelativeRoot, Replaced, Root, SecondName, UnknownType, Unreadable, Unwritable}
 
 -- whether the words of the command are wrong
 abbrev pub is_of_words : IndexError → Bool
@@ -30,6 +30,16 @@ IsOfOpening Locked = Unit {0}
 IsOfOpening Unwritable = Unit {0}
 IsOfOpening (Database _) = Unit {0}
 IsOfOpening _ = ⊥
+
+-- the file that is held stands at its path no more
+abbrev pub IsOfHeld : IndexError → Type 0
+IsOfHeld Gone = Unit {0}
+IsOfHeld Replaced = Unit {0}
+IsOfHeld _ = ⊥
+
+-- why an index is not opened, where its file is held or not
+abbrev pub IsUnopened : {File : Type 0} → Option File → IndexError → Type 0
+IsUnopened held e = (IsOfPath e ⊎ IsOfOpening e) ⊎ (IsSome held × IsOfHeld e)
 
 -- why a database is no index of this layout
 abbrev pub IsOfTables : IndexError → Type 0

@@ -1,13 +1,14 @@
 //! Adds what messages tell to an open index, each message in one transaction.
-ghost use Rattle.std.specs.Prelude.{◌≡◌, ◌+◌, ◌≤◌, ◌^◌, ◌-◌, IfOk, IfErr, OnErr};
+ghost use Rattle.std.specs.Prelude.{◌≡◌, ◌+◌, ◌≤◌, ◌^◌, ◌-◌, IfOk, IfErr, IsSome, OnErr};
 ghost use Rattle.watchman_index.specs.Standings.{IsLater, IsStanding};
-ghost use Rattle.watchman_sqlite.specs.Adding.{AfterChanges, KnowsTheSame};
+ghost use Rattle.watchman_sqlite.specs.Adding.{AfterChanges, HadTables, KnowsTheSame};
 ghost use Rattle.watchman_sqlite.specs.Columns.{IsOfDatabase};
 ghost use Rattle.watchman_sqlite.specs.Taken.{standing_of};
 
 use crate::conditions::Conditions;
 use crate::connection::{has_tables, make_tables, read_stored};
 use crate::error::IndexError;
+use crate::reopening::Adding;
 use crate::storing::{Statements, store};
 use crate::subject::{Subject, read_subject};
 use crate::taking::Taken;
@@ -32,15 +33,20 @@ pub struct Adder {
 }
 
 impl Adder {
-    /// Adds to the index of this connection, which is made where there are no tables. A message that
-    /// says that there are no files is taken where `may_be_empty`.
+    /// Adds to the index of this connection. Where there are no tables they are made, and where its file
+    /// is held this is an error.
     pub(crate) fn new(
         alloc: Global,
         conn: Connection<FileStore<File>>,
-        may_be_empty: bool,
-    ) -> Result<Self, IndexError> {
+        adding: Adding<'_>,
+    ) -> Result<Self, IndexError>
+        ensures { IsSome adding.held → IfOk result (HadTables conn) }
+    {
         let mut conn = conn;
         if !has_tables(&mut conn)? {
+            if adding.held.is_some() {
+                return Err(IndexError::NoIndex);
+            }
             make_tables(alloc, &mut conn, None)?;
         }
         let statements = Statements::new(&mut conn)?;
@@ -51,7 +57,7 @@ impl Adder {
             conn,
             statements,
             conditions: Conditions {
-                may_be_empty,
+                may_be_empty: adding.may_be_empty,
                 subject,
             },
             messages: found.messages,

@@ -56,7 +56,7 @@ pub fn keep_cursor(
     name: &[u8],
     number: u64,
 ) -> Result<(), IndexError> {
-    let mut conn = open_index(rt, path, seconds)?;
+    let mut conn = open_index(rt, path, None, seconds)?;
     let kept = put_cursor(&mut conn, name, number);
     let closed = conn.close();
     kept?;
@@ -87,7 +87,7 @@ pub fn prune_index(
     seconds: u64,
     clock: &[u8],
 ) -> Result<Option<Pruned>, IndexError> {
-    let mut conn = open_index(rt, path, seconds)?;
+    let mut conn = open_index(rt, path, None, seconds)?;
     let pruned = prune(&mut conn, clock);
     let closed = conn.close();
     let pruned = pruned?;

@@ -43,6 +43,12 @@ pub enum IndexError {
     /// There is no index at this path.
     #[error("there is no such file")]
     Missing,
+    /// There is no file any more where the index was.
+    #[error("the index is gone: it was removed or moved, and no other is made in its place")]
+    Gone,
+    /// Another file stands where the index was.
+    #[error("another file stands in the place of the index, and nothing is added to it")]
+    Replaced,
     /// There is an index at this path.
     #[error("there is an index already")]
     Exists,

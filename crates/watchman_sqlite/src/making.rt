@@ -14,7 +14,7 @@ pub fn make_index(rt: &HostRuntime, path: &str, subject: &Subject) -> Result<(),
     ensures { IfErr result (λ e. (IsOfPath e ⊎ IsOfOpening e) ⊎ IsOfMaking e) }
 {
     check_path(rt, path)?;
-    let mut conn = open_index(rt, path, PATIENCE)?;
+    let mut conn = open_index(rt, path, None, PATIENCE)?;
     let made = make_new(rt.alloc(), &mut conn, subject);
     let closed = conn.close();
     made?;

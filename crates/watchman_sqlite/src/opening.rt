@@ -1,8 +1,8 @@
 //! Opens an index that is written.
-ghost use Rattle.std.specs.Prelude.{◌⊎◌, IfOk, IfErr};
+ghost use Rattle.std.specs.Prelude.{◌⊎◌, IfOk, IfErr, IsSome};
 ghost use Rattle.sqlite.specs.Files.{file_state, IsOpened};
 ghost use Rattle.sqlite.specs.State.{HasCleanDisk};
-ghost use Rattle.watchman_sqlite.specs.Errors.{IsOfOpening, IsOfPath};
+ghost use Rattle.watchman_sqlite.specs.Errors.{IsOfHeld, IsOfOpening, IsOfPath, IsUnopened};
 
 use crate::error::IndexError;
 use sqlite::{Connection, Error, ErrorCode, File, FileStore};
@@ -31,25 +31,48 @@ pub fn wait(rt: &HostRuntime) {
     thread::sleep(rt, Duration::from_millis(PAUSE));
 }
 
-/// Opens the index at this path to write it, and makes the file where there is none. While another
-/// program has it open, it tries again for so many seconds.
+/// Opens the index at this path to write it, and makes the file where there is none. Where a file is
+/// held, that one alone is opened, and none is made. While another program has it open, it tries again
+/// for so many seconds.
 pub fn open_index(
     rt: &HostRuntime,
     path: &str,
+    held: Option<&fs::File>,
     seconds: u64,
 ) -> Result<Connection<FileStore<File>>, IndexError>
     ensures opened { IfOk result (λ conn. HasCleanDisk (file_state conn) → IsOpened conn) }
-    ensures err { IfErr result (λ e. IsOfPath e ⊎ IsOfOpening e) }
+    ensures err { IfErr result (IsUnopened held) }
 {
     let tries = seconds.saturating_mul(1000 / PAUSE).saturating_add(1);
     for _ in 0..tries {
+        check_held(rt, path, held)?;
         match Connection::open(rt, path) {
-            Ok(conn) => return Ok(conn),
+            Ok(conn) => {
+                // of two files that were swapped meanwhile it may be the other
+                check_held(rt, path, held)?;
+                return Ok(conn);
+            }
             Err(Error::SqliteFailure(ErrorCode::DatabaseBusy)) => wait(rt),
             Err(error) => return Err(why_not(rt, path, error)),
         }
     }
     Err(IndexError::Locked)
+}
+
+/// Fails where a file is held, and none stands at this path any more, or another one. No file gets the
+/// number of one that is held.
+fn check_held(rt: &HostRuntime, path: &str, held: Option<&fs::File>) -> Result<(), IndexError>
+    ensures { IfErr result (λ e. IsOfPath e ⊎ (IsSome held × IsOfHeld e)) }
+{
+    let Some(held) = held else {
+        return Ok(());
+    };
+    match (held.metadata(), fs::metadata(rt, path)) {
+        (Ok(held), Ok(found)) if held.dev() == found.dev() && held.ino() == found.ino() => Ok(()),
+        (Ok(_), Ok(_)) => Err(IndexError::Replaced),
+        (_, Err(fault)) if fault.kind() == ErrorKind::NotFound => Err(IndexError::Gone),
+        (Err(fault), _) | (_, Err(fault)) => Err(unwritten(fault)),
+    }
 }
 
 /// Why an index is not opened, where the database answers this.

@@ -1,5 +1,8 @@
 //! Adds messages to an index that others may use between them.
-ghost use Rattle.std.specs.Prelude.{◌≡◌, ◌≤◌, None, Ok, IfErr, IfSome};
+ghost use Rattle.std.specs.Prelude.{◌≡◌, None, Ok, IfErr, IfNone, IfOk, IfSome, IsSome};
+ghost use Rattle.sqlite.specs.Files.{file_state, IsOpened};
+ghost use Rattle.sqlite.specs.State.{HasCleanDisk};
+ghost use Rattle.watchman_sqlite.specs.Adding.{HadTables};
 ghost use Rattle.watchman_sqlite.specs.Columns.{IsOfDatabase};
 
 use crate::adding::Adder;
@@ -7,6 +10,7 @@ use crate::error::IndexError;
 use crate::opening::open_index;
 use crate::taking::{Taken, Taker};
 use serde_bser::bytestring::ByteString;
+use std::fs::File;
 use watchman_index::changes::Changes;
 
 /// To which index messages are added, and how.
@@ -14,6 +18,8 @@ use watchman_index::changes::Changes;
 pub struct Adding<'a> {
     /// The path of the index.
     pub path: &'a str,
+    /// The file of the index, where no other is made or taken that stands at the path later.
+    pub held: Option<&'a File>,
     /// Whether a message that says that there are no files is taken.
     pub may_be_empty: bool,
     /// For how many seconds another program is waited for that has the index open.
@@ -45,21 +51,27 @@ impl<'r> Reopening<'r> {
         Ok(self.adder.insert(adder))
     }
 
-    /// Takes what adds to the open index, which is opened for it.
+    /// Takes what adds to the open index, which is opened for it. Where its file is held, no other is
+    /// opened, and none is made.
     fn take_adder(&mut self) -> Result<Adder, IndexError>
         ensures same { IfSome self.old.adder (λ adder. result ≡ Ok adder) }
         ensures taken { self.new.adder ≡ None }
+        ensures held { self.new.adding ≡ self.old.adding }
+        ensures found { IsSome self.old.adding.held → IfNone self.old.adder (IfOk result
+            (λ adder. (first : _) × HadTables first adder
+            × (HasCleanDisk (file_state first) → IsOpened first))) }
     {
         if let Some(adder) = self.adder.take() {
             return Ok(adder);
         }
         let Adding {
             path,
-            may_be_empty,
+            held,
             seconds,
+            ..
         } = self.adding;
-        let conn = open_index(self.rt, path, seconds)?;
-        Adder::new(self.rt.alloc(), conn, may_be_empty)
+        let conn = open_index(self.rt, path, held, seconds)?;
+        Adder::new(self.rt.alloc(), conn, self.adding)
     }
 
     /// Closes the index, if it is open.

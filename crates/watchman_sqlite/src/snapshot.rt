@@ -112,7 +112,10 @@ fn read_files(
 {
     let before = read_head(rt, log_path)?;
     let db = copy_of(rt, fs::read(rt, path))?;
-    let log = copy_of(rt, unless_missing(rt, fs::read(rt, log_path)))?;
+    let log = match copy_of(rt, fs::read(rt, log_path)) {
+        Err(IndexError::Missing) => Memory::new(rt.alloc()),
+        copied => copied?,
+    };
     let after = read_head(rt, log_path)?;
     let copied = log.bytes();
     let head = &copied[..copied.len().min(LOG_HEAD)];
@@ -137,14 +140,6 @@ fn read_head(rt: &HostRuntime, log_path: &str) -> Result<Vec<u8>, IndexError>
     match file.take(LOG_HEAD as u64).read_to_end(&mut head) {
         Ok(_count) => Ok(head),
         Err(fault) => Err(unread(fault)),
-    }
-}
-
-/// What was read of a file, and nothing of one that is not there.
-fn unless_missing(rt: &HostRuntime, read: io::Result<Vec<u8>>) -> io::Result<Vec<u8>> {
-    match read {
-        Err(fault) if fault.kind() == ErrorKind::NotFound => Ok(Vec::new(rt.alloc())),
-        other => other,
     }
 }
 

@@ -8,7 +8,7 @@ ghost use Rattle.sqlite.specs.Listing.{understood};
 ghost use Rattle.sqlite.specs.State.{HasCleanDisk, KeepsCommit, Survives};
 ghost use Rattle.sqlite.specs.Values.{bound};
 ghost use Rattle.watchman_sqlite.specs.Columns.{IsOfDatabase};
-ghost use Rattle.watchman_sqlite.specs.Entries.{AreStatements, IsEntry, KeptClock, PutClock};
+ghost use Rattle.watchman_sqlite.specs.Entries.{AreStatements, IsEntry, KeptClock};
 ghost use Rattle.watchman_sqlite.specs.Entries.{PutEntry, PutsRow, Ran, StoredChanges, StoredEntry};
 ghost use Rattle.watchman_sqlite.specs.Entries.{clock_row, source_row};
 ghost use Rattle.watchman_sqlite.specs.Errors.{IsOfStoring, IsUnstored};
@@ -51,22 +51,6 @@ impl Statements {
         Ok(Statements { put, clock, source })
     }
 
-    /// Stores a clock behind the message of this number.
-    fn put_clock<S: Alter>(
-        &self,
-        conn: &mut Connection<S>,
-        clock: &[u8],
-        number: u64,
-    ) -> Result<(), IndexError>
-        ensures put { HasCleanDisk (state S.Store conn.new)
-            → OnOk result (PutClock S.Store self.now clock.now number conn.old conn.new) }
-        ensures err { IfErr result IsOfDatabase }
-        ensures clean { HasCleanDisk (state S.Store conn.new) → HasCleanDisk (state S.Store conn.old) }
-    {
-        self.clock.execute(conn, params![clock, param(number)])?;
-        Ok(())
-    }
-
     /// Keeps a clock behind the message of this number. One that is known stays as it is.
     pub(crate) fn keep_clock<S: Alter>(
         &self,
@@ -82,7 +66,7 @@ impl Statements {
         match number_of(conn, clock)? {
             Some(_known) => Ok(()),
             None => {
-                self.put_clock(conn, clock, number)?;
+                self.clock.execute(conn, params![clock, param(number)])?;
                 Ok(())
             }
         }
