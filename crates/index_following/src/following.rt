@@ -228,8 +228,8 @@ impl<R: Read + Drop, W: Write + Drop, E: Write> Follower<'_, '_, '_, R, W, E> {
         Ok(())
     }
 
-    /// Sends a request, and waits for its answer. The index is closed meanwhile. Where too many events come
-    /// before the answer, the files of the first are dropped: the answer tells what they told.
+    /// Sends a request, and waits for its answer. The index is closed meanwhile. Where too many events
+    /// come before the answer, the files of the first are dropped: the answer tells what they told.
     fn exchange(&mut self, index: &mut Reopening<'_>, message: &Value) -> Result<(), FollowError> {
         index.close()?;
         self.client.send(message)?;

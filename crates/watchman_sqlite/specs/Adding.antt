@@ -1,7 +1,6 @@
 -- What an adder knows of the messages of an index, and what one more makes of that.
 use Rattle.std.specs.Prelude.{◌≡◌, ◌+◌, ℕ, Some, true}
 use Rattle.sqlite.specs.Files.{file_state, over_files}
-use Rattle.sqlite.specs.Held.{Held}
 use Rattle.sqlite.specs.State.{HasCleanDisk}
 use Rattle.watchman_index.specs.Origins.{Learns}
 use Rattle.watchman_index.specs.declared.changes.Changes.{Changes}
@@ -14,7 +13,8 @@ use Rattle.watchman_sqlite.specs.declared.taking.Taken.TheVariants as taken
 
 -- it adds to the index of this connection, which had its tables: none were made
 abbrev pub HadTables : (conn : _) → Adder → Type 0
-HadTables conn adder = HasCleanDisk (file_state adder.conn) → (mid : _) × HasTables over_files conn mid true
+HadTables conn adder = HasCleanDisk (file_state adder.conn)
+    → (mid : _) × HasTables over_files conn mid true
 
 -- it knows of the same messages as before
 pub record KnowsTheSame (old new : Adder) : Type 0 where

@@ -33,8 +33,8 @@ pub struct Adder {
 }
 
 impl Adder {
-    /// Adds to the index of this connection. Where there are no tables they are made, and where its file
-    /// is held this is an error.
+    /// Adds to the index of this connection. Where there are no tables they are made, and where its
+    /// file is held this is an error.
     pub(crate) fn new(
         alloc: Global,
         conn: Connection<FileStore<File>>,

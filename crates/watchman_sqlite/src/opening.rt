@@ -31,9 +31,9 @@ pub fn wait(rt: &HostRuntime) {
     thread::sleep(rt, Duration::from_millis(PAUSE));
 }
 
-/// Opens the index at this path to write it, and makes the file where there is none. Where a file is
-/// held, that one alone is opened, and none is made. While another program has it open, it tries again
-/// for so many seconds.
+/// Opens the index at this path to write it, and makes the file where there is none. Where a file
+/// is held, that one alone is opened, and none is made. While another program has it open, it tries
+/// again for so many seconds.
 pub fn open_index(
     rt: &HostRuntime,
     path: &str,
@@ -59,8 +59,8 @@ pub fn open_index(
     Err(IndexError::Locked)
 }
 
-/// Fails where a file is held, and none stands at this path any more, or another one. No file gets the
-/// number of one that is held.
+/// Fails where a file is held, and none stands at this path any more, or another one. No file gets
+/// the number of one that is held.
 fn check_held(rt: &HostRuntime, path: &str, held: Option<&fs::File>) -> Result<(), IndexError>
     ensures { IfErr result (λ e. IsOfPath e ⊎ (IsSome held × IsOfHeld e)) }
 {

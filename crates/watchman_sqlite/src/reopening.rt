@@ -51,8 +51,8 @@ impl<'r> Reopening<'r> {
         Ok(self.adder.insert(adder))
     }
 
-    /// Takes what adds to the open index, which is opened for it. Where its file is held, no other is
-    /// opened, and none is made.
+    /// Takes what adds to the open index, which is opened for it. Where its file is held, no other
+    /// is opened, and none is made.
     fn take_adder(&mut self) -> Result<Adder, IndexError>
         ensures same { IfSome self.old.adder (λ adder. result ≡ Ok adder) }
         ensures taken { self.new.adder ≡ None }
