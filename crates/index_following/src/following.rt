@@ -165,8 +165,10 @@ impl<R: Read + Drop, W: Write + Drop, E: Write> Follower<'_, '_, '_, R, W, E> {
             if self.is_at_rest() {
                 index.close()?;
             }
-            let told = self.next_event()?;
-            self.take_told(index, told)?;
+            match self.next_event()? {
+                Told::Files(changes) => self.take_event(index, changes)?,
+                told => keep_clock(index, told)?,
+            }
         }
         Ok(())
     }
@@ -195,10 +197,8 @@ impl<R: Read + Drop, W: Write + Drop, E: Write> Follower<'_, '_, '_, R, W, E> {
     ) -> Result<bool, FollowError> {
         let Request { message, since } = next_request(self.alloc, index, Asked::Query)?;
         self.exchange(index, &message)?;
-        let mut changes = match self.told()? {
-            Told::Files(changes) => changes,
-            Told::ServerError(error) => return Err(FollowError::Server(ServerErrorText(error))),
-            _ => return Err(FollowError::NoAnswer),
+        let Told::Files(mut changes) = self.told_on()? else {
+            return Err(FollowError::NoAnswer);
         };
         changes.since = since;
         match judge(index, &changes)? {
@@ -219,8 +219,7 @@ impl<R: Read + Drop, W: Write + Drop, E: Write> Follower<'_, '_, '_, R, W, E> {
             Asked::Subscription(None),
         )?;
         self.exchange(index, &message)?;
-        let told = self.told()?;
-        self.take_told(index, told)?;
+        keep_clock(index, self.told_on()?)?;
         if let Some(clock) = since {
             let path = self.path;
             let _written = writeln!(self.reports, "bser_index: {path}: follows since {clock}");
@@ -237,10 +236,7 @@ impl<R: Read + Drop, W: Write + Drop, E: Write> Follower<'_, '_, '_, R, W, E> {
             match self.client.answer() {
                 Ok(()) => return Ok(()),
                 Err(ClientError::Full) => {
-                    match self.next_event()? {
-                        Told::Files(_dropped) => {}
-                        told => self.take_told(index, told)?,
-                    }
+                    keep_clock(index, self.next_event()?)?;
                     index.close()?;
                 }
                 Err(failure) => return Err(self.fault_of(failure)),
@@ -269,28 +265,26 @@ impl<R: Read + Drop, W: Write + Drop, E: Write> Follower<'_, '_, '_, R, W, E> {
         }
     }
 
-    /// What the next event tells.
+    /// What the message tells that was given last. Fails where the server ends by it.
+    fn told_on(&self) -> Result<Told, FollowError> {
+        match self.told()? {
+            Told::ServerError(error) => Err(FollowError::Server(ServerErrorText(error))),
+            Told::Canceled(name) => Err(FollowError::Canceled(name)),
+            told => Ok(told),
+        }
+    }
+
+    /// What the next event tells. Fails where it is the last one.
     fn next_event(&mut self) -> Result<Told, FollowError> {
         match self.client.next_unsolicited() {
-            Ok(true) => Ok(self.told()?),
+            Ok(true) => self.told_on(),
             Ok(false) => Err(FollowError::Ended),
             Err(failure) => Err(self.fault_of(failure)),
         }
     }
 
-    /// Takes what a message tells. Fails where it is the last one.
-    fn take_told(&mut self, index: &mut Reopening<'_>, told: Told) -> Result<(), FollowError> {
-        match told {
-            Told::Files(changes) => self.take_files(index, changes),
-            Told::Clock(clock) | Told::Subscribed(clock) => Ok(index.take_clock(clock)?),
-            Told::ServerError(error) => Err(FollowError::Server(ServerErrorText(error))),
-            Told::Canceled(name) => Err(FollowError::Canceled(name)),
-            Told::Nothing => Ok(()),
-        }
-    }
-
     /// Takes which files an event tells. What it leaves out is asked for.
-    fn take_files(
+    fn take_event(
         &mut self,
         index: &mut Reopening<'_>,
         changes: Changes,
@@ -368,6 +362,14 @@ fn next_request(
     let name = &adder.origin().subscription;
     let message = request_of(alloc, subject, asked, name, last)?;
     Ok(Request { message, since })
+}
+
+/// Keeps the clock of a message that tells no files, if it has one.
+fn keep_clock(index: &mut Reopening<'_>, told: Told) -> Result<(), IndexError> {
+    match told {
+        Told::Clock(clock) | Told::Subscribed(clock) => index.take_clock(clock),
+        _ => Ok(()),
+    }
 }
 
 /// How a message stands to the last clock.
