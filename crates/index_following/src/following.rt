@@ -91,10 +91,8 @@ fn follow<R: Read + Drop, W: Write + Drop, E: Write>(
         reports,
         are_sent: true,
     };
-    let adding = Adding {
-        held: Some(&file),
-        ..adding
-    };
+    let held = Some(&file);
+    let adding = Adding { held, ..adding };
     work_on(rt, adding, &mut follower);
     Ok(follower.are_sent)
 }
