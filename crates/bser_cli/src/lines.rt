@@ -1,4 +1,8 @@
 //! Messages shown as JSON.
+ghost use Rattle.std.specs.Prelude.{OnOk};
+ghost use Rattle.bser_document.specs.Holds.{HoldsItem};
+ghost use Rattle.bser_format.specs.Tree.{Tree};
+ghost use Rattle.bser_cli.specs.Values.{WritesValue, as_json};
 
 use crate::kept::ShowDocument;
 use bser_document::document::Document;
@@ -17,24 +21,36 @@ pub struct Json {
 }
 
 impl ShowDocument for Json {
-    fn show<W: Write>(
+    ghost showing = { λ json. as_json json.layout };
+
+    fn show<W: Write + Drop>(
         &self,
         alloc: Global,
         document: &Document,
-        out: &mut W,
-    ) -> Result<(), ViewError> {
+        out: W,
+    ) -> (W, Result<(), ViewError>) {
         put_line(alloc, document.root(), self.layout, out)
     }
 }
 
-/// Prints a value as a JSON text, and a line's end.
-pub(crate) fn put_line<W: Write>(
+/// Prints a value as a JSON text, and a line's end. Gives the writer back.
+pub(crate) fn put_line<W: Write + Drop>(
     alloc: Global,
     item: Item<'_>,
     layout: Layout,
-    out: &mut W,
-) -> Result<(), ViewError> {
-    let out = write_json(alloc, item, layout, out)?;
-    out.write_all(b"\n")?;
-    Ok(())
+    out: W,
+) -> (W, Result<(), ViewError>)
+    ensures { (u : Tree) → HoldsItem item.entry u
+        → OnOk result.1 (WritesValue (as_json layout) u (W.contents out) (W.contents result.0)) }
+{
+    match write_json(alloc, item, layout, out) {
+        Ok(mut out) => match out.write_all(b"\n") {
+            Ok(()) => (out, Ok(())),
+            Err(fault) => (out, Err(ViewError::Output(fault))),
+        },
+        Err(unwritten) => {
+            let error = ViewError::from(unwritten.error);
+            (unwritten.out.into_inner(), Err(error))
+        }
+    }
 }

@@ -1,5 +1,6 @@
 //! What the program is asked for.
 
+use crate::canon::Canon;
 use crate::lines::Json;
 use crate::pointer::{Get, ValueForm};
 use bser_document::pointer::is_pointer;
@@ -21,8 +22,8 @@ pub enum Task<'a> {
     Summary,
     /// Values of it are printed.
     Get(Get<'a>),
-    /// It is written again, with templates where that `is_compact`.
-    Canon { is_compact: bool },
+    /// It is written again.
+    Canon(Canon),
     /// A message is written for it.
     FromJson(Writing),
 }
@@ -71,9 +72,9 @@ pub(crate) fn order_of<'a>(
         }),
         "summary" => Task::Summary,
         "get" => Task::Get(get_of(matches)?),
-        "canon" => Task::Canon {
+        "canon" => Task::Canon(Canon {
             is_compact: matches.get_flag("compact"),
-        },
+        }),
         "from-json" => Task::FromJson(writing_of(matches)),
         _ => return Err(UsageError::Command),
     };

@@ -1,4 +1,12 @@
 //! Values of each message.
+ghost use Rattle.std.specs.Prelude.{◌≡◌, ◌++◌, IfOk, OnOk, Some};
+ghost use Rattle.std.specs.Io.KnownBytes.{Appends};
+ghost use Rattle.bser_format.specs.Tree.{Tree};
+ghost use Rattle.bser_document.specs.DocumentView.{value_of};
+ghost use Rattle.bser_document.specs.Holds.{HoldsItem};
+ghost use Rattle.bser_document.specs.Pairs.{FindsItem};
+ghost use Rattle.bser_document.specs.Pointer.{pointed};
+ghost use Rattle.bser_cli.specs.Values.{LeadsSomewhere, PutsForm, as_told, end_of};
 
 use crate::kept::ShowDocument;
 use bser_document::document::Document;
@@ -39,29 +47,44 @@ pub struct Get<'a> {
 }
 
 impl ShowDocument for Get<'_> {
-    fn show<W: Write>(
+    ghost showing = { λ get. as_told get };
+
+    fn show<W: Write + Drop>(
         &self,
         alloc: Global,
         document: &Document,
-        out: &mut W,
-    ) -> Result<(), ViewError> {
+        out: W,
+    ) -> (W, Result<(), ViewError>) {
         match self.each {
             Some(each) => {
-                let container = value_at(document.root(), each)?;
-                self.put_each(alloc, container, out)
+                let mut out = out;
+                let put = self.put_document(alloc, document, each, &mut out);
+                (out, put)
             }
-            None => {
-                let value = value_at(document.root(), self.pointer)?;
-                if self.is_unended(value) {
-                    return Err(ViewError::Lacking(Lack::End));
-                }
-                self.put(alloc, value, out)
-            }
+            None => match value_at(document.root(), self.pointer) {
+                Ok(value) if self.is_unended(value) => (out, Err(ViewError::Lacking(Lack::End))),
+                Ok(value) => self.put(alloc, value, out),
+                Err(failure) => (out, Err(failure)),
+            },
         }
     }
 }
 
 impl Get<'_> {
+    /// Prints the value in each item of the container that a pointer leads to.
+    fn put_document<W: Write>(
+        &self,
+        alloc: Global,
+        document: &Document,
+        each: &str,
+        out: &mut W,
+    ) -> Result<(), ViewError>
+        ensures { OnOk result (LeadsSomewhere each.now (value_of document.now)) }
+    {
+        let container = value_at(document.root(), each)?;
+        self.put_each(alloc, container, out)
+    }
+
     /// Prints the value in each item of an array, row of a template or value of an object, of equal
     /// keys in the last.
     fn put_each<W: Write>(
@@ -110,7 +133,7 @@ impl Get<'_> {
                 left_out.add_unended(pointer)?;
                 Ok(())
             }
-            Some(value) => self.put(alloc, value, out),
+            Some(value) => self.put(alloc, value, &mut *out).1,
             None => {
                 left_out.add_lacking();
                 Ok(())
@@ -126,24 +149,43 @@ impl Get<'_> {
         }
     }
 
-    /// Prints a value.
-    fn put<W: Write>(&self, alloc: Global, item: Item<'_>, out: &mut W) -> Result<(), ViewError> {
+    /// Prints a value, and gives the writer back.
+    fn put<W: Write + Drop>(
+        &self,
+        alloc: Global,
+        item: Item<'_>,
+        out: W,
+    ) -> (W, Result<(), ViewError>)
+        ensures { (u : Tree) → HoldsItem item.entry u → OnOk result.1
+            (PutsForm self.now.form self.now.layout u (W.contents out) (W.contents result.0)) }
+    {
         let bytes = match self.form {
             ValueForm::Json => None,
             ValueForm::Raw | ValueForm::Ended => item.as_bytes(),
         };
         match bytes {
-            Some(bytes) => out.write_all(bytes)?,
-            None => {
-                let _out = write_json(alloc, item, self.layout, &mut *out)?;
+            Some(bytes) => {
+                let mut out = out;
+                let put = put_bytes(bytes, self.end(), &mut out);
+                (out, put)
             }
+            None => match write_json(alloc, item, self.layout, out) {
+                Ok(mut out) => {
+                    let put = put_bytes(b"", self.end(), &mut out);
+                    (out, put)
+                }
+                Err(unwritten) => {
+                    let error = ViewError::from(unwritten.error);
+                    (unwritten.out.into_inner(), Err(error))
+                }
+            },
         }
-        out.write_all(self.end())?;
-        Ok(())
     }
 
     /// What stands behind a value.
-    fn end(&self) -> &'static [u8] {
+    fn end(&self) -> &'static [u8]
+        ensures { result.now ≡ end_of self.now.form }
+    {
         match self.form {
             ValueForm::Json | ValueForm::Raw => b"\n",
             ValueForm::Ended => b"\0",
@@ -184,7 +226,20 @@ impl fmt::Display for Step<'_> {
     }
 }
 
+/// Prints bytes, and what stands behind them.
+fn put_bytes<W: Write>(bytes: &[u8], end: &[u8], out: &mut W) -> Result<(), ViewError>
+    ensures { OnOk result
+        (Appends (W.contents out.old) (W.contents out.new) (bytes.now ++ end.now)) }
+{
+    out.write_all(bytes)?;
+    out.write_all(end)?;
+    Ok(())
+}
+
 /// The value that a pointer leads to.
-fn value_at<'d>(item: Item<'d>, pointer: &str) -> Result<Item<'d>, ViewError> {
+fn value_at<'d>(item: Item<'d>, pointer: &str) -> Result<Item<'d>, ViewError>
+    ensures { (u : Tree) → HoldsItem item.entry u
+        → IfOk result (λ found. FindsItem (pointed pointer.now u) (Some found)) }
+{
     item.pointer(pointer).ok_or(ViewError::Lacking(Lack::Value))
 }

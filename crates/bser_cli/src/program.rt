@@ -1,6 +1,10 @@
 //! The program over any streams.
+ghost use Rattle.std.specs.Prelude.{◌≡◌, false, IfOk, None, if◌then◌else◌};
+ghost use Rattle.std.specs.Bool.{OnTrue};
+ghost use Rattle.bser_from_json.specs.Written.{WritesTexts};
+ghost use Rattle.bser_views.specs.Shown.{ShowsAll, bytes_left};
+ghost use Rattle.bser_cli.specs.Tasks.{Does, input_bytes};
 
-use crate::canon::Canon;
 use crate::command::command;
 use crate::kept::KeptView;
 use crate::order::{Task, order_of};
@@ -36,18 +40,11 @@ impl<'f, F: Files> Bser<'f, F> {
 
 /// What is read, and what is done behind a message that fails.
 #[derive(Clone, Copy)]
-struct InputFiles<'a> {
+pub struct InputFiles<'a> {
     /// The names of files, and `-` for standard input. Without them standard input is read.
-    names: &'a [&'a str],
+    pub names: &'a [&'a str],
     /// Whether the messages behind one that fails are shown too.
-    keeps_going: bool,
-}
-
-/// The JSON texts of an input, and how their messages are written.
-#[derive(Clone, Copy)]
-struct Texts<'n> {
-    name: &'n str,
-    writing: Writing,
+    pub keeps_going: bool,
 }
 
 impl<F: Files> Program for Bser<'_, F> {
@@ -78,80 +75,118 @@ impl<F: Files> Program for Bser<'_, F> {
             names: inner.get_raw("FILE").unwrap_or(&[]),
             keeps_going: order.keeps_going,
         };
-        let done = self.do_task(order.task, inputs, streams)?;
-        Ok(if done { DONE } else { FAILED })
+        let Streams {
+            input,
+            out,
+            reports,
+        } = streams;
+        let (_out, done) = self.do_task(order.task, inputs, input, out, reports);
+        Ok(status_of(done?))
     }
 }
 
+/// The status where all was done, or was not.
+fn status_of(is_done: bool) -> u8
+    ensures { result ≡ (if is_done then 0 else 1) }
+{
+    if is_done { DONE } else { FAILED }
+}
+
 impl<F: Files> Bser<'_, F> {
-    /// Does the task with each input, and tells whether all was done.
-    fn do_task<R: Read, W: Write, E: Write>(
+    /// Does the task with each input, and tells whether all was done. Gives the writer back.
+    pub fn do_task<R: Read, W: Write + Drop, E: Write>(
         &self,
         task: Task<'_>,
         inputs: InputFiles<'_>,
-        streams: &mut Streams<'_, R, W, E>,
-    ) -> io::Result<bool> {
+        input: &mut R,
+        out: W,
+        reports: &mut Reports<'_, E>,
+    ) -> (W, io::Result<bool>)
+        ensures { IfOk result.1 (λ done. OnTrue done (Does task
+            (input_bytes inputs (R.remaining input.old)) (W.contents out) (W.contents result.0))) }
+    {
         match task {
-            Task::Show(mut view) => self.show_all(inputs, &mut view, streams),
-            Task::Json(json) => self.show_all(inputs, &mut KeptView::new(json), streams),
-            Task::Summary => self.show_all(inputs, &mut Summary, streams),
-            Task::Get(get) => self.show_all(inputs, &mut KeptView::new(get), streams),
-            Task::Canon { is_compact } => {
-                let canon = Canon { is_compact };
-                self.show_all(inputs, &mut KeptView::new(canon), streams)
+            Task::Show(view) => self.show_all(inputs, &view, input, out, reports),
+            Task::Json(json) => self.show_all(inputs, &KeptView::new(json), input, out, reports),
+            Task::Summary => self.show_all(inputs, &Summary, input, out, reports),
+            Task::Get(get) => self.show_all(inputs, &KeptView::new(get), input, out, reports),
+            Task::Canon(canon) => {
+                self.show_all(inputs, &KeptView::new(canon), input, out, reports)
             }
-            Task::FromJson(writing) => self.write_all(inputs, writing, streams),
+            Task::FromJson(writing) => {
+                let mut out = out;
+                let written = self.write_all(inputs, writing, input, &mut out, reports);
+                (out, written)
+            }
         }
     }
 
     /// Shows the messages of each input, and tells whether each was shown whole.
-    fn show_all<V: View, R: Read, W: Write, E: Write>(
+    fn show_all<V: View, R: Read, W: Write + Drop, E: Write>(
         &self,
         inputs: InputFiles<'_>,
-        view: &mut V,
-        streams: &mut Streams<'_, R, W, E>,
-    ) -> io::Result<bool> {
+        view: &V,
+        input: &mut R,
+        out: W,
+        reports: &mut Reports<'_, E>,
+    ) -> (W, io::Result<bool>)
+        ensures { IfOk result.1 (λ whole. OnTrue whole (ShowsAll (V.showing view.now)
+            (input_bytes inputs (R.remaining input.old)) (W.contents out) (W.contents result.0))) }
+    {
         let keeps_going = inputs.keeps_going;
         if inputs.names.is_empty() {
-            return self.show_standard(keeps_going, view, streams);
+            return self.show_standard(keeps_going, view, input, out, reports);
         }
+        let mut out = out;
         let mut whole = true;
         for name in inputs.names {
-            let shown = if *name == DASH {
-                self.show_standard(keeps_going, view, streams)?
+            let (shown_out, shown) = if *name == DASH {
+                self.show_standard(keeps_going, view, input, out, reports)
             } else {
-                self.show_file(*name, keeps_going, view, streams)?
+                self.show_file(*name, keeps_going, view, out, reports)
             };
-            whole = whole && shown;
+            out = shown_out;
+            match shown {
+                Ok(shown) => whole = whole && shown,
+                Err(fault) => return (out, Err(fault)),
+            }
         }
-        Ok(whole)
+        (out, Ok(whole))
     }
 
     /// Shows the messages of standard input, and tells whether each was shown whole.
-    fn show_standard<V: View, R: Read, W: Write, E: Write>(
+    fn show_standard<V: View, R: Read, W: Write + Drop, E: Write>(
         &self,
         keeps_going: bool,
-        view: &mut V,
-        streams: &mut Streams<'_, R, W, E>,
-    ) -> io::Result<bool> {
+        view: &V,
+        input: &mut R,
+        out: W,
+        reports: &mut Reports<'_, E>,
+    ) -> (W, io::Result<bool>)
+        ensures { IfOk result.1 (λ whole. OnTrue whole (ShowsAll (V.showing view.now)
+            (bytes_left keeps_going (R.remaining input.old))
+            (W.contents out) (W.contents result.0))) }
+    {
         let input = Input {
             name: STANDARD_INPUT,
             keeps_going,
-            reader: Watched::new(&mut streams.input),
+            reader: Watched::new(input),
         };
-        let (out, reports) = (&mut streams.out, &mut streams.reports);
         show_messages(self.alloc, input, view, out, reports)
     }
 
     /// Shows the messages of a file, and tells whether each was shown whole.
-    fn show_file<V: View, R: Read, W: Write, E: Write>(
+    fn show_file<V: View, W: Write + Drop, E: Write>(
         &self,
         name: &str,
         keeps_going: bool,
-        view: &mut V,
-        streams: &mut Streams<'_, R, W, E>,
-    ) -> io::Result<bool> {
-        let (out, reports) = (&mut streams.out, &mut streams.reports);
+        view: &V,
+        out: W,
+        reports: &mut Reports<'_, E>,
+    ) -> (W, io::Result<bool>)
+        ensures { IfOk result.1 (λ whole. OnTrue whole (ShowsAll (V.showing view.now)
+            None (W.contents out) (W.contents result.0))) }
+    {
         match fs::open(self.files, name) {
             Ok(file) => {
                 let input = Input {
@@ -161,7 +196,10 @@ impl<F: Files> Bser<'_, F> {
                 };
                 show_messages(self.alloc, input, view, out, reports)
             }
-            Err(fault) => Ok(not_read(name, InputError::Fault(&fault), reports)),
+            Err(fault) => {
+                let shown = not_read(name, InputError::Fault(&fault), reports);
+                (out, Ok(shown))
+            }
         }
     }
 
@@ -170,62 +208,57 @@ impl<F: Files> Bser<'_, F> {
         &self,
         inputs: InputFiles<'_>,
         writing: Writing,
-        streams: &mut Streams<'_, R, W, E>,
-    ) -> io::Result<bool> {
+        input: &mut R,
+        out: &mut W,
+        reports: &mut Reports<'_, E>,
+    ) -> io::Result<bool>
+        ensures { IfOk result (λ whole. OnTrue whole
+            (WritesTexts writing (W.contents out.old) (W.contents out.new))) }
+    {
         if inputs.names.is_empty() {
-            return self.write_standard(writing, streams);
+            return self.write_texts(STANDARD_INPUT, writing, input, out, reports);
         }
         let mut whole = true;
         for name in inputs.names {
             let written = if *name == DASH {
-                self.write_standard(writing, streams)?
+                self.write_texts(STANDARD_INPUT, writing, input, out, reports)?
             } else {
-                self.write_file(*name, writing, streams)?
+                self.write_file(*name, writing, out, reports)?
             };
             whole = whole && written;
         }
         Ok(whole)
     }
 
-    /// Writes the messages of the JSON texts of standard input, and tells whether each was written.
-    fn write_standard<R: Read, W: Write, E: Write>(
-        &self,
-        writing: Writing,
-        streams: &mut Streams<'_, R, W, E>,
-    ) -> io::Result<bool> {
-        let texts = Texts {
-            name: STANDARD_INPUT,
-            writing,
-        };
-        let (out, reports) = (&mut streams.out, &mut streams.reports);
-        self.write_texts(texts, &mut streams.input, out, reports)
-    }
-
     /// Writes the messages of the JSON texts in a file, and tells whether each was written.
-    fn write_file<R: Read, W: Write, E: Write>(
+    fn write_file<W: Write, E: Write>(
         &self,
         name: &str,
         writing: Writing,
-        streams: &mut Streams<'_, R, W, E>,
-    ) -> io::Result<bool> {
+        out: &mut W,
+        reports: &mut Reports<'_, E>,
+    ) -> io::Result<bool>
+        ensures { IfOk result (λ whole. OnTrue whole
+            (WritesTexts writing (W.contents out.old) (W.contents out.new))) }
+    {
         match fs::open(self.files, name) {
-            Ok(mut file) => {
-                let (out, reports) = (&mut streams.out, &mut streams.reports);
-                self.write_texts(Texts { name, writing }, &mut file, out, reports)
-            }
-            Err(fault) => Ok(not_read(name, InputError::Fault(&fault), &mut streams.reports)),
+            Ok(mut file) => self.write_texts(name, writing, &mut file, out, reports),
+            Err(fault) => Ok(not_read(name, InputError::Fault(&fault), reports)),
         }
     }
 
     /// Writes the messages of a reader's JSON texts, and tells whether each was written.
     fn write_texts<R: Read, W: Write, E: Write>(
         &self,
-        texts: Texts<'_>,
+        name: &str,
+        writing: Writing,
         input: &mut R,
         out: &mut W,
         reports: &mut Reports<'_, E>,
-    ) -> io::Result<bool> {
-        let Texts { name, writing } = texts;
+    ) -> io::Result<bool>
+        ensures { IfOk result (λ whole. OnTrue whole
+            (WritesTexts writing (W.contents out.old) (W.contents out.new))) }
+    {
         let mut counted = CountedInput::new(input, reports);
         let written = write_messages(self.alloc, writing, &mut counted, out);
         let is_empty = counted.given() == 0;
@@ -245,7 +278,9 @@ impl<F: Files> Bser<'_, F> {
 }
 
 /// Reports that an input is not read. It is not shown whole.
-fn not_read<E: Write>(name: &str, unread: InputError<'_>, reports: &mut Reports<'_, E>) -> bool {
+fn not_read<E: Write>(name: &str, unread: InputError<'_>, reports: &mut Reports<'_, E>) -> bool
+    ensures { result ≡ false }
+{
     let _written = report_unread(name, unread, reports);
     false
 }

@@ -1,5 +1,6 @@
 //! A reader whose bytes are counted.
 ghost use Rattle.std.specs.Prelude.{◌≡◌};
+ghost use Rattle.bser_shell.specs.Counted.{given_by, input_of};
 
 use crate::reports::Reports;
 use bser_source::device::Source;
@@ -16,7 +17,10 @@ pub struct CountedInput<'r, 's, S, E> {
 
 impl<'r, 's, S, E: Write> CountedInput<'r, 's, S, E> {
     /// Counts what `inner` gives from now on.
-    pub fn new(inner: S, reports: &'r mut Reports<'s, E>) -> Self {
+    pub fn new(inner: S, reports: &'r mut Reports<'s, E>) -> Self
+        ensures input { input_of result ≡ inner }
+        ensures given { given_by result ≡ 0 }
+    {
         CountedInput {
             inner,
             given: 0,
@@ -25,13 +29,23 @@ impl<'r, 's, S, E: Write> CountedInput<'r, 's, S, E> {
     }
 
     /// How many bytes were given, at most `u64::MAX`.
-    pub fn given(&self) -> u64 {
+    pub fn given(&self) -> u64
+        ensures { result ≡ given_by self.now }
+    {
         self.given
     }
 
     /// The reports.
     pub fn reports(&mut self) -> &mut Reports<'s, E> {
         self.reports
+    }
+
+    /// Counts a message that was done.
+    pub fn count_message(&mut self)
+        ensures input { input_of self.new ≡ input_of self.old }
+        ensures given { given_by self.new ≡ given_by self.old }
+    {
+        self.reports.count_message();
     }
 
     /// Counts bytes that were given.

@@ -1,4 +1,6 @@
 //! A reader before whose reads the output is written.
+ghost use Rattle.std.specs.Prelude.{◌≡◌};
+ghost use Rattle.bser_views.specs.Shown.{reader_behind};
 
 use bser_source::device::Source;
 use std::cell::RefCell;
@@ -17,8 +19,18 @@ pub(crate) struct Flushing<'o, S, W> {
 
 impl<'o, S, W> Flushing<'o, S, W> {
     /// Reads from `reader`, and has `out` written before.
-    pub(crate) fn new(reader: S, out: &'o RefCell<W>) -> Self {
+    pub(crate) fn new(reader: S, out: &'o RefCell<W>) -> Self
+        ensures { reader_behind result ≡ reader }
+    {
         Flushing { reader, out }
+    }
+
+    /// Gives the reader back.
+    pub(crate) fn into_inner(self) -> S
+        ensures { result ≡ reader_behind self.entry }
+    {
+        let Flushing { reader, .. } = self;
+        reader
     }
 }
 

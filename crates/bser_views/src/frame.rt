@@ -1,5 +1,7 @@
 //! A reader of one message, which ends where the message's header says.
 ghost use Rattle.std.specs.Prelude.{◌≡◌};
+ghost use Rattle.bser_views.specs.Shown.{end_in, reader_in};
+ghost use Rattle.bser_views.specs.declared.frame.End.TheVariants.{OfInput};
 
 use bser_messages::length::message_length;
 use bser_source::device::Source;
@@ -33,7 +35,9 @@ impl End {
     };
 
     /// The end, where these bytes were given next.
-    fn after(self, alloc: Global, bytes: &[u8]) -> End {
+    fn after(self, alloc: Global, bytes: &[u8]) -> End
+        ensures { self ≡ OfInput → result ≡ OfInput }
+    {
         match self {
             End::OfInput => End::OfInput,
             End::Announced { header, given } => announced(alloc, header, given, bytes),
@@ -72,7 +76,10 @@ pub(crate) struct MessageReader<S> {
 
 impl<S> MessageReader<S> {
     /// Gives the message that `inner` gives next, up to this end.
-    pub(crate) fn new(alloc: Global, inner: S, end: End) -> Self {
+    pub(crate) fn new(alloc: Global, inner: S, end: End) -> Self
+        ensures end { end_in result ≡ end }
+        ensures reader { reader_in result ≡ inner }
+    {
         MessageReader { alloc, inner, end }
     }
 
@@ -81,18 +88,27 @@ impl<S> MessageReader<S> {
         matches!(self.end, End::Behind { left: 0 })
     }
 
+    /// Gives the reader back.
+    pub(crate) fn into_inner(self) -> S
+        ensures { result ≡ reader_in self }
+    {
+        let MessageReader { inner, .. } = self;
+        inner
+    }
+
     /// Notes bytes that were given.
     fn note(&mut self, bytes: &[u8])
-        ensures { self.new.inner ≡ self.old.inner }
+        ensures reader { self.new.inner ≡ self.old.inner }
+        ensures end { self.old.end ≡ OfInput → self.new.end ≡ OfInput }
     {
         self.end = self.end.after(self.alloc, bytes);
     }
 }
 
 impl<S: Source> Source for MessageReader<S> {
-    ghost use Rattle.std.specs.Prelude.{None};
+    ghost use Rattle.bser_views.specs.Shown.{bytes_to};
 
-    ghost remaining = { λ _. None };
+    ghost remaining = { λ f. bytes_to f.end (S.remaining f.inner) };
 
     ghost failures = { λ f. S.failures f.inner };
 

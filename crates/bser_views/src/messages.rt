@@ -1,4 +1,9 @@
 //! The messages of a reader, shown one after the other.
+ghost use Rattle.std.specs.Prelude.{◌≡◌, IfOk, false, true};
+ghost use Rattle.std.specs.Bool.{OnTrue};
+ghost use Rattle.bser_views.specs.declared.frame.End.TheVariants.{OfInput};
+ghost use Rattle.bser_views.specs.Shown.{Showing, ShowsAll, ShowsNext, bytes_in, bytes_left};
+ghost use Rattle.bser_shell.specs.Counted.{input_of};
 
 use crate::frame::{End, MessageReader};
 use crate::input_error::{InputError, folder_fault, is_first_version};
@@ -56,17 +61,33 @@ impl From<PrintError> for ViewError {
     }
 }
 
+/// What a view made of the next message, and the reader and the writer of it.
+#[derive(Drop)]
+pub struct Shown<S, W> {
+    /// What the message was taken from.
+    pub reader: S,
+    /// What took what is shown.
+    pub out: W,
+    /// Whether there was a message. False where no byte was left.
+    pub found: Result<bool, ViewError>,
+}
+
 /// What is shown of a message.
 pub trait View {
+    // what it writes of a message
+    ghost showing: { Self → Showing };
+
     /// Takes the reader's next message, which begins at byte `start` of the input, and shows it.
-    /// False where no byte is left.
-    fn show_next<S: Source, W: Write>(
-        &mut self,
+    fn show_next<S: Source + Drop, W: Write + Drop>(
+        &self,
         alloc: Global,
         start: u64,
-        reader: &mut S,
-        out: &mut W,
-    ) -> Result<bool, ViewError>;
+        reader: S,
+        out: W,
+    ) -> Shown<S, W>
+        ensures { IfOk result.found (ShowsNext (showing self.now)
+            (S.remaining reader) (S.remaining result.reader)
+            (W.contents out) (W.contents result.out)) };
 }
 
 /// Where messages come from, and what is done after one that fails.
@@ -87,51 +108,109 @@ pub struct Input<'a, S> {
 /// then the next message is shown, and no byte behind that end is read of this one. An input without
 /// any byte has a line too, and is not shown whole. The output has all of a message before the next
 /// is read. The error is that of the output.
-pub fn show_messages<S: Source + Drop, V: View, W: Write, E: Write>(
+pub fn show_messages<S: Source + Drop, V: View, W: Write + Drop, E: Write>(
     alloc: Global,
     input: Input<'_, S>,
-    view: &mut V,
-    out: &mut W,
+    view: &V,
+    out: W,
     reports: &mut Reports<'_, E>,
-) -> io::Result<bool> {
+) -> (W, io::Result<bool>)
+    ensures { IfOk result.1 (λ whole. OnTrue whole (ShowsAll (V.showing view.now)
+        (bytes_in S.remaining input.entry) (W.contents out) (W.contents result.0))) }
+{
     let Input {
         name,
         keeps_going,
         reader,
     } = input;
     let mut counted = CountedInput::new(reader, reports);
-    let end = end_of(keeps_going);
+    let mut out = out;
     let mut whole = true;
     for _ in 0..u64::MAX {
-        out.flush()?;
         let start = counted.given();
-        let mut frame = MessageReader::new(alloc, &mut counted, end);
-        let shown = view.show_next(alloc, start, &mut frame, out);
-        let has_ended = frame.has_ended();
-        match shown {
-            Ok(true) => counted.reports().count_message(),
+        let shown = show_one(alloc, keeps_going, view, counted, out);
+        counted = shown.reader;
+        out = shown.out;
+        match shown.found {
+            Ok(true) => counted.count_message(),
             Ok(false) if start == 0 => {
                 let _written = report_unread(name, InputError::Empty, counted.reports());
-                return Ok(false);
+                return (out, Ok(false));
             }
-            Ok(false) => return Ok(whole),
-            Err(ViewError::Output(fault)) => return Err(fault),
+            Ok(false) => return (out, Ok(whole)),
+            Err(ViewError::Output(fault)) => return (out, Err(fault)),
             Err(failure) => {
                 whole = false;
-                out.flush()?;
-                let failure = past_end(failure, has_ended);
-                report(name, start, &failure, counted.reports());
-                if !keeps_going || !goes_on(alloc, name, &failure, &mut counted) {
-                    return Ok(false);
+                if !passes(alloc, name, start, keeps_going, failure, &mut counted) {
+                    return (out, Ok(false));
                 }
             }
         }
     }
-    Ok(whole)
+    (out, Ok(false))
+}
+
+/// Shows the next message of an input, behind what was shown before it. What is shown of one that
+/// fails is written.
+fn show_one<'r, 's, S: Source + Drop, V: View, W: Write + Drop, E: Write>(
+    alloc: Global,
+    keeps_going: bool,
+    view: &V,
+    counted: CountedInput<'r, 's, S, E>,
+    out: W,
+) -> Shown<CountedInput<'r, 's, S, E>, W>
+    ensures { IfOk result.found (ShowsNext (V.showing view.now)
+        (bytes_left keeps_going (S.remaining (input_of counted.entry)))
+        (bytes_left keeps_going (S.remaining (input_of result.reader)))
+        (W.contents out) (W.contents result.out)) }
+{
+    let start = counted.given();
+    let mut out = out;
+    if let Err(fault) = out.flush() {
+        let found = Err(ViewError::Output(fault));
+        return Shown {
+            reader: counted,
+            out,
+            found,
+        };
+    }
+    let frame = MessageReader::new(alloc, counted, end_of(keeps_going));
+    let Shown {
+        reader: frame,
+        mut out,
+        found,
+    } = view.show_next(alloc, start, frame, out);
+    let has_ended = frame.has_ended();
+    let reader = frame.into_inner();
+    let found = match found {
+        Ok(found) => Ok(found),
+        Err(failure) => Err(flushed(past_end(failure, has_ended), &mut out)),
+    };
+    Shown { reader, out, found }
+}
+
+/// The failure of a message, after what was shown of it is written; or that of the output.
+fn flushed<W: Write>(failure: ViewError, out: &mut W) -> ViewError {
+    match out.flush() {
+        Ok(()) => failure,
+        Err(fault) => ViewError::Output(fault),
+    }
+}
+
+/// That a message was there, where it was also printed.
+pub(crate) fn shown_by(printed: io::Result<()>) -> Result<bool, ViewError>
+    ensures { IfOk result (λ found. found ≡ true) }
+{
+    match printed {
+        Ok(()) => Ok(true),
+        Err(fault) => Err(ViewError::Output(fault)),
+    }
 }
 
 /// Where the reader of a message ends.
-fn end_of(keeps_going: bool) -> End {
+fn end_of(keeps_going: bool) -> End
+    ensures { keeps_going ≡ false → result ≡ OfInput }
+{
     if keeps_going {
         End::ANNOUNCED
     } else {
@@ -187,6 +266,20 @@ pub fn report_unread<E: Write>(
     errors: &mut E,
 ) -> io::Result<()> {
     writeln!(errors, "bser: {name}: {unread}")
+}
+
+/// Reports why a message was not shown whole, and goes to the next one where that is asked for.
+/// Tells whether the reader is there.
+fn passes<S: Source, E: Write>(
+    alloc: Global,
+    name: &str,
+    start: u64,
+    keeps_going: bool,
+    failure: ViewError,
+    counted: &mut CountedInput<'_, '_, S, E>,
+) -> bool {
+    report(name, start, &failure, counted.reports());
+    keeps_going && goes_on(alloc, name, &failure, counted)
 }
 
 /// Goes to the next message, and tells whether the reader is there. Else a line says why not, but

@@ -1,6 +1,6 @@
 //! What a message has, printed.
 
-use crate::messages::{View, ViewError};
+use crate::messages::{Shown, View, ViewError, shown_by};
 use crate::tally::{Summed, next_summed};
 use bser_events::event::EventKind;
 use bser_messages::limits::Limits;
@@ -31,20 +31,24 @@ const NAMES: [(EventKind, &str); 12] = [
 pub struct Summary;
 
 impl View for Summary {
-    fn show_next<S: Source, W: Write>(
-        &mut self,
+    ghost use Rattle.bser_views.specs.Shown.{untold};
+
+    ghost showing = { λ _. untold };
+
+    fn show_next<S: Source + Drop, W: Write + Drop>(
+        &self,
         alloc: Global,
         start: u64,
-        reader: &mut S,
-        out: &mut W,
-    ) -> Result<bool, ViewError> {
-        match next_summed(alloc, Limits::new(), reader)? {
-            Some(summed) => {
-                put_summary(out, start, &summed)?;
-                Ok(true)
-            }
-            None => Ok(false),
-        }
+        reader: S,
+        out: W,
+    ) -> Shown<S, W> {
+        let (mut reader, mut out) = (reader, out);
+        let found = match next_summed(alloc, Limits::new(), &mut reader) {
+            Ok(Some(summed)) => shown_by(put_summary(&mut out, start, &summed)),
+            Ok(None) => Ok(false),
+            Err(untold) => Err(ViewError::Tell(untold)),
+        };
+        Shown { reader, out, found }
     }
 }
 

@@ -1,7 +1,7 @@
 //! A line for each part of a message.
 
 use crate::flushing::Flushing;
-use crate::messages::{View, ViewError};
+use crate::messages::{Shown, View, ViewError, shown_by};
 use crate::open::OpenView;
 use crate::parts::{put_columns, put_levels, put_number, put_quoted, put_real};
 use crate::print_error::PrintError;
@@ -35,36 +35,64 @@ pub struct Show {
 }
 
 impl View for Show {
-    fn show_next<S: Source, W: Write>(
-        &mut self,
+    ghost use Rattle.bser_views.specs.Shown.{untold};
+
+    ghost showing = { λ _. untold };
+
+    fn show_next<S: Source + Drop, W: Write + Drop>(
+        &self,
         alloc: Global,
         start: u64,
-        reader: &mut S,
-        out: &mut W,
-    ) -> Result<bool, ViewError> {
+        reader: S,
+        out: W,
+    ) -> Shown<S, W> {
         let out = RefCell::new(out);
-        let mut tree = Tree::new(alloc, self.style, start, &out);
-        let mut flushing = Flushing::new(reader, &out);
+        let (reader, found) = self.put_tree(alloc, start, reader, &out);
+        Shown {
+            reader,
+            out: out.into_inner(),
+            found,
+        }
+    }
+}
+
+impl Show {
+    ghost use Rattle.std.specs.Prelude.{IfOk, None};
+    ghost use Rattle.bser_views.specs.Shown.{ShowsNext, untold};
+
+    /// Prints the reader's next message, and gives the reader back.
+    fn put_tree<S: Source + Drop, W: Write + Drop>(
+        self,
+        alloc: Global,
+        start: u64,
+        reader: S,
+        out: &RefCell<W>,
+    ) -> (S, Result<bool, ViewError>)
+        ensures { IfOk result.1
+            (ShowsNext untold (S.remaining reader) (S.remaining result.0) None None) }
+    {
+        let mut tree = Tree::new(alloc, self.style, start, out);
+        let mut flushing = Flushing::new(reader, out);
         let told = telling::next_message(alloc, Limits::new(), &mut flushing, &mut tree);
+        let reader = flushing.into_inner();
         if let Some(fault) = tree.take_fault() {
-            return Err(ViewError::Output(fault));
+            return (reader, Err(ViewError::Output(fault)));
         }
-        match told? {
-            Some(header) => {
-                tree.put_end(&header)?;
-                Ok(true)
-            }
-            None => Ok(false),
-        }
+        let found = match told {
+            Ok(Some(header)) => shown_by(tree.put_end(&header)),
+            Ok(None) => Ok(false),
+            Err(untold) => Err(ViewError::Tell(untold)),
+        };
+        (reader, found)
     }
 }
 
 /// Prints the parts of a message as they are told. It keeps the containers that are open, the keys
 /// of templates among them alone.
 #[derive(Drop)]
-pub(crate) struct Tree<'o, 'w, W: Write> {
+pub(crate) struct Tree<'o, W: Write> {
     alloc: Global,
-    out: &'o RefCell<&'w mut W>,
+    out: &'o RefCell<W>,
     style: Style,
     // where the message begins in the input
     start: u64,
@@ -73,9 +101,9 @@ pub(crate) struct Tree<'o, 'w, W: Write> {
     fault: Option<io::Error>,
 }
 
-impl<'o, 'w, W: Write> Tree<'o, 'w, W> {
+impl<'o, W: Write> Tree<'o, W> {
     /// Nothing was told of a message that begins at byte `start`.
-    fn new(alloc: Global, style: Style, start: u64, out: &'o RefCell<&'w mut W>) -> Self {
+    fn new(alloc: Global, style: Style, start: u64, out: &'o RefCell<W>) -> Self {
         Tree {
             alloc,
             out,
@@ -120,7 +148,7 @@ impl<'o, 'w, W: Write> Tree<'o, 'w, W> {
     /// Prints the line of a part, and before the first the header's.
     fn put_line(&mut self, event: Event<'_>, place: Place) -> io::Result<()> {
         let mut out = self.out.try_borrow_mut()?;
-        let out = &mut **out;
+        let out = &mut *out;
         if !self.has_begun {
             self.has_begun = true;
             self.put_header(out, place.start)?;
@@ -196,7 +224,7 @@ impl<'o, 'w, W: Write> Tree<'o, 'w, W> {
     }
 }
 
-impl<W: Write> Builder for Tree<'_, '_, W> {
+impl<W: Write> Builder for Tree<'_, W> {
     ghost use Rattle.std.specs.Prelude.{true};
 
     ghost takes = { λ _ _ _ _. Unit {0} };
