@@ -24,7 +24,7 @@ pub record IsMessageOf (value : Tree) (bytes : List ℕ) : Type 0 where
   pub capabilities : ℕ
   pub tree : Tree
   pub message : IsMessage LEVELS capabilities tree bytes
-  pub value : normal (expand tree) ≡ Some value
+  pub read : normal (expand tree) ≡ Some value
 
 -- what is written of a value, and whether a contract tells what a writer has of that
 pub record ShowingValue : Type 1 where

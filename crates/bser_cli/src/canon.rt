@@ -39,7 +39,6 @@ impl ShowDocument for Canon {
 
 impl Canon {
     /// Writes the message of the document's value.
-    #[tactic(auto, using(crate::proofs::Values::compact_of))]
     fn write<S: Sink>(
         self,
         alloc: Global,
