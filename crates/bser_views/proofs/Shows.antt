@@ -43,6 +43,9 @@ all_shown s ms a b c x y z some h (end, nothing) = record {
     whole bytes None took end = absurd took
     whole bytes (Some rest) took end = took ∙ ap (λ l. concat ms ++ l) end ∙ append-nil (concat ms)
 
+pub never_both : (b : Bool) → b ≡ false → b ≡ true → ⊥
+never_both b e f = cc
+
 -- so far these messages were shown; without any, nothing was given
 abbrev pub Sofar : Showing → Option (List ℕ) → Option (List ℕ) → ℕ → Option (List ℕ) → Option (List ℕ) → Type 0
 Sofar s a b given x y = (ms : List (List ℕ)) × ShowsEach s ms a b x y × (ms ≡ [] → given ≡ 0)

@@ -2,7 +2,7 @@
 use Rattle.std.proofs.Common.{[], sym, subst, ◌∙◌}
 use Rattle.bser_shell.specs.Counted.{given_by, input_of}
 use Rattle.bser_views.specs.Shown.{ShowsEach, bytes_in, bytes_left}
-use Rattle.bser_views.proofs.Shows.{Sofar, next_shown, none_shown}
+use Rattle.bser_views.proofs.Shows.{Sofar, never_both, next_shown, none_shown}
 use Rattle.bser_views.proofs.messages.show_messages.Goals.{in-Ok-true, in-Err+else-not-passes}
 use Rattle.bser_views.proofs.messages.show_messages.Goals as goal
 
@@ -31,5 +31,5 @@ loop-preserved g c =
         let more = next_shown s input left (bytes_left keeps (remaining (input_of behind))) x y z (given_by c.loop.counted) (given_by after) c.show_one-shown.result.found (cc) (c.loop.invariant (sym w.whole-is ∙ e)) c.show_one-shown.ensures in
         let kept = subst (λ r. Sofar s input (bytes_left keeps (remaining r)) (given_by after) x z) (sym w.count_message.ensures.input) more in
         subst (λ r. Sofar s input (bytes_left keeps (remaining (input_of r))) (given_by r) x z) (sym w.counted-is) kept
-      | in-Err+else-not-passes w ↦ λ e. let no : ⊥ = cc in absurd no
+      | in-Err+else-not-passes w ↦ λ e. absurd (never_both c.match-shown.whole w.whole-is e)
     ]
