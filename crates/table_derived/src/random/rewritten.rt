@@ -10,6 +10,7 @@ use serde_bser::from_slice;
 use serde_bser::ser::{InMemory, serialize_compact, to_vec};
 use serde_bser::value::Value;
 use std::alloc::Global;
+use std::collections::BTreeMap;
 
 /// As many levels as are read at most.
 const MOST_LEVELS: usize = 1024;
@@ -102,32 +103,36 @@ fn json_of(alloc: Global, document: &Document) -> Result<Vec<u8>> {
 }
 
 /// Whether JSON says the value by the other one: a byte string in UTF-8 as a text.
+#[cycle(said)]
 fn is_said(value: &Value, other: &Value) -> bool {
     match (value, other) {
         (Value::ByteString(bytes), Value::Utf8String(text)) => bytes.as_bytes() == text.as_bytes(),
-        (Value::Array(items), Value::Array(others)) => {
-            if items.len() != others.len() {
-                return false;
-            }
-            for (item, other) in items.iter().zip(others.iter()) {
-                if !is_said(item, other) {
-                    return false;
-                }
-            }
-            true
-        }
-        (Value::Object(entries), Value::Object(others)) => {
-            if entries.len() != others.len() {
-                return false;
-            }
-            for (key, value) in entries.iter() {
-                match others.get(key) {
-                    Some(other) if is_said(value, other) => {}
-                    _ => return false,
-                }
-            }
-            true
-        }
+        (Value::Array(items), Value::Array(others)) => are_items_said(items, others),
+        (Value::Object(entries), Value::Object(others)) => are_entries_said(entries, others),
         _ => value == other,
     }
+}
+
+/// The same of all items.
+#[cycle(said)]
+fn are_items_said(items: &Vec<Value>, others: &Vec<Value>) -> bool {
+    for (place, item) in items.iter().enumerate() {
+        match others.get(place) {
+            Some(other) if is_said(item, other) => {}
+            _ => return false,
+        }
+    }
+    items.len() == others.len()
+}
+
+/// The same of all entries.
+#[cycle(said)]
+fn are_entries_said(entries: &BTreeMap<String, Value>, others: &BTreeMap<String, Value>) -> bool {
+    for (key, member) in entries.iter() {
+        match others.get(key) {
+            Some(other) if is_said(member, other) => {}
+            _ => return false,
+        }
+    }
+    entries.len() == others.len()
 }
