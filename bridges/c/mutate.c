@@ -4,7 +4,7 @@
  * behaviour.
  *
  * The arguments are how many mutations to make in all, and files: a message each (.bser), or lines
- * whose second column is a message in hexadecimal (.tsv). */
+ * whose second column is a message in hexadecimal (.tsv), which may come on standard input too (-). */
 #include "bser.h"
 
 #include <pthread.h>
@@ -269,28 +269,16 @@ static void check_threads(void) {
 }
 
 static void add(uint8_t *bytes, size_t len) {
-    if (message_count == MOST_MESSAGES) return;
+    if (message_count == MOST_MESSAGES) exit(2);
     messages[message_count].bytes = bytes;
     messages[message_count++].len = len;
 }
 
-static void read_file(const char *name) {
-    FILE *file = fopen(name, "rb");
-    if (file == NULL) exit(2);
-    fseek(file, 0, SEEK_END);
-    size_t len = (size_t)ftell(file);
-    rewind(file);
-    char *all = fresh(len + 1);
-    if (fread(all, 1, len, file) != len) exit(2);
-    fclose(file);
-    all[len] = 0;
-    size_t named = strlen(name);
-    if (named > 4 && strcmp(name + named - 4, ".tsv") != 0) {
-        add((uint8_t *)all, len);
-        return;
-    }
-    for (char *row = strtok(all, "\n"); row != NULL; row = strtok(NULL, "\n")) {
-        char *hex = strchr(row, '\t');
+/* Lines whose second column is a message. */
+static void read_lines(FILE *file) {
+    static char line[1 << 20];
+    while (fgets(line, sizeof line, file) != NULL) {
+        char *hex = strchr(line, '\t');
         if (hex == NULL) continue;
         size_t digits = strspn(++hex, "0123456789abcdef");
         uint8_t *bytes = fresh(digits / 2);
@@ -300,7 +288,23 @@ static void read_file(const char *name) {
         }
         add(bytes, digits / 2);
     }
-    free(all);
+}
+
+static void read_file(const char *name) {
+    size_t named = strlen(name);
+    FILE *file = strcmp(name, "-") == 0 ? stdin : fopen(name, "rb");
+    if (file == NULL) exit(2);
+    if (file == stdin || (named > 4 && strcmp(name + named - 4, ".tsv") == 0)) {
+        read_lines(file);
+    } else {
+        fseek(file, 0, SEEK_END);
+        size_t len = (size_t)ftell(file);
+        rewind(file);
+        uint8_t *all = fresh(len);
+        if (fread(all, 1, len, file) != len) exit(2);
+        add(all, len);
+    }
+    fclose(file);
 }
 
 int main(int argc, char **argv) {
