@@ -100,7 +100,10 @@ impl<'d> Item<'d> {
         Items {
             document: self.document,
             at: self.document.place(head, 1),
-            left: count_at(self.document.node(head)),
+            left: match self.document.node(head) {
+                DocumentNode::Rows { len } => len,
+                _ => 0,
+            },
             keys: Some(Keys { at, len }),
         }
     }
@@ -134,8 +137,13 @@ impl Document {
             → result ≡ at + length (field_ends p at) }
     {
         match self.nodes.get(at) {
-            Some(node) => behind(*node, at),
             None => at,
+            Some(
+                DocumentNode::Array { len: _, end }
+                | DocumentNode::Object { len: _, end }
+                | DocumentNode::Template { len: _, end },
+            ) => *end,
+            Some(_) => at.saturating_add(1),
         }
     }
 
@@ -149,30 +157,5 @@ impl Document {
             behind = self.behind(behind);
         }
         behind
-    }
-}
-
-/// The place behind a node that is here, or behind what it opens.
-#[inline(always)]
-fn behind(node: DocumentNode, at: usize) -> usize
-    requires { at + 1 < 2 ^ 64 }
-    ensures { result ≡ stepped at (end_of node) }
-{
-    match node {
-        DocumentNode::Array { len: _, end }
-        | DocumentNode::Object { len: _, end }
-        | DocumentNode::Template { len: _, end } => end,
-        _ => at + 1,
-    }
-}
-
-/// How many rows a node announces.
-#[inline(always)]
-fn count_at(node: DocumentNode) -> usize
-    ensures { (n : ℕ) → node ≡ nodes.Rows n → result ≡ n }
-{
-    match node {
-        DocumentNode::Rows { len } => len,
-        _ => 0,
     }
 }
