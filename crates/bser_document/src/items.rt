@@ -100,10 +100,7 @@ impl<'d> Item<'d> {
         Items {
             document: self.document,
             at: self.document.place(head, 1),
-            left: match self.document.node(head) {
-                DocumentNode::Rows { len } => len,
-                _ => 0,
-            },
+            left: count_at(self.document.node(head)),
             keys: Some(Keys { at, len }),
         }
     }
@@ -157,5 +154,16 @@ impl Document {
             behind = self.behind(behind);
         }
         behind
+    }
+}
+
+/// How many rows a node announces.
+#[inline(always)]
+fn count_at(node: DocumentNode) -> usize
+    ensures { (n : ℕ) → node ≡ nodes.Rows n → result ≡ n }
+{
+    match node {
+        DocumentNode::Rows { len } => len,
+        _ => 0,
     }
 }
