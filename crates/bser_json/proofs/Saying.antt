@@ -1,5 +1,5 @@
 -- Tokens that are put one after the other.
-use Rattle.std.proofs.Common.{◌≡◌, ℕ, List, [], ◌∷◌, ◌++◌, Option, Some, None, Result, Ok, Err, OnOk, refl, sym, ap, subst, append_assoc, append-nil, Bor, ⊥, ◌×◌}
+use Rattle.std.proofs.Common.{◌≡◌, ℕ, List, [], ◌∷◌, ◌++◌, Option, Some, None, Result, Ok, Err, OnOk, refl, sym, ap, subst, append_assoc, append-nil, Bor}
 use Rattle.json.specs.Token as tokens
 use Rattle.bser_format.specs.Normal.{last_entries}
 use Rattle.bser_format.specs.Tree.{Tree, null, boolean, integer, real, bytes, text, array, object, template, no_items, item, no_entries, entry, entries, entries_of}

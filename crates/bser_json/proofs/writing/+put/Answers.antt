@@ -25,11 +25,11 @@ put_container-returns-in-Some-rows g t c u h = template_said g.W.Write.contents 
 pub put_container-returns-in-Some-items : goal.put_container-returns-in-Some-items
 put_container-returns-in-Some-items g t c u h = array_said g.W.Write.contents c.in-Some-items.items c.put_items.result c.args.out.now c.put_items.new.out u (rw c.in-Some-items.is at c.items.ensures u h) c.put_items.ensures
 
-pub put_entries-returns-true : goal.put_entries-returns-true
-put_entries-returns-true g t c m h = risen_said g.W.Write.contents c.put_spelled.result c.args.out.now c.put_spelled.new.out m (c.is_rising.ensures m h (search rules)) (c.put_spelled.ensures m h)
+pub put_entries-returns-then-is_rising : goal.put_entries-returns-then-is_rising
+put_entries-returns-then-is_rising g t c m h = risen_said g.W.Write.contents c.put_spelled.result c.args.out.now c.put_spelled.new.out m (c.is_rising.ensures m h (search rules)) (c.put_spelled.ensures m h)
 
-pub put_entries-returns-false : goal.put_entries-returns-false
-put_entries-returns-false g t c m h = sorted_said g.W.Write.contents c.in_ok-sorted.sorted.entries c.put_sorted.result c.args.out.now c.put_sorted.new.out m (c.in_ok-sorted.ensures m h) c.put_sorted.ensures
+pub put_entries-returns : goal.put_entries-returns
+put_entries-returns g t c m h = sorted_said g.W.Write.contents c.in_ok-sorted.sorted.entries c.put_sorted.result c.args.out.now c.put_sorted.new.out m (c.in_ok-sorted.ensures m h) c.put_sorted.ensures
 
 pub put_spelled-loop-entry-init : goal.put_spelled-loop-entry-init
 put_spelled-loop-entry-init g t c m h = entries_begun g.W.Write.contents (entries_of m) (λ es. HoldsEntries c.into_iter-entry-iterator.result (entries es)) c.args.out.now c.token.new.self (spelled_back m c.args.entries c.into_iter-entry-iterator.result (search rules) h) c.in_ok-token.ensures

@@ -1,5 +1,5 @@
 -- The parts up to here are put.
-use Rattle.std.proofs.Common.{◌≡◌, ◌*◌, ◌+◌, ◌×◌, ℕ, List, drop}
+use Rattle.std.proofs.Common.{◌≡◌, ◌*◌, ◌+◌, ℕ, List, drop}
 use Rattle.std.specs.Map.{keys_of}
 use Rattle.bser_format.specs.Tree.{Tree, entries, entries_of}
 use Rattle.bser_format.specs.Tree as trees
