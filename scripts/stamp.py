@@ -67,6 +67,12 @@ def write(before, paths):
         print(stamp_of(path))
 
 
+def write_unproved(path):
+    """Writes the stamp of a file of which nothing is proved, whatever the sources are."""
+    says = {"version": version(), "commit": sources(), "toolchain": toolchain(), "sha256": digest(path), "proved": "no"}
+    stamp_of(path).write_text("".join(f"{name}: {value}\n" for name, value in says.items()))
+
+
 def read(path):
     """What the stamp of a file says."""
     if not stamp_of(path).exists():

@@ -134,8 +134,13 @@ impl Document {
             → result ≡ at + length (field_ends p at) }
     {
         match self.nodes.get(at) {
-            Some(node) => behind(*node, at),
             None => at,
+            Some(
+                DocumentNode::Array { len: _, end }
+                | DocumentNode::Object { len: _, end }
+                | DocumentNode::Template { len: _, end },
+            ) => *end,
+            Some(_) => at.saturating_add(1),
         }
     }
 
@@ -149,20 +154,6 @@ impl Document {
             behind = self.behind(behind);
         }
         behind
-    }
-}
-
-/// The place behind a node that is here, or behind what it opens.
-#[inline(always)]
-fn behind(node: DocumentNode, at: usize) -> usize
-    requires { at + 1 < 2 ^ 64 }
-    ensures { result ≡ stepped at (end_of node) }
-{
-    match node {
-        DocumentNode::Array { len: _, end }
-        | DocumentNode::Object { len: _, end }
-        | DocumentNode::Template { len: _, end } => end,
-        _ => at + 1,
     }
 }
 

@@ -44,7 +44,7 @@ impl<'d> Entries<'d> {
     }
 
     /// Whether each key is above the one before it.
-    pub(crate) fn is_rising(self) -> bool
+    pub fn is_rising(self) -> bool
         ensures { (m : List (List ℕ × Tree)) → HoldsEntries self.entry m
             → IsTrue result → last_entries m ≡ m }
     {

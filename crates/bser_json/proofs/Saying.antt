@@ -6,10 +6,11 @@ use Rattle.bser_format.specs.Tree.{Tree, null, boolean, integer, real, bytes, te
 use Rattle.bser_format.specs.Tree as trees
 use Rattle.bser_value.specs.Contents.{as_array, as_object}
 use Rattle.bser_document.specs.declared.entries.Entries.{Entries}
+use Rattle.bser_document.specs.declared.entries.Entry.{Entry}
 use Rattle.bser_document.specs.declared.item.Item.{Item}
 use Rattle.bser_document.specs.declared.items.Items.{Items}
 use Rattle.bser_document.specs.Holds.{HoldsItem}
-use Rattle.bser_document.specs.Pairs.{HoldsEntries, FindsEntries}
+use Rattle.bser_document.specs.Pairs.{HoldsEntries, FindsEntries, StepsOverEntries}
 use Rattle.bser_document.specs.Sorted.{Lists}
 use Rattle.bser_document.specs.Walks.{HoldsItems, FindsItems, GivesItem}
 use Rattle.bser_json.specs.Printed.{Prints, Puts}
@@ -117,41 +118,69 @@ items_said contents us rest next x y z (Err e) gives last s = tt
 
 -- ---- the entries of an object
 
--- the entries before these are put
-pub record SayingEntries {W : Type 0} (contents : W → Option (List ℕ)) (es : trees.Entries) (rest : List (Bor (List ℕ) × Item)) (x y : Printing W) : Type 0 where
+-- the first of these entries has this key and this value, and the others are left
+abbrev pub Begins : List ℕ → Item → (trees.Entries → Type 0) → trees.Entries → Type 0
+Begins key i next no_entries = ⊥
+Begins key i next (entry k u l) = (key ≡ k) × HoldsItem i u × next l
+
+-- the entries before those that are left are put
+pub record SayingEntries {W : Type 0} (contents : W → Option (List ℕ)) (es : trees.Entries) (rest : trees.Entries → Type 0) (x y : Printing W) : Type 0 where
   pub left : trees.Entries
-  pub lists : Lists (entries left) rest
+  pub holds : rest left
   pub done : List tokens.Token
   pub said : (more : List tokens.Token) → SaysEntries left more → SaysEntries es (done ++ more)
   pub puts : Puts contents (tokens.begin_object ∷ done) x y
 
-pub entries_begun : {W : Type 0} (contents : W → Option (List ℕ)) (es : trees.Entries) (all rest : List (Bor (List ℕ) × Item)) (x y : Printing W) → Lists (entries es) all → rest ≡ all → Puts contents (tokens.begin_object ∷ []) x y → SayingEntries contents es rest x y
-entries_begun contents es all rest x y h same puts = record { left = es; lists = subst (Lists (entries es)) (sym same) h; done = []; said = λ more k. k; puts = puts }
+pub entries_begun : {W : Type 0} (contents : W → Option (List ℕ)) (es : trees.Entries) (rest : trees.Entries → Type 0) (x y : Printing W) → rest es → Puts contents (tokens.begin_object ∷ []) x y → SayingEntries contents es rest x y
+entries_begun contents es rest x y h puts = record { left = es; holds = h; done = []; said = λ more k. k; puts = puts }
 
-pub entry_more : {W : Type 0} (contents : W → Option (List ℕ)) (es : trees.Entries) (rest next : List (Bor (List ℕ) × Item)) (e : Bor (List ℕ) × Item) (x y z w : Printing W) → rest ≡ e ∷ next → PutsSaid contents (SaysKey e.0.now) y z → ((u : Tree) → HoldsItem e.1 u → PutsSaid contents (Says u) z w) → SayingEntries contents es rest x y → SayingEntries contents es next x w
-entry_more contents es rest next e x y z w steps name put s = of_left s.left (subst (Lists (entries s.left)) steps s.lists) s.said
+pub entry_more : {W : Type 0} (contents : W → Option (List ℕ)) (es : trees.Entries) (rest next : trees.Entries → Type 0) (key : List ℕ) (i : Item) (x y z w : Printing W) → ((l : trees.Entries) → rest l → Begins key i next l) → PutsSaid contents (SaysKey key) y z → ((u : Tree) → HoldsItem i u → PutsSaid contents (Says u) z w) → SayingEntries contents es rest x y → SayingEntries contents es next x w
+entry_more contents es rest next key i x y z w comes name put s = of_left s.left (comes s.left s.holds) s.said
   where
-    of_left : (l : trees.Entries) → Lists (entries l) (e ∷ next) → ((more : List tokens.Token) → SaysEntries l more → SaysEntries es (s.done ++ more)) → SayingEntries contents es next x w
-    of_left no_entries lists said = absurd lists
-    of_left (entry k u l) lists said =
-        let p = put u lists.0.1 in
-        let n : Puts contents (said_key k ∷ []) y z = subst (λ k. Puts contents (said_key k ∷ []) y z) lists.0.0 (subst (λ ts. Puts contents ts y z) name.1 name.2) in
+    of_left : (l : trees.Entries) → Begins key i next l → ((more : List tokens.Token) → SaysEntries l more → SaysEntries es (s.done ++ more)) → SayingEntries contents es next x w
+    of_left no_entries h said = absurd h
+    of_left (entry k u l) h said =
+        let p = put u h.1 in
+        let n : Puts contents (said_key k ∷ []) y z = subst (λ k. Puts contents (said_key k ∷ []) y z) h.0 (subst (λ ts. Puts contents ts y z) name.1 name.2) in
         record {
           left = l;
-          lists = lists.1;
+          holds = h.2;
           done = s.done ++ said_key k ∷ p.0;
           said = λ more h. subst (SaysEntries es) (sym (append_assoc s.done (said_key k ∷ p.0) more)) (said (said_key k ∷ (p.0 ++ more)) (p.0, more, p.1, h, refl));
           puts = puts_then contents (tokens.begin_object ∷ s.done) (said_key k ∷ p.0) x y w s.puts (puts_then contents (said_key k ∷ []) p.0 y z w n p.2);
         }
 
-entries_whole : {W : Type 0} (contents : W → Option (List ℕ)) (es : trees.Entries) (rest : List (Bor (List ℕ) × Item)) (x y z : Printing W) → rest ≡ [] → Puts contents (tokens.end_object ∷ []) y z → SayingEntries contents es rest x y → PutsSaid contents (Says (object es)) x z
-entries_whole contents es rest x y z none last s = of_left s.left (subst (Lists (entries s.left)) none s.lists) s.said
-  where
-    of_left : (l : trees.Entries) → Lists (entries l) [] → ((more : List tokens.Token) → SaysEntries l more → SaysEntries es (s.done ++ more)) → PutsSaid contents (Says (object es)) x z
-    of_left no_entries lists said =
-        (tokens.begin_object ∷ (s.done ++ tokens.end_object ∷ []), (s.done, subst (SaysEntries es) (append-nil s.done) (said [] refl), refl), puts_then contents (tokens.begin_object ∷ s.done) (tokens.end_object ∷ []) x y z s.puts last)
-    of_left (entry k u l) lists said = absurd lists
-
-pub entries_said : {W E : Type 0} (contents : W → Option (List ℕ)) (es : trees.Entries) (rest : List (Bor (List ℕ) × Item)) (x y z : Printing W) (r : Result (Unit {0}) E) → rest ≡ [] → OnOk r (Puts contents (tokens.end_object ∷ []) y z) → SayingEntries contents es rest x y → OnOk r (PutsSaid contents (Says (object es)) x z)
-entries_said contents es rest x y z (Ok v) none last s = entries_whole contents es rest x y z none last s
+pub entries_said : {W E : Type 0} (contents : W → Option (List ℕ)) (es : trees.Entries) (rest : trees.Entries → Type 0) (x y z : Printing W) (r : Result (Unit {0}) E) → ((l : trees.Entries) → rest l → l ≡ no_entries) → OnOk r (Puts contents (tokens.end_object ∷ []) y z) → SayingEntries contents es rest x y → OnOk r (PutsSaid contents (Says (object es)) x z)
+entries_said contents es rest x y z (Ok v) none last s =
+    let said = subst (λ l. (more : List tokens.Token) → SaysEntries l more → SaysEntries es (s.done ++ more)) (none s.left s.holds) s.said in
+    (tokens.begin_object ∷ (s.done ++ tokens.end_object ∷ []), (s.done, subst (SaysEntries es) (append-nil s.done) (said [] refl), refl), puts_then contents (tokens.begin_object ∷ s.done) (tokens.end_object ∷ []) x y z s.puts last)
 entries_said contents es rest x y z (Err e) none last s = tt
+
+-- of entries in order
+pub listed_comes : (rest next : List (Bor (List ℕ) × Item)) (e : Bor (List ℕ) × Item) → rest ≡ e ∷ next → (l : trees.Entries) → Lists (entries l) rest → Begins e.0.now e.1 (λ l. Lists (entries l) next) l
+listed_comes rest next e steps no_entries h = absurd (subst (Lists []) steps h)
+listed_comes rest next e steps (entry k u l) h =
+    let s = subst (Lists (entries (entry k u l))) steps h in
+    (s.0.0, s.0.1, s.1)
+
+pub listed_back : (es : trees.Entries) (all rest : List (Bor (List ℕ) × Item)) → rest ≡ all → Lists (entries es) all → Lists (entries es) rest
+listed_back es all rest same h = subst (Lists (entries es)) (sym same) h
+
+pub listed_end : (rest : List (Bor (List ℕ) × Item)) → rest ≡ [] → (l : trees.Entries) → Lists (entries l) rest → l ≡ no_entries
+listed_end rest none no_entries h = refl
+listed_end rest none (entry k u l) h = absurd (subst (Lists (entries (entry k u l))) none h)
+
+-- of entries as they are spelled
+pub spelled_comes : (rest next : Entries) (e : Entry) → StepsOverEntries rest (Some e) next → (l : trees.Entries) → HoldsEntries rest (entries l) → Begins e.key.now e.value (λ l. HoldsEntries next (entries l)) l
+spelled_comes rest next e gives no_entries h = absurd (gives [] h)
+spelled_comes rest next e gives (entry k u l) h = gives (entries (entry k u l)) h
+
+pub spelled_end : (rest next : Entries) → StepsOverEntries rest None next → (l : trees.Entries) → HoldsEntries rest (entries l) → l ≡ no_entries
+spelled_end rest next gives no_entries h = refl
+spelled_end rest next gives (entry k u l) h = absurd (gives (entries (entry k u l)) h)
+
+pub spelled_back : (m : List (List ℕ × Tree)) (s rest : Entries) → rest ≡ s → HoldsEntries s m → HoldsEntries rest (entries (entries_of m))
+spelled_back m s rest same h = subst (λ s. HoldsEntries s (entries (entries_of m))) (sym same) (subst (HoldsEntries s) (sym (entries_back m)) h)
+
+pub risen_said : {W E : Type 0} (contents : W → Option (List ℕ)) (r : Result (Unit {0}) E) (x y : Printing W) (m : List (List ℕ × Tree)) → last_entries m ≡ m → OnOk r (PutsSaid contents (Says (object (entries_of m))) x y) → OnOk r (PutsSaid contents (Says (object (entries_of (last_entries m)))) x y)
+risen_said contents r x y m same p = subst (λ m. OnOk r (PutsSaid contents (Says (object (entries_of m))) x y)) (sym same) p

@@ -208,8 +208,30 @@ fn put_entries<W: Write>(
         → OnOk result (PutsSaid W.contents
         (Says (object (entries_of (last_entries m)))) out.old out.new) }
 {
+    if entries.is_rising() {
+        return put_spelled(alloc, entries, room, out);
+    }
     let sorted = entries.sorted(alloc)?;
     put_sorted(alloc, &sorted, room, out)
+}
+
+/// Puts an object of these entries, whose keys rise.
+#[cycle(put)]
+fn put_spelled<W: Write>(
+    alloc: Global,
+    entries: Entries<'_>,
+    room: usize,
+    out: &mut Printing<W>,
+) -> Result<(), PrintError>
+    ensures { (m : List (List ℕ × Tree)) → HoldsEntries entries.entry m
+        → OnOk result (PutsSaid W.contents (Says (object (entries_of m))) out.old out.new) }
+{
+    out.token(Token::BeginObject)?;
+    for entry in entries {
+        put_key(alloc, entry.key, out)?;
+        put_item(alloc, entry.value, room, out)?;
+    }
+    out.token(Token::EndObject)
 }
 
 /// Puts an object of these entries.

@@ -141,7 +141,7 @@ impl<'m, N: Naming, K: KnownBody> Format for KeptWalk<'m, N, K> {
 
     #[inline(always)]
     fn next_item(&mut self, _input: &[u8]) -> Result<bool, N::Error> {
-        let levels = self.walk.levels();
+        let levels = self.walk.inner.depth();
         let before = self.walk.left();
         let read = self.walk.has_item();
         let comes = self.told(before, read)?;

@@ -162,11 +162,6 @@ impl<'m> Walk<'m> {
         }
     }
 
-    /// How many levels the innermost container has.
-    pub(crate) fn levels(&self) -> usize {
-        self.inner.depth()
-    }
-
     /// How many levels are open. A template has two, and a row is none.
     fn depth(&self) -> usize {
         let mut depth = self.inner.depth();
