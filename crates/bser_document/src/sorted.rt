@@ -43,7 +43,8 @@ impl<'d> Entries<'d> {
         Ok(sorted)
     }
 
-    /// Whether each key is above the one before it.
+    /// Whether each key is above the one before it. The contract says what `true` means; `false` promises
+    /// nothing.
     pub fn is_rising(self) -> bool
         ensures { (m : List (List ℕ × Tree)) → HoldsEntries self.entry m
             → IsTrue result → last_entries m ≡ m }
